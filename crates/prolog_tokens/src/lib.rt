@@ -1,8 +1,15 @@
 //! Tokens of Prolog text, and the small types that every layer above them uses.
 #![tactic(auto)]
 
+mod chars;
+mod cut;
+mod layout;
+mod spelling;
 mod text;
 mod token;
+mod values;
 
+pub use cut::tokens;
 pub use text::Text;
 pub use token::{Kind, Place, Token, TokenFault};
+pub use values::{name_slice, name_text};

@@ -1,0 +1,43 @@
+-- A text as layout and tokens in turn, and where it isn't one.
+use Rattle.std.specs.Prelude.{◌≡◌, ℕ, ◌<◌, ◌⊎◌, ◌↔◌, List, [], ◌∷◌, length, IsTrue}
+use Rattle.prolog_tokens.specs.declared.token.Kind.{Kind}
+use Rattle.prolog_tokens.specs.declared.token.Token.{Token}
+use Rattle.prolog_tokens.specs.declared.cut.Next.{Next}
+use Rattle.prolog_tokens.specs.declared.cut.Next.TheVariants.{Found, Nothing, Stuck}
+use Rattle.prolog_tokens.specs.Layout.{Sort, IsPiece, IsLayout}
+use Rattle.prolog_tokens.specs.Spelling.{Spells, IsSpelled}
+
+-- the token stands next after the place, behind layout alone
+pub record IsNext (text : List ℕ) (at : ℕ) (t : Token) : Type 0 where
+  pub layout : IsLayout text at t.start
+  pub spelled : IsSpelled text t.kind t.start t.end
+  pub told : IsTrue t.after_layout ↔ ((at ≡ 0) ⊎ (at < t.start))
+
+-- the tokens stand one after another, from one place up to another
+abbrev pub StandBetween : List ℕ → ℕ → List Token → ℕ → Type 0
+StandBetween text a [] b = a ≡ b
+StandBetween text a (t ∷ ts) b = IsNext text a t × StandBetween text t.end ts b
+
+-- the whole text is these tokens, with layout between them and at its ends
+pub record IsCut (text : List ℕ) (ts : List Token) : Type 0 where
+  pub last : ℕ
+  pub stand : StandBetween text 0 ts last
+  pub layout : IsLayout text last (length text)
+
+-- no token and no layout begins at the place
+pub record BeginsNone (text : List ℕ) (a : ℕ) : Type 0 where
+  pub no_token : (k : Kind) (e : ℕ) → Spells text a e k → ⊥
+  pub no_layout : (s : Sort) (e : ℕ) → IsPiece text a e s → ⊥
+
+-- layout leads from the place to one within the text where none begins
+pub record IsStuck (text : List ℕ) (at : ℕ) : Type 0 where
+  pub place : ℕ
+  pub layout : IsLayout text at place
+  pub within : place < length text
+  pub begins_none : BeginsNone text place
+
+-- what stands next after the place
+abbrev pub NextIs : List ℕ → ℕ → Next → Type 0
+NextIs text at (Found t) = IsNext text at t
+NextIs text at Nothing = IsLayout text at (length text)
+NextIs text at Stuck = IsStuck text at
