@@ -1,0 +1,4 @@
+pub mod Counts
+pub mod Library
+pub mod MemoryLibrary
+pub mod Copied

@@ -1,0 +1,121 @@
+ghost use Rattle.std.specs.Prelude.{◌≡◌, ◌≤◌, ◌↔◌, ℕ, [], Some, Contains, IsTrue, IfOk};
+ghost use Rattle.file_library.specs.Library.{ReadIs, AskedIs};
+ghost use Rattle.file_library.specs.Copied.{CopiedIs};
+
+use crate::library::{Library, Read};
+use prolog_tokens::Text;
+use std::alloc::{AllocError, Global};
+use std::collections::BTreeMap;
+
+/// Files in memory. The reads whose numbers, from 1, were ordered to fail answer `Failed`.
+#[derive(Drop)]
+pub struct MemoryLibrary {
+    alloc: Global,
+    files: BTreeMap<Text, Vec<u8>>,
+    failing: Vec<u32>,
+    asked: Vec<Text>,
+    faults: u64,
+    misses: u64,
+}
+
+/// How the copy of a file into a room went.
+enum Copied {
+    Whole,
+    Missing,
+    NoMemory,
+}
+
+fn is_ordered_to_fail(failing: &[u32], number: usize) -> bool
+    ensures { IsTrue result ↔ Contains failing.now number }
+{
+    failing.iter().any(|order| *order as usize == number)
+}
+
+fn copy_file(files: &BTreeMap<Text, Vec<u8>>, name: &Text, limit: u32, room: &mut Vec<u8>) -> Copied
+    requires { room.old.items ≡ [] }
+    ensures { CopiedIs files.now name.now limit room.new.items result }
+{
+    match files.get(name) {
+        None => Copied::Missing,
+        Some(bytes) => {
+            let end = bytes.len().min(limit as usize + 1);
+            match room.extend_from_slice(&bytes[..end]) {
+                Ok(()) => Copied::Whole,
+                Err(_) => Copied::NoMemory,
+            }
+        }
+    }
+}
+
+impl MemoryLibrary {
+    ghost use Rattle.file_library.specs.MemoryLibrary.{files_of, IsNewLibrary};
+
+    /// A library of these files. The reads whose numbers stand in `failing` will fail.
+    pub fn new(
+        alloc: Global,
+        files: BTreeMap<Text, Vec<u8>>,
+        failing: Vec<u32>,
+    ) -> Result<MemoryLibrary, AllocError>
+        ensures { IfOk result (λ library. IsNewLibrary (files_of files) failing.items library) }
+    {
+        Ok(MemoryLibrary {
+            alloc,
+            files,
+            failing,
+            asked: Vec::new(alloc),
+            faults: 0,
+            misses: 0,
+        })
+    }
+
+    /// The names that the library was asked for, in order.
+    pub fn asked(&self) -> &[Text]
+        ensures { result.now ≡ self.now.asked.items }
+    {
+        &self.asked
+    }
+}
+
+impl Library for MemoryLibrary {
+    ghost use Rattle.file_library.specs.MemoryLibrary.{files_of, ReadsByOrder};
+
+    ghost files = { λ l. Some (files_of l.files) };
+
+    ghost asked = { λ l. l.asked.items };
+
+    ghost faults = { λ l. l.faults };
+
+    ghost misses = { λ l. l.misses };
+
+    fn read(&mut self, name: &str, limit: u32, room: &mut Vec<u8>) -> Read
+        requires { room.old.items ≡ [] }
+        ensures answer { ReadIs (Some (files_of self.old.files)) name.now limit room.new.items self.old.faults self.new.faults self.old.misses self.new.misses result }
+        ensures asked { AskedIs self.old.asked.items self.new.asked.items name.now result }
+        ensures same_files { Some (files_of self.new.files) ≡ Some (files_of self.old.files) }
+        ensures faults_kept { self.old.faults ≤ self.new.faults }
+        ensures misses_kept { self.old.misses ≤ self.new.misses }
+        ensures by_order { ReadsByOrder self.old self.new result }
+    {
+        let Ok(key) = Text::new(self.alloc, name) else {
+            return Read::NoMemory;
+        };
+        let Ok(asked) = Text::new(self.alloc, name) else {
+            return Read::NoMemory;
+        };
+        if self.asked.push(asked).is_err() {
+            return Read::NoMemory;
+        }
+        if is_ordered_to_fail(&self.failing, self.asked.len()) {
+            self.faults = self.faults.saturating_add(1);
+            return Read::Failed;
+        }
+        match copy_file(&self.files, &key, limit, room) {
+            Copied::Whole => Read::Found,
+            Copied::Missing => {
+                self.misses = self.misses.saturating_add(1);
+                Read::Absent
+            }
+            Copied::NoMemory => Read::NoMemory,
+        }
+    }
+}
