@@ -1,3 +1,4 @@
 pub mod Tree
 pub mod Plain
 pub mod Reserved
+pub mod Reading

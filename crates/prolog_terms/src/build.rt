@@ -28,7 +28,12 @@ pub fn span_at(term: &Term) -> Span
 }
 
 /// The infix_tree term of the operator and its two sides.
-pub fn make_infix(alloc: Global, operator: &str, left: Term, right: Term) -> Result<Term, AllocError>
+pub fn make_infix(
+    alloc: Global,
+    operator: &str,
+    left: Term,
+    right: Term,
+) -> Result<Term, AllocError>
     ensures { IfOk result (λ term. tree_of term ≡ infix_tree operator.now (tree_of left) (tree_of right)) }
 {
     let span = Span {

@@ -2,7 +2,9 @@
 #![tactic(auto)]
 
 mod build;
+mod plain;
 mod reserved;
 mod term;
 
+pub use plain::{PlainFault, read_plain};
 pub use term::{ConstKind, Form, Span, Term};
