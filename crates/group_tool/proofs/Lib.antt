@@ -1,0 +1,2 @@
+pub mod IndicatorOrder
+pub mod NumberingLemmas
