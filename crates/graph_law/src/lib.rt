@@ -1,2 +1,13 @@
 //! What a call graph means: reach, classes of mutual reach, heights and legal orders.
 #![tactic(auto)]
+
+mod classes;
+mod graph;
+mod heights;
+mod opener;
+mod reach;
+
+pub use classes::{classes_slow, is_recursive};
+pub use graph::Graph;
+pub use heights::heights_slow;
+pub use opener::Opener;
