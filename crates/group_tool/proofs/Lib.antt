@@ -1,2 +1,3 @@
 pub mod IndicatorOrder
 pub mod NumberingLemmas
+pub mod ReportLemmas

@@ -27,14 +27,15 @@ abbrev pub group_line : List Indicator → List ℕ → Level → List ℕ
 group_line predicates members level = decimal level.height ++ kind_of level.recursive ++ flat_map (member_name predicates) members ++ codes "\n"
 
 -- one more than the greatest height, or 0 where there is no level
-abbrev pub level_count : List Level → ℕ
-level_count levels = fold max 0 (map (λ (level : Level). level.height + 1) levels)
+abbrev pub height_count : List Level → ℕ
+height_count levels = fold max 0 (map (λ (level : Level). level.height + 1) levels)
 
 -- the first line: `predicates P groups G recursive R levels L`
 abbrev pub head_line : List (List ℕ) → List Level → List ℕ
 head_line groups levels =
-    codes "predicates " ++ decimal (sum_by length groups) ++ codes " groups " ++ decimal (length groups)
-    ++ codes " recursive " ++ decimal (count_by (λ (level : Level). level.recursive) levels) ++ codes " levels " ++ decimal (level_count levels) ++ codes "\n"
+    (codes "predicates " ++ decimal (sum_by length groups)) ++ (codes " groups " ++ decimal (length groups))
+    ++ (codes " recursive " ++ decimal (count_by (λ (level : Level). level.recursive) levels))
+    ++ (codes " levels " ++ decimal (height_count levels)) ++ codes "\n"
 
 -- the group, its level and its least member, at a place of the list of groups
 abbrev pub group_at : List (List ℕ) → ℕ → List ℕ
@@ -57,11 +58,15 @@ pub record IsLineOrder (groups : List (List ℕ)) (levels : List Level) (order :
   pub each_once : IsPermutation (range_with_len 0 (length groups)) order
   pub rising : AllPairs (ComesBefore groups levels) order
 
+-- the line of the group at a place
+abbrev pub place_line : List Indicator → List (List ℕ) → List Level → ℕ → List ℕ
+place_line predicates groups levels place = group_line predicates (group_at groups place) (level_at levels place)
+
 -- the bytes are the head line, and then the line of each group in order
 pub record IsReport (predicates : List Indicator) (groups : List (List ℕ)) (levels : List Level) (bytes : List ℕ) : Type 0 where
   pub order : List ℕ
   pub in_order : IsLineOrder groups levels order
-  pub is : bytes ≡ head_line groups levels ++ flat_map (λ place. group_line predicates (group_at groups place) (level_at levels place)) order
+  pub is : bytes ≡ head_line groups levels ++ flat_map (place_line predicates groups levels) order
 
 -- no two groups have the same least member
 abbrev pub LeastDiffer : List (List ℕ) → Type 0
