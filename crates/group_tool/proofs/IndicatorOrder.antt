@@ -1,0 +1,38 @@
+-- The order of indicators is total, and only equal indicators tie.
+use Rattle.std.proofs.Common.{◌≡◌, ℕ, ◌<◌, Bool, true, ◌&&◌, List, length, nat_eq, get_or, slice_get, Some, sym, ◌∙◌, ap, arith}
+use Rattle.std.specs.Ordering.{nat_cmp, eq_by_cmp, is_eq}
+use Rattle.std.specs.declared.cmp.Ordering.TheVariants.{Equal}
+use Rattle.std.specs.Cmp.{IsTotalOrder, IsEquivalence, both_tied, unsigned_ties}
+use Rattle.std.specs.Cmp.Lexicographic.{pointwise, texts_ties}
+use Rattle.std.proofs.lemmas.Cmp.{then_total, on_total, nat_list_cmp_total, nat_cmp_total, and_equiv, on_equiv, nat_list_eq_equiv, nat_eq_equiv}
+use Rattle.std.proofs.lemmas.Bool.{and_parts}
+use Rattle.std.proofs.lemmas.Slice.Eq.{bytes_eq-Decides}
+use Rattle.std.proofs.lemmas.Bool.Decides.{Decides-eqb}
+use Rattle.group_tool.specs.declared.indicator.Indicator.{Indicator}
+use Rattle.group_tool.specs.Indicator.{indicator_cmp}
+
+pub indicator_cmp_total : IsTotalOrder indicator_cmp
+indicator_cmp_total =
+    then_total (on_total (λ (p : Indicator). p.name) nat_list_cmp_total) (on_total (λ (p : Indicator). p.arity) nat_cmp_total)
+
+-- `==` of two indicators
+abbrev pub indicator_eq : Indicator → Indicator → Bool
+indicator_eq a b = pointwise nat_eq a.name b.name && nat_eq a.arity b.arity
+
+pub indicator_ties : (a b : Indicator) → indicator_eq a b ≡ eq_by_cmp indicator_cmp a b
+indicator_ties a b = both_tied _ _ _ _ (texts_ties a.name b.name) (unsigned_ties a.arity b.arity)
+
+same_parts : (a b : Indicator) → a.name ≡ b.name → a.arity ≡ b.arity → a ≡ b
+same_parts a b names arities = λ i. record { name = names i; arity = arities i }
+
+pub indicator_eq_equiv : IsEquivalence indicator_eq
+indicator_eq_equiv =
+    and_equiv (on_equiv (λ (p : Indicator). p.name) nat_list_eq_equiv) (on_equiv (λ (p : Indicator). p.arity) nat_eq_equiv)
+
+pub same_from_eq : (a b : Indicator) → indicator_eq a b ≡ true → a ≡ b
+same_from_eq a b e =
+    let both = and_parts (pointwise nat_eq a.name b.name) (nat_eq a.arity b.arity) e in
+    same_parts a b ((bytes_eq-Decides a.name b.name).0 both.0) ((Decides-eqb a.arity b.arity).0 both.1)
+
+pub same_from_Equal : (a b : Indicator) → indicator_cmp a b ≡ Equal → a ≡ b
+same_from_Equal a b e = same_from_eq a b (indicator_ties a b ∙ ap is_eq e)

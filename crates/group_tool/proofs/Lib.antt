@@ -1,0 +1,3 @@
+pub mod IndicatorOrder
+pub mod NumberingLemmas
+pub mod ReportLemmas

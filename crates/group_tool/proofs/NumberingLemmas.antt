@@ -1,0 +1,57 @@
+-- What a sort, a removal of neighbours and a binary search say of the numbered predicates.
+use Rattle.std.proofs.Common.{◌≡◌, ℕ, ◌+◌, ◌<◌, ◌≤◌, Bool, true, false, List, length, get_or, slice_get, Some, All, Contains, IsPermutation, subst, sym, refl, ◌∙◌, ap, arith, inl, inr}
+use Rattle.std.specs.List.{HoldsAt, dedup}
+use Rattle.std.specs.List.Sorted.{IsSorted, IsSortedBy, IsStrictlySortedBy, IsNonDecreasingBy, IsPartitionPoint}
+use Rattle.std.specs.Ordering.{is_lt, ordering_index, ordering_reverse}
+use Rattle.std.specs.declared.cmp.Ordering.TheVariants.{Less, Equal, Greater}
+use Rattle.std.proofs.lemmas.Bool.{cases_lt}
+use Rattle.std.proofs.lemmas.Cmp.{tied_itself, eq_by_cmp_equiv}
+use Rattle.std.proofs.lemmas.List.Elements.{Contains-get_or}
+use Rattle.std.proofs.lemmas.List.Kept.{IsStrictlySortedBy-dedup, Contains-dedup, Contains-from_dedup}
+use Rattle.std.proofs.lemmas.List.Sorted.{Contains-permutation, IsPermutation-sym, searchable_from_sorted}
+use Rattle.std.proofs.lemmas.Map.Keys.{Less-from_sorted}
+use Rattle.std.proofs.lemmas.Option.{slice_get-get_or}
+use Rattle.group_tool.specs.declared.indicator.Indicator.{Indicator}
+use Rattle.group_tool.specs.Indicator.{indicator_cmp}
+use Rattle.group_tool.specs.Rule.{HeadAndGoals, heads}
+use Rattle.group_tool.specs.Numbering.{IsRising, IsNumbering}
+use Rattle.group_tool.proofs.IndicatorOrder.{indicator_cmp_total, indicator_eq, indicator_eq_equiv, indicator_ties, same_from_eq, same_from_Equal}
+
+pub found : (xs : List Indicator) (wanted : Indicator) (place : ℕ) → place < length xs
+    → HoldsAt (λ y. indicator_cmp y wanted ≡ Equal) xs place → slice_get xs place ≡ Some wanted
+found xs wanted place within tie =
+    slice_get-get_or xs place wanted within ∙ ap (λ x. Some x) (same_from_Equal (get_or xs place wanted) wanted (tie wanted))
+
+sorted_from_rising : (xs : List Indicator) → IsRising xs → IsSortedBy (λ a b. is_lt (indicator_cmp a b)) xs
+sorted_from_rising xs up k d low within =
+    ap is_lt (indicator_cmp_total.antisymm (get_or xs (k + 1) d) (get_or xs k d) ∙ ap (λ o. ordering_reverse o) (up k (k + 1) d (omega arith) within))
+
+pub absent : (xs : List Indicator) (wanted : Indicator) (place : ℕ) → IsRising xs
+    → (IsNonDecreasingBy (λ y. ordering_index (indicator_cmp y wanted)) xs → IsPartitionPoint (λ y. indicator_cmp y wanted ≡ Less) (λ y. indicator_cmp y wanted ≡ Greater) xs place)
+    → Contains xs wanted → ⊥
+absent xs wanted place up split has =
+    let parts = split (searchable_from_sorted indicator_cmp_total (λ (x : Indicator). x) xs wanted (sorted_from_rising xs up)) in
+    let tie = ap (λ (x : Indicator). indicator_cmp x wanted) has.2 ∙ tied_itself indicator_cmp_total wanted in
+    elim (cases_lt has.0 place) [
+      | inl below ↦ let less = parts.0 has.0 wanted (omega arith) below in cc
+      | inr above ↦ let greater = parts.1 has.0 wanted above has.1 in cc
+    ]
+
+pub numbered : (rules : List HeadAndGoals) (all sorted kept : List Indicator) → all ≡ heads rules → IsPermutation all sorted
+    → IsSorted indicator_cmp sorted → kept ≡ dedup indicator_eq sorted → IsNumbering rules kept
+numbered rules all sorted kept whole moved up is = record {
+  rising = λ i j d lt within.
+    Less-from_sorted indicator_cmp kept i j d
+    (subst (IsStrictlySortedBy indicator_cmp) (sym is) (IsStrictlySortedBy-dedup indicator_cmp_total indicator_ties sorted up)) lt within;
+  only_heads = λ k d within.
+    let x = get_or kept k d in
+    let has : List Indicator → Type 0 = λ xs. Contains xs x in
+    let in_sorted = Contains-from_dedup indicator_eq sorted x (subst has is (Contains-get_or kept k d within)) in
+    subst has whole (Contains-permutation sorted all x (IsPermutation-sym all sorted moved) in_sorted);
+  each_head = λ k d within.
+    let x = get_or (heads rules) k d in
+    let has : List Indicator → Type 0 = λ xs. Contains xs x in
+    let in_all = subst has (sym whole) (Contains-get_or (heads rules) k d within) in
+    subst has (sym is)
+    (Contains-dedup indicator_eq_equiv same_from_eq sorted x (Contains-permutation all sorted x moved in_all));
+}

@@ -1,0 +1,10 @@
+use Rattle.std.proofs.Common.{◌≡◌, ◌++◌, take}
+use Rattle.std.specs.List.{flat_map}
+use Rattle.std.specs.String.{string_bytes}
+use Rattle.group_tool.specs.Report.{member_name}
+use Rattle.group_tool.proofs.report.push_members.Given as goal
+
+-- the members so far
+abbrev pub invariant-loop-member : goal.invariant-loop-member
+invariant-loop-member l =
+    string_bytes l.text ≡ string_bytes l.initial.text ++ flat_map (member_name l.predicates) (take l.member-index l.members)

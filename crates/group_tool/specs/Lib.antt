@@ -1,0 +1,4 @@
+pub mod Indicator
+pub mod Numbering
+pub mod Report
+pub mod Rule

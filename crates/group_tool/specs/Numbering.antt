@@ -1,0 +1,16 @@
+-- The predicates that rules define, numbered by their places in a rising list.
+use Rattle.std.specs.Prelude.{◌≡◌, List, All, AllPairs, Contains}
+use Rattle.std.specs.declared.cmp.Ordering.TheVariants.{Less}
+use Rattle.group_tool.specs.declared.indicator.Indicator.{Indicator}
+use Rattle.group_tool.specs.Indicator.{indicator_cmp}
+use Rattle.group_tool.specs.Rule.{HeadAndGoals, heads}
+
+-- each is less than all that come after it
+abbrev pub IsRising : List Indicator → Type 0
+IsRising predicates = AllPairs (λ a b. indicator_cmp a b ≡ Less) predicates
+
+-- the predicates are the heads of the rules, each once and in order
+pub record IsNumbering (rules : List HeadAndGoals) (predicates : List Indicator) : Type 0 where
+  pub rising : IsRising predicates
+  pub only_heads : All (Contains (heads rules)) predicates
+  pub each_head : All (Contains predicates) (heads rules)

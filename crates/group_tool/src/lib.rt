@@ -1,0 +1,8 @@
+//! The command's library: from the rules of a file to the bytes of its report.
+#![tactic(auto)]
+
+pub mod indicator;
+pub mod level;
+pub mod numbering;
+pub mod report;
+pub mod rule;

@@ -1,0 +1,35 @@
+ghost use Rattle.std.specs.Prelude.{◌≡◌, ◌<◌, ◌^◌, ℕ, IfOk, MatchOption, Contains, length, slice_get, Some};
+ghost use Rattle.group_tool.specs.Numbering.{IsNumbering, IsRising};
+
+use crate::indicator::Indicator;
+use crate::rule::Rule;
+use std::alloc::{AllocError, Global};
+
+/// The predicates that `rules` define, each once, in the order of indicators.
+pub fn numbering(alloc: Global, rules: &[Rule]) -> Result<Vec<Indicator>, AllocError>
+    ensures { IfOk result (λ predicates. IsNumbering rules.now predicates.items) }
+{
+    let mut heads = Vec::new(alloc);
+    for rule in rules {
+        heads.push(rule.head().clone_in(alloc)?)?;
+    }
+    heads.sort()?;
+    heads.dedup();
+    Ok(heads)
+}
+
+/// The place of `wanted` among `predicates`, or `None` where it isn't there.
+pub fn find(predicates: &[Indicator], wanted: &Indicator) -> Option<u32>
+    requires rising { IsRising predicates.now }
+    requires fits { length predicates.now < 2 ^ 32 }
+    ensures {
+        MatchOption result
+            (Contains predicates.now wanted.now → ⊥)
+            (λ place. slice_get predicates.now place ≡ Some wanted.now)
+    }
+{
+    match predicates.binary_search(wanted) {
+        Ok(place) => Some(place as u32),
+        Err(_) => None,
+    }
+}

@@ -1,0 +1,33 @@
+use crate::indicator::Indicator;
+use std::marker::Model;
+
+/// What a clause says for the call graph: its head, and the goals of its body in order.
+#[derive(Debug, Drop)]
+pub struct Rule {
+    pub head: Indicator,
+    pub goals: Vec<Indicator>,
+}
+
+impl Model for Rule {
+    ghost use Rattle.group_tool.specs.Rule.{HeadAndGoals};
+
+    ghost Value = { HeadAndGoals };
+
+    ghost view = { λ r. record { head = r.head; goals = r.goals.items } };
+}
+
+impl Rule {
+    ghost use Rattle.std.specs.Prelude.{◌≡◌};
+
+    pub fn head(&self) -> &Indicator
+        ensures { result.now ≡ self.now.head }
+    {
+        &self.head
+    }
+
+    pub fn goals(&self) -> &[Indicator]
+        ensures { result.now ≡ self.now.goals }
+    {
+        &self.goals
+    }
+}
