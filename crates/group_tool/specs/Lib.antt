@@ -1,4 +1,6 @@
 pub mod Indicator
+pub mod MemorySink
 pub mod Numbering
 pub mod Report
 pub mod Rule
+pub mod Sink
