@@ -3,6 +3,7 @@
 
 mod chars;
 mod cut;
+mod laws;
 mod layout;
 mod spelling;
 mod text;
@@ -10,6 +11,7 @@ mod token;
 mod values;
 
 pub use cut::tokens;
+pub use laws::{cut_is_text, cut_tokens, one_cut};
 pub use text::Text;
 pub use token::{Kind, Place, Token, TokenFault};
 pub use values::{name_slice, name_text};
