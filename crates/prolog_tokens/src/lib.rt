@@ -6,6 +6,8 @@ mod cut;
 mod laws;
 mod layout;
 mod spelling;
+#[cfg(test)]
+mod tests;
 mod text;
 mod token;
 mod values;
