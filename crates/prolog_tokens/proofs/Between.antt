@@ -1,11 +1,11 @@
 -- Tokens that stand one after another, and that a text has one cut.
-use Rattle.std.proofs.Common.{◌≡◌, ℕ, ◌+◌, ◌<◌, ◌≤◌, List, [], ◌∷◌, ◌++◌, length, get_or, ap, sym, ◌∙◌, subst, refl, inl, inr, arith}
+use Rattle.std.proofs.Common.{◌≡◌, ℕ, ◌<◌, ◌≤◌, List, [], ◌∷◌, ◌++◌, length, get_or, ap, sym, ◌∙◌, subst, refl, inl, inr, arith}
 use Rattle.std.proofs.lemmas.Bool.{cases_lt}
 use Rattle.prolog_tokens.specs.declared.token.Token.{Token}
 use Rattle.prolog_tokens.specs.Layout.{IsLayout}
 use Rattle.prolog_tokens.specs.Spelling.{Spells}
 use Rattle.prolog_tokens.specs.Cut.{IsNext, StandBetween, IsCut, BeginsNone, IsStuck}
-use Rattle.prolog_tokens.proofs.Longest.{token_some, token_within, token_ascii}
+use Rattle.prolog_tokens.proofs.Longest.{token_some, token_ascii}
 use Rattle.prolog_tokens.proofs.Once.{token_no_piece, layout_once, layout_from, layout_ascii, at_length, next_once}
 
 -- no token stands next where layout goes on to a place where nothing begins
@@ -25,7 +25,7 @@ pub ways_once : (text : List ℕ) (p q : ℕ) → BeginsNone text p → BeginsNo
 ways_once text p q np nq a b c [] [] ab bp ac cq =
     record {
       tokens = refl;
-      place = layout_once text a p q (subst (λ n. IsLayout text n p) (sym ab) bp) np.no_layout (subst (λ n. IsLayout text n q) (sym ac) cq) nq.no_layout
+      place = layout_once text a p q (subst (λ n. IsLayout text n p) (sym ab) bp) np.no_layout (subst (λ n. IsLayout text n q) (sym ac) cq) nq.no_layout;
     }
 ways_once text p q np nq a b c [] (u ∷ us) ab bp (next, rest) cq = absurd (none_next text a p u (subst (λ n. IsLayout text n p) (sym ab) bp) np next)
 ways_once text p q np nq a b c (t ∷ ts) [] (next, rest) bp ac cq = absurd (none_next text a q t (subst (λ n. IsLayout text n q) (sym ac) cq) nq next)
@@ -43,7 +43,7 @@ one_cut text ts us p q =
 pub stuck_no_cut : (text : List ℕ) (at : ℕ) (ts us : List Token) → StandBetween text 0 ts at → IsStuck text at → IsCut text us → ⊥
 stuck_no_cut text at ts us stand stuck cut =
     let same : SameWay ts us stuck.place (length text) =
-        ways_once text stuck.place (length text) stuck.begins_none (at_length text) 0 at cut.last ts us stand stuck.layout cut.stand cut.layout in
+    ways_once text stuck.place (length text) stuck.begins_none (at_length text) 0 at cut.last ts us stand stuck.layout cut.stand cut.layout in
     omega (arith, same.place, stuck.within)
 
 -- one token more
@@ -57,13 +57,13 @@ next_some text at t next = omega (arith, layout_from text at t.start next.layout
 
 pub next_ascii : (text : List ℕ) (at : ℕ) (t : Token) → IsNext text at t → (i : ℕ) → at ≤ i → i < t.end → get_or text i 0 < 128
 next_ascii text at t next i from below = elim (cases_lt i t.start) [
-      inl lt ↦ layout_ascii text at t.start next.layout i from lt
-    | inr le ↦ token_ascii text t.start t.end t.kind next.spelled.spells i le below
-  ]
+  | inl lt ↦ layout_ascii text at t.start next.layout i from lt
+  | inr le ↦ token_ascii text t.start t.end t.kind next.spelled.spells i le below
+]
 
 pub stand_ascii : (text : List ℕ) (a b : ℕ) (ts : List Token) → StandBetween text a ts b → (i : ℕ) → a ≤ i → i < b → get_or text i 0 < 128
 stand_ascii text a b [] is i from below = absurd (omega (arith, is))
 stand_ascii text a b (t ∷ ts) (next, rest) i from below = elim (cases_lt i t.end) [
-      inl lt ↦ next_ascii text a t next i from lt
-    | inr le ↦ stand_ascii text t.end b ts rest i le below
-  ]
+  | inl lt ↦ next_ascii text a t next i from lt
+  | inr le ↦ stand_ascii text t.end b ts rest i le below
+]

@@ -1,5 +1,5 @@
 -- The class at a place tells the kind of the token that begins there, and how it is spelled.
-use Rattle.std.proofs.Common.{◌≡◌, ◌≢◌, ℕ, ◌+◌, ◌-◌, ◌<◌, ◌≤◌, List, length, Bool, true, false, get_or, ap, sym, ◌∙◌, subst, refl, inl, inr, arith}
+use Rattle.std.proofs.Common.{◌≡◌, ◌≢◌, ℕ, ◌+◌, ◌-◌, ◌<◌, ◌≤◌, List, length, true, false, get_or, ap, sym, ◌∙◌, subst, refl, inl, inr, arith}
 use Rattle.std.proofs.lemmas.Bool.{cases_lt, cases_eq}
 use Rattle.std.specs.Str.{IsUtf8, IsCharBoundary}
 use Rattle.std.proofs.lemmas.Str.{IsCharBoundary-after_ascii}
@@ -8,7 +8,7 @@ use Rattle.prolog_tokens.specs.declared.chars.Class.TheVariants.{White, Small, C
 use Rattle.prolog_tokens.specs.declared.token.Kind.{Kind}
 use Rattle.prolog_tokens.specs.declared.token.Kind.TheVariants.{Name, Quoted, Variable, Integer, Float, Str, BackStr, OpenRound, CloseRound, OpenSquare, CloseSquare, OpenCurly, CloseCurly, Comma, Bar, End}
 use Rattle.prolog_tokens.specs.Chars.{byte_class, class_at, continues, is_graphic}
-use Rattle.prolog_tokens.specs.Spelling.{IsWord, IsRun, IsNeck, IsEnd, IsSign, Spells, IsSpelled}
+use Rattle.prolog_tokens.specs.Spelling.{IsWord, IsRun, IsNeck, IsEnd, Spells}
 use Rattle.prolog_tokens.proofs.Classes.{class_here, class_ascii, continues_here, graphic_here}
 
 -- the kind and the spelling of a token whose first character is of the class
@@ -105,9 +105,9 @@ token_within text a b k s = within_by text a b k (class_at text a) (token_here t
 
 word_ascii : (first : Class) (text : List ℕ) (a b : ℕ) → first ≢ Other → IsWord first text a b → (i : ℕ) → a ≤ i → i < b → get_or text i 0 < 128
 word_ascii first text a b ne w i from below = elim (cases_eq a i) [
-      inl is ↦ subst (λ n. get_or text n 0 < 128) is (class_ascii text a (λ e. ne (sym w.begins ∙ e)))
-    | inr differ ↦ class_ascii text i (continues_here text i (w.goes_on i (omega arith) below))
-  ]
+  | inl is ↦ subst (λ n. get_or text n 0 < 128) is (class_ascii text a (λ e. ne (sym w.begins ∙ e)))
+  | inr differ ↦ class_ascii text i (continues_here text i (w.goes_on i (omega arith) below))
+]
 
 run_ascii : (text : List ℕ) (a b : ℕ) → IsRun text a b → (i : ℕ) → a ≤ i → i < b → get_or text i 0 < 128
 run_ascii text a b r i from below = class_ascii text i (graphic_here text i (r.graphic i from below))
@@ -136,16 +136,16 @@ token_ascii text a b k s = ascii_by text a b k (class_at text a) (λ is. by_this
 -- a word ends no later than where it doesn't go on
 pub word_longest : (first : Class) (text : List ℕ) (a b e : ℕ) → IsWord first text a e → a < b → continues (class_at text b) ≡ false → e ≤ b
 word_longest first text a b e w from stops = elim (cases_lt b e) [
-      inl lt ↦ let both : true ≡ false = sym (w.goes_on b from lt) ∙ stops in absurd cc
-    | inr le ↦ le
-  ]
+  | inl lt ↦ let both : true ≡ false = sym (w.goes_on b from lt) ∙ stops in absurd cc
+  | inr le ↦ le
+]
 
 -- a run ends where each other from its place ends
 pub run_longest : (text : List ℕ) (a b e : ℕ) → IsRun text a b → IsRun text a e → e ≤ b
 run_longest text a b e r other_run = elim (cases_lt b e) [
-      inl lt ↦ let both : true ≡ false = sym (other_run.graphic b (omega (arith, r.some)) lt) ∙ r.longest in absurd cc
-    | inr le ↦ le
-  ]
+  | inl lt ↦ let both : true ≡ false = sym (other_run.graphic b (omega (arith, r.some)) lt) ∙ r.longest in absurd cc
+  | inr le ↦ le
+]
 
 run_once : (text : List ℕ) (a b e : ℕ) → IsRun text a b → IsRun text a e → e ≡ b
 run_once text a b e r q =

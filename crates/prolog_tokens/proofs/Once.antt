@@ -1,6 +1,6 @@
 -- What stands next after a place is one.
-use Rattle.std.proofs.Common.{◌≡◌, ◌≢◌, ℕ, ◌+◌, ◌<◌, ◌≤◌, ◌⊎◌, ◌↔◌, List, [], ◌∷◌, ◌++◌, length, Bool, true, false, get_or, IsTrue, ap, sym, ◌∙◌, subst, refl, inl, inr, arith}
-use Rattle.std.proofs.lemmas.Bool.{cases_lt, cases_eq}
+use Rattle.std.proofs.Common.{◌≡◌, ◌≢◌, ℕ, ◌<◌, ◌≤◌, ◌⊎◌, ◌↔◌, List, [], ◌∷◌, ◌++◌, length, Bool, true, false, get_or, IsTrue, ap, sym, ◌∙◌, subst, refl, inl, inr, arith}
+use Rattle.std.proofs.lemmas.Bool.{cases_lt}
 use Rattle.prolog_tokens.specs.declared.chars.Class.TheVariants.{White, Other}
 use Rattle.prolog_tokens.specs.declared.token.Kind.{Kind}
 use Rattle.prolog_tokens.specs.declared.token.Token.{Token}
@@ -67,9 +67,9 @@ layout_from text a b p = pieces_from text a b p.pieces p.are
 pieces_ascii : (text : List ℕ) (a b : ℕ) (ss : List Sort) → ArePieces text a ss b → (i : ℕ) → a ≤ i → i < b → get_or text i 0 < 128
 pieces_ascii text a b [] p i from below = absurd (omega (arith, p))
 pieces_ascii text a b (s ∷ ss) (m, p, ps) i from below = elim (cases_lt i m) [
-      inl lt ↦ piece_ascii text a m s p i from lt
-    | inr le ↦ pieces_ascii text m b ss ps i le below
-  ]
+  | inl lt ↦ piece_ascii text a m s p i from lt
+  | inr le ↦ pieces_ascii text m b ss ps i le below
+]
 
 -- each byte of layout is ASCII
 pub layout_ascii : (text : List ℕ) (a b : ℕ) → IsLayout text a b → (i : ℕ) → a ≤ i → i < b → get_or text i 0 < 128
@@ -78,8 +78,8 @@ layout_ascii text a b p = pieces_ascii text a b p.pieces p.are
 -- at the end of the text nothing begins
 pub at_length : (text : List ℕ) → BeginsNone text (length text)
 at_length text = record {
-    no_token = λ k e t. let here : length text < length text = token_here text (length text) e k t in omega arith;
-    no_layout = no_piece text (length text) (λ is. let here : length text < length text = class_here text (length text) (λ e. let both : White ≡ Other = sym is ∙ e in cc) in omega arith)
+  no_token = λ k e t. let here : length text < length text = token_here text (length text) e k t in omega arith;
+  no_layout = no_piece text (length text) (λ is. let here : length text < length text = class_here text (length text) (λ e. let both : White ≡ Other = sym is ∙ e in cc) in omega arith);
 }
 
 same_told : (P : Type 0) (b c : Bool) → (IsTrue b ↔ P) → (IsTrue c ↔ P) → b ≡ c
@@ -102,12 +102,12 @@ token_is t u kind start ends told =
 pub next_once : (text : List ℕ) (at : ℕ) (t u : Token) → IsNext text at t → IsNext text at u → t ≡ u
 next_once text at t u p q =
     let start : t.start ≡ u.start =
-        layout_once text at t.start u.start p.layout (token_no_piece text t.start t.end t.kind p.spelled.spells) q.layout (token_no_piece text u.start u.end u.kind q.spelled.spells) in
+    layout_once text at t.start u.start p.layout (token_no_piece text t.start t.end t.kind p.spelled.spells) q.layout (token_no_piece text u.start u.end u.kind q.spelled.spells) in
     let moved : IsSpelled text u.kind t.start u.end = subst (λ n. IsSpelled text u.kind n u.end) (sym start) q.spelled in
     let kind : t.kind ≡ u.kind = kind_once text t.start t.end t.kind u.end u.kind p.spelled.spells moved.spells in
     let below : t.end ≤ u.end = moved.longest t.kind t.end p.spelled.spells in
     let above : u.end ≤ t.end = p.spelled.longest u.kind u.end moved.spells in
     let ends : t.end ≡ u.end = omega arith in
     let told : t.after_layout ≡ u.after_layout =
-        same_told ((at ≡ 0) ⊎ (at < t.start)) t.after_layout u.after_layout p.told (subst (λ n. IsTrue u.after_layout ↔ ((at ≡ 0) ⊎ (at < n))) (sym start) q.told) in
+    same_told ((at ≡ 0) ⊎ (at < t.start)) t.after_layout u.after_layout p.told (subst (λ n. IsTrue u.after_layout ↔ ((at ≡ 0) ⊎ (at < n))) (sym start) q.told) in
     token_is t u kind start ends told

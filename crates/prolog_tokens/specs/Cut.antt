@@ -1,5 +1,5 @@
 -- A text as layout and tokens in turn, and where it isn't one.
-use Rattle.std.specs.Prelude.{◌≡◌, ℕ, ◌<◌, ◌⊎◌, ◌↔◌, List, [], ◌∷◌, length, IsTrue}
+use Rattle.std.specs.Prelude.{◌≡◌, ℕ, zero, suc, ◌<◌, ◌⊎◌, ◌↔◌, List, [], ◌∷◌, length, IsTrue}
 use Rattle.prolog_tokens.specs.declared.token.Kind.{Kind}
 use Rattle.prolog_tokens.specs.declared.token.Token.{Token}
 use Rattle.prolog_tokens.specs.declared.cut.Next.{Next}
@@ -41,3 +41,13 @@ abbrev pub NextIs : List ℕ → ℕ → Next → Type 0
 NextIs text at (Found t) = IsNext text at t
 NextIs text at Nothing = IsLayout text at (length text)
 NextIs text at Stuck = IsStuck text at
+
+-- where the first k of the tokens that stand from the place on have ended
+abbrev pub ended : ℕ → List Token → ℕ → ℕ
+ended a ts zero = a
+ended a [] (suc k) = a
+ended a (t ∷ ts) (suc k) = ended t.end ts k
+
+-- the token is spelled in the text
+abbrev pub IsTokenOf : List ℕ → Token → Type 0
+IsTokenOf text t = IsSpelled text t.kind t.start t.end

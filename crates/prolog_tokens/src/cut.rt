@@ -62,9 +62,7 @@ pub fn tokens(alloc: Global, text: &str) -> Result<Vec<Token>, TokenFault>
         match next_token(bytes, at) {
             Next::Found(token) => {
                 at = token.end as usize;
-                if found.push(token).is_err() {
-                    return Err(TokenFault::NoMemory);
-                }
+                found.push(token).map_err(|_| TokenFault::NoMemory)?;
             }
             Next::Nothing => return Ok(found),
             Next::Stuck => return Err(TokenFault::NotBuilt),

@@ -2,7 +2,7 @@ ghost use Rattle.std.specs.Prelude.{◌≡◌, ℕ, ◌<◌, ◌≤◌, ◌↔�
 ghost use Rattle.prolog_tokens.specs.Chars.{class_at as class_of_place, continues, is_graphic};
 ghost use Rattle.prolog_tokens.specs.Spelling.{IsRun, IsNeck, IsEnd, Spells, IsSpelled};
 
-use crate::chars::{class_at, Class};
+use crate::chars::{Class, class_at};
 use crate::token::Kind;
 
 /// A token's kind and where it ends.

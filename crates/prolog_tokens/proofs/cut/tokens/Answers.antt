@@ -1,5 +1,4 @@
-use Rattle.std.proofs.Common.{rules, ◌≡◌, ℕ, ◌≤◌, ◌<◌, length, ◌++◌, ◌∷◌, [], List, arith}
-use Rattle.prolog_tokens.specs.declared.token.Token.{Token}
+use Rattle.std.proofs.Common.{rules, ◌≡◌, ◌≤◌, ◌<◌, length, ◌++◌, ◌∷◌, [], arith}
 use Rattle.prolog_tokens.specs.Cut.{IsNext, IsCut, IsStuck, StandBetween}
 use Rattle.prolog_tokens.proofs.Longest.{token_within}
 use Rattle.prolog_tokens.proofs.Between.{stand_more, next_some, one_cut, stuck_no_cut}
@@ -10,7 +9,7 @@ loop-token-smaller c =
     let next : IsNext c.as_bytes-bytes.result.now c.loop-token.at c.in-Found.token = c.in-Found.ensures in
     let some : c.loop-token.at < c.in-Found.token.end = next_some c.as_bytes-bytes.result.now c.loop-token.at c.in-Found.token next in
     let within : c.in-Found.token.end ≤ length c.as_bytes-bytes.result.now =
-        token_within c.as_bytes-bytes.result.now c.in-Found.token.start c.in-Found.token.end c.in-Found.token.kind next.spelled.spells in
+    token_within c.as_bytes-bytes.result.now c.in-Found.token.start c.in-Found.token.end c.in-Found.token.kind next.spelled.spells in
     omega arith
 
 pub loop-token-preserved : goal.loop-token-preserved
@@ -18,8 +17,8 @@ loop-token-preserved c =
     let next : IsNext c.as_bytes-bytes.result.now c.loop-token.at c.in-Found.token = c.in-Found.ensures in
     let items : c.push.new.self.items ≡ c.loop-token.found.items ++ c.in-Found.token ∷ [] = search rules in
     record {
-        within = token_within c.as_bytes-bytes.result.now c.in-Found.token.start c.in-Found.token.end c.in-Found.token.kind next.spelled.spells;
-        stand = rw items (stand_more c.as_bytes-bytes.result.now 0 c.loop-token.at c.loop-token.found.items c.in-Found.token c.loop-token.invariant.stand next)
+      within = token_within c.as_bytes-bytes.result.now c.in-Found.token.start c.in-Found.token.end c.in-Found.token.kind next.spelled.spells;
+      stand = rw items (stand_more c.as_bytes-bytes.result.now 0 c.loop-token.at c.loop-token.found.items c.in-Found.token c.loop-token.invariant.stand next);
     }
 
 pub returns-in-Nothing-clause-only : goal.returns-in-Nothing-clause-only

@@ -4,9 +4,9 @@ use Rattle.prolog_tokens.proofs.spelling.run_end.Given as goal
 
 abbrev pub invariant-loop-end : goal.invariant-loop-end
 invariant-loop-end l = record {
-    some : l.start < l.end;
-    within : l.end ≤ length l.bytes;
-    graphic : (k : ℕ) → l.start ≤ k → k < l.end → is_graphic (class_at l.bytes k) ≡ true
+  some : l.start < l.end;
+  within : l.end ≤ length l.bytes;
+  graphic : (k : ℕ) → l.start ≤ k → k < l.end → is_graphic (class_at l.bytes k) ≡ true;
 }
 
 abbrev pub decreases-loop-end : goal.decreases-loop-end

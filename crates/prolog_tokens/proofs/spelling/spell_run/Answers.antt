@@ -1,5 +1,4 @@
-use Rattle.std.proofs.Common.{rules, ◌≡◌, ◌≢◌, ◌∙◌, sym, IsTrue, true, false}
-use Rattle.prolog_tokens.specs.Spelling.{IsNeck, IsEnd}
+use Rattle.std.proofs.Common.{rules, ◌≡◌, true, false}
 use Rattle.prolog_tokens.proofs.Longest.{no_run_token}
 use Rattle.prolog_tokens.proofs.spelling.spell_run.Goals as goal
 

@@ -1,5 +1,4 @@
-use Rattle.std.proofs.Common.{◌≡◌, ℕ, ◌≤◌, ◌<◌, length, arith}
-use Rattle.prolog_tokens.proofs.Longest.{token_within, token_boundary}
+use Rattle.prolog_tokens.proofs.Longest.{token_boundary}
 use Rattle.prolog_tokens.proofs.values.name_slice.Goals as goal
 
 pub range-requires-clause-end_boundary : goal.range-requires-clause-end_boundary
