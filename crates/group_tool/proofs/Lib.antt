@@ -1,3 +1,5 @@
 pub mod IndicatorOrder
 pub mod NumberingLemmas
 pub mod ReportLemmas
+pub mod Said
+pub mod WordLemmas

@@ -4,3 +4,5 @@ pub mod Numbering
 pub mod Report
 pub mod Rule
 pub mod Sink
+pub mod Words
+pub mod Say

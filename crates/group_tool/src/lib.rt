@@ -8,8 +8,10 @@ mod memory_sink;
 pub mod numbering;
 pub mod report;
 pub mod rule;
+mod say;
 mod sink;
 mod stream_sink;
+mod words;
 
 pub use gate::{Gate, OpenGate};
 pub use memory_sink::MemorySink;

@@ -1,4 +1,4 @@
-ghost use Rattle.std.specs.Prelude.{◌≡◌, ◌≤◌, Some, IfOk, vec_capacity};
+ghost use Rattle.std.specs.Prelude.{◌≡◌, ◌≤◌, ◌<◌, Some, IfOk, length, vec_capacity};
 
 use crate::sink::{Flushed, Put, Sink};
 use std::alloc::{AllocError, Global};
@@ -51,7 +51,13 @@ impl Sink for MemorySink {
     ghost faults = { λ s. s.faults };
     ghost settled = { λ s. s.settled };
 
-    fn put(&mut self, bytes: &[u8]) -> Put {
+    fn put(&mut self, bytes: &[u8]) -> Put
+        requires some { 0 < length bytes.now }
+        requires most { length bytes.now ≤ 65536 }
+        ensures put { PutIs bytes.now (Some self.old.bytes.items) (Some self.new.bytes.items) self.old.faults self.new.faults self.old.settled self.new.settled result }
+        ensures faults_kept { self.old.faults ≤ self.new.faults }
+        ensures full { FailsWhenFull self.old self.new result }
+    {
         let left = self.room.saturating_sub(self.bytes.len());
         let count = bytes.len().min(left);
         if count == 0 {
