@@ -1,13 +1,12 @@
 -- Laws of classes of mutual reach, over any relation of calls.
-use Rattle.std.proofs.Common.{◌≡◌, ◌⊎◌, inl, inr, ℕ, ◌<◌, ◌≤◌, ◌+◌, List, [], ◌∷◌, ◌++◌, length, get_or, map, refl, subst, sym, ap, ◌∙◌, arith}
+use Rattle.std.proofs.Common.{◌≡◌, ◌⊎◌, inl, inr, ℕ, ◌<◌, ◌≤◌, List, [], ◌∷◌, ◌++◌, length, get_or, map, refl, subst, sym, arith}
 use Rattle.std.proofs.lemmas.Bool.{cases_lt}
 use Rattle.std.proofs.lemmas.List.{get_or_append_left, get_or_push, get_or_default, length_push, length-map, get_or-map}
 use Rattle.std.proofs.lemmas.List.Elements.{Contains-get_or}
 use Rattle.std.specs.Prelude.{All, Contains}
 use Rattle.std.specs.List.Sorted.{IsStrictlyIncreasing}
-use Rattle.graph_law.specs.Reach.{Reaches, IsReached, ReachEachOther}
 use Rattle.graph_law.specs.Classes.{IsClass, AreClasses, HasMember, group_at, least_member}
-use Rattle.graph_law.proofs.ReachLaws.{each_other_sym, each_other_trans}
+use Rattle.graph_law.proofs.ReachLaws.{is_reached_on, reaches_call}
 use Rattle.graph_law.proofs.Increasing.{increasing_first, increasing_same}
 
 pub least_is_member : {calls : ℕ → ℕ → Type 0} {class : List ℕ} → IsClass calls class → Contains class (least_member class)
@@ -69,3 +68,9 @@ HasMember-push_cases groups group p has =
           let last : length groups ≡ has.place = omega (arith, le, has.within, length_push groups group) in
           inr (subst P (get_or_push groups group [] has.place last) has.member)
     ]
+
+-- what a member calls is a member
+pub HasMember-call : {calls : ℕ → ℕ → Type 0} {starts : List ℕ} {classes : List (List ℕ)} → AreClasses calls starts classes
+    → (p q : ℕ) → HasMember classes p → calls p q → HasMember classes q
+HasMember-call {calls} {starts} {classes} are p q has call =
+    are.all q (is_reached_on calls starts p q (are.reached p has) (reaches_call calls p q call))

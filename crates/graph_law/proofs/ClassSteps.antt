@@ -1,11 +1,11 @@
 -- How the list of classes grows, node by node.
-use Rattle.std.proofs.Common.{◌≡◌, ◌⊎◌, inl, inr, ℕ, ◌<◌, ◌≤◌, ◌+◌, List, [], ◌∷◌, ◌++◌, length, get_or, map, refl, subst, sym, ap, ◌∙◌, arith}
+use Rattle.std.proofs.Common.{◌≡◌, inl, inr, ℕ, ◌<◌, ◌≤◌, ◌+◌, List, [], ◌∷◌, ◌++◌, map, subst, sym, arith}
 use Rattle.std.proofs.lemmas.Bool.{cases_eq, cases_lt}
 use Rattle.std.proofs.lemmas.List.{map_push}
 use Rattle.std.proofs.lemmas.List.Elements.{All-contains, All-weaker, All-push, All-map}
 use Rattle.std.specs.Prelude.{All, Contains, Bool}
 use Rattle.std.specs.List.Sorted.{IsStrictlyIncreasing}
-use Rattle.graph_law.specs.Reach.{Reaches, IsReached, ReachEachOther}
+use Rattle.graph_law.specs.Reach.{IsReached, ReachEachOther}
 use Rattle.graph_law.specs.Reached.{AreReached, AreRows, MarkEachOther, HasEarlier, AreMarkedWith}
 use Rattle.graph_law.specs.Classes.{IsClass, AreClasses, HasMember, group_at, least_member}
 use Rattle.graph_law.proofs.ReachLaws.{is_reached_on, each_other_self, each_other_sym, each_other_trans}

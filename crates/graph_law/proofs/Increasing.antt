@@ -1,5 +1,5 @@
 -- Lists of numbers that rise.
-use Rattle.std.proofs.Common.{◌≡◌, ◌⊎◌, inl, inr, ℕ, zero, suc, ◌<◌, ◌≤◌, ◌+◌, List, [], ◌∷◌, ◌++◌, length, get_or, sym, arith}
+use Rattle.std.proofs.Common.{◌≡◌, inl, inr, ℕ, zero, suc, ◌<◌, ◌≤◌, ◌+◌, ◌-◌, List, [], ◌∷◌, ◌++◌, length, get_or, sym, arith}
 use Rattle.std.proofs.Math.Numerals.{suc-eq-add-one}
 use Rattle.std.proofs.lemmas.Bool.{cases_eq, cases_order}
 use Rattle.std.proofs.lemmas.List.{get_or_append_left, get_or_push, length_push}
@@ -47,4 +47,22 @@ increasing_same xs up i j within inside same =
             | inl before ↦ absurd (omega (arith, same, increasing_far xs up i j before inside))
             | inr after ↦ absurd (omega (arith, same, increasing_far xs up j i after within))
           ]
+    ]
+
+-- a number is at least its place
+pub increasing_place : (xs : List ℕ) → IsStrictlyIncreasing xs → (k : ℕ) → k < length xs → k ≤ get_or xs k 0
+increasing_place xs up zero lt = omega arith
+increasing_place xs up (suc k) lt =
+    let step : get_or xs k 0 < get_or xs (k + 1) 0 = up k (omega (arith, lt)) in
+    let rest : k ≤ get_or xs k 0 = increasing_place xs up k (omega (arith, lt)) in
+    rw (suc-eq-add-one k) (omega (arith, step, rest))
+
+-- there are at most as many as there are numbers below the bound
+pub increasing_count : (xs : List ℕ) (n : ℕ) → IsStrictlyIncreasing xs → All (λ x. x < n) xs → length xs ≤ n
+increasing_count xs n up below =
+    elim (cases_eq (length xs) 0) [
+      | inl none ↦ omega (arith, none)
+      | inr some ↦
+          let last : length xs - 1 < length xs = omega (arith, some) in
+          omega (arith, some, increasing_place xs up (length xs - 1) last, below (length xs - 1) 0 last)
     ]

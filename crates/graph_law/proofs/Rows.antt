@@ -1,10 +1,9 @@
 -- Rows of marks, and what they say of mutual reach.
-use Rattle.std.proofs.Common.{◌≡◌, ◌⊎◌, inl, inr, ℕ, ◌<◌, ◌≤◌, ◌+◌, Bool, true, false, List, [], ◌∷◌, ◌++◌, length, get_or, refl, subst, sym, ap, ◌∙◌, arith, Vec}
+use Rattle.std.proofs.Common.{◌≡◌, inl, inr, ℕ, ◌<◌, ◌≤◌, ◌+◌, Bool, true, false, List, [], ◌∷◌, ◌++◌, length, get_or, refl, subst, sym, ap, ◌∙◌, arith, Vec}
 use Rattle.std.proofs.lemmas.Bool.{cases_eq, cases_lt, false≢true}
 use Rattle.std.proofs.lemmas.List.{get_or_past, get_or_append_left, get_or_push, get_or_default, length_push}
-use Rattle.std.proofs.lemmas.List.Elements.{All-contains, All-weaker, All-contains_itself, All-push, Contains-append_left, Contains-push}
-use Rattle.std.specs.Prelude.{All, Contains}
-use Rattle.std.specs.List.Sorted.{IsStrictlyIncreasing}
+use Rattle.std.proofs.lemmas.List.Elements.{All-weaker, All-push, Contains-append_left, Contains-push}
+use Rattle.std.specs.Prelude.{Contains}
 use Rattle.graph_law.specs.Reach.{Reaches, IsReached, ReachEachOther}
 use Rattle.graph_law.proofs.Increasing.{increasing_push}
 use Rattle.graph_law.proofs.GraphLaws.{length-lists_of, get_or-lists_of}

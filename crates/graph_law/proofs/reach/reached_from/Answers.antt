@@ -1,9 +1,7 @@
-use Rattle.std.proofs.Common.{◌≡◌, ℕ, ◌<◌, ◌+◌, Bool, true, false, List, [], ◌∷◌, ◌++◌, length, get_or, set, arith}
+use Rattle.std.proofs.Common.{[], length, get_or, arith}
 use Rattle.std.proofs.lemmas.List.{nil_from_length}
-use Rattle.std.proofs.Math.ListN.{replicate}
 use Rattle.graph_law.specs.Graph.{Calls}
-use Rattle.graph_law.specs.Reached.{AreReached}
-use Rattle.graph_law.proofs.Marks.{spreading_start, spreading_read, spreading_step, spreading_done, IsSpreading}
+use Rattle.graph_law.proofs.Marks.{spreading_start, spreading_read, spreading_step, spreading_done}
 use Rattle.graph_law.proofs.reach.reached_from.Goals as goal
 
 pub loop-node-init : goal.loop-node-init
