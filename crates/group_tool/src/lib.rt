@@ -1,6 +1,7 @@
 //! The command's library: from the rules of a file to the bytes of its report.
 #![tactic(auto)]
 
+pub mod call_graph;
 pub mod indicator;
 pub mod level;
 pub mod numbering;
