@@ -1,5 +1,8 @@
+pub mod CallGraphLemmas
 pub mod IndicatorOrder
 pub mod NumberingLemmas
+pub mod ReportIsOne
 pub mod ReportLemmas
+mod ReportRows
 pub mod Said
 pub mod WordLemmas

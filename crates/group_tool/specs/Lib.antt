@@ -1,3 +1,4 @@
+pub mod CallGraph
 pub mod Indicator
 pub mod MemorySink
 pub mod Numbering

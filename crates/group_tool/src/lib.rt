@@ -1,6 +1,7 @@
-//! The command's library: from the rules of a file to the bytes of its report.
+//! The command's library: from words and files to the bytes of a report.
 #![tactic(auto)]
 
+pub mod call_graph;
 mod gate;
 pub mod indicator;
 pub mod level;
@@ -8,10 +9,10 @@ mod memory_sink;
 pub mod numbering;
 pub mod report;
 pub mod rule;
-mod say;
+pub mod say;
 mod sink;
 mod stream_sink;
-mod words;
+pub mod words;
 
 pub use gate::{Gate, OpenGate};
 pub use memory_sink::MemorySink;

@@ -1,0 +1,38 @@
+-- What rules say of calls between numbered predicates.
+use Rattle.std.specs.Prelude.{◌≡◌, ℕ, ◌<◌, ◌↔◌, ◌⊎◌, List, length, Contains, Some, slice_get}
+use Rattle.graph_law.specs.Graph.{CallGraph, Calls}
+use Rattle.group_tool.specs.declared.indicator.Indicator.{Indicator}
+use Rattle.group_tool.specs.Rule.{HeadAndGoals}
+
+-- a rule of predicate p has predicate q among its goals
+pub record NodeCalls (rules : List HeadAndGoals) (predicates : List Indicator) (p q : ℕ) : Type 0 where
+  pub rule : HeadAndGoals
+  pub of_program : Contains rules rule
+  pub caller : slice_get predicates p ≡ Some rule.head
+  pub goal : Indicator
+  pub of_body : Contains rule.goals goal
+  pub callee : slice_get predicates q ≡ Some goal
+
+-- there is a list for each predicate, and it holds what the predicate's rules call
+pub record AreCalleeLists (rules : List HeadAndGoals) (predicates : List Indicator) (lists : List (List ℕ)) : Type 0 where
+  pub one_each : length lists ≡ length predicates
+  pub calls : (p q : ℕ) → Calls lists p q ↔ NodeCalls rules predicates p q
+
+-- a node is the place of a predicate
+abbrev pub IsNode : List Indicator → ℕ → Type 0
+IsNode predicates p = p < length predicates
+
+-- the graph's calls are those of the rules, and each node is a root
+pub record IsCallGraph (rules : List HeadAndGoals) (predicates : List Indicator) (graph : CallGraph) : Type 0 where
+  pub callees : AreCalleeLists rules predicates graph.lists
+  pub roots : (p : ℕ) → Contains graph.roots p ↔ IsNode predicates p
+
+-- some goal is predicate q
+pub record HasGoalAt (predicates goals : List Indicator) (q : ℕ) : Type 0 where
+  pub goal : Indicator
+  pub of_body : Contains goals goal
+  pub callee : slice_get predicates q ≡ Some goal
+
+-- the new list holds what the old one does, and the places of the goals that are predicates
+abbrev pub AddsCallees : List Indicator → List Indicator → List ℕ → List ℕ → Type 0
+AddsCallees predicates goals old new = (q : ℕ) → Contains new q ↔ (Contains old q ⊎ HasGoalAt predicates goals q)
