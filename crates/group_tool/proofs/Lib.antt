@@ -1,4 +1,5 @@
 pub mod CallGraphLemmas
+pub mod ClauseSplits
 pub mod IndicatorOrder
 pub mod NumberingLemmas
 pub mod ReportIsOne

@@ -20,9 +20,9 @@ more_twice (Some before) xs ys = ap Some (append_assoc before xs ys)
 -- a count that rose later rose over all
 pub rose_after : (a b c : ℕ) → a ≤ b → b ≤ c → Rose b c → Rose a c
 rose_after a b c before after rose = elim rose [
-      inl up ↦ inl (omega arith)
-    | inr end ↦ elim (cases_lt a 18446744073709551615) [ inl below ↦ inl (omega arith) | inr past ↦ inr past ]
-  ]
+  | inl up ↦ inl (omega arith)
+  | inr end ↦ elim (cases_lt a 18446744073709551615) [ inl below ↦ inl (omega arith) | inr past ↦ inr past ]
+]
 
 -- and one that rose earlier
 pub rose_before : (a b c : ℕ) → b ≤ c → Rose a b → Rose a c

@@ -22,8 +22,8 @@ stem_of word n is w =
     let long : length word ≡ length w.stem + 3 = ap length w.is ∙ length-append w.stem (codes ".pl") in
     let count : n ≡ length w.stem = omega (arith, long, is) in
     let same : take n word ≡ w.stem =
-        ap (λ k. take k word) count
-        ∙ (ap (take (length w.stem)) w.is
-        ∙ (take-append-le (length w.stem) w.stem (codes ".pl") (omega arith) ∙ take_all (length w.stem) w.stem (omega arith))) in
+    ap (λ k. take k word) count
+    ∙ (ap (take (length w.stem)) w.is
+    ∙ (take-append-le (length w.stem) w.stem (codes ".pl") (omega arith) ∙ take_all (length w.stem) w.stem (omega arith))) in
     let P : List ℕ → Type 0 = λ xs. All (λ b. IsTrue (is_word_byte b)) xs in
     subst P (sym same) w.plain

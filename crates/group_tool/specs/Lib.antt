@@ -7,3 +7,4 @@ pub mod Rule
 pub mod Sink
 pub mod Words
 pub mod Say
+pub mod Clauses

@@ -2,6 +2,7 @@
 #![tactic(auto)]
 
 pub mod call_graph;
+pub mod clauses;
 mod gate;
 pub mod indicator;
 pub mod level;

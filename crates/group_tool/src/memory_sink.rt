@@ -48,7 +48,9 @@ impl Sink for MemorySink {
     ghost use Rattle.group_tool.specs.MemorySink.{FailsWhenFull};
 
     ghost taken = { λ s. Some s.bytes.items };
+
     ghost faults = { λ s. s.faults };
+
     ghost settled = { λ s. s.settled };
 
     fn put(&mut self, bytes: &[u8]) -> Put

@@ -22,11 +22,9 @@ pub fn numbering(alloc: Global, rules: &[Rule]) -> Result<Vec<Indicator>, AllocE
 pub fn find(predicates: &[Indicator], wanted: &Indicator) -> Option<u32>
     requires rising { IsRising predicates.now }
     requires fits { length predicates.now < 2 ^ 32 }
-    ensures {
-        MatchOption result
-            (Contains predicates.now wanted.now → ⊥)
-            (λ place. slice_get predicates.now place ≡ Some wanted.now)
-    }
+    ensures { MatchOption result
+        (Contains predicates.now wanted.now → ⊥)
+        (λ place. slice_get predicates.now place ≡ Some wanted.now) }
 {
     match predicates.binary_search(wanted) {
         Ok(place) => Some(place as u32),

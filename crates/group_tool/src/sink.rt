@@ -20,7 +20,9 @@ pub enum Flushed {
 /// and it is settled where nothing was put since the last flush that was done.
 pub trait Sink {
     ghost taken: { Self → Option (List ℕ) };
+
     ghost faults: { Self → ℕ };
+
     ghost settled: { Self → Bool };
 
     /// Takes some of the bytes, of which there are 1 to 65,536.

@@ -24,7 +24,9 @@ impl<W: Write + Drop> StreamSink<W> {
 
 impl<W: Write + Drop> Sink for StreamSink<W> {
     ghost taken = { λ _. None };
+
     ghost faults = { λ s. s.faults };
+
     ghost settled = { λ s. s.settled };
 
     fn put(&mut self, bytes: &[u8]) -> Put {

@@ -1,3 +1,4 @@
 mod Parts
 mod Bodies
 mod Clauses
+pub mod ClauseEnds

@@ -9,10 +9,11 @@ loop-at-preserved g c =
     let at = c.loop-at.at in
     let m = (at + c.min.result) - at in
     let put = c.in-Took.ensures.put in
-    let before = take at bytes in
-    (omega (arith, put.1, c.loop-at.invariant.0, length-take m (drop at bytes), length-drop at bytes),
-    put.2
-    ∙ (ap (λ t. more_taken t (take c.in-Took.count (take m (drop at bytes)))) c.loop-at.invariant.1
-    ∙ (more_twice (g.S.Sink.taken c.args.sink.now) before (take c.in-Took.count (take m (drop at bytes)))
-    ∙ ap (more_taken (g.S.Sink.taken c.args.sink.now)) (take_piece bytes at m c.in-Took.count put.1))),
-    omega (arith, c.loop-at.invariant.2, c.in-Took.ensures.faults_kept))
+    let before = take at bytes in (
+      omega (arith, put.1, c.loop-at.invariant.0, length-take m (drop at bytes), length-drop at bytes),
+      put.2
+          ∙ (ap (λ t. more_taken t (take c.in-Took.count (take m (drop at bytes)))) c.loop-at.invariant.1
+          ∙ (more_twice (g.S.Sink.taken c.args.sink.now) before (take c.in-Took.count (take m (drop at bytes)))
+          ∙ ap (more_taken (g.S.Sink.taken c.args.sink.now)) (take_piece bytes at m c.in-Took.count put.1))),
+      omega (arith, c.loop-at.invariant.2, c.in-Took.ensures.faults_kept),
+    )

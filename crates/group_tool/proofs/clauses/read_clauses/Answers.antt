@@ -1,0 +1,37 @@
+use Rattle.std.proofs.Common.{◌≡◌, ℕ, List, Ok, Err, ap, sym, ◌∙◌, subst}
+use Rattle.std.specs.Str.{IsUtf8}
+use Rattle.std.proofs.lemmas.Str.{IsUtf8-from_ascii}
+use Rattle.std.proofs.lemmas.Result.{IfOk-weaker}
+use Rattle.prolog_tokens.specs.Cut.{IsCut}
+use Rattle.prolog_terms.specs.Tree.{Tree}
+use Rattle.group_tool.specs.Clauses.{AreClauses, IsPlainText}
+use Rattle.prolog_tokens.specs.declared.token.Token.{Token}
+use Rattle.prolog_tokens.proofs.Lookups.{cut_ascii}
+use Rattle.group_tool.proofs.clauses.read_clauses.Goals as goal
+
+-- the clauses of a text stand on its one list of tokens
+plain_clauses : (bytes text : List ℕ) (ts : List Token) (trees : List Tree) → text ≡ bytes → ((others : List Token) → IsCut text others → others ≡ ts) → IsPlainText bytes trees
+    → AreClauses text ts trees
+plain_clauses bytes text ts trees same only plain =
+    let cut = subst (λ xs. IsCut xs plain.tokens) (sym same) plain.cut in
+    let are = subst (λ xs. AreClauses xs plain.tokens trees) (sym same) plain.clauses in
+    subst (λ us. AreClauses text us trees) (only plain.tokens cut) are
+
+pub returns-in_default-clause-not_built : goal.returns-in_default-clause-not_built
+returns-in_default-clause-not_built c refused others plain =
+    c.in_default.ensures.cases.0 (IsUtf8-from_ascii c.args.bytes.now (cut_ascii c.args.bytes.now plain.tokens plain.cut))
+
+pub returns-in-Ok-tokens-clause-only : goal.returns-in-Ok-tokens-clause-only
+returns-in-Ok-tokens-clause-only c =
+    IfOk-weaker c.split_clauses.result _ _
+    (λ terms only others plain. only others (plain_clauses c.args.bytes.now c.in-Ok.text.now c.deref.result.now others c.in-Ok.ensures.cases.0 (λ us cut. c.in-Ok-tokens.ensures.only us cut ∙ sym c.deref.ensures.value) plain))
+    c.split_clauses.ensures.only
+
+pub returns-in-Ok-tokens-clause-not_built : goal.returns-in-Ok-tokens-clause-not_built
+returns-in-Ok-tokens-clause-not_built c refused others plain =
+    c.split_clauses.ensures.not_built refused others (plain_clauses c.args.bytes.now c.in-Ok.text.now c.deref.result.now others c.in-Ok.ensures.cases.0 (λ us cut. c.in-Ok-tokens.ensures.only us cut ∙ sym c.deref.ensures.value) plain)
+
+pub returns-in-Err-NotBuilt-clause-not_built : goal.returns-in-Err-NotBuilt-clause-not_built
+returns-in-Err-NotBuilt-clause-not_built c refused others plain =
+    c.in-Err-NotBuilt.ensures.not_built (ap (λ fault. Err fault) c.in-Err-NotBuilt.field-0-is) plain.tokens
+    (subst (λ text. IsCut text plain.tokens) (sym c.in-Ok.ensures.cases.0) plain.cut)
