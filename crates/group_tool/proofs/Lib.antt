@@ -5,5 +5,6 @@ pub mod NumberingLemmas
 pub mod ReportIsOne
 pub mod ReportLemmas
 mod ReportRows
+pub mod RuleLemmas
 pub mod Said
 pub mod WordLemmas

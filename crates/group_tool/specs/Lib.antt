@@ -8,3 +8,4 @@ pub mod Sink
 pub mod Words
 pub mod Say
 pub mod Clauses
+pub mod RuleOf

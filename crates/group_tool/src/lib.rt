@@ -10,6 +10,7 @@ mod memory_sink;
 pub mod numbering;
 pub mod report;
 pub mod rule;
+pub mod rules;
 pub mod say;
 mod sink;
 mod stream_sink;

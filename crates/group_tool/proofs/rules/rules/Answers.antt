@@ -1,0 +1,30 @@
+use Rattle.std.proofs.Common.{◌≡◌, ℕ, ◌+◌, ◌<◌, ◌++◌, ◌∷◌, [], List, Option, None, Some, length, get_or, map, take, ap, sym, ◌∙◌, append-nil}
+use Rattle.std.specs.Option.{option_to_list}
+use Rattle.std.proofs.lemmas.List.{map_more}
+use Rattle.prolog_terms.specs.declared.term.Term.{Term}
+use Rattle.prolog_terms.specs.Tree.{tree_of}
+use Rattle.group_tool.specs.Rule.{HeadAndGoals}
+use Rattle.group_tool.specs.RuleOf.{rule_of, rules_of}
+use Rattle.group_tool.proofs.RuleLemmas.{rules_more}
+use Rattle.group_tool.proofs.rules.rules.Goals as goal
+
+step : (clauses : List Term) (at : ℕ) (clause : Term) (said : Option HeadAndGoals) → at < length clauses → clause ≡ get_or clauses at clause → said ≡ rule_of (tree_of clause)
+    → rules_of (map tree_of (take (at + 1) clauses)) ≡ rules_of (map tree_of (take at clauses)) ++ option_to_list said
+step clauses at clause said below is says =
+    ap rules_of (map_more tree_of clauses at clause below)
+    ∙ (ap (λ x. rules_of (map tree_of (take at clauses) ++ tree_of x ∷ [])) (sym is) ∙ rules_more (map tree_of (take at clauses)) (tree_of clause) said says)
+
+pub loop-clause-preserved-in_default : goal.loop-clause-preserved-in_default
+loop-clause-preserved-in_default c =
+    let before = rules_of (map tree_of (take c.loop-clause.clause-index c.args.clauses.now)) in
+    c.loop-clause.invariant
+    ∙ sym (step c.args.clauses.now c.loop-clause.clause-index c.clause-item.result c.in_ok-rule.field-0 c.loop-clause-test.true c.clause-item.is c.in_ok-rule.ensures
+    ∙ (ap (λ said. before ++ option_to_list said) c.in_default.is ∙ append-nil before))
+
+pub loop-clause-preserved : goal.loop-clause-preserved
+loop-clause-preserved c =
+    let before = rules_of (map tree_of (take c.loop-clause.clause-index c.args.clauses.now)) in
+    c.in_ok-push.ensures.items
+    ∙ (ap (λ rules. rules ++ c.in-Some.rule ∷ []) c.loop-clause.invariant
+    ∙ sym (step c.args.clauses.now c.loop-clause.clause-index c.clause-item.result c.in_ok-rule.field-0 c.loop-clause-test.true c.clause-item.is c.in_ok-rule.ensures
+    ∙ ap (λ said. before ++ option_to_list said) c.in-Some.is))

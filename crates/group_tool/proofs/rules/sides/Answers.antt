@@ -1,0 +1,43 @@
+use Rattle.std.proofs.Common.{◌≡◌, ◌≢◌, ℕ, List, Bool, true, false, not, length, get_or, map, refl, sym, ◌∙◌, ap, arith, rules}
+use Rattle.std.proofs.lemmas.List.{length-map}
+use Rattle.std.proofs.Math.ListN.{get_or-map}
+use Rattle.std.specs.Str.{bytes_eq}
+use denote.Enum.Bare.{same_true}
+use Rattle.prolog_terms.specs.contracts.term.Form.{the_type}
+use Rattle.prolog_terms.specs.declared.term.Form.TheVariants.{Infix}
+use Rattle.prolog_terms.specs.declared.term.Term.{fold-roll-Term, Term}
+use Rattle.prolog_terms.specs.declared.term.Term.TheVariants.{rolls-Compound}
+use Rattle.prolog_terms.specs.declared.term.Term.TheOpen.{Term-F}
+use Rattle.prolog_terms.specs.Tree.{Tree, tree_of, tree_step, compound, trees_from}
+use Rattle.group_tool.specs.RuleOf.{sides_of}
+use Rattle.group_tool.proofs.RuleLemmas.{not_two, two_sides}
+use Rattle.group_tool.proofs.rules.sides.Goals as goal
+
+read_tree : (terms : List Term) (at : ℕ) (term : Term) → term ≡ get_or terms at term → tree_of term ≡ get_or (map tree_of terms) at (tree_of term)
+read_tree terms at term is = ap tree_of is ∙ sym (get_or-map tree_of terms at term)
+
+is_true : (test : Bool) → false ≡ not test → test ≡ true
+is_true true is = refl
+is_true false is = let both : false ≡ true = is in absurd (cc)
+
+pub returns-then-len-ne2 : goal.returns-then-len-ne2
+returns-then-len-ne2 c =
+    let v = c.in-Compound in
+    let parts = map tree_of v.args.items in
+    let is : tree_of c.args.term.now ≡ compound v.name (trees_from parts) v.form v.span =
+    ap tree_of (v.is ∙ sym (rolls-Compound v.name v.args v.form v.span)) ∙ fold-roll-Term Tree tree_step (Term-F.Compound v.name v.args v.form v.span) in
+    let count : length parts ≢ 2 = λ two. c.if-len-ne2.true (omega (arith, two, length-map v.args.items tree_of, v.args.ok, c.len.ensures)) in
+    sym (ap (sides_of c.args.operator.now) is ∙ not_two c.args.operator.now v.name parts v.form v.span count)
+
+pub returns : goal.returns
+returns c =
+    let v = c.in-Compound in
+    let parts = map tree_of v.args.items in
+    let is : tree_of c.args.term.now ≡ compound v.name (trees_from parts) v.form v.span =
+    ap tree_of (v.is ∙ sym (rolls-Compound v.name v.args v.form v.span)) ∙ fold-roll-Term Tree tree_step (Term-F.Compound v.name v.args v.form v.span) in
+    let count : length parts ≡ 2 = omega (arith, length-map v.args.items tree_of, v.args.ok, c.len.ensures, c.if-len-ne2.false) in
+    let form : v.form ≡ Infix = same_true the_type (search rules) v.form Infix (is_true _ c.if-ne.ensures) in
+    let name : bytes_eq v.name c.args.operator.now ≡ true = ap (λ n. bytes_eq n c.args.operator.now) (sym c.as_str.ensures) ∙ is_true _ c.if-ne-2.ensures in
+    two_sides c.args.operator.now v.name parts v.form v.span (tree_of c.index.result.now) (tree_of c.index-2.result.now) count
+    (read_tree v.args.items 0 c.index.result.now c.index.ensures) (read_tree v.args.items 1 c.index-2.result.now c.index-2.ensures) form name
+    ∙ ap (sides_of c.args.operator.now) (sym is)

@@ -1,0 +1,46 @@
+-- What a clause says for the call graph.
+use Rattle.std.specs.Prelude.{ℕ, List, [], ◌∷◌, ◌++◌, Option, Some, None, option_map, if◌then◌else◌, codes}
+use Rattle.std.specs.List.{filter_map}
+use Rattle.std.specs.Option.{option_to_list}
+use Rattle.std.specs.Str.{bytes_eq}
+use Rattle.prolog_terms.specs.declared.term.Form.TheVariants.{Infix}
+use Rattle.prolog_terms.specs.Tree.{Tree, Trees, atom, compound, more, none}
+use Rattle.group_tool.specs.declared.indicator.Indicator.{Indicator}
+use Rattle.group_tool.specs.Rule.{HeadAndGoals}
+
+-- the two sides of the infix operator
+abbrev pub sides_of : List ℕ → Tree → Option (Tree × Tree)
+sides_of operator (compound name (more left (more right none)) Infix span) = if bytes_eq name operator then Some (left, right) else None
+sides_of operator _ = None
+
+-- the predicate that a head or a goal names, where it names one
+abbrev pub indicator_of : Tree → Option Indicator
+indicator_of (atom name span) = Some (record { name = name; arity = 0 })
+indicator_of _ = None
+
+-- the predicates that the goals of a body name
+abbrev pub goals_of : Tree → List Indicator
+goals_of (compound name (more left (more right none)) Infix span) =
+    if bytes_eq name (codes ",") then goals_of left ++ goals_of right else []
+goals_of tree = option_to_list (indicator_of tree)
+
+-- the goals of a body, where there is one
+abbrev pub body_goals : Option Tree → List Indicator
+body_goals None = []
+body_goals (Some body) = goals_of body
+
+-- the rule of a head and a body, where the head names a predicate
+abbrev pub rule_with : Tree → Option Tree → Option HeadAndGoals
+rule_with head body = option_map (λ named. record { head = named; goals = body_goals body }) (indicator_of head)
+
+-- a rule by the sides of its `:-`, a fact by itself
+abbrev pub rule_by : Tree → Option (Tree × Tree) → Option HeadAndGoals
+rule_by tree (Some sides) = rule_with sides.0 (Some sides.1)
+rule_by tree None = rule_with tree None
+
+abbrev pub rule_of : Tree → Option HeadAndGoals
+rule_of tree = rule_by tree (sides_of (codes ":-") tree)
+
+-- what the clauses of a text say
+abbrev pub rules_of : List Tree → List HeadAndGoals
+rules_of trees = filter_map rule_of trees

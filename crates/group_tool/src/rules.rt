@@ -1,0 +1,100 @@
+ghost use Rattle.std.specs.Prelude.{◌≡◌, ◌++◌, None, Some, map, option_map, IfOk, OnOk, MatchOption};
+ghost use Rattle.prolog_terms.specs.Tree.{tree_of};
+ghost use Rattle.group_tool.specs.RuleOf.{sides_of, indicator_of, goals_of, rule_with as rule_of_parts, rule_of, rules_of};
+
+use crate::indicator::Indicator;
+use crate::rule::Rule;
+use prolog_terms::{Form, Term};
+use prolog_tokens::Text;
+use std::alloc::{AllocError, Global};
+
+/// The two sides of a term that is this infix operator.
+fn sides<'a>(term: &'a Term, operator: &str) -> Option<(&'a Term, &'a Term)>
+    ensures { option_map (λ pair. (tree_of pair.0.now, tree_of pair.1.now)) result ≡ sides_of operator.now (tree_of term.now) }
+{
+    let Term::Compound {
+        name,
+        args,
+        form,
+        ..
+    } = term
+    else {
+        return None;
+    };
+    if *form != Form::Infix {
+        return None;
+    }
+    if name.as_str() != operator {
+        return None;
+    }
+    if args.len() != 2 {
+        return None;
+    }
+    Some((&args[0], &args[1]))
+}
+
+/// The predicate that a head or a goal names.
+fn indicator(alloc: Global, term: &Term) -> Result<Option<Indicator>, AllocError>
+    ensures { IfOk result (λ named. named ≡ indicator_of (tree_of term.now)) }
+{
+    match term {
+        Term::Atom { name, .. } => Ok(Some(Indicator {
+            name: Text::new(alloc, name.as_str())?,
+            arity: 0,
+        })),
+        _ => Ok(None),
+    }
+}
+
+/// Adds what the goals of the body name.
+fn push_goals(alloc: Global, body: &Term, goals: &mut Vec<Indicator>) -> Result<(), AllocError>
+    ensures { OnOk result (goals.new.items ≡ goals.old.items ++ goals_of (tree_of body.now)) }
+{
+    let mut rest = body;
+    while let Some((goal, others)) = sides(rest, ",") {
+        push_goals(alloc, goal, goals)?;
+        rest = others;
+    }
+    if let Some(goal) = indicator(alloc, rest)? {
+        goals.push(goal)?;
+    }
+    Ok(())
+}
+
+/// The rule of a head and a body, where the head names a predicate.
+fn rule_with(alloc: Global, head: &Term, body: Option<&Term>) -> Result<Option<Rule>, AllocError>
+    ensures { IfOk result (λ found. found ≡ rule_of_parts (tree_of head.now) (option_map (λ b. tree_of b.now) body.entry)) }
+{
+    let Some(head) = indicator(alloc, head)? else {
+        return Ok(None);
+    };
+    let mut goals = Vec::new(alloc);
+    if let Some(body) = body {
+        push_goals(alloc, body, &mut goals)?;
+    }
+    Ok(Some(Rule { head, goals }))
+}
+
+/// What a clause says, where it says something.
+fn rule(alloc: Global, clause: &Term) -> Result<Option<Rule>, AllocError>
+    ensures { IfOk result (λ found. found ≡ rule_of (tree_of clause.now)) }
+{
+    match sides(clause, ":-") {
+        Some((head, body)) => rule_with(alloc, head, Some(body)),
+        None => rule_with(alloc, clause, None),
+    }
+}
+
+/// What the clauses of a text say.
+pub fn rules(alloc: Global, clauses: &[Term]) -> Result<Vec<Rule>, AllocError>
+    ensures { IfOk result (λ found. found.items ≡ rules_of (map tree_of clauses.now)) }
+{
+    let mut found = Vec::new(alloc);
+    for clause in clauses {
+        let Some(rule) = rule(alloc, clause)? else {
+            continue;
+        };
+        found.push(rule)?;
+    }
+    Ok(found)
+}
