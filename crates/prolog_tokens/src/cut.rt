@@ -20,10 +20,7 @@ enum Next {
 fn stands_apart(at: usize, start: usize) -> bool
     ensures { IsTrue result ↔ ((at ≡ 0) ⊎ (at < start)) }
 {
-    if at == 0 {
-        return true;
-    }
-    at < start
+    at == 0 || at < start
 }
 
 /// The token behind the layout that begins at `at`.

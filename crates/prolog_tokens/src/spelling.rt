@@ -51,13 +51,7 @@ fn is_neck(bytes: &[u8], start: usize, end: usize) -> bool
     requires { IsRun bytes.now start end }
     ensures { IsTrue result ↔ IsNeck bytes.now start end }
 {
-    if end != start + 2 {
-        return false;
-    }
-    if bytes[start] != b':' {
-        return false;
-    }
-    bytes[start + 1] == b'-'
+    end == start + 2 && bytes[start] == b':' && bytes[start + 1] == b'-'
 }
 
 /// Whether the run ends a clause.
@@ -65,15 +59,11 @@ fn is_end(bytes: &[u8], start: usize, end: usize) -> bool
     requires { IsRun bytes.now start end }
     ensures { IsTrue result ↔ IsEnd bytes.now start end }
 {
-    if end != start + 1 {
-        return false;
-    }
-    if bytes[start] != b'.' {
+    if end != start + 1 || bytes[start] != b'.' {
         return false;
     }
     match class_at(bytes, end) {
-        Class::White => true,
-        Class::Percent => true,
+        Class::White | Class::Percent => true,
         _ => end == bytes.len(),
     }
 }

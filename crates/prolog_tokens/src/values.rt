@@ -7,6 +7,7 @@ use crate::token::{Kind, Token};
 use std::alloc::{AllocError, Global};
 
 /// The name of a Name token, as it stands in the text.
+#[tactic(auto, using(crate::proofs::Longest::token_boundary))]
 pub fn name_slice<'a>(text: &'a str, token: Token) -> &'a str
     requires name { token.kind ≡ Kind.Name }
     requires spelled { IsSpelled text.now token.kind token.start token.end }
