@@ -15,6 +15,14 @@ pub get_or-lists_of : {X A : Type 0} (vecs : List (Vec X A)) (p : ℕ) (vec : Ve
     → p < length vecs → vec ≡ get_or vecs p vec → get_or (lists_of vecs) p [] ≡ vec.items
 get_or-lists_of vecs p vec lt read = get_or-map (λ each. each.items) vecs p vec [] lt ∙ ap (λ each. each.items) (sym read)
 
+-- the group that is read at a place
+pub group_read : {A : Type 0} (groups : List (Vec ℕ A)) (place : ℕ) (group : Vec ℕ A) (now : List ℕ)
+    → place < length groups → group ≡ get_or groups place group → now ≡ group.items → now ≡ get_or (lists_of groups) place []
+group_read groups place group now lt read is = is ∙ sym (get_or-lists_of groups place group lt read)
+
+pub within_lists : {X A : Type 0} (vecs : List (Vec X A)) (p : ℕ) → p < length vecs → p < length (lists_of vecs)
+within_lists vecs p lt = omega (arith, lt, length-lists_of vecs)
+
 pub lists_of-push : {X A : Type 0} (vecs : List (Vec X A)) (vec : Vec X A) → lists_of (vecs ++ vec ∷ []) ≡ lists_of vecs ++ vec.items ∷ []
 lists_of-push vecs vec = map_push (λ each. each.items) vecs vec
 

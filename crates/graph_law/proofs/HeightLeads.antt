@@ -1,34 +1,11 @@
 -- What the classes of a graph give to the search for heights.
-use Rattle.std.proofs.Common.{◌≡◌, ℕ, ◌<◌, ◌≤◌, List, [], length, map, subst, sym, ◌∙◌, arith}
-use Rattle.std.proofs.lemmas.List.{length-map}
-use Rattle.std.proofs.lemmas.List.Elements.{All-from_get_or, All-map}
-use Rattle.std.specs.Prelude.{All, Contains}
-use Rattle.graph_law.specs.Graph.{CallGraph, Calls, IsGraph}
-use Rattle.graph_law.specs.Classes.{AreClasses, GroupCalls, HasMember, group_at, least_member}
-use Rattle.graph_law.specs.CallOrder.{AreApart, ArePlaces, MembersLeadTo}
-use Rattle.graph_law.proofs.ClassLaws.{classes_apart, least_is_member, HasMember-call}
-use Rattle.graph_law.proofs.GraphLaws.{reached_is_node}
-use Rattle.graph_law.proofs.Increasing.{increasing_count}
-
-pub apart_from_classes : {graph : CallGraph} {classes : List (List ℕ)} → IsGraph graph
-    → AreClasses (Calls graph.lists) graph.roots classes → AreApart (length graph.lists) classes
-apart_from_classes {graph} {classes} is are = record {
-  below = λ i p lt member. reached_is_node is p (are.reached p (record { place = i; within = lt; member = member }));
-  once = classes_apart classes are.each are.in_order;
-}
-
--- there are no more classes than nodes
-pub few_classes : {graph : CallGraph} {classes : List (List ℕ)} → IsGraph graph
-    → AreClasses (Calls graph.lists) graph.roots classes → length classes ≤ length graph.lists
-few_classes {graph} {classes} is are =
-    let low : All (λ k. k < length graph.lists) (map least_member classes) =
-    All-map (λ k. k < length graph.lists) least_member classes
-    (All-from_get_or (λ class. least_member class < length graph.lists) classes []
-    (λ i lt.
-    reached_is_node is (least_member (group_at classes i))
-    (are.reached (least_member (group_at classes i))
-    (record { place = i; within = lt; member = least_is_member (are.each i [] lt) })))) in
-    omega (arith, increasing_count (map least_member classes) (length graph.lists) are.in_order low, length-map classes least_member)
+use Rattle.std.proofs.Common.{◌≡◌, ℕ, ◌<◌, List, length, get_or, subst, sym, ◌∙◌, arith, Vec}
+use Rattle.std.specs.Prelude.{Contains}
+use Rattle.graph_law.specs.Graph.{Calls, lists_of}
+use Rattle.graph_law.specs.Classes.{AreClasses, GroupCalls, HasMember, group_at}
+use Rattle.graph_law.specs.CallOrder.{IsCalleesFirst, ArePlaces, MembersLeadTo}
+use Rattle.graph_law.proofs.ClassLaws.{HasMember-call}
+use Rattle.graph_law.proofs.GraphLaws.{group_read, length-lists_of}
 
 -- to lead to a group is to call it
 pub call_from_lead : {lists : List (List ℕ)} {roots : List ℕ} {classes : List (List ℕ)} {count : ℕ} {places : List ℕ}
@@ -58,3 +35,11 @@ lead_from_call {lists} {classes} {count} {places} table place j led = record {
   is_member = led.is_caller;
   leads = record { callee = led.callee; is_callee = led.call; at = table.at j led.callee led.callee_within led.is_callee; other = led.other };
 }
+
+-- the group at a place of the order, as it is read
+pub ordered_group : {A : Type 0} {calls : ℕ → ℕ → Type 0} (groups : List (Vec ℕ A)) (order : List ℕ)
+    → IsCalleesFirst calls (lists_of groups) order → (n : ℕ) → n < length order → (group : Vec ℕ A) (now : List ℕ)
+    → group ≡ get_or groups (get_or order n 0) group → now ≡ group.items → now ≡ group_at (lists_of groups) (get_or order n 0)
+ordered_group groups order is n lt group now read items =
+    let within : get_or order n 0 < length (lists_of groups) = is.within n 0 lt in
+    group_read groups (get_or order n 0) group now (omega (arith, within, length-lists_of groups)) read items

@@ -1,5 +1,6 @@
 pub mod ClassLaws
 mod ClassSteps
+pub mod GraphClasses
 pub mod GraphLaws
 mod HeightLeads
 mod HeightSteps
@@ -9,3 +10,5 @@ mod PlaceSteps
 mod RankLaws
 pub mod ReachLaws
 mod Rows
+pub mod Transport
+pub mod Unique

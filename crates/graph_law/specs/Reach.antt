@@ -21,3 +21,8 @@ pub record IsReached (calls : ℕ → ℕ → Type 0) (starts : List ℕ) (q : �
 pub record ReachEachOther (calls : ℕ → ℕ → Type 0) (p q : ℕ) : Type 0 where
   pub there : Reaches calls p q
   pub back : Reaches calls q p
+
+-- the two relations have the same calls
+pub record Agree (calls also : ℕ → ℕ → Type 0) : Type 0 where
+  pub to : (p q : ℕ) → calls p q → also p q
+  pub from : (p q : ℕ) → also p q → calls p q

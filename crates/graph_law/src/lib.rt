@@ -13,3 +13,6 @@ pub use classes::{classes_slow, is_recursive};
 pub use graph::Graph;
 pub use heights::heights_slow;
 pub use opener::Opener;
+
+#[cfg(test)]
+mod tests;
