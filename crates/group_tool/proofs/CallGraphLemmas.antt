@@ -63,28 +63,28 @@ pub goals_more : (predicates goals : List Indicator) (old new : List ℕ) (i cal
     → AddsCallees predicates (take i goals) old new → AddsCallees predicates (take (i + 1) goals) old (new ++ callee ∷ [])
 goals_more predicates goals old new i callee goal up lt is at adds q = (
   (λ has.
-    elim (Contains-push_cases new callee q has) [
-      | inl before ↦
-          elim ((adds q).0 before) [
-            | inl of_old ↦ inl of_old
-            | inr h ↦ inr (record { goal = h.goal; of_body = more_old goals i goal h.goal lt h.of_body; callee = h.callee })
-          ]
-      | inr same ↦
-          inr (record { goal = goal; of_body = more_new goals i goal lt is; callee = ap (slice_get predicates) (sym same) ∙ at })
-    ]),
+      elim (Contains-push_cases new callee q has) [
+        | inl before ↦
+            elim ((adds q).0 before) [
+              | inl of_old ↦ inl of_old
+              | inr h ↦ inr (record { goal = h.goal; of_body = more_old goals i goal h.goal lt h.of_body; callee = h.callee })
+            ]
+        | inr same ↦
+            inr (record { goal = goal; of_body = more_new goals i goal lt is; callee = ap (slice_get predicates) (sym same) ∙ at })
+      ]),
   (λ from.
-    elim from [
-      | inl of_old ↦ Contains-append_left new (callee ∷ []) q ((adds q).1 (inl of_old))
-      | inr h ↦
-          elim (more_cases goals i goal h.goal lt is h.of_body) [
-            | inl before ↦
-                Contains-append_left new (callee ∷ []) q ((adds q).1 (inr (record { goal = h.goal; of_body = before; callee = h.callee })))
-            | inr same ↦
-                let place = one_place predicates goal callee q up at (h.callee ∙ ap (λ x. Some x) (sym same)) in
-                let P : ℕ → Type 0 = λ n. Contains (new ++ callee ∷ []) n in
-                subst P place (Contains-push new callee)
-          ]
-    ])
+      elim from [
+        | inl of_old ↦ Contains-append_left new (callee ∷ []) q ((adds q).1 (inl of_old))
+        | inr h ↦
+            elim (more_cases goals i goal h.goal lt is h.of_body) [
+              | inl before ↦
+                  Contains-append_left new (callee ∷ []) q ((adds q).1 (inr (record { goal = h.goal; of_body = before; callee = h.callee })))
+              | inr same ↦
+                  let place = one_place predicates goal callee q up at (h.callee ∙ ap (λ x. Some x) (sym same)) in
+                  let P : ℕ → Type 0 = λ n. Contains (new ++ callee ∷ []) n in
+                  subst P place (Contains-push new callee)
+            ]
+      ]),
 )
 
 -- one more goal, which no rule defines
@@ -92,19 +92,19 @@ pub goals_skip : (predicates goals : List Indicator) (old new : List ℕ) (i : �
     → (Contains predicates goal → ⊥) → AddsCallees predicates (take i goals) old new → AddsCallees predicates (take (i + 1) goals) old new
 goals_skip predicates goals old new i goal lt is none adds q = (
   (λ has.
-    elim ((adds q).0 has) [
-      | inl of_old ↦ inl of_old
-      | inr h ↦ inr (record { goal = h.goal; of_body = more_old goals i goal h.goal lt h.of_body; callee = h.callee })
-    ]),
+      elim ((adds q).0 has) [
+        | inl of_old ↦ inl of_old
+        | inr h ↦ inr (record { goal = h.goal; of_body = more_old goals i goal h.goal lt h.of_body; callee = h.callee })
+      ]),
   (λ from.
-    elim from [
-      | inl of_old ↦ (adds q).1 (inl of_old)
-      | inr h ↦
-          elim (more_cases goals i goal h.goal lt is h.of_body) [
-            | inl before ↦ (adds q).1 (inr (record { goal = h.goal; of_body = before; callee = h.callee }))
-            | inr same ↦ absurd (none (stands predicates q goal (h.callee ∙ ap (λ x. Some x) (sym same))))
-          ]
-    ])
+      elim from [
+        | inl of_old ↦ (adds q).1 (inl of_old)
+        | inr h ↦
+            elim (more_cases goals i goal h.goal lt is h.of_body) [
+              | inl before ↦ (adds q).1 (inr (record { goal = h.goal; of_body = before; callee = h.callee }))
+              | inr same ↦ absurd (none (stands predicates q goal (h.callee ∙ ap (λ x. Some x) (sym same))))
+            ]
+      ]),
 )
 
 -- what one rule more adds
@@ -129,8 +129,10 @@ call_cases rules predicates i p q rule lt is call =
           inl (record { rule = call.rule; of_program = before; caller = call.caller; goal = call.goal; of_body = call.of_body; callee = call.callee })
       | inr same ↦
           let P : HeadAndGoals → Type 0 = λ r. Contains r.goals call.goal in
-          inr (call.caller ∙ ap (λ (r : HeadAndGoals). Some r.head) (sym same),
-            record { goal = call.goal; of_body = subst P (sym same) call.of_body; callee = call.callee })
+          inr (
+            call.caller ∙ ap (λ (r : HeadAndGoals). Some r.head) (sym same),
+            record { goal = call.goal; of_body = subst P (sym same) call.of_body; callee = call.callee },
+          )
     ]
 
 new_call : (rules : List HeadAndGoals) (predicates : List Indicator) (i p q : ℕ) (rule : HeadAndGoals) → i < length rules → rule ≡ get_or rules i rule
@@ -147,38 +149,36 @@ rules_more rules predicates lists new i caller rule up lt is at adds so_far =
     record {
       one_each = length-set lists caller new ∙ so_far.one_each;
       calls = λ p q.
-        let P : List ℕ → Type 0 = λ list. Contains list q in
-        elim (cases_eq p caller) [
-          | inl same ↦
-              let here : get_or (set lists caller new) p [] ≡ new =
+          let P : List ℕ → Type 0 = λ list. Contains list q in
+          elim (cases_eq p caller) [
+            | inl same ↦
+                let here : get_or (set lists caller new) p [] ≡ new =
                 ap (λ n. get_or (set lists caller new) n []) same ∙ get_or-set_same lists caller new [] within in
-              let at_p : slice_get predicates p ≡ Some rule.head = ap (slice_get predicates) same ∙ at in
-              let was : get_or lists p [] ≡ get_or lists caller [] = ap (λ n. get_or lists n []) same in
-              (
-                (λ has.
-                  elim ((adds q).0 (subst P here has)) [
-                    | inl of_old ↦ lift_call rules predicates i p q rule lt ((so_far.calls p q).0 (subst P (sym was) of_old))
-                    | inr h ↦ new_call rules predicates i p q rule lt is at_p h
-                  ]),
-                (λ call.
-                  subst P (sym here)
-                  (elim (call_cases rules predicates i p q rule lt is call) [
-                    | inl before ↦ (adds q).1 (inl (subst P was ((so_far.calls p q).1 before)))
-                    | inr h ↦ (adds q).1 (inr h.1)
-                  ]))
-              )
-          | inr differ ↦
-              let here : get_or (set lists caller new) p [] ≡ get_or lists p [] = get_or-set_other lists caller p new [] differ in
-              (
-                (λ has. lift_call rules predicates i p q rule lt ((so_far.calls p q).0 (subst P here has))),
-                (λ call.
-                  subst P (sym here)
-                  (elim (call_cases rules predicates i p q rule lt is call) [
-                    | inl before ↦ (so_far.calls p q).1 before
-                    | inr h ↦ absurd (differ (one_place predicates rule.head p caller up h.0 at))
-                  ]))
-              )
-        ];
+                let at_p : slice_get predicates p ≡ Some rule.head = ap (slice_get predicates) same ∙ at in
+                let was : get_or lists p [] ≡ get_or lists caller [] = ap (λ n. get_or lists n []) same in (
+                  (λ has.
+                      elim ((adds q).0 (subst P here has)) [
+                        | inl of_old ↦ lift_call rules predicates i p q rule lt ((so_far.calls p q).0 (subst P (sym was) of_old))
+                        | inr h ↦ new_call rules predicates i p q rule lt is at_p h
+                      ]),
+                  (λ call.
+                      subst P (sym here)
+                      (elim (call_cases rules predicates i p q rule lt is call) [
+                        | inl before ↦ (adds q).1 (inl (subst P was ((so_far.calls p q).1 before)))
+                        | inr h ↦ (adds q).1 (inr h.1)
+                      ])),
+                )
+            | inr differ ↦
+                let here : get_or (set lists caller new) p [] ≡ get_or lists p [] = get_or-set_other lists caller p new [] differ in (
+                  (λ has. lift_call rules predicates i p q rule lt ((so_far.calls p q).0 (subst P here has))),
+                  (λ call.
+                      subst P (sym here)
+                      (elim (call_cases rules predicates i p q rule lt is call) [
+                        | inl before ↦ (so_far.calls p q).1 before
+                        | inr h ↦ absurd (differ (one_place predicates rule.head p caller up h.0 at))
+                      ])),
+                )
+          ];
     }
 
 nothing_in : {X : Type 0} (x : X) → Contains [] x → ⊥
@@ -198,9 +198,9 @@ pub rules_start : (rules : List HeadAndGoals) (predicates : List Indicator) (lis
 rules_start rules predicates lists empty = record {
   one_each = ap length empty ∙ length-replicate {A = List ℕ} (length predicates) [];
   calls = λ p q.
-    let P : List ℕ → Type 0 = λ list. Contains list q in
-    let none : get_or lists p [] ≡ [] = ap (λ ls. get_or ls p []) empty ∙ get_or-replicate_nil (length predicates) p in
-    ((λ has. absurd (nothing_in q (subst P none has))), (λ call. absurd (nothing_in call.rule call.of_program)));
+      let P : List ℕ → Type 0 = λ list. Contains list q in
+      let none : get_or lists p [] ≡ [] = ap (λ ls. get_or ls p []) empty ∙ get_or-replicate_nil (length predicates) p in
+      ((λ has. absurd (nothing_in q (subst P none has))), (λ call. absurd (nothing_in call.rule call.of_program)));
 }
 
 -- the head of each rule is a predicate
@@ -219,13 +219,13 @@ is_graph rules predicates graph callees roots few =
     let n = length predicates in
     record {
       closed = λ p q call.
-        let c = (callees.calls p q).0 call in
-        omega (arith, slice_get_within predicates q c.goal c.callee, callees.one_each);
+          let c = (callees.calls p q).0 call in
+          omega (arith, slice_get_within predicates q c.goal c.callee, callees.one_each);
       rooted =
           subst (All (λ root. root < length graph.lists)) (sym roots)
           (λ k d lt.
-            let below : k < n = omega (arith, length-range_with_len 0 n) in
-            omega (arith, get_or-range_with_len 0 n k d below, callees.one_each));
+          let below : k < n = omega (arith, length-range_with_len 0 n) in
+          omega (arith, get_or-range_with_len 0 n k d below, callees.one_each));
       small = omega (arith, callees.one_each);
     }
 
@@ -237,14 +237,13 @@ is_call_graph rules predicates graph callees roots =
     record {
       callees = callees;
       roots = λ p.
-        let P : List ℕ → Type 0 = λ list. Contains list p in
-        (
-          (λ has.
-            let there = subst P roots has in
-            let below : there.0 < n = omega (arith, length-range_with_len 0 n) in
-            omega (arith, get_or-range_with_len 0 n there.0 p below)),
-          (λ below.
-            subst P (sym roots)
-            (p, omega (arith, length-range_with_len 0 n), get_or-range_with_len 0 n p p below ∙ zero-add p))
-        );
+          let P : List ℕ → Type 0 = λ list. Contains list p in (
+            (λ has.
+                let there = subst P roots has in
+                let below : there.0 < n = omega (arith, length-range_with_len 0 n) in
+                omega (arith, get_or-range_with_len 0 n there.0 p below)),
+            (λ below.
+                subst P (sym roots)
+                (p, omega (arith, length-range_with_len 0 n), get_or-range_with_len 0 n p p below ∙ zero-add p)),
+          );
     }

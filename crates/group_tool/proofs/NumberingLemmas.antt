@@ -41,17 +41,17 @@ pub numbered : (rules : List HeadAndGoals) (all sorted kept : List Indicator) �
     → IsSorted indicator_cmp sorted → kept ≡ dedup indicator_eq sorted → IsNumbering rules kept
 numbered rules all sorted kept whole moved up is = record {
   rising = λ i j d lt within.
-    Less-from_sorted indicator_cmp kept i j d
-    (subst (IsStrictlySortedBy indicator_cmp) (sym is) (IsStrictlySortedBy-dedup indicator_cmp_total indicator_ties sorted up)) lt within;
+      Less-from_sorted indicator_cmp kept i j d
+      (subst (IsStrictlySortedBy indicator_cmp) (sym is) (IsStrictlySortedBy-dedup indicator_cmp_total indicator_ties sorted up)) lt within;
   only_heads = λ k d within.
-    let x = get_or kept k d in
-    let has : List Indicator → Type 0 = λ xs. Contains xs x in
-    let in_sorted = Contains-from_dedup indicator_eq sorted x (subst has is (Contains-get_or kept k d within)) in
-    subst has whole (Contains-permutation sorted all x (IsPermutation-sym all sorted moved) in_sorted);
+      let x = get_or kept k d in
+      let has : List Indicator → Type 0 = λ xs. Contains xs x in
+      let in_sorted = Contains-from_dedup indicator_eq sorted x (subst has is (Contains-get_or kept k d within)) in
+      subst has whole (Contains-permutation sorted all x (IsPermutation-sym all sorted moved) in_sorted);
   each_head = λ k d within.
-    let x = get_or (heads rules) k d in
-    let has : List Indicator → Type 0 = λ xs. Contains xs x in
-    let in_all = subst has (sym whole) (Contains-get_or (heads rules) k d within) in
-    subst has (sym is)
-    (Contains-dedup indicator_eq_equiv same_from_eq sorted x (Contains-permutation all sorted x moved in_all));
+      let x = get_or (heads rules) k d in
+      let has : List Indicator → Type 0 = λ xs. Contains xs x in
+      let in_all = subst has (sym whole) (Contains-get_or (heads rules) k d within) in
+      subst has (sym is)
+      (Contains-dedup indicator_eq_equiv same_from_eq sorted x (Contains-permutation all sorted x moved in_all));
 }

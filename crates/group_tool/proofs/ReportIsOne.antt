@@ -56,8 +56,8 @@ same_lists R strict [] (y ∷ ys) up vp there back = absurd (nothing_in y (back 
 same_lists R strict (x ∷ xs) [] up vp there back = absurd (nothing_in x (there x (in_head x xs)))
 same_lists R strict (x ∷ xs) (y ∷ ys) up vp there back =
     let rest : x ≡ y → xs ≡ ys = λ same.
-      same_lists R strict xs ys (rest_in_order R x xs up) (rest_in_order R y ys vp) (rest_there R strict x y xs ys same up there)
-      (rest_there R strict y x ys xs (sym same) vp back) in
+    same_lists R strict xs ys (rest_in_order R x xs up) (rest_in_order R y ys vp) (rest_there R strict x y xs ys same up there)
+    (rest_there R strict y x ys xs (sym same) vp back) in
     elim (cases_eq x y) [
       | inl same ↦ λ i. same i ∷ rest same i
       | inr differ ↦
@@ -74,10 +74,10 @@ same_lists R strict (x ∷ xs) (y ∷ ys) up vp there back =
 lines_strict : (groups : List (List ℕ)) (levels : List Level) → IsStrict (ComesBefore groups levels)
 lines_strict groups levels = record {
   one_way = λ a b there back.
-    elim there [
-      | inl lower ↦ elim back [ | inl higher ↦ omega arith | inr as_high ↦ omega arith ]
-      | inr as_high ↦ elim back [ | inl higher ↦ omega arith | inr as_low ↦ omega arith ]
-    ];
+      elim there [
+        | inl lower ↦ elim back [ inl higher ↦ omega arith | inr as_high ↦ omega arith ]
+        | inr as_high ↦ elim back [ inl higher ↦ omega arith | inr as_low ↦ omega arith ]
+      ];
 }
 
 -- groups have one order of lines, and so one report
@@ -86,8 +86,8 @@ pub same_reports : (predicates : List Indicator) (groups : List (List ℕ)) (lev
 same_reports predicates groups levels first second a b =
     let all = range_with_len 0 (length groups) in
     let across : (xs ys : List ℕ) → IsPermutation all xs → IsPermutation all ys → (z : ℕ) → Contains xs z → Contains ys z =
-      λ xs ys p q z has. Contains-permutation all ys z q (Contains-permutation xs all z (IsPermutation-sym all xs p) has) in
+    λ xs ys p q z has. Contains-permutation all ys z q (Contains-permutation xs all z (IsPermutation-sym all xs p) has) in
     let order : a.order ≡ b.order =
-      same_lists (ComesBefore groups levels) (lines_strict groups levels) a.order b.order a.in_order.rising b.in_order.rising
-      (across a.order b.order a.in_order.each_once b.in_order.each_once) (across b.order a.order b.in_order.each_once a.in_order.each_once) in
+    same_lists (ComesBefore groups levels) (lines_strict groups levels) a.order b.order a.in_order.rising b.in_order.rising
+    (across a.order b.order a.in_order.each_once b.in_order.each_once) (across b.order a.order b.in_order.each_once a.in_order.each_once) in
     a.is ∙ ap (λ places. head_line groups levels ++ flat_map (place_line predicates groups levels) places) order ∙ sym b.is

@@ -8,10 +8,10 @@ pub unreachable-requires : goal.unreachable-requires
 unreachable-requires c =
     c.in-None.ensures
     (is_graph c.args.rules.now c.args.predicates.now (graph_of c.in_ok-lists.lists.items c.in_ok-roots.roots.items) c.in_ok-lists.ensures
-      c.in_ok-roots.ensures c.requires.few)
+    c.in_ok-roots.ensures c.requires.few)
 
 pub returns : goal.returns
 returns c =
     subst (IsCallGraph c.args.rules.now c.args.predicates.now) (sym c.in-Some.ensures.1)
     (is_call_graph c.args.rules.now c.args.predicates.now (graph_of c.in_ok-lists.lists.items c.in_ok-roots.roots.items) c.in_ok-lists.ensures
-      c.in_ok-roots.ensures)
+    c.in_ok-roots.ensures)

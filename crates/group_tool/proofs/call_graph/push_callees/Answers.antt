@@ -14,7 +14,7 @@ loop-goal-preserved c =
     subst (λ new. AddsCallees c.args.predicates.now (take (c.loop-goal.goal-index + 1) c.args.goals.now) c.args.callees.now.items new)
     (sym c.in_ok-push.ensures.items)
     (goals_more c.args.predicates.now c.args.goals.now c.args.callees.now.items c.loop-goal.callees.items c.loop-goal.goal-index c.in-Some.callee
-      c.goal-item.result c.requires.rising c.loop-goal-test.true c.goal-item.is c.in-Some.ensures c.loop-goal.invariant)
+    c.goal-item.result c.requires.rising c.loop-goal-test.true c.goal-item.is c.in-Some.ensures c.loop-goal.invariant)
 
 pub returns : goal.returns
 returns c =

@@ -9,5 +9,5 @@ pub returns : goal.returns
 returns c =
     let s = c.in_ok-sort.ensures in
     let whole : c.loop-rule.heads.items ≡ heads c.args.rules.now =
-        c.loop-rule.invariant ∙ ap heads (take_all c.loop-rule.rule-index c.args.rules.now (omega arith)) in
+    c.loop-rule.invariant ∙ ap heads (take_all c.loop-rule.rule-index c.args.rules.now (omega arith)) in
     numbered c.args.rules.now _ _ _ whole s.permutation s.sorted (dedup_is _ _ _ c.dedup.ensures.filtered)

@@ -33,5 +33,5 @@ returns c =
     (codes " recursive " ++ decimal r) (codes " levels " ++ decimal h) (codes "\n") c.in_ok-push_count.ensures c.in_ok-push_count-2.ensures
     c.in_ok-push_count-3.ensures c.in_ok-push_count-4.ensures c.in_ok-push_str.ensures.bytes
     ∙ ap (λ line. string_bytes c.args.text.now ++ line)
-      (counted_head (lists_of c.args.groups.now) c.args.levels.now m g r h c.member_count.ensures (sym (length-lists_of c.args.groups.now))
-        c.recursive_count.ensures c.height_count.ensures)
+    (counted_head (lists_of c.args.groups.now) c.args.levels.now m g r h c.member_count.ensures (sym (length-lists_of c.args.groups.now))
+    c.recursive_count.ensures c.height_count.ensures)

@@ -25,15 +25,21 @@ no_line = record { height = 0; least = 0; place = 0 }
 
 pub bounds-groups-place : goal.bounds-groups-place
 bounds-groups-place c =
-    omega (arith, length-lists_of c.args.groups.now,
+    omega (
+      arith,
+      length-lists_of c.args.groups.now,
       place_within (lists_of c.args.groups.now) c.args.levels.now c.in_ok-lines.lines.items c.deref-line-items.result.now c.loop-line.line-index no_line
-      c.in_ok-lines.ensures c.deref-line-items.ensures.value c.loop-line-test.true)
+          c.in_ok-lines.ensures c.deref-line-items.ensures.value c.loop-line-test.true,
+    )
 
 pub bounds-levels-place : goal.bounds-levels-place
 bounds-levels-place c =
-    omega (arith, c.requires.one_level_each,
+    omega (
+      arith,
+      c.requires.one_level_each,
       place_within (lists_of c.args.groups.now) c.args.levels.now c.in_ok-lines.lines.items c.deref-line-items.result.now c.loop-line.line-index no_line
-      c.in_ok-lines.ensures c.deref-line-items.ensures.value c.loop-line-test.true)
+          c.in_ok-lines.ensures c.deref-line-items.ensures.value c.loop-line-test.true,
+    )
 
 -- what a group's `Vec` holds is the group at the line's place
 pub push_group-requires : goal.push_group-requires
@@ -41,11 +47,14 @@ push_group-requires c =
     let lists = lists_of c.args.groups.now in
     let place = (get_or c.deref-line-items.result.now c.loop-line.line-index no_line).place in
     let within : place < length c.args.groups.now =
-      omega (arith, length-lists_of c.args.groups.now,
-        place_within lists c.args.levels.now c.in_ok-lines.lines.items c.deref-line-items.result.now c.loop-line.line-index no_line c.in_ok-lines.ensures
-        c.deref-line-items.ensures.value c.loop-line-test.true) in
+    omega (
+      arith,
+      length-lists_of c.args.groups.now,
+      place_within lists c.args.levels.now c.in_ok-lines.lines.items c.deref-line-items.result.now c.loop-line.line-index no_line c.in_ok-lines.ensures
+          c.deref-line-items.ensures.value c.loop-line-test.true,
+    ) in
     let members : group_at lists place ≡ c.deref.result.now =
-      get_or-lists_of c.args.groups.now place c.index-groups-place.result within c.index-groups-place.is ∙ sym c.deref.ensures.value in
+    get_or-lists_of c.args.groups.now place c.index-groups-place.result within c.index-groups-place.is ∙ sym c.deref.ensures.value in
     subst (All (λ member. member < length c.args.predicates.now)) members
     (c.requires.within place [] (omega (arith, length-lists_of c.args.groups.now)))
 
@@ -56,11 +65,14 @@ loop-line-preserved c =
     let predicates = c.args.predicates.now in
     let place = (get_or c.deref-line-items.result.now c.loop-line.line-index no_line).place in
     let within : place < length c.args.groups.now =
-      omega (arith, length-lists_of c.args.groups.now,
-        place_within lists levels c.in_ok-lines.lines.items c.deref-line-items.result.now c.loop-line.line-index no_line c.in_ok-lines.ensures
-        c.deref-line-items.ensures.value c.loop-line-test.true) in
+    omega (
+      arith,
+      length-lists_of c.args.groups.now,
+      place_within lists levels c.in_ok-lines.lines.items c.deref-line-items.result.now c.loop-line.line-index no_line c.in_ok-lines.ensures
+          c.deref-line-items.ensures.value c.loop-line-test.true,
+    ) in
     let members : c.deref.result.now ≡ group_at lists place =
-      c.deref.ensures.value ∙ sym (get_or-lists_of c.args.groups.now place c.index-groups-place.result within c.index-groups-place.is) in
+    c.deref.ensures.value ∙ sym (get_or-lists_of c.args.groups.now place c.index-groups-place.result within c.index-groups-place.is) in
     lines_more (λ line. place_line predicates lists levels line.place) (head_line lists levels) (string_bytes c.loop-line.text)
     (string_bytes c.push_group.new.text) c.deref-line-items.result.now c.loop-line.line-index no_line c.loop-line-test.true c.loop-line.invariant
     (c.in_ok-push_group.ensures ∙ ap (λ ms. string_bytes c.loop-line.text ++ group_line predicates ms (level_at levels place)) members)
@@ -72,6 +84,6 @@ returns c = record {
   is =
       c.loop-line.invariant
       ∙ ap (λ lines. head_line (lists_of c.args.groups.now) c.args.levels.now ++ lines)
-        (lines_all (place_line c.args.predicates.now (lists_of c.args.groups.now) c.args.levels.now) c.in_ok-lines.lines.items c.deref-line-items.result.now c.loop-line.line-index
-          c.deref-line-items.ensures.value c.loop-line-test.false);
+      (lines_all (place_line c.args.predicates.now (lists_of c.args.groups.now) c.args.levels.now) c.in_ok-lines.lines.items c.deref-line-items.result.now c.loop-line.line-index
+      c.deref-line-items.ensures.value c.loop-line-test.false);
 }
