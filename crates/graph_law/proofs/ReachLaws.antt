@@ -1,5 +1,5 @@
 -- Laws of reach, over any relation of calls.
-use Rattle.std.proofs.Common.{◌≡◌, ℕ, List, [], ◌∷◌, ◌++◌, refl, subst, sym}
+use Rattle.std.proofs.Common.{ℕ, List, [], ◌∷◌, ◌++◌, refl, subst, sym}
 use Rattle.std.specs.Prelude.{Contains}
 use Rattle.graph_law.specs.Reach.{IsWalk, Reaches, IsReached, ReachEachOther}
 

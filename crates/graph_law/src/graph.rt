@@ -1,6 +1,6 @@
 ghost use Rattle.std.specs.Prelude.{◌≡◌, ◌<◌, ◌↔◌, [], length, slice_index_or, All, IsTrue, OnOk, OnErr};
 ghost use Rattle.std.specs.Option.{SomeIff};
-ghost use Rattle.graph_law.specs.Graph.{IsGraph, graph_of};
+ghost use Rattle.graph_law.specs.Graph.{IsClosed, IsGraph, graph_of};
 
 use crate::opener::Opener;
 use std::alloc::AllocError;
@@ -67,7 +67,11 @@ impl Graph {
 impl Opener for Graph {
     ghost lists = { λ graph. graph.lists };
 
-    fn count(&self) -> u32 {
+    fn count(&self) -> u32
+        ensures count { result ≡ length self.now.lists }
+        ensures closed { IsClosed self.now.lists }
+        ensures graph { IsGraph self.now }
+    {
         self.succs.len() as u32
     }
 

@@ -1,10 +1,12 @@
 //! What a call graph means: reach, classes of mutual reach, heights and legal orders.
 #![tactic(auto)]
 
+mod call_order;
 mod classes;
 mod graph;
 mod heights;
 mod opener;
+mod places;
 mod reach;
 
 pub use classes::{classes_slow, is_recursive};

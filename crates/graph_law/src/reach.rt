@@ -16,13 +16,13 @@ pub(crate) fn reached_from(
     ensures { IfOk result (λ marks. AreReached (Calls graph.now.lists) (length graph.now.lists) starts.now marks.items) }
 {
     let mut marks = vec![in alloc; false; graph.count() as usize]?;
-    let mut open = Vec::from_slice(alloc, starts)?;
-    while let Some(node) = open.pop() {
+    let mut pending = Vec::from_slice(alloc, starts)?;
+    while let Some(node) = pending.pop() {
         if marks[node as usize] {
             continue;
         }
         marks[node as usize] = true;
-        open.extend_from_slice(graph.successors(node))?;
+        pending.extend_from_slice(graph.successors(node))?;
     }
     Ok(marks)
 }
