@@ -1,6 +1,7 @@
 pub mod CallGraphLemmas
 pub mod IndicatorOrder
 pub mod NumberingLemmas
-pub mod ReportLemmas
+pub mod Printable
 pub mod ReportIsOne
+pub mod ReportLemmas
 mod ReportRows

@@ -73,7 +73,8 @@ fn push_callees(
 ) -> Result<(), AllocError>
     requires rising { IsRising predicates.now }
     requires few { length predicates.now ≤ 1048576 }
-    ensures { OnOk result (AddsCallees predicates.now goals.now callees.old.items callees.new.items) }
+    ensures { OnOk result
+        (AddsCallees predicates.now goals.now callees.old.items callees.new.items) }
 {
     for goal in goals {
         let Some(callee) = find(predicates, goal) else {
