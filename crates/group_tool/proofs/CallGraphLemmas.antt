@@ -1,19 +1,17 @@
 -- The loops that gather what rules call.
-use Rattle.std.proofs.Common.{◌≡◌, ◌≢◌, ℕ, ◌+◌, ◌<◌, ◌≤◌, ◌⊎◌, List, [], ◌∷◌, ◌++◌, length, take, get_or, set, replicate, All, Contains, Some, slice_get, refl, sym, subst, ◌∙◌, ap, inl, inr, zero-add, arith}
+use Rattle.std.proofs.Common.{◌≡◌, ℕ, ◌+◌, ◌<◌, ◌≤◌, ◌⊎◌, List, [], ◌∷◌, ◌++◌, length, take, get_or, set, replicate, All, Contains, Some, slice_get, sym, subst, ◌∙◌, ap, inl, inr, zero-add, arith}
 use Rattle.std.specs.List.{range_with_len}
-use Rattle.std.specs.declared.cmp.Ordering.TheVariants.{Less, Equal}
 use Rattle.std.proofs.lemmas.Bool.{cases_eq, cases_lt}
 use Rattle.std.proofs.lemmas.Cmp.{tied_itself}
-use Rattle.std.proofs.lemmas.List.{take_more, take_all, get_or-map, get_or-set_same, get_or-set_other, length-set, length-map, length-replicate, get_or-replicate, get_or_past}
+use Rattle.std.proofs.lemmas.List.{take_more, get_or-map, get_or-set_same, get_or-set_other, length-set, length-map, length-replicate, get_or-replicate, get_or_past}
 use Rattle.std.proofs.lemmas.List.Elements.{Contains-push, Contains-push_cases, Contains-append_left}
 use Rattle.std.proofs.lemmas.List.FromFn.{length-range_with_len, get_or-range_with_len}
 use Rattle.std.proofs.lemmas.Option.{slice_get_within, get_or_from_slice_get}
 use Rattle.graph_law.specs.Graph.{CallGraph, IsGraph}
 use Rattle.group_tool.specs.declared.indicator.Indicator.{Indicator}
-use Rattle.group_tool.specs.Indicator.{indicator_cmp}
-use Rattle.group_tool.specs.Rule.{HeadAndGoals, heads}
+use Rattle.group_tool.specs.Rule.{HeadAndGoals}
 use Rattle.group_tool.specs.Numbering.{IsRising, IsNumbering}
-use Rattle.group_tool.specs.CallGraph.{NodeCalls, AreCalleeLists, IsCallGraph, IsNode, HasGoalAt, AddsCallees}
+use Rattle.group_tool.specs.CallGraph.{NodeCalls, AreCalleeLists, IsCallGraph, HasGoalAt, AddsCallees}
 use Rattle.group_tool.proofs.IndicatorOrder.{indicator_cmp_total}
 
 -- an element of one item more

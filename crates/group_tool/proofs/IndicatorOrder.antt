@@ -1,6 +1,6 @@
 -- The order of indicators is total, and only equal indicators tie.
-use Rattle.std.proofs.Common.{◌≡◌, ℕ, ◌<◌, Bool, true, ◌&&◌, List, length, nat_eq, get_or, slice_get, Some, sym, ◌∙◌, ap, arith}
-use Rattle.std.specs.Ordering.{nat_cmp, eq_by_cmp, is_eq}
+use Rattle.std.proofs.Common.{◌≡◌, Bool, true, ◌&&◌, nat_eq, ◌∙◌, ap}
+use Rattle.std.specs.Ordering.{eq_by_cmp, is_eq}
 use Rattle.std.specs.declared.cmp.Ordering.TheVariants.{Equal}
 use Rattle.std.specs.Cmp.{IsTotalOrder, IsEquivalence, both_tied, unsigned_ties}
 use Rattle.std.specs.Cmp.Lexicographic.{pointwise, texts_ties}

@@ -2,6 +2,7 @@ pub mod CallGraphLemmas
 pub mod ClauseSplits
 pub mod IndicatorOrder
 pub mod NumberingLemmas
+pub mod Printable
 pub mod ReportIsOne
 pub mod ReportLemmas
 mod ReportRows

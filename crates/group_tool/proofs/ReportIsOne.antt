@@ -1,12 +1,11 @@
 -- A list in strict order is the only one with its elements, so that groups have one report.
-use Rattle.std.proofs.Common.{◌≡◌, ℕ, zero, suc, ◌<◌, ◌⊎◌, List, [], ◌∷◌, ◌++◌, length, get_or, All, AllPairs, Contains, IsPermutation, refl, sym, subst, ◌∙◌, ap, inl, inr, arith}
+use Rattle.std.proofs.Common.{◌≡◌, ℕ, zero, suc, ◌<◌, ◌⊎◌, List, [], ◌∷◌, ◌++◌, length, AllPairs, Contains, IsPermutation, refl, sym, subst, ◌∙◌, ap, inl, inr, arith}
 use Rattle.std.specs.List.{flat_map, range_with_len}
 use Rattle.std.proofs.lemmas.Bool.{cases_eq}
-use Rattle.std.proofs.lemmas.List.Elements.{All-contains}
 use Rattle.std.proofs.lemmas.List.Sorted.{Contains-permutation, IsPermutation-sym}
 use Rattle.group_tool.specs.declared.indicator.Indicator.{Indicator}
 use Rattle.group_tool.specs.declared.level.Level.{Level}
-use Rattle.group_tool.specs.Report.{ComesBefore, IsLineOrder, IsReport, head_line, place_line}
+use Rattle.group_tool.specs.Report.{ComesBefore, IsReport, head_line, place_line}
 
 -- no two elements stand before each other
 record IsStrict (R : ℕ → ℕ → Type 0) : Type 0 where

@@ -1,8 +1,9 @@
 -- The report: a head line, then a line for each group by height and least member.
-use Rattle.std.specs.Prelude.{◌≡◌, ℕ, ◌+◌, ◌<◌, ◌^◌, ◌≢◌, Bool, false, ◌⊎◌, List, [], ◌∷◌, ◌++◌, length, max, map, sum_by, count_by, fold, All, AllPairs, IsPermutation, slice_index, slice_index_or, if◌then◌else◌, codes}
+use Rattle.std.specs.Prelude.{◌≡◌, ℕ, ◌+◌, ◌<◌, ◌^◌, ◌≢◌, Bool, false, ◌⊎◌, List, [], ◌++◌, length, max, map, sum_by, count_by, fold, All, AllPairs, IsPermutation, slice_index_or, if◌then◌else◌, codes}
 use Rattle.std.specs.Fmt.{decimal}
 use Rattle.std.specs.List.{flat_map, range_with_len}
 use Rattle.std.specs.List.Sorted.{IsStrictlyIncreasing}
+use Rattle.graph_law.specs.Classes.{group_at, least_member}
 use Rattle.group_tool.specs.declared.indicator.Indicator.{Indicator}
 use Rattle.group_tool.specs.declared.level.Level.{Level}
 
@@ -37,15 +38,12 @@ head_line groups levels =
     ++ (codes " recursive " ++ decimal (count_by (λ (level : Level). level.recursive) levels))
     ++ (codes " levels " ++ decimal (height_count levels)) ++ codes "\n"
 
--- the group, its level and its least member, at a place of the list of groups
-abbrev pub group_at : List (List ℕ) → ℕ → List ℕ
-group_at groups place = slice_index_or groups place []
-
+-- the level of the group at a place, and its least member
 abbrev pub level_at : List Level → ℕ → Level
 level_at levels place = slice_index_or levels place (record { height = 0; recursive = false })
 
 abbrev pub least_at : List (List ℕ) → ℕ → ℕ
-least_at groups place = slice_index (group_at groups place) 0
+least_at groups place = least_member (group_at groups place)
 
 -- the group at a is lower than the one at b, or as high with a lesser least member
 abbrev pub ComesBefore : List (List ℕ) → List Level → ℕ → ℕ → Type 0
@@ -70,7 +68,7 @@ pub record IsReport (predicates : List Indicator) (groups : List (List ℕ)) (le
 
 -- no two groups have the same least member
 abbrev pub LeastDiffer : List (List ℕ) → Type 0
-LeastDiffer groups = AllPairs (λ a b. a ≢ b) (map (λ members. slice_index members 0) groups)
+LeastDiffer groups = AllPairs (λ a b. a ≢ b) (map least_member groups)
 
 -- what a report is made of: each group has a level and some members, which ascend and are places of predicates
 pub record ArePrintable (predicates : List Indicator) (groups : List (List ℕ)) (levels : List Level) : Type 0 where

@@ -73,7 +73,8 @@ fn push_callees(
 ) -> Result<(), AllocError>
     requires rising { IsRising predicates.now }
     requires few { length predicates.now ≤ 1048576 }
-    ensures { OnOk result (AddsCallees predicates.now goals.now callees.old.items callees.new.items) }
+    ensures { OnOk result
+        (AddsCallees predicates.now goals.now callees.old.items callees.new.items) }
 {
     for goal in goals {
         let Some(callee) = find(predicates, goal) else {
@@ -82,4 +83,45 @@ fn push_callees(
         callees.push(callee)?;
     }
     Ok(())
+}
+
+#[cfg(test)]
+mod tests {
+    use super::*;
+    use crate::numbering::numbering;
+    use graph_law::Opener;
+    use prolog_tokens::Text;
+    use std::test::Fail;
+
+    fn indicator(alloc: Global, name: &str) -> Result<Indicator, AllocError> {
+        Ok(Indicator {
+            name: Text::new(alloc, name)?,
+            arity: 0,
+        })
+    }
+
+    #[test]
+    fn calls_only_what_rules_define(rt: HostRuntime) -> Result<(), Fail> {
+        let alloc = rt.alloc();
+        let mut goals = Vec::new(alloc);
+        goals.push(indicator(alloc, "c")?)?;
+        goals.push(indicator(alloc, "b")?)?;
+        let mut rules = Vec::new(alloc);
+        rules.push(Rule {
+            head: indicator(alloc, "a")?,
+            goals,
+        })?;
+        rules.push(Rule {
+            head: indicator(alloc, "b")?,
+            goals: Vec::new(alloc),
+        })?;
+        let predicates = numbering(alloc, &rules)?;
+        assert_eq!(rt; predicates.len(), 2);
+        let graph = call_graph(alloc, &rules, &predicates)?;
+        assert_eq!(rt; graph.count(), 2);
+        let mut callees = Vec::new(alloc);
+        graph.expand(0, &mut callees)?;
+        assert_eq!(rt; callees.as_slice(), [1].as_slice());
+        Ok(())
+    }
 }

@@ -31,3 +31,36 @@ pub fn find(predicates: &[Indicator], wanted: &Indicator) -> Option<u32>
         Err(_) => None,
     }
 }
+
+#[cfg(test)]
+mod tests {
+    use super::*;
+    use prolog_tokens::Text;
+    use std::test::Fail;
+
+    fn indicator(alloc: Global, name: &str) -> Result<Indicator, AllocError> {
+        Ok(Indicator {
+            name: Text::new(alloc, name)?,
+            arity: 0,
+        })
+    }
+
+    #[test]
+    fn numbers_each_head_once(rt: HostRuntime) -> Result<(), Fail> {
+        let alloc = rt.alloc();
+        let mut rules = Vec::new(alloc);
+        for name in ["b", "a", "b"] {
+            rules.push(Rule {
+                head: indicator(alloc, name)?,
+                goals: Vec::new(alloc),
+            })?;
+        }
+        let predicates = numbering(alloc, &rules)?;
+        assert_eq!(rt; predicates.len(), 2);
+        assert_eq!(rt; predicates[0].name.as_str(), "a");
+        assert_eq!(rt; predicates[1].name.as_str(), "b");
+        assert_eq!(rt; find(&predicates, &indicator(alloc, "b")?), Some(1));
+        assert_eq!(rt; find(&predicates, &indicator(alloc, "c")?), None);
+        Ok(())
+    }
+}

@@ -1,10 +1,10 @@
-use Rattle.std.proofs.Common.{◌≡◌, ◌+◌, ◌<◌, Some, ◌∙◌, [], Contains, length, take, sym, subst, ap, arith}
+use Rattle.std.proofs.Common.{◌+◌, ◌<◌, Some, ◌∙◌, Contains, length, take, sym, subst, ap, arith}
 use Rattle.std.proofs.lemmas.List.{take_all, map-set}
 use Rattle.std.proofs.lemmas.Option.{slice_get_within}
 use Rattle.graph_law.specs.Graph.{lists_of}
 use Rattle.graph_law.proofs.GraphLaws.{length-lists_of, get_or-lists_of}
 use Rattle.group_tool.specs.CallGraph.{AddsCallees, AreCalleeLists}
-use Rattle.group_tool.proofs.CallGraphLemmas.{rules_more, rules_start, head_stands}
+use Rattle.group_tool.proofs.CallGraphLemmas.{rules_more, head_stands}
 use Rattle.group_tool.proofs.call_graph.callee_lists.Goals as goal
 
 pub unreachable-requires : goal.unreachable-requires
