@@ -230,18 +230,4 @@ is_graph rules predicates graph callees roots few =
 -- and that graph is the call graph
 pub is_call_graph : (rules : List HeadAndGoals) (predicates : List Indicator) (graph : CallGraph) → AreCalleeLists rules predicates graph.lists
     → graph.roots ≡ range_with_len 0 (length predicates) → IsCallGraph rules predicates graph
-is_call_graph rules predicates graph callees roots =
-    let n = length predicates in
-    record {
-      callees = callees;
-      roots = λ p.
-          let P : List ℕ → Type 0 = λ list. Contains list p in (
-            (λ has.
-                let there = subst P roots has in
-                let below : there.0 < n = omega (arith, length-range_with_len 0 n) in
-                omega (arith, get_or-range_with_len 0 n there.0 p below)),
-            (λ below.
-                subst P (sym roots)
-                (p, omega (arith, length-range_with_len 0 n), get_or-range_with_len 0 n p p below ∙ zero-add p)),
-          );
-    }
+is_call_graph rules predicates graph callees roots = record { callees = callees; roots = roots }

@@ -1,5 +1,6 @@
 pub mod CallGraphLemmas
 pub mod ClauseSplits
+pub mod GroupingLemmas
 pub mod IndicatorOrder
 pub mod NumberingLemmas
 pub mod Printable

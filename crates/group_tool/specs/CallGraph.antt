@@ -1,5 +1,6 @@
 -- What rules say of calls between numbered predicates.
-use Rattle.std.specs.Prelude.{◌≡◌, ℕ, ◌<◌, ◌↔◌, ◌⊎◌, List, length, Contains, Some, slice_get}
+use Rattle.std.specs.Prelude.{◌≡◌, ℕ, ◌↔◌, ◌⊎◌, List, length, Contains, Some, slice_get}
+use Rattle.std.specs.List.{range_with_len}
 use Rattle.graph_law.specs.Graph.{CallGraph, Calls}
 use Rattle.group_tool.specs.declared.indicator.Indicator.{Indicator}
 use Rattle.group_tool.specs.Rule.{HeadAndGoals}
@@ -18,14 +19,14 @@ pub record AreCalleeLists (rules : List HeadAndGoals) (predicates : List Indicat
   pub one_each : length lists ≡ length predicates
   pub calls : (p q : ℕ) → Calls lists p q ↔ NodeCalls rules predicates p q
 
--- a node is the place of a predicate
-abbrev pub IsNode : List Indicator → ℕ → Type 0
-IsNode predicates p = p < length predicates
+-- the numbers of all predicates
+abbrev pub all_nodes : List Indicator → List ℕ
+all_nodes predicates = range_with_len 0 (length predicates)
 
 -- the graph's calls are those of the rules, and each node is a root
 pub record IsCallGraph (rules : List HeadAndGoals) (predicates : List Indicator) (graph : CallGraph) : Type 0 where
   pub callees : AreCalleeLists rules predicates graph.lists
-  pub roots : (p : ℕ) → Contains graph.roots p ↔ IsNode predicates p
+  pub roots : graph.roots ≡ all_nodes predicates
 
 -- some goal is predicate q
 pub record HasGoalAt (predicates goals : List Indicator) (q : ℕ) : Type 0 where

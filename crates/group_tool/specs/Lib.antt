@@ -9,3 +9,4 @@ pub mod Words
 pub mod Say
 pub mod Clauses
 pub mod RuleOf
+pub mod Grouping

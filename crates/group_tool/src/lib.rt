@@ -4,6 +4,7 @@
 pub mod call_graph;
 pub mod clauses;
 mod gate;
+pub mod grouping;
 pub mod indicator;
 pub mod level;
 mod memory_sink;

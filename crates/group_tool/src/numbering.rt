@@ -1,4 +1,4 @@
-ghost use Rattle.std.specs.Prelude.{◌≡◌, ◌<◌, ◌^◌, ℕ, IfOk, MatchOption, Contains, length, slice_get, Some};
+ghost use Rattle.std.specs.Prelude.{◌≡◌, ◌<◌, ◌≤◌, ◌^◌, ℕ, vec_len, IfOk, MatchOption, Contains, length, slice_get, Some};
 ghost use Rattle.group_tool.specs.Numbering.{IsNumbering, IsRising};
 
 use crate::indicator::Indicator;
@@ -7,7 +7,8 @@ use std::alloc::{AllocError, Global};
 
 /// The predicates that `rules` define, each once, in the order of indicators.
 pub fn numbering(alloc: Global, rules: &[Rule]) -> Result<Vec<Indicator>, AllocError>
-    ensures { IfOk result (λ predicates. IsNumbering rules.now predicates.items) }
+    ensures numbering { IfOk result (λ predicates. IsNumbering rules.now predicates.items) }
+    ensures few { IfOk result (λ predicates. vec_len predicates ≤ length rules.now) }
 {
     let mut heads = Vec::new(alloc);
     for rule in rules {

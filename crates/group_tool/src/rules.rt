@@ -1,4 +1,4 @@
-ghost use Rattle.std.specs.Prelude.{◌≡◌, ◌++◌, None, Some, map, option_map, IfOk, OnOk, MatchOption};
+ghost use Rattle.std.specs.Prelude.{◌≡◌, ◌≤◌, ◌++◌, None, Some, map, length, vec_len, option_map, IfOk, OnOk, MatchOption};
 ghost use Rattle.prolog_terms.specs.Tree.{tree_of};
 ghost use Rattle.group_tool.specs.RuleOf.{sides_of, indicator_of, goals_of, rule_with as rule_of_parts, rule_of, rules_of};
 
@@ -87,7 +87,8 @@ fn rule(alloc: Global, clause: &Term) -> Result<Option<Rule>, AllocError>
 
 /// What the clauses of a text say.
 pub fn rules(alloc: Global, clauses: &[Term]) -> Result<Vec<Rule>, AllocError>
-    ensures { IfOk result (λ found. found.items ≡ rules_of (map tree_of clauses.now)) }
+    ensures rules { IfOk result (λ found. found.items ≡ rules_of (map tree_of clauses.now)) }
+    ensures few { IfOk result (λ found. vec_len found ≤ length clauses.now) }
 {
     let mut found = Vec::new(alloc);
     for clause in clauses {

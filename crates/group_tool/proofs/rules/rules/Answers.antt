@@ -1,4 +1,4 @@
-use Rattle.std.proofs.Common.{◌≡◌, ℕ, ◌+◌, ◌<◌, ◌++◌, ◌∷◌, [], List, Option, None, Some, length, get_or, map, take, ap, sym, ◌∙◌, append-nil}
+use Rattle.std.proofs.Common.{◌≡◌, ℕ, ◌+◌, ◌<◌, ◌++◌, ◌∷◌, [], List, Option, None, Some, length, get_or, map, take, ap, sym, ◌∙◌, append-nil, arith}
 use Rattle.std.specs.Option.{option_to_list}
 use Rattle.std.proofs.lemmas.List.{map_more}
 use Rattle.prolog_terms.specs.declared.term.Term.{Term}
@@ -16,15 +16,19 @@ step clauses at clause said below is says =
 
 pub loop-clause-preserved-in_default : goal.loop-clause-preserved-in_default
 loop-clause-preserved-in_default c =
-    let before = rules_of (map tree_of (take c.loop-clause.clause-index c.args.clauses.now)) in
-    c.loop-clause.invariant
-    ∙ sym (step c.args.clauses.now c.loop-clause.clause-index c.clause-item.result c.in_ok-rule.field-0 c.loop-clause-test.true c.clause-item.is c.in_ok-rule.ensures
-    ∙ (ap (λ said. before ++ option_to_list said) c.in_default.is ∙ append-nil before))
+    let before = rules_of (map tree_of (take c.loop-clause.clause-index c.args.clauses.now)) in (
+      c.loop-clause.invariant.0
+          ∙ sym (step c.args.clauses.now c.loop-clause.clause-index c.clause-item.result c.in_ok-rule.field-0 c.loop-clause-test.true c.clause-item.is c.in_ok-rule.ensures
+          ∙ (ap (λ said. before ++ option_to_list said) c.in_default.is ∙ append-nil before)),
+      omega (arith, c.loop-clause.invariant.1),
+    )
 
 pub loop-clause-preserved : goal.loop-clause-preserved
 loop-clause-preserved c =
-    let before = rules_of (map tree_of (take c.loop-clause.clause-index c.args.clauses.now)) in
-    c.in_ok-push.ensures.items
-    ∙ (ap (λ rules. rules ++ c.in-Some.rule ∷ []) c.loop-clause.invariant
-    ∙ sym (step c.args.clauses.now c.loop-clause.clause-index c.clause-item.result c.in_ok-rule.field-0 c.loop-clause-test.true c.clause-item.is c.in_ok-rule.ensures
-    ∙ ap (λ said. before ++ option_to_list said) c.in-Some.is))
+    let before = rules_of (map tree_of (take c.loop-clause.clause-index c.args.clauses.now)) in (
+      c.in_ok-push.ensures.items
+          ∙ (ap (λ rules. rules ++ c.in-Some.rule ∷ []) c.loop-clause.invariant.0
+          ∙ sym (step c.args.clauses.now c.loop-clause.clause-index c.clause-item.result c.in_ok-rule.field-0 c.loop-clause-test.true c.clause-item.is c.in_ok-rule.ensures
+          ∙ ap (λ said. before ++ option_to_list said) c.in-Some.is)),
+      omega (arith, c.loop-clause.invariant.1, c.in_ok-push.ensures.len),
+    )

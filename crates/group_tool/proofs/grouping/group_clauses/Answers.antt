@@ -1,0 +1,35 @@
+use Rattle.std.proofs.Common.{◌≡◌, List, length, ap, sym, ◌∙◌, subst, arith}
+use Rattle.std.specs.String.{string_bytes}
+use Rattle.prolog_terms.specs.Tree.{tree_of}
+use Rattle.graph_law.specs.Graph.{Calls, IsGraph, lists_of}
+use Rattle.graph_law.specs.Classes.{AreClasses}
+use Rattle.graph_law.proofs.GraphLaws.{length-lists_of}
+use Rattle.group_tool.specs.Report.{ArePrintable, IsReport}
+use Rattle.group_tool.specs.Grouping.{AreLevels}
+use Rattle.group_tool.specs.CallGraph.{IsCallGraph}
+use Rattle.group_tool.proofs.GroupingLemmas.{report_of, levels_each}
+use Rattle.group_tool.proofs.Printable.{printable_classes}
+use Rattle.group_tool.proofs.grouping.group_clauses.Goals as goal
+
+pub report-requires : goal.report-requires
+report-requires c =
+    let groups = lists_of c.in_ok-groups.groups.items in
+    let predicates = c.in_ok-predicates.predicates.items in
+    let levels = c.in_ok-levels.levels.items in
+    let graph = c.in_ok-graph.graph in
+    let is : IsGraph graph = subst IsGraph c.graph.view_is c.graph.invariant in
+    let nodes : length graph.lists ≡ length predicates = c.in_ok-graph.ensures.callees.one_each ∙ ap length c.deref-3.ensures.value in
+    let made = subst (λ vecs. AreLevels (Calls graph.lists) (lists_of vecs) levels) c.deref-4.ensures.value c.in_ok-levels.ensures in
+    let printable = printable_classes predicates levels is c.in_ok-groups.ensures nodes (levels_each made) in
+    rw (c.deref-5.ensures.value, c.deref-6.ensures.value, c.deref-7.ensures.value) printable
+
+pub returns : goal.returns
+returns c =
+    let levels = c.in_ok-levels.levels.items in
+    let graph = c.in_ok-graph.graph in
+    let made = subst (λ vecs. AreLevels (Calls graph.lists) (lists_of vecs) levels) c.deref-4.ensures.value c.in_ok-levels.ensures in
+    let said = c.deref.ensures.value ∙ c.in_ok-rules.ensures.rules in
+    let numbering = c.in_ok-predicates.ensures.numbering in
+    let calls = rw (c.deref-2.ensures.value, c.deref-3.ensures.value, ← c.deref.ensures.value) at c.in_ok-graph.ensures in
+    let report = rw (c.deref-5.ensures.value, c.deref-6.ensures.value, c.deref-7.ensures.value) at c.in_ok-text.ensures in
+    report_of said numbering calls c.in_ok-groups.ensures made report
