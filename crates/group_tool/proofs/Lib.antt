@@ -1,3 +1,4 @@
+pub mod AnswerLemmas
 pub mod CallGraphLemmas
 pub mod ClauseSplits
 pub mod GroupingLemmas
@@ -8,5 +9,6 @@ pub mod ReportIsOne
 pub mod ReportLemmas
 mod ReportRows
 pub mod RuleLemmas
+pub mod RunLemmas
 pub mod Said
 pub mod WordLemmas

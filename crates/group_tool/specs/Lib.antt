@@ -10,3 +10,7 @@ pub mod Say
 pub mod Clauses
 pub mod RuleOf
 pub mod Grouping
+pub mod Answer
+pub mod Outcome
+pub mod Run
+pub mod OutcomeEnd

@@ -51,6 +51,7 @@ pub fn read_clauses(alloc: Global, bytes: &[u8]) -> Result<Vec<Term>, PlainFault
     ensures ok { IfOk result (λ terms. IsPlainText bytes.now (map tree_of terms.items)) }
     ensures only { IfOk result (λ terms. (others : List Tree) → IsPlainText bytes.now others → others ≡ map tree_of terms.items) }
     ensures not_built { IsErrOf result NotBuilt → (others : List Tree) → IsPlainText bytes.now others → ⊥ }
+    ensures few { IfOk result (λ terms. length terms.items ≤ 65536) }
 {
     if bytes.len() > MOST_BYTES {
         return Err(PlainFault::NotBuilt);

@@ -1,6 +1,7 @@
 //! The command's library: from words and files to the bytes of a report.
 #![tactic(auto)]
 
+pub mod answer;
 pub mod call_graph;
 pub mod clauses;
 mod gate;
@@ -9,9 +10,11 @@ pub mod indicator;
 pub mod level;
 mod memory_sink;
 pub mod numbering;
+pub mod outcome;
 pub mod report;
 pub mod rule;
 pub mod rules;
+mod run;
 pub mod say;
 mod sink;
 mod stream_sink;

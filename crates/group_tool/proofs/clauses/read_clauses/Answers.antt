@@ -1,12 +1,14 @@
-use Rattle.std.proofs.Common.{◌≡◌, ℕ, List, Ok, Err, ap, sym, ◌∙◌, subst}
+use Rattle.std.proofs.Common.{◌≡◌, ℕ, ◌≤◌, List, Ok, Err, length, map, arith, ap, sym, ◌∙◌, subst}
 use Rattle.std.specs.Str.{IsUtf8}
 use Rattle.std.proofs.lemmas.Str.{IsUtf8-from_ascii}
 use Rattle.std.proofs.lemmas.Result.{IfOk-weaker}
 use Rattle.prolog_tokens.specs.Cut.{IsCut}
-use Rattle.prolog_terms.specs.Tree.{Tree}
+use Rattle.prolog_terms.specs.Tree.{Tree, tree_of}
 use Rattle.group_tool.specs.Clauses.{AreClauses, IsPlainText}
 use Rattle.prolog_tokens.specs.declared.token.Token.{Token}
-use Rattle.prolog_tokens.proofs.Lookups.{cut_ascii}
+use Rattle.prolog_tokens.proofs.Lookups.{cut_ascii, cut_fewer}
+use Rattle.std.proofs.lemmas.List.{length-map}
+use Rattle.group_tool.proofs.AnswerLemmas.{few_clauses}
 use Rattle.group_tool.proofs.clauses.read_clauses.Goals as goal
 
 -- the clauses of a text stand on its one list of tokens
@@ -35,3 +37,19 @@ pub returns-in-Err-NotBuilt-clause-not_built : goal.returns-in-Err-NotBuilt-clau
 returns-in-Err-NotBuilt-clause-not_built c refused others plain =
     c.in-Err-NotBuilt.ensures.not_built (ap (λ fault. Err fault) c.in-Err-NotBuilt.field-0-is) plain.tokens
     (subst (λ text. IsCut text plain.tokens) (sym c.in-Ok.ensures.cases.0) plain.cut)
+
+pub returns-in-Ok-tokens-clause-few : goal.returns-in-Ok-tokens-clause-few
+returns-in-Ok-tokens-clause-few c =
+    let fewer : length c.in-Ok-tokens.tokens.items ≤ length c.in-Ok.text.now = cut_fewer c.in-Ok.text.now c.in-Ok-tokens.tokens.items c.in-Ok-tokens.ensures.ok in
+    IfOk-weaker c.split_clauses.result _ _
+    (λ terms are.
+    omega (
+      arith,
+      fewer,
+      few_clauses c.in-Ok.text.now c.deref.result.now (map tree_of terms.items) are,
+      length-map terms.items tree_of,
+      c.deref.ensures.len,
+      c.in-Ok-tokens.tokens.ok,
+      ap length c.in-Ok.ensures.cases.0,
+    ))
+    c.split_clauses.ensures.ok

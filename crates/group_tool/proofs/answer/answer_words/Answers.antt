@@ -1,0 +1,15 @@
+use Rattle.std.proofs.Common.{◌≡◌, Some, subst}
+use Rattle.file_library.specs.Library.{Files, IsFound}
+use Rattle.group_tool.specs.Outcome.{TextOutcomeIs}
+use Rattle.group_tool.proofs.AnswerLemmas.{found_outcome}
+use Rattle.group_tool.proofs.answer.answer_words.Goals as goal
+
+pub returns-in-Found : goal.returns-in-Found
+returns-in-Found g c =
+    let room = c.read.new.room.items in
+    let name = c.in-Some.name.now in
+    let outcome = c.answer_text.result in
+    let found : (files : Files) → g.L.Library.files c.args.library.now ≡ Some files → IsFound files name 65536 room = λ files tells. subst (λ n. IsFound files n 65536 room) c.as_str.ensures (c.in-Found.ensures.answer.1 files tells) in
+    let is = subst (λ n. TextOutcomeIs n room outcome) c.as_str-in-Found.ensures (subst (λ r. TextOutcomeIs c.as_str-in-Found.result.now r outcome) c.deref.ensures.value c.answer_text.ensures) in
+    found_outcome c.args.words.now (g.L.Library.files c.args.library.now) (g.L.Library.asked c.read.new.self) (g.L.Library.faults c.args.library.now)
+    (g.L.Library.faults c.read.new.self) (g.L.Library.misses c.args.library.now) (g.L.Library.misses c.read.new.self) name room outcome c.in-Some.ensures found is
