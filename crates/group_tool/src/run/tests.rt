@@ -1,0 +1,205 @@
+use super::*;
+use crate::gate::OpenGate;
+use crate::memory_sink::MemorySink;
+use crate::sink::{Flushed, Put, Sink};
+use file_library::MemoryLibrary;
+use std::alloc::AllocError;
+use std::collections::BTreeMap;
+use std::test::Fail;
+
+/// A library with one file.
+fn one_file(alloc: Global, name: &str, text: &str) -> Result<MemoryLibrary, AllocError> {
+    let mut files = BTreeMap::new(alloc);
+    files.insert(Text::new(alloc, name)?, text.as_bytes().to_vec(alloc)?)?;
+    MemoryLibrary::new(alloc, files, Vec::new(alloc))
+}
+
+fn one_word(alloc: Global, word: &str) -> Result<Vec<Text>, AllocError> {
+    let mut words = Vec::new(alloc);
+    words.push(Text::new(alloc, word)?)?;
+    Ok(words)
+}
+
+/// The bytes as text, or no text.
+fn shown(sink: &MemorySink) -> &str {
+    match str::from_utf8(sink.taken()) {
+        Ok(text) => text,
+        Err(_) => "no text",
+    }
+}
+
+#[test]
+fn answers_texts(rt: HostRuntime) -> Result<(), Fail> {
+    let outside = "f.pl: text is outside the built form\n";
+    let rows = [
+        ("", 0, "predicates 0 groups 0 recursive 0 levels 0\n", ""),
+        (
+            "p :- p.\n",
+            0,
+            "predicates 1 groups 1 recursive 1 levels 1\n0 recursive user:p/0\n",
+            "",
+        ),
+        (
+            "a :- b, c.\nb :- a.\nc.\n",
+            0,
+            "predicates 3 groups 2 recursive 1 levels 2\n0 plain user:c/0\n1 recursive user:a/0 user:b/0\n",
+            "",
+        ),
+        (
+            "p :- q, r.\nq :- r.\nr.",
+            0,
+            "predicates 3 groups 3 recursive 0 levels 3\n0 plain user:r/0\n1 plain user:q/0\n2 plain user:p/0\n",
+            "",
+        ),
+        ("p :- 7.\n", 3, "", outside),
+        ("p :- call.\n", 3, "", outside),
+        ("p :- q\n", 3, "", outside),
+    ];
+    for (text, status, on_out, on_err) in rows {
+        let alloc = rt.alloc();
+        let words = one_word(alloc, "f.pl")?;
+        let mut library = one_file(alloc, "f.pl", text)?;
+        let mut out = MemorySink::with_room(alloc, 1000)?;
+        let mut err = MemorySink::with_room(alloc, 1000)?;
+        let result = run_groups(
+            &rt,
+            alloc,
+            &words,
+            &mut library,
+            &mut out,
+            &mut err,
+            &OpenGate,
+        );
+        assert_eq!(rt; result, status, "at {text}");
+        assert_eq!(rt; shown(&out), on_out, "at {text}");
+        assert_eq!(rt; shown(&err), on_err, "at {text}");
+        assert_eq!(rt; library.asked().len(), 1);
+    }
+    Ok(())
+}
+
+#[test]
+fn refuses_words(rt: HostRuntime) -> Result<(), Fail> {
+    for word in ["", "f", "f.pl.", "d/f.pl", "--help", "é.pl"] {
+        let alloc = rt.alloc();
+        let words = one_word(alloc, word)?;
+        let mut library = one_file(alloc, "f.pl", "p.")?;
+        let mut out = MemorySink::with_room(alloc, 10)?;
+        let mut err = MemorySink::with_room(alloc, 1000)?;
+        let result = run_groups(
+            &rt,
+            alloc,
+            &words,
+            &mut library,
+            &mut out,
+            &mut err,
+            &OpenGate,
+        );
+        assert_eq!(rt; result, 2, "at {word}");
+        assert_eq!(rt; shown(&err), USAGE, "at {word}");
+        assert_eq!(rt; out.taken().len(), 0);
+        assert_eq!(rt; library.asked().len(), 0);
+    }
+    Ok(())
+}
+
+#[test]
+fn tells_what_it_could_not_read(rt: HostRuntime) -> Result<(), Fail> {
+    let alloc = rt.alloc();
+    let words = one_word(alloc, "g.pl")?;
+    let mut library = one_file(alloc, "f.pl", "p.")?;
+    let mut out = MemorySink::with_room(alloc, 10)?;
+    let mut err = MemorySink::with_room(alloc, 1000)?;
+    let result = run_groups(
+        &rt,
+        alloc,
+        &words,
+        &mut library,
+        &mut out,
+        &mut err,
+        &OpenGate,
+    );
+    assert_eq!(rt; result, 3);
+    assert_eq!(rt; shown(&err), "g.pl: no such file\n");
+
+    let mut order = Vec::new(alloc);
+    order.push(1)?;
+    let mut failing = MemoryLibrary::new(alloc, BTreeMap::new(alloc), order)?;
+    let mut err = MemorySink::with_room(alloc, 1000)?;
+    let result = run_groups(
+        &rt,
+        alloc,
+        &words,
+        &mut failing,
+        &mut out,
+        &mut err,
+        &OpenGate,
+    );
+    assert_eq!(rt; result, 4);
+    assert_eq!(rt; shown(&err), "groups: cannot read g.pl\n");
+    assert_eq!(rt; out.taken().len(), 0);
+    Ok(())
+}
+
+/// A sink that takes one byte at a time.
+#[derive(Drop)]
+struct Dripping(MemorySink);
+
+impl Sink for Dripping {
+    ghost use Rattle.std.specs.Prelude.{Some};
+
+    ghost taken = { λ s. Some s.0.bytes.items };
+
+    ghost faults = { λ s. s.0.faults };
+
+    ghost settled = { λ s. s.0.settled };
+
+    fn put(&mut self, bytes: &[u8]) -> Put {
+        self.0.put(&bytes[..1])
+    }
+
+    fn flush(&mut self) -> Flushed {
+        self.0.flush()
+    }
+}
+
+#[test]
+fn puts_again_from_where_it_was_cut(rt: HostRuntime) -> Result<(), Fail> {
+    let alloc = rt.alloc();
+    let words = one_word(alloc, "f.pl")?;
+    let mut library = one_file(alloc, "f.pl", "a :- b, c.\nb :- a.\nc.\n")?;
+    let mut out = Dripping(MemorySink::with_room(alloc, 1000)?);
+    let mut err = MemorySink::with_room(alloc, 10)?;
+    let result = run_groups(
+        &rt,
+        alloc,
+        &words,
+        &mut library,
+        &mut out,
+        &mut err,
+        &OpenGate,
+    );
+    assert_eq!(rt; result, 0);
+    assert_eq!(rt;
+        shown(&out.0),
+        "predicates 3 groups 2 recursive 1 levels 2\n0 plain user:c/0\n1 recursive user:a/0 user:b/0\n"
+    );
+
+    for room in 0..90 {
+        let mut library = one_file(alloc, "f.pl", "a :- b, c.\nb :- a.\nc.\n")?;
+        let mut out = MemorySink::failing_after(alloc, room)?;
+        let result = run_groups(
+            &rt,
+            alloc,
+            &words,
+            &mut library,
+            &mut out,
+            &mut err,
+            &OpenGate,
+        );
+        assert_eq!(rt; result, 5, "with room for {room}");
+        assert_eq!(rt; out.taken().len(), room as usize);
+        assert_eq!(rt; err.taken().len(), 0);
+    }
+    Ok(())
+}
