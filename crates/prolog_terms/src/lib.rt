@@ -2,9 +2,11 @@
 #![tactic(auto)]
 
 mod build;
+mod lookups;
 mod plain;
 mod reserved;
 mod term;
+mod terms;
 
 pub use plain::{PlainFault, read_plain};
 pub use term::{ConstKind, Form, Span, Term};
