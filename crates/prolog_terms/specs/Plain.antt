@@ -1,12 +1,11 @@
 -- Clauses of the built form: facts and rules whose heads and goals are names, variables and functional terms.
-use Rattle.std.specs.Prelude.{◌≡◌, ◌≢◌, ℕ, ◌+◌, ◌≤◌, ◌⊎◌, List, [], ◌∷◌, ◌++◌, Option, Some, None, false, length, slice_get, slice_range, option_map, codes}
+use Rattle.std.specs.Prelude.{◌≡◌, ◌≢◌, ℕ, ◌+◌, ◌≤◌, ◌⊎◌, List, [], ◌∷◌, ◌++◌, Option, Some, false, length, slice_get, option_map, codes}
 use Rattle.prolog_tokens.specs.declared.token.Kind.{Kind}
 use Rattle.prolog_tokens.specs.declared.token.Kind.TheVariants.{Name, Variable, OpenRound, CloseRound, Comma, End}
 use Rattle.prolog_tokens.specs.declared.token.Token.{Token}
 use Rattle.prolog_tokens.specs.Cut.{IsCut}
 use Rattle.prolog_tokens.specs.Values.{IsNameText}
 use Rattle.prolog_terms.specs.declared.term.Span.{Span}
-use Rattle.prolog_terms.specs.declared.term.Form.{Form}
 use Rattle.prolog_terms.specs.declared.term.Form.TheVariants.{Functional, Prefix, Infix, Postfix}
 use Rattle.prolog_terms.specs.Tree.{Tree, Trees, variable, constant, atom, compound, listed, tailed, curly, paren, more, none, span_of, depth}
 use Rattle.prolog_terms.specs.Reserved.{is_among, operator_names, calling_names}

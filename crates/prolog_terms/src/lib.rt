@@ -2,11 +2,13 @@
 #![tactic(auto)]
 
 mod build;
+mod laws;
 mod lookups;
 mod plain;
 mod reserved;
 mod term;
 mod terms;
 
+pub use laws::clause_arities;
 pub use plain::{PlainFault, read_plain};
 pub use term::{ConstKind, Form, Span, Term};

@@ -90,7 +90,7 @@ fn arguments_from(
     ensures { IfOk result (λ found. MatchOption found (HasNoArguments text.now tokens.now from room) (λ read. AreReadAt text.now tokens.now from room read)) }
 {
     let mut args = Vec::new(alloc);
-    let mut depth = 0;
+    let mut depth: u32 = 0;
     let mut at = from;
     loop {
         let Some(argument) = term_at(alloc, text, tokens, at, room)? else {
