@@ -8,6 +8,8 @@ mod plain;
 mod reserved;
 mod term;
 mod terms;
+#[cfg(test)]
+mod tests;
 
 pub use laws::clause_arities;
 pub use plain::{PlainFault, read_plain};
