@@ -1,10 +1,10 @@
 -- The tokens of a part of a text are spelled in it.
-use Rattle.std.proofs.Common.{◌≡◌, ℕ, ◌+◌, ◌<◌, List, [], ◌∷◌, ◌++◌, length, get_or, Some, slice_get, ap, sym, ◌∙◌, subst, refl, arith, zero, suc, length-append}
-use Rattle.std.proofs.lemmas.Option.{slice_get-get_or, get_or_from_slice_get, slice_get_within}
+use Rattle.std.proofs.Common.{◌≡◌, ℕ, ◌+◌, ◌<◌, List, [], ◌∷◌, ◌++◌, length, get_or, Some, slice_get, sym, ◌∙◌, subst, arith, zero, suc, length-append, append-nil}
+use Rattle.std.proofs.lemmas.Option.{get_or_from_slice_get, slice_get_within}
 use Rattle.std.proofs.lemmas.List.{get_or_append_left, get_or-append-add}
 use Rattle.prolog_tokens.specs.declared.token.Token.{Token}
 use Rattle.prolog_tokens.specs.Spelling.{IsSpelled}
-use Rattle.prolog_tokens.specs.Cut.{StandBetween}
+use Rattle.prolog_tokens.specs.Cut.{StandBetween, IsCut}
 use Rattle.prolog_terms.specs.Plain.{ArePart}
 
 pub record IsToken (text : List ℕ) (t : Token) : Type 0 where
@@ -26,3 +26,7 @@ part_spelled text ts part k t is =
     let below : length part.before + k < length all = omega (arith, length-append part.before (ts ++ part.after), length-append ts part.after) in
     let P : Token → Type 0 = λ x. IsToken text x in
     subst P read (stand_spelled text 0 part.cut.last all part.cut.stand (length part.before + k) t below)
+
+-- the tokens of a text are a part of themselves
+pub whole_part : (text : List ℕ) (ts : List Token) → IsCut text ts → ArePart text ts
+whole_part text ts cut = record { before = []; after = []; cut = subst (IsCut text) (sym (append-nil ts)) cut }

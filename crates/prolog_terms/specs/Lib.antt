@@ -2,3 +2,4 @@ pub mod Tree
 pub mod Plain
 pub mod Reserved
 pub mod Reading
+pub mod Arity

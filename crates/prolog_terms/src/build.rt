@@ -1,15 +1,34 @@
-ghost use Rattle.std.specs.Prelude.{◌≡◌, IfOk};
-ghost use Rattle.prolog_terms.specs.Tree.{tree_of, atom, span_of};
+ghost use Rattle.std.specs.Prelude.{◌≡◌, map, IfOk};
+ghost use Rattle.prolog_terms.specs.declared.term.Form.TheVariants.{Functional};
+ghost use Rattle.prolog_terms.specs.Tree.{tree_of, trees_from, variable, atom, compound, span_of};
 ghost use Rattle.prolog_terms.specs.Plain.{infix_tree};
 
 use crate::term::{Form, Span, Term};
 use prolog_tokens::Text;
 use std::alloc::{AllocError, Global};
 
+pub fn make_variable(span: Span) -> Term
+    ensures { tree_of result ≡ variable span }
+{
+    Term::Var { span }
+}
+
 pub fn make_atom(name: Text, span: Span) -> Term
     ensures { tree_of result ≡ atom name span }
 {
     Term::Atom { name, span }
+}
+
+/// The name with its arguments in brackets.
+pub fn make_functional(name: Text, args: Vec<Term>, span: Span) -> Term
+    ensures { tree_of result ≡ compound name (trees_from (map tree_of args.items)) Functional span }
+{
+    Term::Compound {
+        name,
+        args,
+        form: Form::Functional,
+        span,
+    }
 }
 
 /// Where the term stands.

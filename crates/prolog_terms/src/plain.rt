@@ -1,15 +1,14 @@
-ghost use Rattle.std.specs.Prelude.{◌≡◌, ◌≢◌, ℕ, ◌+◌, ◌≤◌, ◌<◌, ◌↔◌, List, map, length, slice_get, codes, Some, None, IsTrue, IfOk, IfSome, IsErrOf, MatchOption};
-ghost use Rattle.prolog_tokens.specs.declared.token.Kind.{Kind};
-ghost use Rattle.prolog_tokens.specs.declared.token.Kind.TheVariants.{Comma};
+ghost use Rattle.std.specs.Prelude.{◌≡◌, ◌+◌, ◌≤◌, map, IfOk, IsErrOf, MatchOption};
 ghost use Rattle.prolog_terms.specs.declared.plain.PlainFault.TheVariants.{NoMemory};
 ghost use Rattle.prolog_terms.specs.Tree.{Tree, tree_of};
-ghost use Rattle.prolog_terms.specs.Plain.{ArePart, IsGoal, IsBodyOf, IsNeckAt, IsLastEnd, IsPlainClause, IsPlain, IsNameAt, kind_at, joined};
-ghost use Rattle.prolog_terms.specs.Reading.{HasNoName, HasNoGoal, HasNoBody, IsBody};
+ghost use Rattle.prolog_terms.specs.Plain.{ArePart, IsPlainClause, joined};
+ghost use Rattle.prolog_terms.specs.Reading.{HasNoBody, IsBodyAt};
 
-use crate::build::{make_atom, make_infix};
-use crate::reserved::{is_operator, takes_goals};
-use crate::term::{Span, Term};
-use prolog_tokens::{Kind, Text, Token, name_slice};
+use crate::build::make_infix;
+use crate::lookups::{is_kind_at, is_last_end, is_neck_at};
+use crate::term::Term;
+use crate::terms::term_at;
+use prolog_tokens::{Kind, Token};
 use std::alloc::{AllocError, Global};
 use thiserror::Error;
 
@@ -31,16 +30,8 @@ impl From<AllocError> for PlainFault {
     }
 }
 
-/// How many goals may stand before the last one of a body: with it and the `:-` above them, a
-/// clause is 1,000 deep.
-const MOST_BEFORE: usize = 998;
-
-/// A name as it stands in the text.
-#[derive(Clone, Copy)]
-struct Named<'a> {
-    name: &'a str,
-    span: Span,
-}
+/// How deep a clause may be.
+const DEEPEST: u32 = 1000;
 
 /// The goals of a body: those with a comma after them, and the last one, which ends before the
 /// token at `end`.
@@ -51,103 +42,38 @@ struct Body {
     end: usize,
 }
 
-fn token_at(tokens: &[Token], at: usize) -> Option<Token>
-    ensures { result ≡ slice_get tokens.now at }
-{
-    tokens.get(at).copied()
-}
-
-fn is_kind_at(tokens: &[Token], at: usize, kind: Kind) -> bool
-    ensures { IsTrue result ↔ (kind_at tokens.now at ≡ Some kind) }
-{
-    match token_at(tokens, at) {
-        Some(token) => token.kind == kind,
-        None => false,
-    }
-}
-
-/// Whether a name may stand for a head or a goal: it is no operator and takes no goals.
-fn is_plain(name: &str) -> bool
-    ensures { IsTrue result ↔ IsPlain name.now }
-{
-    if is_operator(name) {
-        return false;
-    }
-    !takes_goals(name)
-}
-
-fn name_at<'a>(text: &'a str, tokens: &[Token], at: usize) -> Option<Named<'a>>
-    requires { ArePart text.now tokens.now }
-    ensures { MatchOption result (HasNoName tokens.now at) (λ named. IsNameAt text.now tokens.now at named.name.now named.span) }
-{
-    match token_at(tokens, at) {
-        Some(token) if token.kind == Kind::Name => Some(Named {
-            name: name_slice(text, token),
-            span: Span {
-                from: token.start,
-                to: token.end,
-            },
-        }),
-        _ => None,
-    }
-}
-
-/// The head or goal that stands at the place, if one does.
-fn goal_at(
-    alloc: Global,
-    text: &str,
-    tokens: &[Token],
-    at: usize,
-) -> Result<Option<Term>, AllocError>
-    requires { ArePart text.now tokens.now }
-    ensures { IfOk result (λ found. MatchOption found (HasNoGoal text.now tokens.now at) (λ goal. IsGoal text.now tokens.now (tree_of goal) at (at + 1))) }
-{
-    let Some(named) = name_at(text, tokens, at) else {
-        return Ok(None);
-    };
-    if !is_plain(named.name) {
-        return Ok(None);
-    }
-    let name = Text::new(alloc, named.name)?;
-    Ok(Some(make_atom(name, named.span)))
-}
-
-fn is_neck_at(text: &str, tokens: &[Token], at: usize) -> bool
-    requires { ArePart text.now tokens.now }
-    ensures { IsTrue result ↔ IsNeckAt text.now tokens.now at }
-{
-    match name_at(text, tokens, at) {
-        Some(named) => named.name == ":-",
-        None => false,
-    }
-}
-
-/// The goals from a place on, up to a token that is no comma.
+/// The goals from a place on, up to a token that is no comma, where they are at most `room` deep
+/// once they are joined: each goal leaves one less to those behind it.
 fn body_from(
     alloc: Global,
     text: &str,
     tokens: &[Token],
     from: usize,
+    room: u32,
 ) -> Result<Option<Body>, AllocError>
     requires { ArePart text.now tokens.now }
-    ensures { IfOk result (λ found. MatchOption found (HasNoBody text.now tokens.now from) (λ body. IsBody text.now tokens.now from body)) }
+    ensures { IfOk result (λ found. MatchOption found (HasNoBody text.now tokens.now from room) (λ body. IsBodyAt text.now tokens.now from room body)) }
 {
     let mut before = Vec::new(alloc);
     let mut at = from;
+    let mut left = room;
     loop {
-        let Some(goal) = goal_at(alloc, text, tokens, at)? else {
+        let Some(goal) = term_at(alloc, text, tokens, at, left)? else {
             return Ok(None);
         };
-        at += 1;
-        if !is_kind_at(tokens, at, Kind::Comma) {
+        if !is_kind_at(tokens, goal.end, Kind::Comma) {
             return Ok(Some(Body {
                 before,
-                last: goal,
-                end: at,
+                last: goal.term,
+                end: goal.end,
             }));
         }
-        before.push(goal)?;
-        at += 1;
+        if goal.depth == left {
+            return Ok(None);
+        }
+        before.push(goal.term)?;
+        at = goal.end + 1;
+        left -= 1;
     }
 }
 
@@ -162,15 +88,6 @@ fn join_goals(alloc: Global, mut before: Vec<Term>, last: Term) -> Result<Term, 
     Ok(body)
 }
 
-fn is_last_end(tokens: &[Token], at: usize) -> bool
-    ensures { IsTrue result ↔ IsLastEnd tokens.now at }
-{
-    if !is_kind_at(tokens, at, Kind::End) {
-        return false;
-    }
-    tokens.len() - 1 == at
-}
-
 /// Reads the tokens, a part of those of the text, as one clause and its End.
 pub fn read_plain(alloc: Global, text: &str, tokens: &[Token]) -> Result<Term, PlainFault>
     requires { ArePart text.now tokens.now }
@@ -178,24 +95,27 @@ pub fn read_plain(alloc: Global, text: &str, tokens: &[Token]) -> Result<Term, P
     ensures only { IfOk result (λ term. (other : Tree) → IsPlainClause text.now tokens.now other → other ≡ tree_of term) }
     ensures not_built { IsErrOf result PlainFault.NotBuilt → (other : Tree) → IsPlainClause text.now tokens.now other → ⊥ }
 {
-    let Some(head) = goal_at(alloc, text, tokens, 0)? else {
+    if is_kind_at(tokens, 0, Kind::Variable) {
+        return Err(PlainFault::NotBuilt);
+    }
+    let Some(head) = term_at(alloc, text, tokens, 0, DEEPEST)? else {
         return Err(PlainFault::NotBuilt);
     };
-    if is_last_end(tokens, 1) {
-        return Ok(head);
+    if is_last_end(tokens, head.end) {
+        return Ok(head.term);
     }
-    if !is_neck_at(text, tokens, 1) {
+    if !is_neck_at(text, tokens, head.end) {
         return Err(PlainFault::NotBuilt);
     }
-    let Some(body) = body_from(alloc, text, tokens, 2)? else {
+    if head.depth == DEEPEST {
+        return Err(PlainFault::NotBuilt);
+    }
+    let Some(body) = body_from(alloc, text, tokens, head.end + 1, DEEPEST - 1)? else {
         return Err(PlainFault::NotBuilt);
     };
     if !is_last_end(tokens, body.end) {
         return Err(PlainFault::NotBuilt);
     }
-    if body.before.len() > MOST_BEFORE {
-        return Err(PlainFault::NotBuilt);
-    }
     let goals = join_goals(alloc, body.before, body.last)?;
-    Ok(make_infix(alloc, ":-", head, goals)?)
+    Ok(make_infix(alloc, ":-", head.term, goals)?)
 }

@@ -1,7 +1,7 @@
-use Rattle.std.proofs.Common.{◌≡◌, ◌++◌, ◌∷◌, [], codes, map, ap, sym, ◌∙◌}
+use Rattle.std.proofs.Common.{◌≡◌, ◌++◌, ◌∷◌, [], map, ap, sym, ◌∙◌}
 use Rattle.std.proofs.lemmas.List.{map-append}
 use Rattle.prolog_terms.specs.Tree.{tree_of}
-use Rattle.prolog_terms.specs.Plain.{joined, infix_tree}
+use Rattle.prolog_terms.specs.Plain.{joined}
 use Rattle.prolog_terms.proofs.Bodies.{joined-last}
 use Rattle.prolog_terms.proofs.plain.join_goals.Goals as goal
 

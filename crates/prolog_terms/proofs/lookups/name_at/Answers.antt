@@ -1,6 +1,6 @@
 use Rattle.std.proofs.Common.{sym}
 use Rattle.prolog_terms.proofs.Parts.{part_spelled}
-use Rattle.prolog_terms.proofs.plain.name_at.Goals as goal
+use Rattle.prolog_terms.proofs.lookups.name_at.Goals as goal
 
 pub name_slice-requires-clause-spelled : goal.name_slice-requires-clause-spelled
 name_slice-requires-clause-spelled c =
