@@ -1,10 +1,13 @@
 -- From what was read of a file to what the file is.
-use Rattle.std.proofs.Common.{◌≡◌, ℕ, ◌+◌, ◌<◌, ◌≤◌, ◌⊎◌, List, [], ◌∷◌, ◌++◌, Option, Some, None, length, take, string_bytes, ap, sym, ◌∙◌, subst, refl, inl, inr, arith, length-append, length-take, min}
+use Rattle.std.proofs.Common.{◌≡◌, ℕ, ◌+◌, ◌<◌, ◌≤◌, ◌⊎◌, List, [], ◌∷◌, ◌++◌, Option, Some, None, length, take, string_bytes, All, ap, sym, ◌∙◌, subst, refl, inl, inr, arith, length-append, length-take, min}
 use Rattle.std.proofs.lemmas.Bool.{cases_lt}
 use Rattle.std.proofs.lemmas.List.{take_all}
+use Rattle.std.proofs.lemmas.List.Elements.{All-nil, All-cons}
 use Rattle.prolog_tokens.specs.declared.token.Token.{Token}
 use Rattle.prolog_terms.specs.Tree.{Tree}
 use Rattle.prolog_terms.proofs.ClauseEnds.{clause_ends}
+use Rattle.prolog_terms.specs.Arity.{HasAritiesWithin}
+use Rattle.prolog_terms.proofs.Arities.{arities_more, clause_tokens}
 use Rattle.file_library.specs.Library.{Files, IsFound}
 use Rattle.group_tool.specs.declared.outcome.Outcome.{Outcome}
 use Rattle.group_tool.specs.declared.outcome.Outcome.TheVariants.{Usage, Faults, Unread, Report, NoMemory}
@@ -59,3 +62,11 @@ found_outcome words told asked' f f' m m' name room (Report bytes) lawful found 
   },
 )
 found_outcome words told asked' f f' m m' name room NoMemory lawful found is = tt
+
+-- no compound of a clause has more arguments than the text has tokens
+pub clauses_arities : (text : List ℕ) (ts : List Token) (trees : List Tree) (n : ℕ) → length ts ≤ n → AreClauses text ts trees → All (HasAritiesWithin n) trees
+clauses_arities text ts [] n few are = All-nil (HasAritiesWithin n)
+clauses_arities text ts (tree ∷ trees) n few (part, rest, is, clause, are) =
+    let count : length ts ≡ length part + length rest = ap length is ∙ length-append part rest in
+    All-cons (HasAritiesWithin n) tree trees (arities_more (length part) n tree (omega (arith, count)) (clause_tokens text part tree clause))
+    (clauses_arities text rest trees n (omega (arith, count)) are)

@@ -1,11 +1,12 @@
 -- The sides of infix terms, and what bodies name.
-use Rattle.std.proofs.Common.{◌≡◌, ◌≢◌, ℕ, ◌<◌, ◌+◌, Bool, true, false, List, [], ◌∷◌, ◌++◌, Option, Some, None, length, get_or, suc, max, codes, refl, arith, if◌then◌else◌, option_map, ap, sym, ◌∙◌}
+use Rattle.std.proofs.Common.{◌≡◌, ◌≢◌, ℕ, ◌<◌, ◌+◌, Bool, true, false, List, [], ◌∷◌, ◌++◌, Option, Some, None, length, get_or, suc, max, codes, refl, arith, if◌then◌else◌, option_map, ap, sym, ◌∙◌, subst}
 use Rattle.std.specs.Option.{option_to_list}
 use Rattle.std.specs.Str.{bytes_eq}
 use Rattle.prolog_terms.specs.declared.term.Span.{Span}
 use Rattle.prolog_terms.specs.declared.term.Form.{Form}
 use Rattle.prolog_terms.specs.declared.term.Form.TheVariants.{Infix}
-use Rattle.prolog_terms.specs.Tree.{Tree, Trees, compound, more, none, trees_from, depth, deepest}
+use Rattle.prolog_terms.specs.Tree.{Tree, Trees, compound, more, none, trees_from, count, depth, deepest}
+use Rattle.prolog_terms.specs.Arity.{HasAritiesWithin}
 use Rattle.group_tool.specs.declared.indicator.Indicator.{Indicator}
 use Rattle.std.proofs.lemmas.List.Elements.{filter_map-append}
 use Rattle.group_tool.specs.Rule.{HeadAndGoals}
@@ -43,25 +44,27 @@ pub record AreSides (tree left right : Tree) : Type 0 where
   pub right_below : depth right < depth tree
   pub goals : goals_of tree ≡ goals_of left ++ goals_of right
 
-of_comma : (left right l r : Tree) (span : Span) (name : List ℕ) (test : Bool) → sides_if test left right ≡ Some (l, r)
+of_comma : (left right l r : Tree) (span : Span) (name : List ℕ) (named : List Indicator) (test : Bool) → sides_if test left right ≡ Some (l, r)
     → (depth l < depth (compound name (more left (more right none)) Infix span)) × (depth r < depth (compound name (more left (more right none)) Infix span))
-    × ((if test then goals_of left ++ goals_of right else []) ≡ goals_of l ++ goals_of r)
-of_comma left right l r span name true is =
+    × ((if test then goals_of left ++ goals_of right else named) ≡ goals_of l ++ goals_of r)
+of_comma left right l r span name named true is =
     let both : (left, right) ≡ (l, r) = some_once is in
     let first : left ≡ l = ap (λ (pair : Tree × Tree). pair.0) both in
     let second : right ≡ r = ap (λ (pair : Tree × Tree). pair.1) both in
     (omega (arith, ap depth first), omega (arith, ap depth second), ap (λ t. goals_of t ++ goals_of right) first ∙ ap (λ t. goals_of l ++ goals_of t) second)
-of_comma left right l r span name false is = absurd (some_none (l, r) (sym is))
+of_comma left right l r span name named false is = absurd (some_none (l, r) (sym is))
 
 pub comma_sides : (tree left right : Tree) → sides_of (codes ",") tree ≡ Some (left, right) → AreSides tree left right
 comma_sides (compound name (more left (more right none)) Infix span) l r is =
-    let all = of_comma left right l r span name (bytes_eq name (codes ",")) is in
+    let all = of_comma left right l r span name (option_to_list (indicator_of (compound name (more left (more right none)) Infix span))) (bytes_eq name (codes ",")) is in
     record { left_below = all.0; right_below = all.1; goals = all.2 }
 comma_sides tree l r is = absurd (some_none (l, r) (sym is))
 
 pub goals_alone : (tree : Tree) → sides_of (codes ",") tree ≡ None → goals_of tree ≡ option_to_list (indicator_of tree)
 goals_alone (compound name (more left (more right none)) Infix span) is =
-    (elim (bytes_eq name (codes ",")) as (λ b. sides_if b left right ≡ None → (if b then goals_of left ++ goals_of right else []) ≡ []) [
+    (elim (bytes_eq name (codes ",")) as (λ b. sides_if b left right ≡ None
+    → (if b then goals_of left ++ goals_of right else option_to_list (indicator_of (compound name (more left (more right none)) Infix span)))
+    ≡ option_to_list (indicator_of (compound name (more left (more right none)) Infix span))) [
       | true ↦ λ both. absurd (some_none (left, right) both)
       | false ↦ λ both. refl
     ]) is
@@ -77,3 +80,21 @@ rules_one tree said is = by_one tree said (sym is)
 -- one clause more
 pub rules_more : (trees : List Tree) (tree : Tree) (said : Option HeadAndGoals) → said ≡ rule_of tree → rules_of (trees ++ tree ∷ []) ≡ rules_of trees ++ option_to_list said
 rules_more trees tree said is = filter_map-append rule_of trees (tree ∷ []) ∙ ap (λ rules. rules_of trees ++ rules) (rules_one tree said is)
+
+-- the sides of a term have small arities where it does
+sides_small : (n : ℕ) (left right l r : Tree) (test : Bool) → sides_if test left right ≡ Some (l, r) → HasAritiesWithin n left → HasAritiesWithin n right
+    → HasAritiesWithin n l × HasAritiesWithin n r
+sides_small n left right l r true is small_left small_right =
+    let both : (left, right) ≡ (l, r) = some_once is in
+    (subst (HasAritiesWithin n) (ap (λ (pair : Tree × Tree). pair.0) both) small_left, subst (HasAritiesWithin n) (ap (λ (pair : Tree × Tree). pair.1) both) small_right)
+sides_small n left right l r false is small_left small_right = absurd (some_none (l, r) (sym is))
+
+pub sides_arities : (operator : List ℕ) (n : ℕ) (tree left right : Tree) → sides_of operator tree ≡ Some (left, right) → HasAritiesWithin n tree
+    → HasAritiesWithin n left × HasAritiesWithin n right
+sides_arities operator n (compound name (more left (more right none)) Infix span) l r is small =
+    sides_small n left right l r (bytes_eq name operator) is small.1.0 small.1.1.0
+sides_arities operator n tree l r is small = absurd (some_none (l, r) (sym is))
+
+pub count_trees : (trees : List Tree) → count (trees_from trees) ≡ length trees
+count_trees [] = refl
+count_trees (tree ∷ trees) = omega (arith, count_trees trees)

@@ -4,7 +4,8 @@ use Rattle.std.specs.List.{filter_map}
 use Rattle.std.specs.Option.{option_to_list}
 use Rattle.std.specs.Str.{bytes_eq}
 use Rattle.prolog_terms.specs.declared.term.Form.TheVariants.{Infix}
-use Rattle.prolog_terms.specs.Tree.{Tree, Trees, atom, compound, more, none}
+use Rattle.prolog_terms.specs.Tree.{Tree, Trees, atom, compound, more, none, count}
+use Rattle.prolog_terms.specs.Arity.{HasAritiesWithin}
 use Rattle.group_tool.specs.declared.indicator.Indicator.{Indicator}
 use Rattle.group_tool.specs.Rule.{HeadAndGoals}
 
@@ -16,12 +17,14 @@ sides_of operator _ = None
 -- the predicate that a head or a goal names, where it names one
 abbrev pub indicator_of : Tree → Option Indicator
 indicator_of (atom name span) = Some (record { name = name; arity = 0 })
+indicator_of (compound name args form span) = Some (record { name = name; arity = count args })
 indicator_of _ = None
 
--- the predicates that the goals of a body name
+-- the predicates that the goals of a body name; a variable names none
 abbrev pub goals_of : Tree → List Indicator
 goals_of (compound name (more left (more right none)) Infix span) =
-    if bytes_eq name (codes ",") then goals_of left ++ goals_of right else []
+    if bytes_eq name (codes ",") then goals_of left ++ goals_of right
+    else option_to_list (indicator_of (compound name (more left (more right none)) Infix span))
 goals_of tree = option_to_list (indicator_of tree)
 
 -- the goals of a body, where there is one
@@ -40,6 +43,10 @@ rule_by tree None = rule_with tree None
 
 abbrev pub rule_of : Tree → Option HeadAndGoals
 rule_of tree = rule_by tree (sides_of (codes ":-") tree)
+
+-- no compound within the term has more arguments than a text has bytes
+abbrev pub HasSmallArities : Tree → Type 0
+HasSmallArities tree = HasAritiesWithin 65536 tree
 
 -- what the clauses of a text say
 abbrev pub rules_of : List Tree → List HeadAndGoals

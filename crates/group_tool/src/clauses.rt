@@ -1,7 +1,8 @@
-ghost use Rattle.std.specs.Prelude.{◌≡◌, ◌≤◌, ◌<◌, List, map, length, IfOk, IsErrOf};
+ghost use Rattle.std.specs.Prelude.{◌≡◌, ◌≤◌, ◌<◌, List, All, map, length, IfOk, IsErrOf};
 ghost use Rattle.prolog_tokens.specs.Cut.{IsCut};
 ghost use Rattle.prolog_terms.specs.Tree.{Tree, tree_of};
 ghost use Rattle.prolog_terms.specs.declared.plain.PlainFault.TheVariants.{NotBuilt};
+ghost use Rattle.group_tool.specs.RuleOf.{HasSmallArities};
 ghost use Rattle.group_tool.specs.Clauses.{AreClauses, IsPlainText, EndsFirst};
 
 use prolog_terms::{PlainFault, Term, read_plain};
@@ -52,6 +53,7 @@ pub fn read_clauses(alloc: Global, bytes: &[u8]) -> Result<Vec<Term>, PlainFault
     ensures only { IfOk result (λ terms. (others : List Tree) → IsPlainText bytes.now others → others ≡ map tree_of terms.items) }
     ensures not_built { IsErrOf result NotBuilt → (others : List Tree) → IsPlainText bytes.now others → ⊥ }
     ensures few { IfOk result (λ terms. length terms.items ≤ 65536) }
+    ensures arities { IfOk result (λ terms. All HasSmallArities (map tree_of terms.items)) }
 {
     if bytes.len() > MOST_BYTES {
         return Err(PlainFault::NotBuilt);

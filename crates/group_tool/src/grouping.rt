@@ -3,6 +3,7 @@ ghost use Rattle.std.specs.String.{string_bytes};
 ghost use Rattle.graph_law.specs.Graph.{Calls, IsGraph, lists_of};
 ghost use Rattle.graph_law.specs.Classes.{AreClasses};
 ghost use Rattle.prolog_terms.specs.Tree.{tree_of};
+ghost use Rattle.group_tool.specs.RuleOf.{HasSmallArities};
 ghost use Rattle.group_tool.specs.Grouping.{AreLevels, IsReportOf};
 
 use crate::call_graph::call_graph;
@@ -33,7 +34,8 @@ fn levels(alloc: Global, graph: &Graph, groups: &[Vec<u32>]) -> Result<Vec<Level
 
 /// The report of the clauses of a text: their predicates, grouped by mutual reach.
 pub fn group_clauses(alloc: Global, clauses: &[Term]) -> Result<String, AllocError>
-    requires { length clauses.now ≤ 1048576 }
+    requires few { length clauses.now ≤ 1048576 }
+    requires arities { All HasSmallArities (map tree_of clauses.now) }
     ensures { IfOk result (λ text. IsReportOf (map tree_of clauses.now) (string_bytes text)) }
 {
     let rules = rules(alloc, clauses)?;

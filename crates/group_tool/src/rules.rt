@@ -1,6 +1,6 @@
-ghost use Rattle.std.specs.Prelude.{◌≡◌, ◌≤◌, ◌++◌, None, Some, map, length, vec_len, option_map, IfOk, OnOk, MatchOption};
+ghost use Rattle.std.specs.Prelude.{◌≡◌, ◌≤◌, ◌++◌, None, Some, All, map, length, vec_len, option_map, IfOk, IfSome, OnOk, MatchOption};
 ghost use Rattle.prolog_terms.specs.Tree.{tree_of};
-ghost use Rattle.group_tool.specs.RuleOf.{sides_of, indicator_of, goals_of, rule_with as rule_of_parts, rule_of, rules_of};
+ghost use Rattle.group_tool.specs.RuleOf.{sides_of, indicator_of, goals_of, rule_with as rule_of_parts, rule_of, rules_of, HasSmallArities};
 
 use crate::indicator::Indicator;
 use crate::rule::Rule;
@@ -35,6 +35,7 @@ fn sides<'a>(term: &'a Term, operator: &str) -> Option<(&'a Term, &'a Term)>
 
 /// The predicate that a head or a goal names.
 fn indicator(alloc: Global, term: &Term) -> Result<Option<Indicator>, AllocError>
+    requires { HasSmallArities (tree_of term.now) }
     ensures { IfOk result (λ named. named ≡ indicator_of (tree_of term.now)) }
 {
     match term {
@@ -42,12 +43,17 @@ fn indicator(alloc: Global, term: &Term) -> Result<Option<Indicator>, AllocError
             name: Text::new(alloc, name.as_str())?,
             arity: 0,
         })),
+        Term::Compound { name, args, .. } => Ok(Some(Indicator {
+            name: Text::new(alloc, name.as_str())?,
+            arity: args.len() as u32,
+        })),
         _ => Ok(None),
     }
 }
 
 /// Adds what the goals of the body name.
 fn push_goals(alloc: Global, body: &Term, goals: &mut Vec<Indicator>) -> Result<(), AllocError>
+    requires { HasSmallArities (tree_of body.now) }
     ensures { OnOk result (goals.new.items ≡ goals.old.items ++ goals_of (tree_of body.now)) }
 {
     let mut rest = body;
@@ -63,6 +69,8 @@ fn push_goals(alloc: Global, body: &Term, goals: &mut Vec<Indicator>) -> Result<
 
 /// The rule of a head and a body, where the head names a predicate.
 fn rule_with(alloc: Global, head: &Term, body: Option<&Term>) -> Result<Option<Rule>, AllocError>
+    requires head { HasSmallArities (tree_of head.now) }
+    requires body { IfSome body (λ b. HasSmallArities (tree_of b.now)) }
     ensures { IfOk result (λ found. found ≡ rule_of_parts (tree_of head.now) (option_map (λ b. tree_of b.now) body.entry)) }
 {
     let Some(head) = indicator(alloc, head)? else {
@@ -77,6 +85,7 @@ fn rule_with(alloc: Global, head: &Term, body: Option<&Term>) -> Result<Option<R
 
 /// What a clause says, where it says something.
 fn rule(alloc: Global, clause: &Term) -> Result<Option<Rule>, AllocError>
+    requires { HasSmallArities (tree_of clause.now) }
     ensures { IfOk result (λ found. found ≡ rule_of (tree_of clause.now)) }
 {
     match sides(clause, ":-") {
@@ -87,6 +96,7 @@ fn rule(alloc: Global, clause: &Term) -> Result<Option<Rule>, AllocError>
 
 /// What the clauses of a text say.
 pub fn rules(alloc: Global, clauses: &[Term]) -> Result<Vec<Rule>, AllocError>
+    requires { All HasSmallArities (map tree_of clauses.now) }
     ensures rules { IfOk result (λ found. found.items ≡ rules_of (map tree_of clauses.now)) }
     ensures few { IfOk result (λ found. vec_len found ≤ length clauses.now) }
 {

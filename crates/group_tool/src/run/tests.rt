@@ -51,8 +51,23 @@ fn answers_texts(rt: HostRuntime) -> Result<(), Fail> {
             "predicates 3 groups 3 recursive 0 levels 3\n0 plain user:r/0\n1 plain user:q/0\n2 plain user:p/0\n",
             "",
         ),
+        (
+            "p(X) :- q(X), r.\nq(X) :- p(X).\nr.\n",
+            0,
+            "predicates 3 groups 2 recursive 1 levels 2\n0 plain user:r/0\n1 recursive user:p/1 user:q/1\n",
+            "",
+        ),
+        (
+            "p :- p(f(a, B)), X, q.\np(_).",
+            0,
+            "predicates 2 groups 2 recursive 0 levels 2\n0 plain user:p/1\n1 plain user:p/0\n",
+            "",
+        ),
         ("p :- 7.\n", 3, "", outside),
         ("p :- call.\n", 3, "", outside),
+        ("p(is).\n", 3, "", outside),
+        ("p (X).\n", 3, "", outside),
+        ("X :- p.\n", 3, "", outside),
         ("p :- q\n", 3, "", outside),
     ];
     for (text, status, on_out, on_err) in rows {
@@ -74,6 +89,35 @@ fn answers_texts(rt: HostRuntime) -> Result<(), Fail> {
         assert_eq!(rt; shown(&out), on_out, "at {text}");
         assert_eq!(rt; shown(&err), on_err, "at {text}");
         assert_eq!(rt; library.asked().len(), 1);
+    }
+    Ok(())
+}
+
+/// A fact whose term is so deep: `p(f(f(..f(a)..))).`
+fn nested(alloc: Global, depth: u32) -> Result<String, AllocError> {
+    let mut text = String::from_str(alloc, "p(")?;
+    for _ in 2..depth {
+        text.push_str("f(")?;
+    }
+    text.push_str("a")?;
+    for _ in 1..depth {
+        text.push_str(")")?;
+    }
+    text.push_str(".")?;
+    Ok(text)
+}
+
+#[test]
+fn reads_down_to_the_depth_limit(rt: HostRuntime) -> Result<(), Fail> {
+    for (depth, status) in [(2, 0), (1000, 0), (1001, 3)] {
+        let alloc = rt.alloc();
+        let words = one_word(alloc, "f.pl")?;
+        let text = nested(alloc, depth)?;
+        let mut library = one_file(alloc, "f.pl", text.as_str())?;
+        let mut out = MemorySink::with_room(alloc, 1000)?;
+        let mut err = MemorySink::with_room(alloc, 1000)?;
+        let result = run_groups(&rt, alloc, &words, &mut library, &mut out, &mut err, &OpenGate);
+        assert_eq!(rt; result, status, "at depth {depth}");
     }
     Ok(())
 }

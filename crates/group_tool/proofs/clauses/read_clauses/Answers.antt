@@ -8,7 +8,7 @@ use Rattle.group_tool.specs.Clauses.{AreClauses, IsPlainText}
 use Rattle.prolog_tokens.specs.declared.token.Token.{Token}
 use Rattle.prolog_tokens.proofs.Lookups.{cut_ascii, cut_fewer}
 use Rattle.std.proofs.lemmas.List.{length-map}
-use Rattle.group_tool.proofs.AnswerLemmas.{few_clauses}
+use Rattle.group_tool.proofs.AnswerLemmas.{few_clauses, clauses_arities}
 use Rattle.group_tool.proofs.clauses.read_clauses.Goals as goal
 
 -- the clauses of a text stand on its one list of tokens
@@ -52,4 +52,13 @@ returns-in-Ok-tokens-clause-few c =
       c.in-Ok-tokens.tokens.ok,
       ap length c.in-Ok.ensures.cases.0,
     ))
+    c.split_clauses.ensures.ok
+
+pub returns-in-Ok-tokens-clause-arities : goal.returns-in-Ok-tokens-clause-arities
+returns-in-Ok-tokens-clause-arities c =
+    let fewer : length c.in-Ok-tokens.tokens.items ≤ length c.in-Ok.text.now = cut_fewer c.in-Ok.text.now c.in-Ok-tokens.tokens.items c.in-Ok-tokens.ensures.ok in
+    IfOk-weaker c.split_clauses.result _ _
+    (λ terms are.
+    clauses_arities c.in-Ok.text.now c.deref.result.now (map tree_of terms.items) 65536
+    (omega (arith, fewer, c.deref.ensures.len, c.in-Ok-tokens.tokens.ok, ap length c.in-Ok.ensures.cases.0)) are)
     c.split_clauses.ensures.ok

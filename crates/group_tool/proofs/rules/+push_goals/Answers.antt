@@ -1,7 +1,7 @@
 use Rattle.std.proofs.Common.{◌++◌, codes, ap, sym, ◌∙◌, append_assoc, arith}
 use Rattle.prolog_terms.specs.Tree.{tree_of, depth}
 use Rattle.group_tool.specs.RuleOf.{goals_of}
-use Rattle.group_tool.proofs.RuleLemmas.{comma_sides}
+use Rattle.group_tool.proofs.RuleLemmas.{comma_sides, sides_arities}
 use Rattle.group_tool.proofs.rules.+push_goals.Goals as goal
 
 pub loop-goal-preserved : goal.loop-goal-preserved
@@ -14,4 +14,5 @@ loop-goal-preserved t c =
       ap (λ goals. goals ++ goals_of right) c.in_ok-push_goals.ensures
           ∙ (append_assoc before (goals_of left) (goals_of right) ∙ (ap (λ goals. before ++ goals) (sym sides.goals) ∙ c.loop-goal.invariant.0)),
       omega (arith, sides.right_below, c.loop-goal.invariant.1),
+      (sides_arities (codes ",") 65536 here left right (sym c.in-Some.ensures) c.loop-goal.invariant.2).1,
     )

@@ -1,10 +1,11 @@
-use Rattle.std.proofs.Common.{◌≡◌, ℕ, ◌+◌, ◌<◌, ◌++◌, ◌∷◌, [], List, Option, None, Some, length, get_or, map, take, ap, sym, ◌∙◌, append-nil, arith}
+use Rattle.std.proofs.Common.{◌≡◌, ℕ, ◌+◌, ◌<◌, ◌++◌, ◌∷◌, [], List, Option, None, Some, length, get_or, map, take, ap, sym, ◌∙◌, subst, append-nil, arith}
 use Rattle.std.specs.Option.{option_to_list}
-use Rattle.std.proofs.lemmas.List.{map_more}
+use Rattle.std.proofs.lemmas.List.{map_more, length-map}
+use Rattle.std.proofs.Math.ListN.{get_or-map}
 use Rattle.prolog_terms.specs.declared.term.Term.{Term}
 use Rattle.prolog_terms.specs.Tree.{tree_of}
 use Rattle.group_tool.specs.Rule.{HeadAndGoals}
-use Rattle.group_tool.specs.RuleOf.{rule_of, rules_of}
+use Rattle.group_tool.specs.RuleOf.{rule_of, rules_of, HasSmallArities}
 use Rattle.group_tool.proofs.RuleLemmas.{rules_more}
 use Rattle.group_tool.proofs.rules.rules.Goals as goal
 
@@ -32,3 +33,11 @@ loop-clause-preserved c =
           ∙ ap (λ said. before ++ option_to_list said) c.in-Some.is)),
       omega (arith, c.loop-clause.invariant.1, c.in_ok-push.ensures.len),
     )
+
+pub rule-requires : goal.rule-requires
+rule-requires c =
+    let at = c.loop-clause.clause-index in
+    let clauses = c.args.clauses.now in
+    let clause = c.clause-item.result in
+    let same : get_or (map tree_of clauses) at (tree_of clause) ≡ tree_of clause = get_or-map tree_of clauses at clause ∙ ap tree_of (sym c.clause-item.is) in
+    subst HasSmallArities same (c.requires at (tree_of clause) (omega (arith, c.loop-clause-test.true, length-map clauses tree_of)))
