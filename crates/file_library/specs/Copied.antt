@@ -1,5 +1,5 @@
 -- What a copy of a file into a room leaves there.
-use Rattle.std.specs.Prelude.{◌≡◌, ◌+◌, ℕ, List, [], None, Vec}
+use Rattle.std.specs.Prelude.{◌≡◌, ℕ, List, [], None, Vec}
 use Rattle.std.specs.declared.alloc.Global.{Global}
 use Rattle.std.specs.BTreeMap.{BTreeMap}
 use Rattle.file_library.specs.Library.{IsFound}

@@ -1,6 +1,5 @@
 -- From what was read of a file to what the file is.
-use Rattle.std.proofs.Common.{◌≡◌, ℕ, ◌+◌, ◌<◌, ◌≤◌, ◌⊎◌, List, [], ◌∷◌, ◌++◌, Option, Some, None, length, take, string_bytes, All, ap, sym, ◌∙◌, subst, refl, inl, inr, arith, length-append, length-take, min}
-use Rattle.std.proofs.lemmas.Bool.{cases_lt}
+use Rattle.std.proofs.Common.{◌≡◌, ℕ, ◌+◌, ◌≤◌, List, [], ◌∷◌, Option, Some, length, take, string_bytes, All, ap, sym, ◌∙◌, subst, inr, arith, length-append, length-take, min}
 use Rattle.std.proofs.lemmas.List.{take_all}
 use Rattle.std.proofs.lemmas.List.Elements.{All-nil, All-cons}
 use Rattle.prolog_tokens.specs.declared.token.Token.{Token}
@@ -13,7 +12,7 @@ use Rattle.group_tool.specs.declared.outcome.Outcome.{Outcome}
 use Rattle.group_tool.specs.declared.outcome.Outcome.TheVariants.{Usage, Faults, Unread, Report, NoMemory}
 use Rattle.group_tool.specs.Words.{IsLawful}
 use Rattle.group_tool.specs.Clauses.{AreClauses, IsPlainText}
-use Rattle.group_tool.specs.Answer.{HasNoClauses, ReportsText, IsNotBuilt}
+use Rattle.group_tool.specs.Answer.{HasNoClauses, ReportsText}
 use Rattle.group_tool.specs.Outcome.{TextOutcomeIs}
 use Rattle.group_tool.specs.OutcomeEnd.{OutcomeIs}
 

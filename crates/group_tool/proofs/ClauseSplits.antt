@@ -1,10 +1,8 @@
 -- Tokens, cut into clauses one after another.
-use Rattle.std.proofs.Common.{◌≡◌, ◌≢◌, ℕ, ◌+◌, ◌-◌, ◌<◌, ◌≤◌, ◌⊎◌, List, [], ◌∷◌, ◌++◌, length, take, drop, get_or, Some, slice_get, option_map, ap, sym, ◌∙◌, subst, refl, inl, inr, arith, append_assoc, length-append, length-drop, length-take, zero, suc}
-use Rattle.std.proofs.lemmas.Bool.{cases_lt, cases_eq}
+use Rattle.std.proofs.Common.{◌≡◌, ℕ, ◌+◌, ◌-◌, ◌<◌, ◌≤◌, List, [], ◌∷◌, ◌++◌, length, take, drop, ap, sym, ◌∙◌, subst, refl, inl, inr, arith, append_assoc, length-append, length-drop, zero, suc}
+use Rattle.std.proofs.lemmas.Bool.{cases_lt}
 use Rattle.std.proofs.lemmas.List.{take-append-drop, take-append-le, take_all, append-nil, drop-drop}
 use Rattle.std.proofs.Math.Seq.{drop-append_seam}
-use Rattle.prolog_tokens.specs.declared.token.Kind.{Kind}
-use Rattle.prolog_tokens.specs.declared.token.Kind.TheVariants.{End}
 use Rattle.prolog_tokens.specs.declared.token.Token.{Token}
 use Rattle.prolog_tokens.specs.Cut.{IsCut}
 use Rattle.prolog_terms.specs.Tree.{Tree}

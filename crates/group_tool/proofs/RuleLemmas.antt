@@ -1,11 +1,11 @@
 -- The sides of infix terms, and what bodies name.
-use Rattle.std.proofs.Common.{◌≡◌, ◌≢◌, ℕ, ◌<◌, ◌+◌, Bool, true, false, List, [], ◌∷◌, ◌++◌, Option, Some, None, length, get_or, suc, max, codes, refl, arith, if◌then◌else◌, option_map, ap, sym, ◌∙◌, subst}
+use Rattle.std.proofs.Common.{◌≡◌, ◌≢◌, ℕ, ◌<◌, Bool, true, false, List, [], ◌∷◌, ◌++◌, Option, Some, None, length, get_or, codes, refl, arith, if◌then◌else◌, ap, sym, ◌∙◌, subst}
 use Rattle.std.specs.Option.{option_to_list}
 use Rattle.std.specs.Str.{bytes_eq}
 use Rattle.prolog_terms.specs.declared.term.Span.{Span}
 use Rattle.prolog_terms.specs.declared.term.Form.{Form}
 use Rattle.prolog_terms.specs.declared.term.Form.TheVariants.{Infix}
-use Rattle.prolog_terms.specs.Tree.{Tree, Trees, compound, more, none, trees_from, count, depth, deepest}
+use Rattle.prolog_terms.specs.Tree.{Tree, compound, more, none, trees_from, count, depth}
 use Rattle.prolog_terms.specs.Arity.{HasAritiesWithin}
 use Rattle.group_tool.specs.declared.indicator.Indicator.{Indicator}
 use Rattle.std.proofs.lemmas.List.Elements.{filter_map-append}

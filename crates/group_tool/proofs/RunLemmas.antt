@@ -1,12 +1,11 @@
 -- What the ways in which a run ends say.
-use Rattle.std.proofs.Common.{◌≡◌, ◌≢◌, ℕ, ◌⊎◌, List, [], ◌++◌, Option, Some, None, ap, sym, ◌∙◌, refl, inl, inr, append-nil, arith}
+use Rattle.std.proofs.Common.{◌≡◌, ◌≢◌, ℕ, ◌⊎◌, List, [], Option, Some, None, ap, sym, ◌∙◌, refl, inl, inr, append-nil, arith}
 use Rattle.file_library.specs.Counts.{Rose}
 use Rattle.file_library.specs.Library.{Files}
-use Rattle.group_tool.specs.Words.{IsLawful}
 use Rattle.group_tool.specs.Answer.{Answer, AreFaults, usage_line, memory_line}
 use Rattle.group_tool.specs.Answer as right
 use Rattle.group_tool.specs.Outcome.{IsAbsent, IsOutside}
-use Rattle.group_tool.specs.Say.{TookAll, TookPart}
+use Rattle.group_tool.specs.Say.{TookAll}
 use Rattle.group_tool.specs.Sink.{more_taken}
 use Rattle.group_tool.specs.Run.{End, usage, faults, unread, report, no_memory, EndIs, EndsBy, Taking, IsRun, SaidWith, SaysAnswer, SaysNoMemory, HasNoName}
 

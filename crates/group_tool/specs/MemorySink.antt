@@ -1,5 +1,5 @@
 -- Sinks in memory.
-use Rattle.std.specs.Prelude.{◌≡◌, ℕ, ◌≤◌, ◌↔◌, [], true, length}
+use Rattle.std.specs.Prelude.{◌≡◌, ℕ, ◌≤◌, [], true, length}
 use Rattle.group_tool.specs.declared.memory_sink.MemorySink.{MemorySink}
 use Rattle.group_tool.specs.declared.sink.Put.{Put}
 use Rattle.group_tool.specs.declared.sink.Put.TheVariants.{Failed}

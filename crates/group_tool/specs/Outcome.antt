@@ -1,10 +1,9 @@
 -- How a run comes out before its bytes are put, over any library.
-use Rattle.std.specs.Prelude.{◌≡◌, ℕ, ◌⊎◌, List, [], ◌∷◌, ◌++◌, Option, Some, None, string_bytes}
+use Rattle.std.specs.Prelude.{◌≡◌, ℕ, List, [], ◌∷◌, ◌++◌, Option, Some, None, string_bytes}
 use Rattle.file_library.specs.Counts.{Rose}
 use Rattle.file_library.specs.Library.{Files}
 use Rattle.group_tool.specs.declared.outcome.Outcome.{Outcome}
-use Rattle.group_tool.specs.declared.outcome.Outcome.TheVariants.{Usage, Faults, Unread, Report, NoMemory}
-use Rattle.group_tool.specs.Words.{IsLawful}
+use Rattle.group_tool.specs.declared.outcome.Outcome.TheVariants.{Faults, Report, NoMemory}
 use Rattle.group_tool.specs.Answer.{HasNoClauses, ReportsText, IsNotBuilt, absent_line, not_built_line, unread_line}
 
 -- what a text comes out as

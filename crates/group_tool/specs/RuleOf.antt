@@ -1,10 +1,10 @@
 -- What a clause says for the call graph.
-use Rattle.std.specs.Prelude.{ℕ, List, [], ◌∷◌, ◌++◌, Option, Some, None, option_map, if◌then◌else◌, codes}
+use Rattle.std.specs.Prelude.{ℕ, List, [], ◌++◌, Option, Some, None, option_map, if◌then◌else◌, codes}
 use Rattle.std.specs.List.{filter_map}
 use Rattle.std.specs.Option.{option_to_list}
 use Rattle.std.specs.Str.{bytes_eq}
 use Rattle.prolog_terms.specs.declared.term.Form.TheVariants.{Infix}
-use Rattle.prolog_terms.specs.Tree.{Tree, Trees, atom, compound, more, none, count}
+use Rattle.prolog_terms.specs.Tree.{Tree, atom, compound, more, none, count}
 use Rattle.prolog_terms.specs.Arity.{HasAritiesWithin}
 use Rattle.group_tool.specs.declared.indicator.Indicator.{Indicator}
 use Rattle.group_tool.specs.Rule.{HeadAndGoals}

@@ -1,6 +1,5 @@
 -- How a run ends: what its status says, and what its sinks have taken.
-use Rattle.std.specs.Prelude.{◌≡◌, ◌≢◌, ℕ, ◌⊎◌, List, Option, Some, Bool, true}
-use Rattle.file_library.specs.Counts.{Rose}
+use Rattle.std.specs.Prelude.{◌≡◌, ◌≢◌, ℕ, ◌⊎◌, List, Option, Bool, true}
 use Rattle.file_library.specs.Library.{Files}
 use Rattle.group_tool.specs.Words.{IsLawful}
 use Rattle.group_tool.specs.Answer.{Answer, IsAnswer, status_of, out_of, err_of, usage_line, memory_line}

@@ -1,5 +1,5 @@
 -- What a sink has taken after all of some bytes were put, or a part of them.
-use Rattle.std.specs.Prelude.{◌≡◌, ℕ, ◌≤◌, List, Option, Bool, true, false, take, length}
+use Rattle.std.specs.Prelude.{◌≡◌, ℕ, List, Option, Bool, true, false, take}
 use Rattle.file_library.specs.Counts.{Rose}
 use Rattle.group_tool.specs.Sink.{more_taken}
 

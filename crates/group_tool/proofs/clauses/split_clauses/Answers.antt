@@ -1,8 +1,6 @@
-use Rattle.std.proofs.Common.{◌≡◌, Result, Ok, is_ok, is_err, true, false, refl, ◌-◌, ◌++◌, ◌∷◌, [], Err, map, take, drop, ap, sym, ◌∙◌, subst, length}
+use Rattle.std.proofs.Common.{◌≡◌, Result, Ok, is_ok, is_err, true, false, refl, ◌++◌, ◌∷◌, [], Err, map, ap, sym, ◌∙◌, subst}
 use Rattle.std.proofs.lemmas.List.{map-append}
-use Rattle.prolog_terms.specs.Tree.{Tree, tree_of}
-use Rattle.prolog_terms.specs.declared.plain.PlainFault.{PlainFault}
-use Rattle.prolog_terms.specs.declared.plain.PlainFault.TheVariants.{NotBuilt}
+use Rattle.prolog_terms.specs.Tree.{tree_of}
 use Rattle.group_tool.proofs.ClauseSplits.{IsSplit, slice_part, split_more, split_stuck, split_done, split_only}
 use Rattle.group_tool.proofs.clauses.split_clauses.Goals as goal
 

@@ -1,12 +1,6 @@
-use Rattle.std.proofs.Common.{◌≡◌, List, length, ap, sym, ◌∙◌, subst, arith}
-use Rattle.std.specs.String.{string_bytes}
-use Rattle.prolog_terms.specs.Tree.{tree_of}
+use Rattle.std.proofs.Common.{◌≡◌, length, ap, ◌∙◌, subst}
 use Rattle.graph_law.specs.Graph.{Calls, IsGraph, lists_of}
-use Rattle.graph_law.specs.Classes.{AreClasses}
-use Rattle.graph_law.proofs.GraphLaws.{length-lists_of}
-use Rattle.group_tool.specs.Report.{ArePrintable, IsReport}
 use Rattle.group_tool.specs.Grouping.{AreLevels}
-use Rattle.group_tool.specs.CallGraph.{IsCallGraph}
 use Rattle.group_tool.proofs.GroupingLemmas.{report_of, levels_each}
 use Rattle.group_tool.proofs.Printable.{printable_classes}
 use Rattle.group_tool.proofs.grouping.group_clauses.Goals as goal

@@ -1,5 +1,5 @@
 use Rattle.std.proofs.Common.{◌++◌, codes, ap, sym, ◌∙◌, append_assoc, arith}
-use Rattle.prolog_terms.specs.Tree.{tree_of, depth}
+use Rattle.prolog_terms.specs.Tree.{tree_of}
 use Rattle.group_tool.specs.RuleOf.{goals_of}
 use Rattle.group_tool.proofs.RuleLemmas.{comma_sides, sides_arities}
 use Rattle.group_tool.proofs.rules.+push_goals.Goals as goal

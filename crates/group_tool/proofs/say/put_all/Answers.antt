@@ -1,4 +1,4 @@
-use Rattle.std.proofs.Common.{◌-◌, ◌+◌, length, take, drop, ap, ◌∙◌, arith, length-take, length-drop}
+use Rattle.std.proofs.Common.{◌-◌, ◌+◌, take, drop, ap, ◌∙◌, arith, length-take, length-drop}
 use Rattle.group_tool.specs.Sink.{more_taken}
 use Rattle.group_tool.proofs.Said.{take_piece, more_twice}
 use Rattle.group_tool.proofs.say.put_all.Goals as goal
