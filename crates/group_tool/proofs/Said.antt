@@ -3,8 +3,9 @@ use Rattle.std.proofs.Common.{◌≡◌, ℕ, ◌+◌, ◌≤◌, List, ◌++◌
 use Rattle.std.proofs.lemmas.Bool.{cases_lt}
 use Rattle.file_library.specs.Counts.{Rose}
 use Rattle.std.proofs.Math.Seq.{take-add}
-use Rattle.std.proofs.lemmas.List.{take-append-drop, take-append-le}
+use Rattle.std.proofs.lemmas.List.{take-append-drop, take-append-le, take_all}
 use Rattle.group_tool.specs.Sink.{more_taken}
+use Rattle.group_tool.specs.Say.{TookPart}
 
 -- the first bytes of a piece that begins at a place go on from there
 pub take_piece : (xs : List ℕ) (at m n : ℕ) → n ≤ length (take m (drop at xs)) → take at xs ++ take n (take m (drop at xs)) ≡ take (at + n) xs
@@ -27,3 +28,12 @@ rose_after a b c before after rose = elim rose [
 -- and one that rose earlier
 pub rose_before : (a b c : ℕ) → b ≤ c → Rose a b → Rose a c
 rose_before a b c after rose = elim rose [ inl up ↦ inl (omega arith) | inr end ↦ inr end ]
+
+-- a sink that took all of the bytes and failed to be flushed took the first of them, as many as there are
+pub taken_unflushed : (bytes : List ℕ) (taken taken' taken'' : Option (List ℕ)) (f f' f'' : ℕ) → taken' ≡ more_taken taken bytes → f ≤ f' → f' ≤ f''
+    → (taken'' ≡ taken') × (Rose f' f'') → TookPart bytes taken taken'' f f''
+taken_unflushed bytes taken taken' taken'' f f' f'' all before after failed = record {
+  count = length bytes;
+  is = failed.0 ∙ (all ∙ ap (more_taken taken) (sym (take_all (length bytes) bytes (omega arith))));
+  rose = rose_after f f' f'' before after failed.1;
+}

@@ -26,6 +26,7 @@ fn put_all<S: Sink>(sink: &mut S, bytes: &[u8]) -> bool
 }
 
 /// Puts all of the bytes and flushes the sink. Whether both were done.
+#[tactic(auto, using(crate::proofs::Said::taken_unflushed))]
 pub fn say<S: Sink>(sink: &mut S, bytes: &[u8]) -> bool
     ensures said { SaidIs bytes.now (S.taken sink.old) (S.taken sink.new) (S.faults sink.old) (S.faults sink.new) (S.settled sink.new) result }
     ensures faults_kept { S.faults sink.old ≤ S.faults sink.new }
