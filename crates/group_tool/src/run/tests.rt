@@ -116,7 +116,15 @@ fn reads_down_to_the_depth_limit(rt: HostRuntime) -> Result<(), Fail> {
         let mut library = one_file(alloc, "f.pl", text.as_str())?;
         let mut out = MemorySink::with_room(alloc, 1000)?;
         let mut err = MemorySink::with_room(alloc, 1000)?;
-        let result = run_groups(&rt, alloc, &words, &mut library, &mut out, &mut err, &OpenGate);
+        let result = run_groups(
+            &rt,
+            alloc,
+            &words,
+            &mut library,
+            &mut out,
+            &mut err,
+            &OpenGate,
+        );
         assert_eq!(rt; result, status, "at depth {depth}");
     }
     Ok(())
