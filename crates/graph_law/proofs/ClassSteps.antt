@@ -6,12 +6,12 @@ use Rattle.std.proofs.lemmas.List.Elements.{All-contains, All-weaker, All-push, 
 use Rattle.std.specs.Prelude.{All, Contains, Bool}
 use Rattle.std.specs.List.Sorted.{IsStrictlyIncreasing}
 use Rattle.graph_law.specs.Reach.{IsReached, ReachEachOther}
-use Rattle.graph_law.specs.Reached.{AreReached, AreRows, MarkEachOther, HasEarlier, AreMarkedWith}
-use Rattle.graph_law.specs.Classes.{IsClass, AreClasses, HasMember, group_at, least_member}
+use Rattle.graph_law.specs.Reached.{AreRows, MarkEachOther, HasEarlier, AreMarkedWith}
+use Rattle.graph_law.specs.Classes.{IsClass, HasMember, group_at, least_member}
 use Rattle.graph_law.proofs.ReachLaws.{is_reached_on, each_other_self, each_other_sym, each_other_trans}
 use Rattle.graph_law.proofs.ClassLaws.{least_is_member, least_is_least, HasMember-push_left, HasMember-push, HasMember-push_cases}
 use Rattle.graph_law.proofs.Increasing.{increasing_push}
-use Rattle.graph_law.proofs.Rows.{marked_below, mark_each_other, reach_from_marks, reached_below}
+use Rattle.graph_law.proofs.Rows.{mark_each_other, reach_from_marks, reached_below}
 
 -- the classes whose least member is below n, of what the starts reach
 pub record AreClassesBelow (calls : ℕ → ℕ → Type 0) (starts : List ℕ) (n : ℕ) (classes : List (List ℕ)) : Type 0 where
@@ -20,15 +20,6 @@ pub record AreClassesBelow (calls : ℕ → ℕ → Type 0) (starts : List ℕ) 
   pub reached : (p : ℕ) → HasMember classes p → IsReached calls starts p
   pub all : (p : ℕ) → p < n → IsReached calls starts p → HasMember classes p
   pub in_order : IsStrictlyIncreasing (map least_member classes)
-
-pub below_start : (calls : ℕ → ℕ → Type 0) (starts : List ℕ) → AreClassesBelow calls starts 0 []
-below_start calls starts = record {
-  each = λ k d lt. absurd (omega (arith, lt));
-  low = λ k d lt. absurd (omega (arith, lt));
-  reached = λ p has. let lt = has.within in absurd (omega (arith, lt));
-  all = λ p lt. absurd (omega (arith, lt));
-  in_order = λ k lt. absurd (omega (arith, lt));
-}
 
 -- a node that is not reached, or is a member already
 pub below_skip : {calls : ℕ → ℕ → Type 0} {starts : List ℕ} {n : ℕ} {classes : List (List ℕ)}
@@ -77,16 +68,6 @@ below_more {calls} {starts} {n} {classes} are class is member least reached = re
       (increasing_push (map least_member classes) n are.in_order (All-map (λ k. k < n) least_member classes are.low));
 }
 
--- all nodes are passed
-pub below_done : {calls : ℕ → ℕ → Type 0} {starts : List ℕ} {n : ℕ} {classes : List (List ℕ)} (marks : List Bool)
-    → AreClassesBelow calls starts n classes → AreReached calls n starts marks → AreClasses calls starts classes
-below_done {calls} {starts} {n} {classes} marks are marked = record {
-  each = are.each;
-  reached = are.reached;
-  all = λ p reached. are.all p (omega (arith, marked_below marks p (marked.all p reached), marked.each)) reached;
-  in_order = are.in_order;
-}
-
 -- what the rows say of the nodes that are marked with n
 pub class_from_marks : {calls : ℕ → ℕ → Type 0} {count : ℕ} {rows : List (List Bool)} {n : ℕ} {class : List ℕ}
     → AreRows calls count count rows → n < count → AreMarkedWith rows n count class → IsClass calls class × Contains class n
@@ -116,6 +97,6 @@ least_from_marks {calls} {count} {rows} {n} {class} are lt marked none =
       | inl before ↦
           let both : MarkEachOther rows n (least_member class) =
           All-contains (MarkEachOther rows n) class (least_member class) marked.marked (least_is_member is) in
-          absurd (none (record { earlier = least_member class; below = before; marked = (both.1, both.0) }))
+          absurd (none (record { earlier = least_member class; below = before; marked = both }))
       | inr from ↦ omega (arith, le, from)
     ]

@@ -77,13 +77,6 @@ rank_falls {calls} {count} {groups} i j first second classes apart is also led =
     count_lt is.marks also.marks (is.reached.each ∙ sym also.reached.each) kept led.caller marked none in
     omega (arith, less, is.counted, also.counted)
 
-pub ranked_start : (calls : ℕ → ℕ → Type 0) (count : ℕ) (groups : List (List ℕ)) → AreRanked calls count groups 0 []
-ranked_start calls count groups = record {
-  each = refl;
-  ranks = λ k d lt. absurd (omega (arith, lt));
-  all = λ i lt. absurd (omega (arith, lt));
-}
-
 pub ranked_push : (calls : ℕ → ℕ → Type 0) (count : ℕ) (groups : List (List ℕ)) (n : ℕ) (ranked : List Ranked) (one : Ranked)
     → one.place ≡ n → IsRanked calls count groups one
     → AreRanked calls count groups n ranked → AreRanked calls count groups (n + 1) (ranked ++ one ∷ [])

@@ -1,23 +1,20 @@
 -- Rows of marks, and what they say of mutual reach.
-use Rattle.std.proofs.Common.{◌≡◌, inl, inr, ℕ, ◌<◌, ◌≤◌, ◌+◌, Bool, true, false, List, [], ◌∷◌, ◌++◌, length, get_or, refl, subst, sym, ap, ◌∙◌, arith, Vec}
+use Rattle.std.proofs.Common.{◌≡◌, inl, inr, ℕ, ◌<◌, ◌+◌, Bool, true, false, List, [], ◌∷◌, ◌++◌, length, get_or, refl, subst, sym, ap, ◌∙◌, arith, Vec}
 use Rattle.std.proofs.lemmas.Bool.{cases_eq, cases_lt, false≢true}
-use Rattle.std.proofs.lemmas.List.{get_or_past, get_or_append_left, get_or_push, get_or_default, length_push}
+use Rattle.std.proofs.lemmas.List.{get_or_past, get_or_append_left, get_or_push, length_push}
 use Rattle.std.proofs.lemmas.List.Elements.{All-weaker, All-push, Contains-append_left, Contains-push}
 use Rattle.std.specs.Prelude.{Contains}
 use Rattle.graph_law.specs.Reach.{Reaches, IsReached, ReachEachOther}
 use Rattle.graph_law.proofs.Increasing.{increasing_push}
 use Rattle.graph_law.proofs.GraphLaws.{length-lists_of, get_or-lists_of}
 use Rattle.graph_law.specs.Graph.{lists_of}
-use Rattle.graph_law.specs.Reached.{AreReached, AreRows, IsSquare, Marks, MarkEachOther, HasEarlier, AreMarkedWith}
+use Rattle.graph_law.specs.Reached.{AreReached, AreRows, IsSquare, Marks, MarkEachOther, AreMarkedWith}
 
 -- a mark past the end is none
 pub marked_below : (marks : List Bool) (p : ℕ) → get_or marks p false ≡ true → p < length marks
 marked_below marks p marked =
     elim (cases_lt p (length marks))
     [ inl lt ↦ lt | inr le ↦ absurd (false≢true (sym (get_or_past marks p false le) ∙ marked)) ]
-
-pub rows_start : (calls : ℕ → ℕ → Type 0) (count : ℕ) → AreRows calls count 0 []
-rows_start calls count = record { each = refl; row = λ p lt. absurd (omega (arith, lt)) }
 
 pub rows_more : (calls : ℕ → ℕ → Type 0) (count n : ℕ) (rows : List (List Bool)) (row : List Bool)
     → AreRows calls count n rows → AreReached calls count (n ∷ []) row → AreRows calls count (n + 1) (rows ++ row ∷ [])
@@ -35,16 +32,6 @@ rows_more calls count n rows row are marks = record {
             get_or_append_left rows (row ∷ []) [] p (omega (arith, are.each)) in
             subst (AreReached calls count (p ∷ [])) (sym at) (are.row p below)
       ];
-}
-
--- the rows of all nodes of a graph of at most this size are square
-pub square_from_rows : (calls : ℕ → ℕ → Type 0) (count : ℕ) (rows : List (List Bool))
-    → count ≤ 1048576 → AreRows calls count count rows → IsSquare rows
-square_from_rows calls count rows small are = record {
-  each = λ k d lt.
-      let at : get_or rows k d ≡ get_or rows k [] = get_or_default rows k d [] lt in
-      ap (λ row. length row) at ∙ (are.row k (omega (arith, are.each, lt))).each ∙ sym are.each;
-  small = omega (arith, small, are.each);
 }
 
 one_start : (calls : ℕ → ℕ → Type 0) (p q : ℕ) → IsReached calls (p ∷ []) q → Reaches calls p q
@@ -90,28 +77,6 @@ reached_below calls count rows p q are lt on =
     let within : q < length (get_or rows p []) = marked_below (get_or rows p []) q (marks_from_reaches calls count rows p q are lt on) in
     omega (arith, within, (are.row p lt).each)
 
-pub marked_start : (rows : List (List Bool)) (node : ℕ) → AreMarkedWith rows node 0 []
-marked_start rows node = record {
-  ascending = λ k lt. absurd (omega (arith, lt));
-  below = λ k d lt. absurd (omega (arith, lt));
-  marked = λ k d lt. absurd (omega (arith, lt));
-  all = λ q lt marked. absurd (omega (arith, lt));
-}
-
--- a node that is not marked with this one is passed
-pub marked_skip : (rows : List (List Bool)) (node n : ℕ) (class : List ℕ)
-    → AreMarkedWith rows node n class → (MarkEachOther rows node n → ⊥) → AreMarkedWith rows node (n + 1) class
-marked_skip rows node n class are none = record {
-  ascending = are.ascending;
-  below = All-weaker (λ q. q < n) (λ q. q < n + 1) (λ q lt. omega (arith, lt)) class are.below;
-  marked = are.marked;
-  all = λ q lt marked.
-      elim (cases_eq q n) [
-        | inl is ↦ let P : ℕ → Type 0 = λ k. MarkEachOther rows node k in absurd (none (subst P is marked))
-        | inr ne ↦ are.all q (omega (arith, lt, ne)) marked
-      ];
-}
-
 -- a node that is marked with this one goes to the end
 pub marked_more : (rows : List (List Bool)) (node n : ℕ) (class : List ℕ)
     → AreMarkedWith rows node n class → MarkEachOther rows node n → AreMarkedWith rows node (n + 1) (class ++ n ∷ [])
@@ -125,10 +90,6 @@ marked_more rows node n class are marked = record {
         | inr ne ↦ Contains-append_left class (n ∷ []) q (are.all q (omega (arith, lt, ne)) marks)
       ];
 }
-
--- no node below this one is marked with it, as far as the bound
-pub no_earlier : (rows : List (List Bool)) (node : ℕ) → ((p : ℕ) → p < node → MarkEachOther rows p node → ⊥) → HasEarlier rows node → ⊥
-no_earlier rows node none has = none has.earlier has.below has.marked
 
 -- how many marks `rows[p]` has
 pub row_length : {A : Type 0} (rows : List (Vec Bool A)) (p : ℕ) (row : Vec Bool A)

@@ -31,7 +31,7 @@ MarkEachOther rows p q = Marks rows p q × Marks rows q p
 pub record HasEarlier (rows : List (List Bool)) (node : ℕ) : Type 0 where
   pub earlier : ℕ
   pub below : earlier < node
-  pub marked : MarkEachOther rows earlier node
+  pub marked : MarkEachOther rows node earlier
 
 -- the nodes below the bound that are marked with this one, ascending
 pub record AreMarkedWith (rows : List (List Bool)) (node bound : ℕ) (class : List ℕ) : Type 0 where

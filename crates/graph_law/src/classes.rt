@@ -68,7 +68,7 @@ fn has_earlier(rows: &[Vec<bool>], node: u32) -> bool
     ensures { IsTrue result ↔ HasEarlier (lists_of rows.now) node }
 {
     for earlier in 0..node {
-        if reach_each_other(rows, earlier, node) {
+        if reach_each_other(rows, node, earlier) {
             return true;
         }
     }

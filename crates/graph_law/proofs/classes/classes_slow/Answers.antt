@@ -2,9 +2,10 @@ use Rattle.std.proofs.Common.{◌≡◌, ℕ, ◌<◌, List, Bool, true, false, 
 use Rattle.std.proofs.lemmas.Bool.{false≢true}
 use Rattle.std.proofs.lemmas.List.{get_or_read}
 use Rattle.graph_law.specs.Graph.{Calls, lists_of}
-use Rattle.graph_law.specs.Reach.{IsReached}
+use Rattle.graph_law.specs.Reach.{IsReached, ReachEachOther}
 use Rattle.graph_law.specs.Reached.{AreRows, AreMarkedWith, HasEarlier}
 use Rattle.graph_law.proofs.GraphLaws.{length-lists_of, lists_of-push}
+use Rattle.graph_law.proofs.ReachLaws.{each_other_sym}
 use Rattle.graph_law.proofs.Rows.{reach_from_marks}
 use Rattle.graph_law.proofs.ClassSteps.{below_skip, below_more, earlier_has, class_from_marks, least_from_marks}
 use Rattle.graph_law.proofs.classes.classes_slow.Goals as goal
@@ -12,10 +13,10 @@ use Rattle.graph_law.proofs.classes.classes_slow.Goals as goal
 pub loop-node-preserved-then-has_earlier : goal.loop-node-preserved-then-has_earlier
 loop-node-preserved-then-has_earlier c =
     let has : HasEarlier (lists_of c.in_ok-rows.rows.items) c.loop-node.node = rw c.deref.ensures.value at (c.if-has_earlier.ensures.0 refl) in
-    below_skip c.loop-node.invariant
-    (earlier_has c.loop-node.invariant has.earlier has.below
-    (reach_from_marks (Calls c.args.graph.now.lists) (length c.args.graph.now.lists) (lists_of c.in_ok-rows.rows.items) has.earlier c.loop-node.node
-    c.in_ok-rows.ensures has.marked))
+    let both : ReachEachOther (Calls c.args.graph.now.lists) c.loop-node.node has.earlier =
+    reach_from_marks (Calls c.args.graph.now.lists) (length c.args.graph.now.lists) (lists_of c.in_ok-rows.rows.items) c.loop-node.node
+    has.earlier c.in_ok-rows.ensures has.marked in
+    below_skip c.loop-node.invariant (earlier_has c.loop-node.invariant has.earlier has.below (each_other_sym both))
 
 pub loop-node-preserved : goal.loop-node-preserved
 loop-node-preserved c =

@@ -4,4 +4,4 @@ use Rattle.graph_law.specs.Reached.{MarkEachOther}
 use Rattle.graph_law.proofs.classes.has_earlier.Given as goal
 
 abbrev pub invariant-loop-earlier : goal.invariant-loop-earlier
-invariant-loop-earlier l = (p : ℕ) → p < l.earlier → MarkEachOther (lists_of l.rows) p l.node → ⊥
+invariant-loop-earlier l = (p : ℕ) → p < l.earlier → MarkEachOther (lists_of l.rows) l.node p → ⊥
