@@ -1,0 +1,6 @@
+mod FewGroups
+mod LevelSteps
+mod MemberSteps
+mod RaisedSteps
+mod ReleaseSteps
+mod StampSteps

@@ -1,5 +1,5 @@
 ghost use Rattle.std.specs.Prelude.{◌≡◌, ℕ, ◌<◌, ◌≤◌, length, slice_index, All, Contains, IfOk};
-ghost use Rattle.graph_law.specs.Graph.{Calls, lists_of};
+ghost use Rattle.graph_law.specs.Graph.{Calls, IsClosed, lists_of};
 ghost use Rattle.graph_law.specs.Classes.{HasMember};
 ghost use Rattle.graph_law.specs.LegalOrder.{IsLegalOrder};
 ghost use Rattle.group_release.specs.Level.{AreLevels};
@@ -48,6 +48,7 @@ fn level_of<O: Opener>(
     levels: &[Level],
     callees: &mut Vec<u32>,
 ) -> Result<Level, AllocError>
+    requires closed { IsClosed (O.lists opener.now) }
     requires nodes { All (λ member. member < length (O.lists opener.now)) group.now }
     requires counted { length places.now ≡ length (O.lists opener.now) }
     requires known { (p q : ℕ) → Contains group.now p → Calls (O.lists opener.now) p q
