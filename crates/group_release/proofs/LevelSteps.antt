@@ -2,6 +2,7 @@
 use Rattle.std.proofs.Common.{◌≡◌, ◌⊎◌, ◌↔◌, inl, inr, ℕ, ◌<◌, ◌≤◌, ◌+◌, false, IsTrue, List, [], ◌∷◌, ◌++◌, length, get_or, map, refl, subst, sym, ap, ◌∙◌, arith}
 use Rattle.std.proofs.lemmas.Bool.{cases_eq, cases_lt}
 use Rattle.std.proofs.lemmas.List.{get_or_append_left, get_or_default, get_or_push, get_or-map, length_push, length-map}
+use Rattle.std.proofs.lemmas.List.Elements.{Contains-get_or}
 use Rattle.std.specs.Prelude.{All, Contains}
 use Rattle.graph_law.specs.Classes.{GroupCalls, HasMember, IsRecursive, group_at}
 use Rattle.graph_law.specs.CallOrder.{AreApart}
@@ -190,3 +191,10 @@ heights_fit {calls} {count} {groups} {levels} legal nodes small within so_far =
     let same : (get_or levels k d).height ≡ (level_at levels k).height =
     ap (λ (level : Level). level.height) (get_or_default levels k d none lt) in
     omega (arith, same, so_far.low k lt, lt, within, few, small)
+
+-- the members of a group that is read are nodes
+pub members_below : {count : ℕ} {groups : List (List ℕ)} (n : ℕ) (group : List ℕ) → n < length groups → group ≡ group_at groups n
+    → ((p : ℕ) → HasMember groups p → p < count) → All (λ p. p < count) group
+members_below {count} {groups} n group lt is nodes = λ k d within.
+    nodes (get_or group k d)
+    (record { place = n; within = lt; member = subst (λ each. Contains each (get_or group k d)) is (Contains-get_or group k d within) })
