@@ -1,5 +1,5 @@
 -- How the levels of groups in a legal order are found, one group after another.
-use Rattle.std.proofs.Common.{◌≡◌, ◌⊎◌, ◌↔◌, inl, inr, ℕ, ◌<◌, ◌≤◌, ◌+◌, false, IsTrue, List, [], ◌∷◌, ◌++◌, length, get_or, map, refl, subst, sym, ap, ◌∙◌, arith}
+use Rattle.std.proofs.Common.{◌≡◌, ◌↔◌, inl, inr, ℕ, ◌<◌, ◌≤◌, ◌+◌, false, IsTrue, List, [], ◌∷◌, ◌++◌, length, get_or, map, subst, sym, ap, ◌∙◌, arith}
 use Rattle.std.proofs.lemmas.Bool.{cases_eq, cases_lt}
 use Rattle.std.proofs.lemmas.List.{get_or_append_left, get_or_default, get_or_push, get_or-map, length_push, length-map}
 use Rattle.std.proofs.lemmas.List.Elements.{Contains-get_or}
@@ -88,11 +88,11 @@ raised_by_calls {lists} {count} {groups} {n} {places} {levels} {height} legal wi
       member = led.caller;
       is_member = led.is_caller;
       leads = record {
-            callee = led.callee;
-            is_callee = led.call;
-            at = are.at j led.callee (omega (arith, earlier)) led.is_callee;
-            earlier = earlier;
-          };
+        callee = led.callee;
+        is_callee = led.call;
+        at = are.at j led.callee (omega (arith, earlier)) led.is_callee;
+        earlier = earlier;
+      };
     })
 
 -- a level at the end changes no height that is led to
@@ -164,17 +164,17 @@ levels_done {calls} {groups} {levels} legal each so_far =
     λ i lt. get_or-map height levels i none 0 (omega (arith, lt, each)) in
     record {
       heights = record {
-            each = length-map levels height ∙ each;
-            above = λ i j led.
-                let within = led.caller_within in
-                let inside = led.callee_within in
-                omega (arith, at i within, at j inside, (so_far.heights i (omega (arith, within, each))).above j led);
-            least = λ i lt.
-                elim (so_far.heights i (omega (arith, lt, each))).least [
-                  | inl zero_height ↦ inl (at i lt ∙ zero_height)
-                  | inr (j, led, is) ↦ inr (j, led, (let inside = led.callee_within in omega (arith, at i lt, at j inside, is)))
-                ];
-          };
+        each = length-map levels height ∙ each;
+        above = λ i j led.
+            let within = led.caller_within in
+            let inside = led.callee_within in
+            omega (arith, at i within, at j inside, (so_far.heights i (omega (arith, within, each))).above j led);
+        least = λ i lt.
+            elim (so_far.heights i (omega (arith, lt, each))).least [
+              | inl zero_height ↦ inl (at i lt ∙ zero_height)
+              | inr (j, led, is) ↦ inr (j, led, (let inside = led.callee_within in omega (arith, at i lt, at j inside, is)))
+            ];
+      };
       marks = λ i lt. so_far.marks i (omega (arith, lt, each));
     }
 

@@ -3,4 +3,6 @@ mod LevelSteps
 mod MemberSteps
 mod RaisedSteps
 mod ReleaseSteps
+mod SmallGraph
+mod SmallRelease
 mod StampSteps

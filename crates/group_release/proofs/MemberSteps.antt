@@ -1,5 +1,5 @@
 -- How the level of a group is found, one member after another.
-use Rattle.std.proofs.Common.{◌≡◌, ◌⊎◌, ◌↔◌, ◌||◌, inl, inr, ℕ, zero, suc, ◌<◌, ◌≤◌, ◌+◌, Bool, true, false, IsTrue, List, [], ◌∷◌, ◌++◌, length, take, get_or, refl, subst, sym, ap, ◌∙◌, arith}
+use Rattle.std.proofs.Common.{◌≡◌, ◌⊎◌, ◌↔◌, ◌||◌, inl, inr, ℕ, ◌<◌, ◌≤◌, ◌+◌, Bool, IsTrue, List, [], ◌∷◌, ◌++◌, length, take, get_or, subst, sym, ap, ◌∙◌, arith}
 use Rattle.std.proofs.lemmas.Bool.{cases_lt, or_cases, or_left, or_right}
 use Rattle.std.proofs.lemmas.List.{take_more, take_all, get_or_default}
 use Rattle.std.proofs.lemmas.List.Elements.{Contains-append_left, Contains-get_or, Contains-push, Contains-push_cases}
@@ -52,19 +52,19 @@ seen_more {lists} {places} {levels} {group} {n} {height} {recursive} after own s
     record {
       raised = rw more (members_more lists places (length levels) (take n group) member levels height after seen.raised raised);
       mark = (
-          λ is.
-          elim (or_cases recursive own is) [
-            | inl before ↦ elim (seen.mark.0 before) [ inl two ↦ inl two | inr has ↦ inr (wider has) ]
-            | inr here ↦ inr (last (call.0 here))
-          ],
-          λ marked.
-          elim marked [
-            | inl two ↦ or_left recursive own (seen.mark.1 (inl two))
-            | inr has ↦
-                elim (split has)
-                [ inl before ↦ or_left recursive own (seen.mark.1 (inr before)) | inr calls ↦ or_right recursive own (call.1 calls) ]
-          ],
-        );
+        λ is.
+            elim (or_cases recursive own is) [
+              | inl before ↦ elim (seen.mark.0 before) [ inl two ↦ inl two | inr has ↦ inr (wider has) ]
+              | inr here ↦ inr (last (call.0 here))
+            ],
+        λ marked.
+            elim marked [
+              | inl two ↦ or_left recursive own (seen.mark.1 (inl two))
+              | inr has ↦
+                  elim (split has)
+                  [ inl before ↦ or_left recursive own (seen.mark.1 (inr before)) | inr calls ↦ or_right recursive own (call.1 calls) ]
+            ],
+      );
     }
 
 -- in a list of one, each member is the first
@@ -90,13 +90,13 @@ seen_all {lists} {places} {levels} {group} {n} {height} {recursive} seen passed 
     record {
       height = rw all at seen.raised;
       mark = (
-          λ is. elim (seen.mark.0 is) [ inl two ↦ inl two | inr own ↦ to own ],
-          λ is.
-          elim is [
-            | inl two ↦ seen.mark.1 (inl two)
-            | inr one ↦
-                let first : Contains group (get_or group 0 0) = (let is_one = one.0 in Contains-get_or group 0 0 (omega (arith, is_one))) in
-                seen.mark.1 (inr (rw all (record { member = get_or group 0 0; is_member = first; call = one.1 })))
-          ],
-        );
+        λ is. elim (seen.mark.0 is) [ inl two ↦ inl two | inr own ↦ to own ],
+        λ is.
+            elim is [
+              | inl two ↦ seen.mark.1 (inl two)
+              | inr one ↦
+                  let first : Contains group (get_or group 0 0) = (let is_one = one.0 in Contains-get_or group 0 0 (omega (arith, is_one))) in
+                  seen.mark.1 (inr (rw all (record { member = get_or group 0 0; is_member = first; call = one.1 })))
+            ],
+      );
     }

@@ -1,5 +1,5 @@
 -- How a group is released.
-use Rattle.std.proofs.Common.{◌≡◌, ◌⊎◌, ◌↔◌, inl, inr, ℕ, ◌<◌, ◌≤◌, ◌+◌, Bool, true, false, List, [], ◌∷◌, ◌++◌, length, get_or, nat_eq, refl, subst, sym, ap, ◌∙◌, arith}
+use Rattle.std.proofs.Common.{◌≡◌, ◌↔◌, inl, inr, ℕ, ◌<◌, ◌≤◌, ◌+◌, Bool, true, false, List, [], ◌∷◌, ◌++◌, length, get_or, nat_eq, subst, sym, ◌∙◌, arith}
 use Rattle.std.proofs.lemmas.Bool.{cases_lt}
 use Rattle.std.proofs.lemmas.Cmp.{nat_eq_equiv}
 use Rattle.std.proofs.lemmas.List.{get_or_append_left, get_or_push, length_push}
@@ -87,12 +87,12 @@ pub marks_more : (groups : List (List ℕ)) (group : List ℕ) (old new : List B
     → (p : ℕ) → (get_or new p false ≡ true) ↔ HasMember (groups ++ group ∷ []) p
 marks_more groups group old new marks is p = (
   λ marked.
-  elim (is.kept p false)
-  [ inl member ↦ HasMember-push groups group p member | inr same ↦ HasMember-push_left groups group p ((marks p).0 (sym same ∙ marked)) ],
+      elim (is.kept p false)
+      [ inl member ↦ HasMember-push groups group p member | inr same ↦ HasMember-push_left groups group p ((marks p).0 (sym same ∙ marked)) ],
   λ has.
-  elim (HasMember-push_cases groups group p has) [
-    | inl before ↦
-        elim (is.kept p false) [ inl member ↦ is.stamped p false member | inr same ↦ same ∙ (marks p).1 before ]
-    | inr member ↦ is.stamped p false member
-  ],
+      elim (HasMember-push_cases groups group p has) [
+        | inl before ↦
+            elim (is.kept p false) [ inl member ↦ is.stamped p false member | inr same ↦ same ∙ (marks p).1 before ]
+        | inr member ↦ is.stamped p false member
+      ],
 )

@@ -1,6 +1,6 @@
-use Rattle.std.proofs.Common.{◌≡◌, ℕ, ◌<◌, List, take, get_or, length, arith}
+use Rattle.std.proofs.Common.{ℕ, ◌<◌, take, get_or, length, arith}
 use Rattle.std.proofs.lemmas.List.{take_more}
-use Rattle.group_release.proofs.RaisedSteps.{lead_skip, lead_more}
+use Rattle.group_release.proofs.RaisedSteps.{lead_more}
 use Rattle.group_release.proofs.level.raised.Goals as goal
 
 pub loop-callee-preserved : goal.loop-callee-preserved

@@ -1,10 +1,10 @@
-use Rattle.std.proofs.Common.{◌≡◌, ℕ, ◌<◌, List, [], ◌∷◌, ◌++◌, true, length, refl, sym, ap, ◌∙◌, subst, arith}
+use Rattle.std.proofs.Common.{◌≡◌, ℕ, List, [], ◌∷◌, ◌++◌, true, length, sym, ap, ◌∙◌, arith}
 use Rattle.std.proofs.lemmas.List.{length_push, with_items_is}
 use Rattle.std.specs.List.Sorted.{IsStrictlyIncreasing}
 use Rattle.std.specs.Vec.{with_items}
 use Rattle.graph_law.specs.Graph.{lists_of}
 use Rattle.graph_law.proofs.GraphLaws.{length-lists_of, lists_of-push}
-use Rattle.group_release.specs.Released.{AreReleased, IsNewGroup, ReleasedGroups}
+use Rattle.group_release.specs.Released.{IsNewGroup, ReleasedGroups}
 use Rattle.group_release.specs.ReleasedFields.{value_of}
 use Rattle.group_release.specs.Stamp.{IsStamped}
 use Rattle.group_release.proofs.ReleaseSteps.{sorted_ascends, new_permuted, released_more, marks_more}
@@ -26,13 +26,13 @@ unwrap-requires c =
     let groups : List (List ℕ) = lists_of c.self.inside.groups.items in
     c.push.ensures.succeeds
     (omega (
-        arith,
-        more.few,
-        length_push groups last,
-        length-lists_of c.self.inside.groups.items,
-        c.self.inside.groups.ok,
-        c.self.invariant.room,
-      ))
+      arith,
+      more.few,
+      length_push groups last,
+      length-lists_of c.self.inside.groups.items,
+      c.self.inside.groups.ok,
+      c.self.invariant.room,
+    ))
 
 pub invariant_of-self : goal.invariant_of-self
 invariant_of-self c =
