@@ -9,8 +9,9 @@ use crate::stamp::stamp;
 use graph_law::Opener;
 use std::alloc::{AllocError, Global};
 
-/// Where a group stands in the report: 0 where it calls no other group, else one more than the
-/// greatest height that it calls; and whether it is recursive.
+/// The height of a group, which is 0 where it calls no other group, else one more than the greatest
+/// height that it calls; and whether it is recursive, as it is where it has two members or its one
+/// member calls itself.
 #[derive(Clone, Copy, Debug, PartialEq, Eq)]
 pub struct Level {
     pub height: u32,
