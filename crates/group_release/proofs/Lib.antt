@@ -1,0 +1,8 @@
+mod FewGroups
+mod LevelSteps
+mod MemberSteps
+mod RaisedSteps
+mod ReleaseSteps
+mod SmallGraph
+mod SmallRelease
+mod StampSteps

@@ -1,0 +1,5 @@
+pub mod Level
+pub mod Levels
+pub mod Released
+pub mod ReleasedFields
+pub mod Stamp
