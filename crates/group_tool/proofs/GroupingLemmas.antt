@@ -1,65 +1,50 @@
--- Levels, one group after another, and the report of them.
-use Rattle.std.proofs.Common.{◌≡◌, ℕ, ◌+◌, ◌<◌, ◌↔◌, false, IsTrue, List, [], ◌∷◌, ◌++◌, length, get_or, map, take, ap, sym, ◌∙◌, subst, inl, inr, arith, length-append}
-use Rattle.std.proofs.lemmas.Bool.{cases_lt}
-use Rattle.std.proofs.lemmas.List.{map-append, get_or_append_left, take_more, take_all, length-map}
-use Rattle.std.proofs.Math.Seq.{get_or-append_seam}
+-- The report of groups and their levels.
+use Rattle.std.proofs.Common.{◌≡◌, ℕ, List, length, map, sym, ◌∙◌, subst}
+use Rattle.std.proofs.lemmas.List.{length-map}
 use Rattle.prolog_terms.specs.Tree.{Tree}
-use Rattle.graph_law.specs.Reach.{Agree}
-use Rattle.graph_law.specs.Classes.{AreClasses, IsRecursive, group_at}
+use Rattle.graph_law.specs.Reach.{Agree, IsReached}
+use Rattle.graph_law.specs.Classes.{HasMember, IsRecursive, group_at}
 use Rattle.graph_law.specs.Graph.{CallGraph, Calls}
-use Rattle.graph_law.specs.Heights.{HaveHeights}
-use Rattle.graph_law.proofs.Transport.{Agree-sym, AreClasses-agree, HaveHeights-agree, IsRecursive-agree}
+use Rattle.graph_law.specs.LegalOrder.{IsLegalOrder, IsComplete}
+use Rattle.graph_law.proofs.ReachLaws.{is_reached_along}
+use Rattle.graph_law.proofs.Transport.{Agree-sym, IsLegalOrder-agree, HaveHeights-agree, IsRecursive-agree}
+use Rattle.group_release.specs.declared.level.Level.{Level}
+use Rattle.group_release.specs.Level.{AreLevels}
 use Rattle.group_tool.specs.declared.indicator.Indicator.{Indicator}
 use Rattle.group_tool.specs.Rule.{HeadAndGoals}
 use Rattle.group_tool.specs.RuleOf.{rules_of}
 use Rattle.group_tool.specs.Numbering.{IsNumbering}
-use Rattle.group_tool.specs.CallGraph.{NodeCalls, IsCallGraph}
-use Rattle.group_tool.specs.Grouping.{AreLevels, IsReportOf}
-use Rattle.group_tool.specs.declared.level.Level.{Level}
-use Rattle.group_tool.specs.Report.{level_at, IsReport}
+use Rattle.group_tool.specs.CallGraph.{NodeCalls, IsCallGraph, all_nodes}
+use Rattle.group_tool.specs.Grouping.{AreGroups, IsReportOf}
+use Rattle.group_tool.specs.Report.{IsReport}
 
--- the levels of the groups before a place
-pub record AreLevelsBelow (calls : ℕ → ℕ → Type 0) (groups : List (List ℕ)) (heights : List ℕ) (at : ℕ) (levels : List Level) : Type 0 where
-  pub each : length levels ≡ at
-  pub heights_are : map (λ (level : Level). level.height) levels ≡ take at heights
-  pub marks : (i : ℕ) → i < at → IsTrue (level_at levels i).recursive ↔ IsRecursive calls (group_at groups i)
+-- what a search from the roots finds
+pub groups_found : {calls : ℕ → ℕ → Type 0} {starts roots : List ℕ} {groups : List (List ℕ)} → roots ≡ starts → IsLegalOrder calls groups → IsComplete roots groups
+    → ((p : ℕ) → HasMember groups p → IsReached calls roots p) → AreGroups calls starts groups
+groups_found {calls} {starts} {roots} {groups} same legal complete reached =
+    subst (λ nodes. AreGroups calls nodes groups) same (record { legal = legal; complete = complete; reached = reached })
 
-pub levels_more : {calls : ℕ → ℕ → Type 0} {groups : List (List ℕ)} {heights : List ℕ} {levels : List Level} (at : ℕ) (level : Level) → AreLevelsBelow calls groups heights at levels
-    → at < length heights → level.height ≡ get_or heights at 0 → (IsTrue level.recursive ↔ IsRecursive calls (group_at groups at))
-    → AreLevelsBelow calls groups heights (at + 1) (levels ++ level ∷ [])
-levels_more {calls} {groups} {heights} {levels} at level below within height mark =
-    let none : Level = record { height = 0; recursive = false } in
-    let last : get_or (levels ++ level ∷ []) at none ≡ level =
-    ap (λ k. get_or (levels ++ level ∷ []) k none) (sym below.each) ∙ get_or-append_seam levels level [] none in
-    record {
-      each = length-append levels (level ∷ []) ∙ ap (λ n. n + 1) below.each;
-      heights_are =
-          map-append (λ (l : Level). l.height) levels (level ∷ [])
-          ∙ (ap (λ hs. hs ++ level.height ∷ []) below.heights_are ∙ (ap (λ h. take at heights ++ h ∷ []) height ∙ sym (take_more heights at 0 within)));
-      marks = λ i lt. elim (cases_lt i at) [
-        | inl before ↦
-            let same : level_at (levels ++ level ∷ []) i ≡ level_at levels i = get_or_append_left levels (level ∷ []) none i (omega (arith, before, below.each)) in
-            subst (λ (l : Level). IsTrue l.recursive ↔ IsRecursive calls (group_at groups i)) (sym same) (below.marks i before)
-        | inr from ↦
-            let is : at ≡ i = omega (arith, from, lt) in
-            subst (λ k. IsTrue (level_at (levels ++ level ∷ []) k).recursive ↔ IsRecursive calls (group_at groups k)) is
-            (subst (λ (l : Level). IsTrue l.recursive ↔ IsRecursive calls (group_at groups at)) (sym last) mark)
-      ];
-    }
+pub AreGroups-agree : {c d : ℕ → ℕ → Type 0} {starts : List ℕ} {groups : List (List ℕ)} → Agree c d → AreGroups c starts groups → AreGroups d starts groups
+AreGroups-agree {c} {d} {starts} {groups} agree are = record {
+  legal = IsLegalOrder-agree agree are.legal;
+  complete = are.complete;
+  reached = λ p has. is_reached_along c d agree.to starts p (are.reached p has);
+}
 
--- the levels of all groups
-pub all_levels : {calls : ℕ → ℕ → Type 0} {groups : List (List ℕ)} {heights : List ℕ} {levels : List Level} → HaveHeights calls groups heights
-    → AreLevelsBelow calls groups heights (length groups) levels → AreLevels calls groups levels
-all_levels {calls} {groups} {heights} {levels} are below = record {
-  heights = subst (HaveHeights calls groups) (sym (below.heights_are ∙ take_all (length groups) heights (omega (arith, are.each)))) are;
-  marks = below.marks;
+pub AreLevels-agree : {c d : ℕ → ℕ → Type 0} {groups : List (List ℕ)} {levels : List Level} → Agree c d → AreLevels c groups levels → AreLevels d groups levels
+AreLevels-agree {c} {d} {groups} {levels} agree are = record {
+  heights = HaveHeights-agree agree are.heights;
+  marks = λ i lt. (
+    (λ marked. IsRecursive-agree (group_at groups i) agree ((are.marks i lt).0 marked)),
+    (λ recursive. (are.marks i lt).1 (IsRecursive-agree (group_at groups i) (Agree-sym agree) recursive)),
+  );
 }
 
 -- what the rules say and what the graph holds are the same calls
 pub report_of : {trees : List Tree} {rules : List HeadAndGoals} {predicates : List Indicator} {graph : CallGraph} {groups : List (List ℕ)} {levels : List Level} {bytes : List ℕ}
-    → rules ≡ rules_of trees → IsNumbering rules predicates → IsCallGraph rules predicates graph → AreClasses (Calls graph.lists) graph.roots groups
+    → rules ≡ rules_of trees → IsNumbering rules predicates → IsCallGraph rules predicates graph → AreGroups (Calls graph.lists) graph.roots groups
     → AreLevels (Calls graph.lists) groups levels → IsReport predicates groups levels bytes → IsReportOf trees bytes
-report_of {trees} {rules} {predicates} {graph} {groups} {levels} {bytes} said numbering is classes levels_are report =
+report_of {trees} {rules} {predicates} {graph} {groups} {levels} {bytes} said numbering is are levels_are report =
     let agree : Agree (Calls graph.lists) (NodeCalls (rules_of trees) predicates) =
     subst (λ rs. Agree (Calls graph.lists) (NodeCalls rs predicates)) said
     (record { to = λ p q. (is.callees.calls p q).0; from = λ p q. (is.callees.calls p q).1 }) in
@@ -67,15 +52,9 @@ report_of {trees} {rules} {predicates} {graph} {groups} {levels} {bytes} said nu
       predicates = predicates;
       numbering = subst (λ rs. IsNumbering rs predicates) said numbering;
       groups = groups;
-      classes = subst (λ starts. AreClasses (NodeCalls (rules_of trees) predicates) starts groups) is.roots (AreClasses-agree agree classes);
+      are_groups = subst (λ starts. AreGroups (NodeCalls (rules_of trees) predicates) starts groups) is.roots (AreGroups-agree agree are);
       levels = levels;
-      are_levels = record {
-        heights = HaveHeights-agree agree levels_are.heights;
-        marks = λ i lt. (
-          (λ marked. IsRecursive-agree (group_at groups i) agree ((levels_are.marks i lt).0 marked)),
-          (λ recursive. (levels_are.marks i lt).1 (IsRecursive-agree (group_at groups i) (Agree-sym agree) recursive)),
-        );
-      };
+      are_levels = AreLevels-agree agree levels_are;
       report = report;
     }
 

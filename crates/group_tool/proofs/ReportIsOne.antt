@@ -4,7 +4,7 @@ use Rattle.std.specs.List.{flat_map, range_with_len}
 use Rattle.std.proofs.lemmas.Bool.{cases_eq}
 use Rattle.std.proofs.lemmas.List.Sorted.{Contains-permutation, IsPermutation-sym}
 use Rattle.group_tool.specs.declared.indicator.Indicator.{Indicator}
-use Rattle.group_tool.specs.declared.level.Level.{Level}
+use Rattle.group_release.specs.declared.level.Level.{Level}
 use Rattle.group_tool.specs.Report.{ComesBefore, IsReport, head_line, place_line}
 
 -- no two elements stand before each other

@@ -3,7 +3,7 @@ use Rattle.std.proofs.Common.{◌≡◌, ℕ, true, false, List, [], ◌∷◌, 
 use Rattle.std.specs.List.{flat_map}
 use Rattle.std.specs.Fmt.{digits}
 use Rattle.group_tool.specs.declared.indicator.Indicator.{Indicator}
-use Rattle.group_tool.specs.declared.level.Level.{Level}
+use Rattle.group_release.specs.declared.level.Level.{Level}
 use Rattle.group_tool.specs.Report.{head_line, place_line}
 
 abbrev three : List Indicator

@@ -5,7 +5,8 @@ use Rattle.std.specs.List.{flat_map, range_with_len}
 use Rattle.std.specs.List.Sorted.{IsStrictlyIncreasing}
 use Rattle.graph_law.specs.Classes.{group_at, least_member}
 use Rattle.group_tool.specs.declared.indicator.Indicator.{Indicator}
-use Rattle.group_tool.specs.declared.level.Level.{Level}
+use Rattle.group_release.specs.declared.level.Level.{Level}
+use Rattle.group_release.specs.Level.{level_at}
 
 -- how the report names a predicate: `user:NAME/ARITY`
 abbrev pub predicate_name : Indicator → List ℕ
@@ -38,10 +39,7 @@ head_line groups levels =
     ++ (codes " recursive " ++ decimal (count_by (λ (level : Level). level.recursive) levels))
     ++ (codes " levels " ++ decimal (height_count levels)) ++ codes "\n"
 
--- the level of the group at a place, and its least member
-abbrev pub level_at : List Level → ℕ → Level
-level_at levels place = slice_index_or levels place (record { height = 0; recursive = false })
-
+-- the least member of the group at a place
 abbrev pub least_at : List (List ℕ) → ℕ → ℕ
 least_at groups place = least_member (group_at groups place)
 

@@ -7,7 +7,6 @@ mod clauses;
 mod gate;
 mod grouping;
 mod indicator;
-mod level;
 mod memory_sink;
 mod numbering;
 mod outcome;

@@ -1,9 +1,15 @@
-use Rattle.std.proofs.Common.{◌≡◌, length, ap, ◌∙◌, subst}
+use Rattle.std.proofs.Common.{◌≡◌, ℕ, ◌<◌, length, ap, ◌∙◌, subst}
 use Rattle.graph_law.specs.Graph.{Calls, IsGraph, lists_of}
-use Rattle.group_tool.specs.Grouping.{AreLevels}
-use Rattle.group_tool.proofs.GroupingLemmas.{report_of, levels_each}
-use Rattle.group_tool.proofs.Printable.{printable_classes}
+use Rattle.graph_law.specs.Classes.{HasMember}
+use Rattle.group_release.specs.Level.{AreLevels}
+use Rattle.group_tool.proofs.GroupingLemmas.{groups_found, report_of, levels_each}
+use Rattle.group_tool.proofs.Printable.{printable_groups, members_are_nodes}
 use Rattle.group_tool.proofs.grouping.group_clauses.Goals as goal
+
+pub levels-requires-clause-nodes : goal.levels-requires-clause-nodes
+levels-requires-clause-nodes c κs p has =
+    let found = groups_found c.roots.ensures.roots c.in_ok-groups.ensures.legal c.in_ok-groups.ensures.complete c.in_ok-groups.ensures.reached in
+    members_are_nodes c.roots.ensures.graph found p (subst (λ vecs. HasMember (lists_of vecs) p) c.deref-4.ensures.value has)
 
 pub report-requires : goal.report-requires
 report-requires c =
@@ -11,19 +17,20 @@ report-requires c =
     let predicates = c.in_ok-predicates.predicates.items in
     let levels = c.in_ok-levels.levels.items in
     let graph = c.in_ok-graph.graph in
-    let is : IsGraph graph = subst IsGraph c.graph.view_is c.graph.invariant in
+    let found = groups_found c.roots.ensures.roots c.in_ok-groups.ensures.legal c.in_ok-groups.ensures.complete c.in_ok-groups.ensures.reached in
     let nodes : length graph.lists ≡ length predicates = c.in_ok-graph.ensures.callees.one_each ∙ ap length c.deref-3.ensures.value in
     let made = subst (λ vecs. AreLevels (Calls graph.lists) (lists_of vecs) levels) c.deref-4.ensures.value c.in_ok-levels.ensures in
-    let printable = printable_classes predicates levels is c.in_ok-groups.ensures nodes (levels_each made) in
+    let printable = printable_groups predicates levels c.roots.ensures.graph found nodes (levels_each made) in
     rw (c.deref-5.ensures.value, c.deref-6.ensures.value, c.deref-7.ensures.value) printable
 
 pub returns : goal.returns
 returns c =
     let levels = c.in_ok-levels.levels.items in
     let graph = c.in_ok-graph.graph in
+    let found = groups_found c.roots.ensures.roots c.in_ok-groups.ensures.legal c.in_ok-groups.ensures.complete c.in_ok-groups.ensures.reached in
     let made = subst (λ vecs. AreLevels (Calls graph.lists) (lists_of vecs) levels) c.deref-4.ensures.value c.in_ok-levels.ensures in
     let said = c.deref.ensures.value ∙ c.in_ok-rules.ensures.rules in
     let numbering = c.in_ok-predicates.ensures.numbering in
     let calls = rw (c.deref-2.ensures.value, c.deref-3.ensures.value, ← c.deref.ensures.value) at c.in_ok-graph.ensures in
     let report = rw (c.deref-5.ensures.value, c.deref-6.ensures.value, c.deref-7.ensures.value) at c.in_ok-text.ensures in
-    report_of said numbering calls c.in_ok-groups.ensures made report
+    report_of said numbering calls found made report

@@ -3,7 +3,7 @@ use Rattle.std.specs.Fmt.{decimal}
 use Rattle.std.specs.String.{string_bytes}
 use Rattle.graph_law.specs.Graph.{lists_of}
 use Rattle.graph_law.proofs.GraphLaws.{length-lists_of}
-use Rattle.group_tool.specs.declared.level.Level.{Level}
+use Rattle.group_release.specs.declared.level.Level.{Level}
 use Rattle.group_tool.specs.Report.{head_line, height_count}
 use Rattle.group_tool.proofs.report.push_head.Goals as goal
 

@@ -4,7 +4,8 @@ use Rattle.graph_law.specs.Graph.{lists_of}
 use Rattle.graph_law.proofs.GraphLaws.{length-lists_of, get_or-lists_of}
 use Rattle.graph_law.specs.Classes.{group_at}
 use Rattle.group_tool.specs.declared.report.Line.{Line}
-use Rattle.group_tool.specs.Report.{head_line, group_line, place_line, level_at}
+use Rattle.group_tool.specs.Report.{head_line, group_line, place_line}
+use Rattle.group_release.specs.Level.{level_at}
 use Rattle.group_tool.proofs.ReportLemmas.{few_groups, short_groups, place_within, places, lines_more, lines_all}
 use Rattle.group_tool.proofs.report.report.Goals as goal
 
