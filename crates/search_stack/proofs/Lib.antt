@@ -1,0 +1,9 @@
+pub mod Frames
+pub mod Changes
+pub mod Shapes
+pub mod Push
+pub mod Edges
+pub mod Back
+pub mod Below
+pub mod Retreat
+pub mod Taken

@@ -1,0 +1,4 @@
+pub mod Fields
+pub mod GoodSearch
+pub mod Search
+pub mod Stack

@@ -1,0 +1,10 @@
+//! One depth-first search whose stack can be cut, moved and resumed, and the groups that it finds.
+#![tactic(auto)]
+
+mod frame;
+mod opening;
+mod search;
+
+pub use frame::Frame;
+pub use opening::Opening;
+pub use search::Search;
