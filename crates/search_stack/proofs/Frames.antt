@@ -11,11 +11,13 @@ use Rattle.search_stack.specs.Stack.{Stack, IsShaped, size, height, node, succs,
 use Rattle.search_stack.specs.GoodSearch.{IsGood, StandsIn, IsInward}
 
 -- past the last frame the position is the size
-pub position_end : (s : Stack) → position s (height s) ≡ size s
+pub position_past : (s : Stack) (j : ℕ) → height s ≤ j → position s j ≡ size s
 unfolding position height size
-position_end s =
-    let past = get_or_past s.frames (length s.frames) (record { position = length s.entries; low = 0 }) (omega arith) in
-    ap (λ frame. frame.position) past
+position_past s j past =
+    ap (λ frame. frame.position) (get_or_past s.frames j (record { position = length s.entries; low = 0 }) past)
+
+pub position_end : (s : Stack) → position s (height s) ≡ size s
+position_end s = position_past s (height s) (omega arith)
 
 -- the position of a frame, by an equal number
 pub position_at : (s : Stack) (a b : ℕ) → a ≡ b → position s a ≡ position s b

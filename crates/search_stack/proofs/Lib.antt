@@ -7,3 +7,5 @@ pub mod Back
 pub mod Below
 pub mod Retreat
 pub mod Taken
+pub mod Steps
+pub mod FieldLaws

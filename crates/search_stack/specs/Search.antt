@@ -20,6 +20,10 @@ pub record IsOn (s : Stack) (v : ℕ) : Type 0 where
   pub within : place < size s
   pub is : node s place ≡ v
 
+-- no node is on the stack twice
+abbrev pub IsDistinct : Stack → Type 0
+IsDistinct s = (i j : ℕ) → i < size s → j < size s → node s i ≡ node s j → i ≡ j
+
 -- v is the last successor that the top frame's entry has begun
 pub record IsLastBegun (s : Stack) (v : ℕ) : Type 0 where
   pub some : 0 < height s

@@ -1,0 +1,19 @@
+use Rattle.std.proofs.Common.{rules, ◌≡◌, ◌⊎◌, ◌↔◌, ◌+◌, ◌-◌, ◌<◌, ◌≤◌, ℕ, Bool, true, false, is_some, List, [], ◌++◌, length, slice_index_or, Contains, IsOk, IsTrue, IfOk, IfSome, IfNone, OnOk, OnErr, ◌*◌, ◌/◌, ◌%◌, nat_eq, nat_lt, ◌∷◌, slice_set, bit_and, bit_or, Fits, w8, w32, w64, Bor, MutBor}
+use Rattle.std.specs.Bool.{OnFalse}
+use Rattle.graph_law.specs.Graph.{Calls}
+use Rattle.graph_law.specs.Reach.{IsReached}
+use Rattle.search_stack.specs.Stack.{Stack, IsShaped, size, height, top}
+use Rattle.search_stack.specs.Stack.{node as node_on}
+use Rattle.search_stack.specs.Stack.{position as position_of}
+use Rattle.search_stack.specs.Stack.{low as low_of}
+use Rattle.search_stack.specs.GoodSearch.{IsGood}
+use Rattle.search_stack.specs.Search.{IsOn, IsDistinct, IsLastBegun, IsDone, IsRipe, IsReleasable, empty_stack, pushed, next_successor, one_more_begun, lowered, retreated, below_frame, nodes_from}
+use Rattle.search_stack.proofs.search.Search.frame_count.Goals as goal
+
+-- src/search.rt:255:9
+pub overflow_cast-result : goal.overflow_cast-result
+overflow_cast-result c = ?
+
+-- src/search.rt:252:5
+pub returns : goal.returns
+returns c = ?
