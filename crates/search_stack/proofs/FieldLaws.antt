@@ -1,7 +1,7 @@
 -- What the fields of a search say of its stack, and what its calls write into them.
 use Rattle.std.proofs.Common.{◌≡◌, ◌⊎◌, inl, inr, ℕ, zero, suc, ◌<◌, ◌≤◌, ◌+◌, ◌-◌, min, Bool, true, false, if◌then◌else◌, nat_eq, nat_lt, List, [], ◌∷◌, ◌++◌, length, get_or, take, drop, set, map, slice_get, position, Option, None, Some, refl, ap, ◌∙◌, sym, subst, arith, eqb-true, ne_eqb, true≢false}
 use Rattle.std.proofs.lemmas.Bool.{cases_eq, cases_lt, cases_order, eq-eqb, lt-ltb, cond-true}
-use Rattle.std.proofs.lemmas.List.{length-map, get_or-map, get_or-take, take-map, map_push}
+use Rattle.std.proofs.lemmas.List.{length-map, get_or-map, get_or-take, get_or_default, take-map, map_push}
 use Rattle.std.proofs.lemmas.List.Sums.{fails_before_first}
 use Rattle.std.proofs.lemmas.List.Quantifiers.{position-Some}
 use Rattle.std.proofs.lemmas.Map.Keys.{apart_from_distinct}
@@ -18,7 +18,7 @@ use Rattle.search_stack.specs.Search.{IsOn, IsDistinct, IsDone, IsLastBegun, IsR
 use Rattle.search_stack.proofs.Changes.{Begins}
 use Rattle.search_stack.proofs.Frames.{position_within}
 use Rattle.search_stack.proofs.Shapes.{no_entries}
-use Rattle.search_stack.proofs.Steps.{position_of, low_of}
+use Rattle.search_stack.proofs.Steps.{position_of, low_of, begins}
 
 pub size_is : (es : List (ℕ × Opened)) (fs : List Frame) → size (stack_of es fs) ≡ length es
 unfolding size
@@ -305,3 +305,51 @@ last_begun {s} {t} v some new is =
         ap (λ xs. get_or xs (begun t (position_on t (top t)) - 1) 0) list ∙ ap (λ k. get_or (succs s (position_on s (top s))) k 0) same
             ∙ sym is;
     }
+
+-- the top frame, where it is read at a number that is the last place
+pub tops_at : (es : List (ℕ × Opened)) (fs : List Frame) (k : ℕ) (frame d : Frame) → IsShaped (stack_of es fs) → 0 < length fs
+    → k ≡ length fs - 1 → frame ≡ get_or fs k d → Tops (stack_of es fs) frame
+tops_at es fs k frame d shaped some last read = tops_read es fs frame d shaped some (read ∙ ap (λ j. get_or fs j d) last)
+
+-- and where it is read from a slice
+pub tops_of_slice : (es : List (ℕ × Opened)) (fs now : List Frame) (frame d : Frame) → IsShaped (stack_of es fs) → 0 < length fs
+    → now ≡ fs → frame ≡ get_or now (length now - 1) d → Tops (stack_of es fs) frame
+tops_of_slice es fs now frame d shaped some is read =
+    tops_read es fs frame d shaped some (read ∙ ap (λ xs. get_or xs (length xs - 1) d) is)
+
+-- the entry of the top frame has begun one more
+pub top_begun_is : (es : List (ℕ × Opened)) (fs : List Frame) (frame : Frame) (o : Opened) → Tops (stack_of es fs) frame
+    → Holds (stack_of es fs) frame.position o
+    → stack_of (set_value_at es frame.position (record { succs = o.succs; begun = o.begun + 1 })) fs
+        ≡ one_more_begun (stack_of es fs) (position_on (stack_of es fs) (top (stack_of es fs)))
+top_begun_is es fs frame o tops holds =
+    begun_is es fs frame.position o holds ∙ ap (one_more_begun (stack_of es fs)) (sym tops.position_is)
+
+pub top_begins : (es : List (ℕ × Opened)) (fs : List Frame) (frame : Frame) → Tops (stack_of es fs) frame
+    → Begins (stack_of es fs) (one_more_begun (stack_of es fs) (position_on (stack_of es fs) (top (stack_of es fs))))
+        (position_on (stack_of es fs) (top (stack_of es fs)))
+top_begins es fs frame tops =
+    begins (stack_of es fs) (position_on (stack_of es fs) (top (stack_of es fs))) (omega (arith, tops.within, tops.position_is))
+
+-- there is one more to begin
+pub more_to_begin : {s : Stack} {frame : Frame} {o : Opened} → TopHolds s frame o → o.begun < length o.succs.items
+    → begun s (position_on s (top s)) < length (succs s (position_on s (top s)))
+more_to_begin {s} {frame} {o} read more = omega (arith, read.begun_is, ap length read.succs_is, more)
+
+-- an entry that hasn't begun all has more to begin
+pub not_all : {s : Stack} {frame : Frame} {o : Opened} → IsShaped s → TopHolds s frame o → (o.begun ≡ length o.succs.items → ⊥)
+    → o.begun < length o.succs.items
+not_all {s} {frame} {o} shaped read some =
+    omega
+    (arith, some, shaped.begun_le (position_on s (top s)) (omega (arith, read.frame_is.within, read.frame_is.position_is)), read.begun_is,
+    ap length read.succs_is)
+
+-- the successor that has begun is the last
+pub node_is_last : {s : Stack} {frame : Frame} {o : Opened} (v : ℕ) → TopHolds s frame o → o.begun < length o.succs.items
+    → v ≡ get_or o.succs.items o.begun v → v ≡ target s (position_on s (top s)) (begun s (position_on s (top s)))
+node_is_last {s} {frame} {o} v read more at =
+    at ∙ get_or_default o.succs.items o.begun v 0 more ∙ ap (λ k. get_or o.succs.items k 0) (sym read.begun_is)
+        ∙ ap (λ xs. get_or xs (begun s (position_on s (top s))) 0) (sym read.succs_is)
+
+pub same_some : {X : Type 0} (x y : X) (o : Option X) → o ≡ Some x → o ≡ Some y → x ≡ y
+same_some x y o first second = let both : Some x ≡ Some y = sym first ∙ second in cc

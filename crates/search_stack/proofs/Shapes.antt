@@ -1,5 +1,5 @@
 -- The steps of a search keep the shape of its stack.
-use Rattle.std.proofs.Common.{◌≡◌, ◌⊎◌, inl, inr, ℕ, ◌<◌, ◌≤◌, ◌+◌, ◌-◌, List, length, ap, ◌∙◌, sym, arith}
+use Rattle.std.proofs.Common.{◌≡◌, ◌⊎◌, inl, inr, ℕ, ◌<◌, ◌≤◌, ◌+◌, ◌-◌, List, [], length, refl, ap, ◌∙◌, sym, arith}
 use Rattle.std.proofs.lemmas.Bool.{cases_lt, cases_eq}
 use Rattle.search_stack.specs.Stack.{Stack, IsShaped, size, height, top, node, succs, begun, position, low}
 use Rattle.search_stack.specs.Search.{IsLastBegun}
@@ -154,3 +154,17 @@ shaped_below {s} {t} {frame} shaped new =
           omega
           (arith, new.begun_is i old, ap length (new.succs_is i old), shaped.begun_le i (omega (arith, old, position_within shaped frame new.within)));
     }
+
+pub shaped_empty : IsShaped (record { entries = []; frames = [] })
+unfolding size height position
+shaped_empty = record {
+  first = refl;
+  rises = λ j lt. absurd (omega (arith, lt));
+  low_le = λ j lt. absurd (omega (arith, lt));
+  begins = λ j lt. absurd (omega (arith, lt));
+  begun_le = λ i lt. absurd (omega (arith, lt));
+}
+
+-- there are no more frames than entries
+pub few_frames : {s : Stack} → IsShaped s → height s ≤ size s
+few_frames {s} shaped = omega (arith, position_le shaped 0 (height s) (omega arith) (omega arith), position_end s)

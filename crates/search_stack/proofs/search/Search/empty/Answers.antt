@@ -1,15 +1,18 @@
-use Rattle.std.proofs.Common.{rules, ◌≡◌, ◌⊎◌, ◌↔◌, ◌+◌, ◌-◌, ◌<◌, ◌≤◌, ℕ, Bool, true, false, is_some, List, [], ◌++◌, length, slice_index_or, Contains, IsOk, IsTrue, IfOk, IfSome, IfNone, OnOk, OnErr, ◌*◌, ◌/◌, ◌%◌, nat_eq, nat_lt, ◌∷◌, slice_set, bit_and, bit_or, Fits, w8, w32, w64, Bor, MutBor}
-use Rattle.std.specs.Bool.{OnFalse}
-use Rattle.graph_law.specs.Graph.{Calls}
-use Rattle.graph_law.specs.Reach.{IsReached}
-use Rattle.search_stack.specs.Stack.{Stack, IsShaped, size, height, top}
-use Rattle.search_stack.specs.Stack.{node as node_on}
-use Rattle.search_stack.specs.Stack.{position as position_of}
-use Rattle.search_stack.specs.Stack.{low as low_of}
-use Rattle.search_stack.specs.GoodSearch.{IsGood}
-use Rattle.search_stack.specs.Search.{IsOn, IsDistinct, IsLastBegun, IsDone, IsRipe, IsReleasable, empty_stack, pushed, next_successor, one_more_begun, lowered, retreated, below_frame, nodes_from}
+use Rattle.std.proofs.Common.{ℕ, List, [], sym, subst, arith}
+use Rattle.search_stack.specs.declared.frame.Frame.{Frame}
+use Rattle.search_stack.specs.declared.search.Opened.{Opened}
+use Rattle.search_stack.specs.Fields.{stack_of}
+use Rattle.search_stack.specs.Stack.{IsShaped}
+use Rattle.search_stack.proofs.Shapes.{shaped_empty}
 use Rattle.search_stack.proofs.search.Search.empty.Goals as goal
 
--- src/search.rt:49:5
 pub invariant_of-result : goal.invariant_of-result
-invariant_of-result c = ?
+invariant_of-result c =
+    let P : List (ℕ × Opened) → Type 0 = λ es. IsShaped (stack_of es c.new-2.result.items) in
+    let Q : List Frame → Type 0 = λ fs. IsShaped (stack_of [] fs) in
+    record {
+      shaped = subst P (sym c.new.ensures.empty) (subst Q (sym c.new-2.ensures.items) shaped_empty);
+      entry_room = omega arith;
+      frame_room = rw c.new-2.ensures.items (omega arith);
+      small = rw c.new.ensures.empty (omega arith);
+    }

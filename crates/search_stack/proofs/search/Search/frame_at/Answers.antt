@@ -1,23 +1,26 @@
-use Rattle.std.proofs.Common.{rules, ◌≡◌, ◌⊎◌, ◌↔◌, ◌+◌, ◌-◌, ◌<◌, ◌≤◌, ℕ, Bool, true, false, is_some, List, [], ◌++◌, length, slice_index_or, Contains, IsOk, IsTrue, IfOk, IfSome, IfNone, OnOk, OnErr, ◌*◌, ◌/◌, ◌%◌, nat_eq, nat_lt, ◌∷◌, slice_set, bit_and, bit_or, Fits, w8, w32, w64, Bor, MutBor}
-use Rattle.std.specs.Bool.{OnFalse}
-use Rattle.graph_law.specs.Graph.{Calls}
-use Rattle.graph_law.specs.Reach.{IsReached}
-use Rattle.search_stack.specs.Stack.{Stack, IsShaped, size, height, top}
-use Rattle.search_stack.specs.Stack.{node as node_on}
-use Rattle.search_stack.specs.Stack.{position as position_of}
-use Rattle.search_stack.specs.Stack.{low as low_of}
-use Rattle.search_stack.specs.GoodSearch.{IsGood}
-use Rattle.search_stack.specs.Search.{IsOn, IsDistinct, IsLastBegun, IsDone, IsRipe, IsReleasable, empty_stack, pushed, next_successor, one_more_begun, lowered, retreated, below_frame, nodes_from}
+use Rattle.std.proofs.Common.{sym, arith}
+use Rattle.search_stack.specs.Fields.{stack_of}
+use Rattle.search_stack.proofs.FieldLaws.{height_is}
+use Rattle.search_stack.proofs.Steps.{position_of, low_of}
 use Rattle.search_stack.proofs.search.Search.frame_at.Goals as goal
 
--- src/search.rt:272:9
 pub index-requires : goal.index-requires
-index-requires c = ?
+index-requires c =
+    let lt = rw (← c.self.view_is) at c.requires in
+    omega (arith, lt, c.self.inside.frames.ok.0, height_is c.self.inside.opened.entries c.self.inside.frames.items)
 
--- src/search.rt:267:5
 pub returns-clause-position : goal.returns-clause-position
-returns-clause-position c = ?
+returns-clause-position c =
+    let lt = rw (← c.self.view_is) at c.requires in
+    rw (← c.self.view_is)
+    (sym
+    (position_of (stack_of c.self.inside.opened.entries c.self.inside.frames.items) c.args.frame c.index.result.now c.index.result.now lt
+    (sym c.index.ensures)))
 
--- src/search.rt:267:5
 pub returns-clause-low : goal.returns-clause-low
-returns-clause-low c = ?
+returns-clause-low c =
+    let lt = rw (← c.self.view_is) at c.requires in
+    rw (← c.self.view_is)
+    (sym
+    (low_of (stack_of c.self.inside.opened.entries c.self.inside.frames.items) c.args.frame c.index.result.now c.index.result.now lt
+    (sym c.index.ensures)))

@@ -1,19 +1,16 @@
-use Rattle.std.proofs.Common.{rules, ◌≡◌, ◌⊎◌, ◌↔◌, ◌+◌, ◌-◌, ◌<◌, ◌≤◌, ℕ, Bool, true, false, is_some, List, [], ◌++◌, length, slice_index_or, Contains, IsOk, IsTrue, IfOk, IfSome, IfNone, OnOk, OnErr, ◌*◌, ◌/◌, ◌%◌, nat_eq, nat_lt, ◌∷◌, slice_set, bit_and, bit_or, Fits, w8, w32, w64, Bor, MutBor}
-use Rattle.std.specs.Bool.{OnFalse}
-use Rattle.graph_law.specs.Graph.{Calls}
-use Rattle.graph_law.specs.Reach.{IsReached}
-use Rattle.search_stack.specs.Stack.{Stack, IsShaped, size, height, top}
-use Rattle.search_stack.specs.Stack.{node as node_on}
-use Rattle.search_stack.specs.Stack.{position as position_of}
-use Rattle.search_stack.specs.Stack.{low as low_of}
-use Rattle.search_stack.specs.GoodSearch.{IsGood}
-use Rattle.search_stack.specs.Search.{IsOn, IsDistinct, IsLastBegun, IsDone, IsRipe, IsReleasable, empty_stack, pushed, next_successor, one_more_begun, lowered, retreated, below_frame, nodes_from}
+use Rattle.std.proofs.Common.{arith}
+use Rattle.search_stack.proofs.FieldLaws.{size_is, height_is}
+use Rattle.search_stack.proofs.Shapes.{few_frames}
 use Rattle.search_stack.proofs.search.Search.frame_count.Goals as goal
 
--- src/search.rt:255:9
 pub overflow_cast-result : goal.overflow_cast-result
-overflow_cast-result c = ?
+overflow_cast-result c =
+    omega
+    (arith, c.len.ensures, c.self.inside.frames.ok.0, few_frames c.self.invariant.shaped,
+    size_is c.self.inside.opened.entries c.self.inside.frames.items, height_is c.self.inside.opened.entries c.self.inside.frames.items,
+    c.self.invariant.small)
 
--- src/search.rt:252:5
 pub returns : goal.returns
-returns c = ?
+returns c =
+    rw (← c.self.view_is)
+    (omega (arith, c.len.ensures, c.self.inside.frames.ok.0, height_is c.self.inside.opened.entries c.self.inside.frames.items))

@@ -1,15 +1,8 @@
-use Rattle.std.proofs.Common.{rules, ◌≡◌, ◌⊎◌, ◌↔◌, ◌+◌, ◌-◌, ◌<◌, ◌≤◌, ℕ, Bool, true, false, is_some, List, [], ◌++◌, length, slice_index_or, Contains, IsOk, IsTrue, IfOk, IfSome, IfNone, OnOk, OnErr, ◌*◌, ◌/◌, ◌%◌, nat_eq, nat_lt, ◌∷◌, slice_set, bit_and, bit_or, Fits, w8, w32, w64, Bor, MutBor}
-use Rattle.std.specs.Bool.{OnFalse}
-use Rattle.graph_law.specs.Graph.{Calls}
-use Rattle.graph_law.specs.Reach.{IsReached}
-use Rattle.search_stack.specs.Stack.{Stack, IsShaped, size, height, top}
-use Rattle.search_stack.specs.Stack.{node as node_on}
-use Rattle.search_stack.specs.Stack.{position as position_of}
-use Rattle.search_stack.specs.Stack.{low as low_of}
-use Rattle.search_stack.specs.GoodSearch.{IsGood}
-use Rattle.search_stack.specs.Search.{IsOn, IsDistinct, IsLastBegun, IsDone, IsRipe, IsReleasable, empty_stack, pushed, next_successor, one_more_begun, lowered, retreated, below_frame, nodes_from}
+use Rattle.std.proofs.Common.{◌∙◌, sym}
+use Rattle.search_stack.proofs.FieldLaws.{size_is}
 use Rattle.search_stack.proofs.search.Search.is_empty.Goals as goal
 
--- src/search.rt:238:5
 pub returns : goal.returns
-returns c = ?
+returns c =
+    let same = size_is c.self.inside.opened.entries c.self.inside.frames.items in
+    rw (← c.self.view_is) (λ yes. same ∙ c.is_empty.ensures.0 yes, λ none. c.is_empty.ensures.1 (sym same ∙ none))

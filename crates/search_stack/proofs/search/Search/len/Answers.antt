@@ -1,19 +1,11 @@
-use Rattle.std.proofs.Common.{rules, ◌≡◌, ◌⊎◌, ◌↔◌, ◌+◌, ◌-◌, ◌<◌, ◌≤◌, ℕ, Bool, true, false, is_some, List, [], ◌++◌, length, slice_index_or, Contains, IsOk, IsTrue, IfOk, IfSome, IfNone, OnOk, OnErr, ◌*◌, ◌/◌, ◌%◌, nat_eq, nat_lt, ◌∷◌, slice_set, bit_and, bit_or, Fits, w8, w32, w64, Bor, MutBor}
-use Rattle.std.specs.Bool.{OnFalse}
-use Rattle.graph_law.specs.Graph.{Calls}
-use Rattle.graph_law.specs.Reach.{IsReached}
-use Rattle.search_stack.specs.Stack.{Stack, IsShaped, size, height, top}
-use Rattle.search_stack.specs.Stack.{node as node_on}
-use Rattle.search_stack.specs.Stack.{position as position_of}
-use Rattle.search_stack.specs.Stack.{low as low_of}
-use Rattle.search_stack.specs.GoodSearch.{IsGood}
-use Rattle.search_stack.specs.Search.{IsOn, IsDistinct, IsLastBegun, IsDone, IsRipe, IsReleasable, empty_stack, pushed, next_successor, one_more_begun, lowered, retreated, below_frame, nodes_from}
+use Rattle.std.proofs.Common.{◌∙◌, sym}
+use Rattle.search_stack.proofs.FieldLaws.{size_is, distinct}
 use Rattle.search_stack.proofs.search.Search.len.Goals as goal
 
--- src/search.rt:230:5
 pub returns-clause-len : goal.returns-clause-len
-returns-clause-len c = ?
+returns-clause-len c =
+    rw (← c.self.view_is) (c.len.ensures.len ∙ sym (size_is c.self.inside.opened.entries c.self.inside.frames.items))
 
--- src/search.rt:230:5
 pub returns-clause-distinct : goal.returns-clause-distinct
-returns-clause-distinct c = ?
+returns-clause-distinct c =
+    rw (← c.self.view_is) (distinct c.self.inside.opened.entries c.self.inside.frames.items c.len.ensures.unique)
