@@ -6,6 +6,7 @@ use Rattle.graph_law.specs.Graph.{Calls}
 use Rattle.graph_law.specs.Reach.{Reaches, IsReached, ReachEachOther}
 use Rattle.search_stack.specs.Stack.{Stack, IsShaped, size, height, top, node, succs, begun, target, position, low}
 use Rattle.search_stack.specs.GoodSearch.{IsGood, IsSettled, IsInward, LeadsUp, Dips}
+use Rattle.search_stack.specs.Search.{IsLastBegun}
 use Rattle.search_stack.proofs.Changes.{Begins}
 use Rattle.search_stack.proofs.Frames.{same_last, position_le, position_within, segment_within, inner_is_no_frame, frame_of_segment, same_reach, same_each_other, inward_to}
 use Rattle.search_stack.proofs.Shapes.{shaped_begin}
@@ -166,3 +167,14 @@ module _ {lists : List (List ℕ)} {roots done : List ℕ} {s t : Stack} {place 
     true_succs = λ i lt.
         new.succs_is i ∙ good.true_succs i (omega (arith, lt, new.size_is)) ∙ ap (λ u. get_or lists u []) (sym (new.node_is i));
   }
+
+-- and where it leads to a finished node
+pub good_finished : {lists : List (List ℕ)} {roots done : List ℕ} {opened : Bool} {s : Stack} {v : ℕ}
+    → IsGood lists roots done opened s → IsLastBegun s v → Contains done v → IsGood lists roots done false s
+good_finished {lists} {roots} {done} {opened} {s} {v} good last finished =
+    good_settle good
+    (λ j is some.
+    let at : top s ≡ j = omega (arith, is) in
+    let P : ℕ → Type 0 = λ u. Contains done u in
+    let Q : ℕ → Type 0 = λ b. Contains done (target s (position s b) (begun s (position s b) - 1)) in
+    inl (subst Q at (subst P (sym last.is) finished)))

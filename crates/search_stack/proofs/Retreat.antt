@@ -5,7 +5,7 @@ use Rattle.std.specs.Prelude.{Contains}
 use Rattle.graph_law.specs.Graph.{Calls}
 use Rattle.graph_law.specs.Reach.{Reaches, IsReached, ReachEachOther}
 use Rattle.graph_law.proofs.ReachLaws.{reaches_trans, each_other_trans}
-use Rattle.search_stack.specs.Stack.{Stack, size, height, node, succs, begun, target, position, low}
+use Rattle.search_stack.specs.Stack.{Stack, size, height, top, node, succs, begun, target, position, low}
 use Rattle.search_stack.specs.GoodSearch.{IsGood, IsSettled, IsInward, LeadsUp, Dips}
 use Rattle.search_stack.proofs.Changes.{Retreats}
 use Rattle.search_stack.proofs.Frames.{same_last, position_end, position_at, position_le, position_within, same_reach, same_each_other, place_reaches, inward_to}
@@ -223,3 +223,13 @@ module _ {lists : List (List ℕ)} {roots done : List ℕ} {s t : Stack} {frame 
     true_succs = λ i lt.
         new.succs_is i ∙ good.true_succs i (omega (arith, lt, new.size_is)) ∙ ap (λ u. get_or lists u []) (sym (new.node_is i));
   }
+
+-- the same, where the top frame is called so
+pub good_second : {lists : List (List ℕ)} {roots done : List ℕ} {s t : Stack} → IsGood lists roots done false s → Retreats s t (top s - 1)
+    → 2 ≤ height s → begun s (position s (top s)) ≡ length (succs s (position s (top s))) → low s (top s) < position s (top s)
+    → IsGood lists roots done false t
+good_second {lists} {roots} {done} {s} {t} good new two all leads_low =
+    let next : top s ≡ top s - 1 + 1 = omega (arith, two) in
+    let P : ℕ → Type 0 = λ j. begun s (position s j) ≡ length (succs s (position s j)) in
+    let Q : ℕ → Type 0 = λ j. low s j < position s j in
+    good_retreat good new (subst P next all) (subst Q next leads_low)
