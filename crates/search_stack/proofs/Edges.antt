@@ -9,7 +9,7 @@ use Rattle.search_stack.specs.GoodSearch.{IsGood, IsSettled, IsInward, LeadsUp, 
 use Rattle.search_stack.specs.Search.{IsLastBegun}
 use Rattle.search_stack.proofs.Changes.{Begins}
 use Rattle.search_stack.proofs.Frames.{same_last, position_le, position_within, segment_within, inner_is_no_frame, frame_of_segment, same_reach, same_each_other, inward_to}
-use Rattle.search_stack.proofs.Shapes.{shaped_begin}
+use Rattle.search_stack.proofs.Shapes.{shaped_begin, shaped_empty, empty_size, empty_height}
 
 -- the same stack, where its settled edges lead inward
 with_inward : {lists : List (List ℕ)} {roots done : List ℕ} {opened : Bool} {s : Stack} (more : List ℕ) (after : Bool)
@@ -178,3 +178,17 @@ good_finished {lists} {roots} {done} {opened} {s} {v} good last finished =
     let P : ℕ → Type 0 = λ u. Contains done u in
     let Q : ℕ → Type 0 = λ b. Contains done (target s (position s b) (begun s (position s b) - 1)) in
     inl (subst Q at (subst P (sym last.is) finished)))
+
+-- an empty stack is good
+pub good_empty : (lists : List (List ℕ)) (roots done : List ℕ) (opened : Bool) → IsGood lists roots done opened (record { entries = []; frames = [] })
+good_empty lists roots done opened = record {
+  shaped = shaped_empty;
+  begun_all = λ j i lt. absurd (omega (arith, lt, empty_height));
+  segment = λ j i lt. absurd (omega (arith, lt, empty_height));
+  up = λ j lt. absurd (omega (arith, lt, empty_height));
+  down = λ j lt. absurd (omega (arith, lt, empty_height));
+  inward = λ j i k lt. absurd (omega (arith, lt, empty_height));
+  leads = λ j lt. absurd (omega (arith, lt, empty_height));
+  reached = λ i lt. absurd (omega (arith, lt, empty_size));
+  true_succs = λ i lt. absurd (omega (arith, lt, empty_size));
+}

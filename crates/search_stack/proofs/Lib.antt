@@ -9,3 +9,5 @@ pub mod Retreat
 pub mod Taken
 pub mod Steps
 pub mod FieldLaws
+pub mod UnderWay
+pub mod Released

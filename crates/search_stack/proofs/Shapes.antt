@@ -168,3 +168,11 @@ shaped_empty = record {
 -- there are no more frames than entries
 pub few_frames : {s : Stack} → IsShaped s → height s ≤ size s
 few_frames {s} shaped = omega (arith, position_le shaped 0 (height s) (omega arith) (omega arith), position_end s)
+
+pub empty_size : size (record { entries = []; frames = [] }) ≡ 0
+unfolding size
+empty_size = refl
+
+pub empty_height : height (record { entries = []; frames = [] }) ≡ 0
+unfolding height
+empty_height = refl
