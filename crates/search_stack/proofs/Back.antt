@@ -28,7 +28,7 @@ module _ {lists : List (List ℕ)} {roots done : List ℕ} {opened : Bool} {s t 
   back_down j lt =
       let old : j < height s = omega (arith, lt, new.height_is) in
       let kept : low t j ≡ low s j → Reaches (Calls lists) (node t (position t j)) (node t (low t j)) = λ is.
-          same_reach (frame_node j) (ap (node t) is ∙ new.node_is (low s j)) (good.down j old) in
+      same_reach (frame_node j) (ap (node t) is ∙ new.node_is (low s j)) (good.down j old) in
       elim (cases_eq j (top s)) as (λ _. Reaches (Calls lists) (node t (position t j)) (node t (low t j))) [
         | inl is ↦
             elim (cases_lt place (low s j)) as (λ _. Reaches (Calls lists) (node t (position t j)) (node t (low t j))) [
@@ -67,10 +67,12 @@ module _ {lists : List (List ℕ)} {roots done : List ℕ} {opened : Bool} {s t 
   back_kept = record {
     shaped = shaped_back good.shaped new;
     begun_all = λ j i lt from upto.
-        omega
-        (arith,
-        good.begun_all j i (omega (arith, lt, new.height_is)) (omega (arith, from, new.position_is j)) (omega (arith, upto, new.position_is (j + 1))),
-        new.begun_is i, ap length (new.succs_is i));
+        omega (
+          arith,
+          good.begun_all j i (omega (arith, lt, new.height_is)) (omega (arith, from, new.position_is j)) (omega (arith, upto, new.position_is (j + 1))),
+          new.begun_is i,
+          ap length (new.succs_is i),
+        );
     segment = λ j i lt from upto.
         same_each_other (new.node_is i) (frame_node j)
         (good.segment j i (omega (arith, lt, new.height_is)) (omega (arith, from, new.position_is j)) (omega (arith, upto, new.position_is (j + 1))));

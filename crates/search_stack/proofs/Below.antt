@@ -76,9 +76,12 @@ module _ {lists : List (List ℕ)} {roots done : List ℕ} {opened : Bool} {s t 
               | inl less ↦ less
               | inr le ↦
                   absurd
-                  (omega
-                  (arith, lawful dips.frame le dips.within, dips.is,
-                  position_le good.shaped a frame (omega (arith, a_below)) (omega (arith, new.within))))
+                  (omega (
+                    arith,
+                    lawful dips.frame le dips.within,
+                    dips.is,
+                    position_le good.shaped a frame (omega (arith, a_below)) (omega (arith, new.within)),
+                  ))
             ] in
             record {
               frame = dips.frame;
@@ -94,9 +97,12 @@ module _ {lists : List (List ℕ)} {roots done : List ℕ} {opened : Bool} {s t 
     begun_all = λ j i lt from upto.
         let end : i < position s (j + 1) = old_upto j i lt upto in
         let kept : i < position s frame = inside_segment j i lt end in
-        omega
-        (arith, good.begun_all j i (old_frame j lt) (omega (arith, from, new.position_is j (omega (arith, lt, new.height_is)))) end,
-        new.begun_is i kept, ap length (new.succs_is i kept));
+        omega (
+          arith,
+          good.begun_all j i (old_frame j lt) (omega (arith, from, new.position_is j (omega (arith, lt, new.height_is)))) end,
+          new.begun_is i kept,
+          ap length (new.succs_is i kept),
+        );
     segment = λ j i lt from upto.
         let end : i < position s (j + 1) = old_upto j i lt upto in
         same_each_other (new.node_is i (inside_segment j i lt end)) (frame_node j lt)
@@ -116,5 +122,5 @@ module _ {lists : List (List ℕ)} {roots done : List ℕ} {opened : Bool} {s t 
     true_succs = λ i lt.
         let kept : i < position s frame = omega (arith, lt, new.size_is) in
         new.succs_is i kept ∙ good.true_succs i (omega (arith, kept, position_within good.shaped frame new.within))
-            ∙ ap (λ u. get_or lists u []) (sym (new.node_is i kept));
+        ∙ ap (λ u. get_or lists u []) (sym (new.node_is i kept));
   }

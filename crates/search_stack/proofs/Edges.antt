@@ -113,8 +113,8 @@ module _ {lists : List (List ℕ)} {roots done : List ℕ} {s t : Stack} {place 
       let old_from : position s j ≤ i = omega (arith, from, new.position_is j) in
       let old_upto : i < position s (j + 1) = omega (arith, upto, new.position_is (j + 1)) in
       let carry : k < begun s i → IsSettled s false j i k → IsInward done t j (target t i k) = λ was_before was.
-          inward_to done done j j (λ u is. is) (omega (arith, new.low_is j)) (omega (arith, new.position_is (j + 1))) (λ b end. new.node_is b)
-          (ap (λ xs. get_or xs k 0) (new.succs_is i)) (good.inward j i k old old_from old_upto was_before was) in
+      inward_to done done j j (λ u is. is) (omega (arith, new.low_is j)) (omega (arith, new.position_is (j + 1))) (λ b end. new.node_is b)
+      (ap (λ xs. get_or xs k 0) (new.succs_is i)) (good.inward j i k old old_from old_upto was_before was) in
       elim settled as (λ _. IsInward done t j (target t i k)) [
         | inl inner ↦
             let inside : position s j < i = omega (arith, inner, new.position_is j) in
@@ -158,7 +158,7 @@ module _ {lists : List (List ℕ)} {roots done : List ℕ} {s t : Stack} {place 
     leads = λ j lt.
         let below : j < top s = omega (arith, lt, new.height_is) in
         let ne : position s j ≡ place → ⊥ = λ is.
-            omega (arith, is, at, position_le good.shaped j (top s) (omega (arith, below)) (omega arith), below) in
+        omega (arith, is, at, position_le good.shaped j (top s) (omega (arith, below)) (omega arith), below) in
         leads_same j (good.leads j (omega (arith, lt, new.height_is))) new.size_is new.height_is new.position_is
         (λ b. omega (arith, new.low_is b)) new.node_is new.succs_is (new.begun_is (position s j) ne);
     reached = λ i lt.

@@ -204,11 +204,11 @@ pushed_is es fs v count o none counted fresh =
     let entries : map entry_of (insert_entry nat_eq es v o) ≡ map entry_of es ++ entry ∷ [] = ap (map entry_of) last ∙ map_push entry_of es (v, o) in
     let at : count ≡ size (stack_of es fs) = counted ∙ sym (size_is es fs) in
     ap (λ xs. record { entries = xs; frames = fs ++ (record { position = count; low = count }) ∷ [] }) entries
-        ∙ (λ k.
-        record {
-          entries = map entry_of es ++ (record { node = v; succs = o.succs.items; begun = none k }) ∷ [];
-          frames = fs ++ (record { position = at k; low = at k }) ∷ [];
-        })
+    ∙ (λ k.
+    record {
+      entries = map entry_of es ++ (record { node = v; succs = o.succs.items; begun = none k }) ∷ [];
+      frames = fs ++ (record { position = at k; low = at k }) ∷ [];
+    })
 
 map_set_value : (es : List (ℕ × Opened)) (i : ℕ) (w : Opened) → i < length es
     → map entry_of (set_value_at es i w) ≡ set (map entry_of es) i (record { node = get_or (keys_of es) i 0; succs = w.succs.items; begun = w.begun })
@@ -225,11 +225,11 @@ begun_is es fs i o holds =
     let begun_at : o.begun ≡ begun (stack_of es fs) i = sym holds.begun_is in
     let key : get_or (keys_of es) i 0 ≡ node (stack_of es fs) i = node_key es fs i 0 lt in
     (λ k. record { entries = map_set_value es i (record { succs = o.succs; begun = o.begun + 1 }) lt k; frames = fs })
-        ∙ (λ k.
-        record {
-          entries = set (map entry_of es) i (record { node = key k; succs = succs_are k; begun = begun_at k + 1 });
-          frames = fs;
-        })
+    ∙ (λ k.
+    record {
+      entries = set (map entry_of es) i (record { node = key k; succs = succs_are k; begun = begun_at k + 1 });
+      frames = fs;
+    })
 
 -- the last frame is written over
 pub lowered_is : (es : List (ℕ × Opened)) (fs : List Frame) (k place least : ℕ) (frame : Frame) → Tops (stack_of es fs) frame
@@ -260,7 +260,7 @@ retreated_is es fs k least joined frame d e two last read_top read_below lesser 
     let position_at : frame.position ≡ position_on s (top s - 1) = sym below_at ∙ ap (λ b. position_on s (b - 1)) at in
     let low_at : least ≡ min (low s (top s - 1)) (low s (top s)) =
     lesser ∙ ap (λ b. min b joined.low) (sym below_low) ∙ ap (λ b. min (low s (k - 1)) b) (sym top_low)
-        ∙ ap (λ b. min (low s (b - 1)) (low s b)) at in
+    ∙ ap (λ b. min (low s (b - 1)) (low s b)) at in
     (λ j.
     record {
       entries = map entry_of es;
@@ -276,7 +276,7 @@ taken_is es fs k frame tops last =
     let position_at : frame.position ≡ position_on (stack_of es fs) (top (stack_of es fs)) = sym tops.position_is in
     let cut : map entry_of (take frame.position es) ≡ take frame.position (map entry_of es) = sym (take-map entry_of frame.position es) in
     (λ j. record { entries = cut j; frames = take k fs })
-        ∙ (λ j. record { entries = take (position_at j) (map entry_of es); frames = take (at j) fs })
+    ∙ (λ j. record { entries = take (position_at j) (map entry_of es); frames = take (at j) fs })
 
 nodes_are : (es : List (ℕ × Opened)) → keys_of es ≡ map (λ entry. entry.node) (map entry_of es)
 nodes_are [] = refl
@@ -302,8 +302,8 @@ last_begun {s} {t} v some new is =
       some = omega (arith, some, new.height_is);
       begins = omega (arith, more);
       is =
-        ap (λ xs. get_or xs (begun t (position_on t (top t)) - 1) 0) list ∙ ap (λ k. get_or (succs s (position_on s (top s))) k 0) same
-            ∙ sym is;
+          ap (λ xs. get_or xs (begun t (position_on t (top t)) - 1) 0) list ∙ ap (λ k. get_or (succs s (position_on s (top s))) k 0) same
+          ∙ sym is;
     }
 
 -- the top frame, where it is read at a number that is the last place
@@ -321,13 +321,13 @@ tops_of_slice es fs now frame d shaped some is read =
 pub top_begun_is : (es : List (ℕ × Opened)) (fs : List Frame) (frame : Frame) (o : Opened) → Tops (stack_of es fs) frame
     → Holds (stack_of es fs) frame.position o
     → stack_of (set_value_at es frame.position (record { succs = o.succs; begun = o.begun + 1 })) fs
-        ≡ one_more_begun (stack_of es fs) (position_on (stack_of es fs) (top (stack_of es fs)))
+    ≡ one_more_begun (stack_of es fs) (position_on (stack_of es fs) (top (stack_of es fs)))
 top_begun_is es fs frame o tops holds =
     begun_is es fs frame.position o holds ∙ ap (one_more_begun (stack_of es fs)) (sym tops.position_is)
 
 pub top_begins : (es : List (ℕ × Opened)) (fs : List Frame) (frame : Frame) → Tops (stack_of es fs) frame
     → Begins (stack_of es fs) (one_more_begun (stack_of es fs) (position_on (stack_of es fs) (top (stack_of es fs))))
-        (position_on (stack_of es fs) (top (stack_of es fs)))
+    (position_on (stack_of es fs) (top (stack_of es fs)))
 top_begins es fs frame tops =
     begins (stack_of es fs) (position_on (stack_of es fs) (top (stack_of es fs))) (omega (arith, tops.within, tops.position_is))
 
@@ -340,16 +340,20 @@ more_to_begin {s} {frame} {o} read more = omega (arith, read.begun_is, ap length
 pub not_all : {s : Stack} {frame : Frame} {o : Opened} → IsShaped s → TopHolds s frame o → (o.begun ≡ length o.succs.items → ⊥)
     → o.begun < length o.succs.items
 not_all {s} {frame} {o} shaped read some =
-    omega
-    (arith, some, shaped.begun_le (position_on s (top s)) (omega (arith, read.frame_is.within, read.frame_is.position_is)), read.begun_is,
-    ap length read.succs_is)
+    omega (
+      arith,
+      some,
+      shaped.begun_le (position_on s (top s)) (omega (arith, read.frame_is.within, read.frame_is.position_is)),
+      read.begun_is,
+      ap length read.succs_is,
+    )
 
 -- the successor that has begun is the last
 pub node_is_last : {s : Stack} {frame : Frame} {o : Opened} (v : ℕ) → TopHolds s frame o → o.begun < length o.succs.items
     → v ≡ get_or o.succs.items o.begun v → v ≡ target s (position_on s (top s)) (begun s (position_on s (top s)))
 node_is_last {s} {frame} {o} v read more at =
     at ∙ get_or_default o.succs.items o.begun v 0 more ∙ ap (λ k. get_or o.succs.items k 0) (sym read.begun_is)
-        ∙ ap (λ xs. get_or xs (begun s (position_on s (top s))) 0) (sym read.succs_is)
+    ∙ ap (λ xs. get_or xs (begun s (position_on s (top s))) 0) (sym read.succs_is)
 
 pub same_some : {X : Type 0} (x y : X) (o : Option X) → o ≡ Some x → o ≡ Some y → x ≡ y
 same_some x y o first second = let both : Some x ≡ Some y = sym first ∙ second in cc

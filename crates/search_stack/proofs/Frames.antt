@@ -100,7 +100,7 @@ pub same_last : (s t : Stack) (j b : ℕ) → position t j ≡ position s b → 
     → target t (position t j) (begun t (position t j) - 1) ≡ target s (position s b) (begun s (position s b) - 1)
 same_last s t j b at begun_is succs_is =
     ap (λ i. target t i (begun t i - 1)) at ∙ ap (λ xs. get_or xs (begun t (position s b) - 1) 0) succs_is
-        ∙ ap (λ k. get_or (succs s (position s b)) (k - 1) 0) begun_is
+    ∙ ap (λ k. get_or (succs s (position s b)) (k - 1) 0) begun_is
 
 module _ {lists : List (List ℕ)} {roots done : List ℕ} {opened : Bool} {s : Stack} (good : IsGood lists roots done opened s) where
   -- a begun edge is a call of the graph

@@ -11,3 +11,4 @@ pub mod Steps
 pub mod FieldLaws
 pub mod UnderWay
 pub mod Released
+pub mod Driving

@@ -17,10 +17,11 @@ use Rattle.graph_law.proofs.ReachLaws.{along_walk}
 use Rattle.search_stack.specs.Stack.{Entry, Stack, size, height, top, node, position}
 use Rattle.search_stack.specs.GoodSearch.{IsGood, StandsIn}
 use Rattle.search_stack.specs.Search.{IsOn, IsDistinct, IsReleasable, nodes_from, below_frame}
-use Rattle.search_stack.specs.GroupsPlain.{IsUnderWay, IsSeen}
+use Rattle.search_stack.specs.PlainSearch.{IsUnderWay, IsSeen}
 use Rattle.search_stack.proofs.Changes.{Keeps}
 use Rattle.search_stack.proofs.Edges.{good_more}
 use Rattle.search_stack.proofs.Frames.{position_within}
+use Rattle.search_stack.proofs.Steps.{holds_from}
 use Rattle.search_stack.proofs.Taken.{HoldsFrom}
 
 -- a member of a group is one up to its place
@@ -40,11 +41,11 @@ pub whole_class : {lists : List (List ℕ)} {roots done group : List ℕ} {group
 whole_class {lists} {roots} {done} {group} {groups} legal release finished apart p q member both =
     let P : ℕ → Type 0 = λ v. Contains group v ⊎ HasMember groups v in
     let step : (u v : ℕ) → P u → Calls lists u v → P v = λ u v either call.
-        elim either as (λ _. P v) [
-          | inl here ↦
-              elim (release.calls u v here call) as (λ _. P v) [ inl there ↦ inl there | inr ended ↦ inr (finished v ended) ]
-          | inr below ↦ inr (legal_call legal u v below call)
-        ] in
+    elim either as (λ _. P v) [
+      | inl here ↦
+          elim (release.calls u v here call) as (λ _. P v) [ inl there ↦ inl there | inr ended ↦ inr (finished v ended) ]
+      | inr below ↦ inr (legal_call legal u v below call)
+    ] in
     elim (along_walk (Calls lists) P step p both.there.path q both.there.walk (inl member)) as (λ _. Contains group q) [
       | inl here ↦ here
       | inr below ↦
@@ -64,17 +65,17 @@ legal_push {calls} {groups} {class} legal is apart leads =
     let old_at : (i : ℕ) → i < length groups → group_at all i ≡ group_at groups i = λ i lt. get_or_append_left groups (class ∷ []) [] i lt in
     let new_at : (i : ℕ) → i ≡ length groups → group_at all i ≡ class = λ i at. get_or_push groups class [] i (sym at) in
     let old_member : (i p : ℕ) → i < length groups → Contains (group_at all i) p → Contains (group_at groups i) p = λ i p lt member.
-        subst (λ g. Contains g p) (old_at i lt) member in
+    subst (λ g. Contains g p) (old_at i lt) member in
     let new_member : (i p : ℕ) → i ≡ length groups → Contains (group_at all i) p → Contains class p = λ i p at member.
-        subst (λ g. Contains g p) (new_at i at) member in
+    subst (λ g. Contains g p) (new_at i at) member in
     let old_place : (i p : ℕ) → i < length groups → Contains (group_at all i) p → HasMember groups p = λ i p lt member.
-        record { place = i; within = lt; member = old_member i p lt member } in
+    record { place = i; within = lt; member = old_member i p lt member } in
     let old_upto : (i q : ℕ) → i < length all → HasMember groups q → length groups ≤ i → StandsUpTo all i q = λ i q lt has le.
-        record {
-          place = has.place;
-          upto = omega (arith, has.within, le);
-          member = subst (λ g. Contains g q) (sym (old_at has.place has.within)) has.member;
-        } in
+    record {
+      place = has.place;
+      upto = omega (arith, has.within, le);
+      member = subst (λ g. Contains g q) (sym (old_at has.place has.within)) has.member;
+    } in
     record {
       each = All-push (IsClass calls) groups class legal.each is;
       once = λ i j p within inside here there.
@@ -119,7 +120,7 @@ nodes_distinct s frame once =
     let long : length nodes ≡ length s.entries = length-map s.entries (λ entry. entry.node) in
     let rest : length (drop p nodes) ≡ length nodes - p = length-drop p nodes in
     let read : (i d : ℕ) → p + i < length s.entries → get_or (drop p nodes) i d ≡ node s (p + i) = λ i d lt.
-        get_or-drop p nodes i d ∙ get_or-map (λ entry. entry.node) s.entries (p + i) no_entry d lt in
+    get_or-drop p nodes i d ∙ get_or-map (λ entry. entry.node) s.entries (p + i) no_entry d lt in
     IsDistinct-from_apart eqb (drop p nodes)
     (λ i j d below lt.
     let j_within : p + j < length s.entries = omega (arith, lt, rest, long) in
@@ -137,49 +138,49 @@ eqb_flips x y =
     ]
 
 -- the group, sorted, ascends
-sorted_ascends : (s : Stack) (frame : ℕ) (sorted : List ℕ) → IsDistinct s → IsPermutation (nodes_from s frame) sorted → IsSorted nat_cmp sorted
-    → IsStrictlyIncreasing sorted
-sorted_ascends s frame sorted once moved up =
+sorted_ascends : (s : Stack) (frame : ℕ) (group sorted : List ℕ) → IsDistinct s → group ≡ nodes_from s frame → IsPermutation group sorted
+    → IsSorted nat_cmp sorted → IsStrictlyIncreasing sorted
+sorted_ascends s frame group sorted once is moved up =
     IsStrictlyIncreasing-from_distinct sorted (IsNonDecreasingBy-from_sort (λ x. x) sorted up)
-    (IsDistinct-IsPermutation eqb eqb_flips (nodes_from s frame) sorted moved (nodes_distinct s frame once))
+    (IsDistinct-IsPermutation eqb eqb_flips group sorted moved (subst (AreDistinct eqb) (sym is) (nodes_distinct s frame once)))
 
 -- the top segment leaves the stack and is the last group
 pub way_release : {lists : List (List ℕ)} {roots : List ℕ} {seen : List Bool} {groups : List (List ℕ)} {s t : Stack} {frame : ℕ}
-    (sorted : List ℕ) (way : IsUnderWay lists roots seen groups false s) → Keeps s t frame → HoldsFrom s (position s frame) (nodes_from s frame)
-    → IsReleasable lists roots way.finished (nodes_from s frame) → IsGood lists roots (way.finished ++ nodes_from s frame) false t
-    → IsPermutation (nodes_from s frame) sorted → IsSorted nat_cmp sorted → IsUnderWay lists roots seen (groups ++ sorted ∷ []) false t
-way_release {lists} {roots} {seen} {groups} {s} {t} {frame} sorted way new holds release good moved up =
-    let group : List ℕ = nodes_from s frame in
+    (group sorted : List ℕ) (way : IsUnderWay lists roots seen groups false s) → Keeps s t frame → group ≡ nodes_from s frame
+    → IsReleasable lists roots way.finished group → IsGood lists roots (way.finished ++ group) false t
+    → IsPermutation group sorted → IsSorted nat_cmp sorted → IsUnderWay lists roots seen (groups ++ sorted ∷ []) false t
+way_release {lists} {roots} {seen} {groups} {s} {t} {frame} group sorted way new is release good moved up =
+    let holds : HoldsFrom s (position s frame) group = subst (HoldsFrom s (position s frame)) (sym is) (holds_from s frame) in
     let back : IsPermutation sorted group = IsPermutation-sym group sorted moved in
     let from_sorted : (v : ℕ) → Contains sorted v → Contains group v = λ v member. Contains-permutation sorted group v back member in
     let to_sorted : (v : ℕ) → Contains group v → Contains sorted v = λ v member. Contains-permutation group sorted v moved member in
     let group_on : (v : ℕ) → Contains group v → IsOn s v = λ v member.
-        let stands : StandsIn s (position s frame) (size s) v = holds.to v member in
-        record { place = stands.place; within = stands.below; is = stands.is } in
+    let stands : StandsIn s (position s frame) (size s) v = holds.to v member in
+    record { place = stands.place; within = stands.below; is = stands.is } in
     let apart : (v : ℕ) → Contains group v → HasMember groups v → ⊥ = λ v member has. way.apart v (group_on v member) has in
     let kept_on : (v : ℕ) → IsOn t v → IsOn s v = λ v on.
-        let below : on.place < position s frame = omega (arith, on.within, new.size_is) in
-        record {
-          place = on.place;
-          within = omega (arith, below, position_within way.good.shaped frame new.within);
-          is = sym (new.node_is on.place below) ∙ on.is;
-        } in
+    let below : on.place < position s frame = omega (arith, on.within, new.size_is) in
+    record {
+      place = on.place;
+      within = omega (arith, below, position_within way.good.shaped frame new.within);
+      is = sym (new.node_is on.place below) ∙ on.is;
+    } in
     let kept_off : (v : ℕ) → IsOn t v → Contains group v → ⊥ = λ v on member.
-        let below : on.place < position s frame = omega (arith, on.within, new.size_is) in
-        let stands : StandsIn s (position s frame) (size s) v = holds.to v member in
-        let same : on.place ≡ stands.place =
-        way.once on.place stands.place (omega (arith, below, position_within way.good.shaped frame new.within)) stands.below
-        (sym (new.node_is on.place below) ∙ on.is ∙ sym stands.is) in
-        omega (arith, same, below, stands.from) in
+    let below : on.place < position s frame = omega (arith, on.within, new.size_is) in
+    let stands : StandsIn s (position s frame) (size s) v = holds.to v member in
+    let same : on.place ≡ stands.place =
+    way.once on.place stands.place (omega (arith, below, position_within way.good.shaped frame new.within)) stands.below
+    (sym (new.node_is on.place below) ∙ on.is ∙ sym stands.is) in
+    omega (arith, same, below, stands.from) in
     let on_cases : (v : ℕ) → IsOn s v → IsOn t v ⊎ Contains group v = λ v on.
-        elim (cases_lt on.place (position s frame)) as (λ _. IsOn t v ⊎ Contains group v) [
-          | inl below ↦
-              inl (record { place = on.place; within = omega (arith, below, new.size_is); is = new.node_is on.place below ∙ on.is })
-          | inr le ↦ let P : ℕ → Type 0 = λ u. Contains group u in inr (subst P on.is (holds.from on.place le on.within))
-        ] in
+    elim (cases_lt on.place (position s frame)) as (λ _. IsOn t v ⊎ Contains group v) [
+      | inl below ↦
+          inl (record { place = on.place; within = omega (arith, below, new.size_is); is = new.node_is on.place below ∙ on.is })
+      | inr le ↦ let P : ℕ → Type 0 = λ u. Contains group u in inr (subst P on.is (holds.from on.place le on.within))
+    ] in
     let class : IsClass (Calls lists) sorted = record {
       inhabited = omega (arith, length_permutation group sorted moved, release.inhabited);
-      ascending = sorted_ascends s frame sorted way.once moved up;
+      ascending = sorted_ascends s frame group sorted way.once is moved up;
       mutual_reach = λ p q first second. release.mutual_reach p q (from_sorted p first) (from_sorted q second);
       whole = λ p q member both. to_sorted q (whole_class way.legal release way.in_groups apart p q (from_sorted p member) both);
     } in
@@ -197,8 +198,8 @@ way_release {lists} {roots} {seen} {groups} {s} {t} {frame} sorted way new holds
             | inr newly ↦ Contains-append_right way.finished group v (from_sorted v newly)
           ];
       each = way.each;
-      only = λ v is.
-          elim (way.only v is) as (λ _. IsOn t v ⊎ HasMember (groups ++ sorted ∷ []) v) [
+      only = λ v mark.
+          elim (way.only v mark) as (λ _. IsOn t v ⊎ HasMember (groups ++ sorted ∷ []) v) [
             | inl on ↦
                 elim (on_cases v on) as (λ _. IsOn t v ⊎ HasMember (groups ++ sorted ∷ []) v)
                 [ inl kept ↦ inl kept | inr member ↦ inr (HasMember-push groups sorted v (to_sorted v member)) ]
@@ -211,17 +212,17 @@ way_release {lists} {roots} {seen} {groups} {s} {t} {frame} sorted way new holds
       apart = λ v on has.
           elim (HasMember-push_cases groups sorted v has) as (λ _. ⊥)
           [ inl old ↦ way.apart v (kept_on v on) old | inr newly ↦ kept_off v on (from_sorted v newly) ];
-      once = λ i j within inside is.
+      once = λ i j within inside same.
           let i_below : i < position s frame = omega (arith, within, new.size_is) in
           let j_below : j < position s frame = omega (arith, inside, new.size_is) in
           way.once i j (omega (arith, i_below, position_within way.good.shaped frame new.within))
           (omega (arith, j_below, position_within way.good.shaped frame new.within))
-          (sym (new.node_is i i_below) ∙ is ∙ new.node_is j j_below);
+          (sym (new.node_is i i_below) ∙ same ∙ new.node_is j j_below);
       legal =
-        legal_push way.legal class (λ v member. apart v (from_sorted v member))
-        (λ p q member call.
-        elim (release.calls p q (from_sorted p member) call) as (λ _. Contains sorted q ⊎ HasMember groups q)
-        [ inl here ↦ inl (to_sorted q here) | inr finished ↦ inr (way.in_groups q finished) ]);
+          legal_push way.legal class (λ v member. apart v (from_sorted v member))
+          (λ p q member call.
+          elim (release.calls p q (from_sorted p member) call) as (λ _. Contains sorted q ⊎ HasMember groups q)
+          [ inl here ↦ inl (to_sorted q here) | inr finished ↦ inr (way.in_groups q finished) ]);
       reached = λ v has.
           elim (HasMember-push_cases groups sorted v has) as (λ _. IsReached (Calls lists) roots v)
           [ inl old ↦ way.reached v old | inr newly ↦ release.reached v (from_sorted v newly) ];

@@ -58,7 +58,7 @@ module _ {lists : List (List ℕ)} {roots done : List ℕ} {s t : Stack} {frame 
   retreat_begun_all : (j i : ℕ) → j < height t → position t j < i → i < position t (j + 1) → begun t i ≡ length (succs t i)
   retreat_begun_all j i lt from upto =
       let same : begun s i ≡ length (succs s i) → begun t i ≡ length (succs t i) = λ is.
-          omega (arith, is, new.begun_is i, ap length (new.succs_is i)) in
+      omega (arith, is, new.begun_is i, ap length (new.succs_is i)) in
       elim (cases_lt j frame) as (λ _. begun t i ≡ length (succs t i)) [
         | inl below ↦
             same
@@ -105,9 +105,9 @@ module _ {lists : List (List ℕ)} {roots done : List ℕ} {s t : Stack} {frame 
       let lower_low : low t frame ≤ low s frame = omega (arith, new.low_new) in
       let succs_at : target t i k ≡ target s i k = ap (λ xs. get_or xs k 0) (new.succs_is i) in
       let settled : IsSettled s false frame i k → i < position s (frame + 1) → IsInward done t frame (target t i k) = λ was lower.
-          inward_to done done frame frame (λ u is. is) lower_low
-          (omega (arith, end_t, position_within good.shaped (frame + 1) (omega (arith, new.is_second)))) (λ b end. new.node_is b) succs_at
-          (good.inward frame i k (omega (arith, new.is_second)) from lower before was) in
+      inward_to done done frame frame (λ u is. is) lower_low
+      (omega (arith, end_t, position_within good.shaped (frame + 1) (omega (arith, new.is_second)))) (λ b end. new.node_is b) succs_at
+      (good.inward frame i k (omega (arith, new.is_second)) from lower before was) in
       elim (cases_lt i (position s (frame + 1))) as (λ _. IsInward done t frame (target t i k)) [
         | inl lower ↦
             elim (cases_lt (position s frame) i) as (λ _. IsInward done t frame (target t i k)) [

@@ -24,9 +24,15 @@ shaped_push {s} {t} {v} {list} shaped new led = record {
             omega (arith, new.position_is j (omega (arith, old)), new.position_is (j + 1) (omega (arith, old)), shaped.rises j old)
         | inr le ↦
             let is : j ≡ height s = omega (arith, le, lt, new.height_is) in
-            omega
-            (arith, new.position_is j (omega (arith, is)), position_at s j (height s) is, position_end s, position_end t,
-            position_at t (j + 1) (height t) (omega (arith, is, new.height_is)), new.size_is)
+            omega (
+              arith,
+              new.position_is j (omega (arith, is)),
+              position_at s j (height s) is,
+              position_end s,
+              position_end t,
+              position_at t (j + 1) (height t) (omega (arith, is, new.height_is)),
+              new.size_is,
+            )
       ];
   low_le = λ j lt.
       elim (cases_lt j (height s)) [
@@ -61,10 +67,10 @@ shaped_push {s} {t} {v} {list} shaped new led = record {
 pub shaped_begin : {s t : Stack} {place : ℕ} → IsShaped s → Begins s t place → begun s place < length (succs s place) → IsShaped t
 shaped_begin {s} {t} {place} shaped new more =
     let risen : (i : ℕ) → begun s i ≤ begun t i = λ i.
-        elim (cases_eq i place) [
-          | inl is ↦ omega (arith, new.begun_one_more, ap (begun s) is, ap (begun t) is)
-          | inr ne ↦ omega (arith, new.begun_is i ne)
-        ] in
+    elim (cases_eq i place) [
+      | inl is ↦ omega (arith, new.begun_one_more, ap (begun s) is, ap (begun t) is)
+      | inr ne ↦ omega (arith, new.begun_is i ne)
+    ] in
     record {
       first = new.position_is 0 ∙ shaped.first;
       rises = λ j lt. omega (arith, new.position_is j, new.position_is (j + 1), shaped.rises j (omega (arith, lt, new.height_is)));
@@ -106,14 +112,21 @@ shaped_retreat {s} {t} {frame} shaped new =
       rises = λ j lt.
           elim (cases_lt j frame) [
             | inl below ↦
-                omega
-                (arith, new.position_is j (omega (arith, below)), new.position_is (j + 1) (omega (arith, below)),
-                shaped.rises j (omega (arith, below, new.is_second)))
+                omega (
+                  arith,
+                  new.position_is j (omega (arith, below)),
+                  new.position_is (j + 1) (omega (arith, below)),
+                  shaped.rises j (omega (arith, below, new.is_second)),
+                )
             | inr le ↦
                 let is : j ≡ frame = omega (arith, le, lt, new.height_is) in
-                omega
-                (arith, new.position_is j (omega (arith, is)), position_at t (j + 1) (frame + 1) (omega (arith, is)), last,
-                position_within shaped j (omega (arith, is, new.is_second)))
+                omega (
+                  arith,
+                  new.position_is j (omega (arith, is)),
+                  position_at t (j + 1) (frame + 1) (omega (arith, is)),
+                  last,
+                  position_within shaped j (omega (arith, is, new.is_second)),
+                )
           ];
       low_le = λ j lt.
           let old : low s j ≤ position s j = shaped.low_le j (omega (arith, lt, new.height_is, new.is_second)) in
@@ -124,31 +137,40 @@ shaped_retreat {s} {t} {frame} shaped new =
                 omega (arith, new.position_is j (omega (arith, is)), new.low_new, ap (low t) is, ap (low s) is, old)
           ];
       begins = λ j lt.
-          omega
-          (arith, shaped.begins j (omega (arith, lt, new.height_is, new.is_second)), new.begun_is (position s j),
-          ap (begun t) (new.position_is j (omega (arith, lt, new.height_is))));
+          omega (
+            arith,
+            shaped.begins j (omega (arith, lt, new.height_is, new.is_second)),
+            new.begun_is (position s j),
+            ap (begun t) (new.position_is j (omega (arith, lt, new.height_is))),
+          );
       begun_le = λ i lt. omega (arith, new.begun_is i, ap length (new.succs_is i), shaped.begun_le i (omega (arith, lt, new.size_is)));
     }
 
 pub shaped_below : {s t : Stack} {frame : ℕ} → IsShaped s → Keeps s t frame → IsShaped t
 shaped_below {s} {t} {frame} shaped new =
     let inside : (j : ℕ) → j < frame → position s j < position s frame = λ j lt.
-        omega (arith, position_le shaped j frame (omega (arith, lt)) (omega (arith, new.within)), lt) in
+    omega (arith, position_le shaped j frame (omega (arith, lt)) (omega (arith, new.within)), lt) in
     record {
       first = new.position_is 0 (omega arith) ∙ shaped.first;
       rises = λ j lt.
-          omega
-          (arith, new.position_is j (omega (arith, lt, new.height_is)), new.position_is (j + 1) (omega (arith, lt, new.height_is)),
-          shaped.rises j (omega (arith, lt, new.height_is, new.within)));
+          omega (
+            arith,
+            new.position_is j (omega (arith, lt, new.height_is)),
+            new.position_is (j + 1) (omega (arith, lt, new.height_is)),
+            shaped.rises j (omega (arith, lt, new.height_is, new.within)),
+          );
       low_le = λ j lt.
           let old : low s j ≤ position s j = shaped.low_le j (omega (arith, lt, new.height_is, new.within)) in
           omega
           (arith, new.position_is j (omega (arith, lt, new.height_is)), new.low_is j (omega (arith, lt, new.height_is)), old);
       begins = λ j lt.
           let below : j < frame = omega (arith, lt, new.height_is) in
-          omega
-          (arith, shaped.begins j (omega (arith, lt, new.height_is, new.within)), new.begun_is (position s j) (inside j below),
-          ap (begun t) (new.position_is j (omega (arith, below))));
+          omega (
+            arith,
+            shaped.begins j (omega (arith, lt, new.height_is, new.within)),
+            new.begun_is (position s j) (inside j below),
+            ap (begun t) (new.position_is j (omega (arith, below))),
+          );
       begun_le = λ i lt.
           let old : i < position s frame = omega (arith, lt, new.size_is) in
           omega

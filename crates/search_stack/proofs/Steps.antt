@@ -54,9 +54,9 @@ pub pushes : (s : Stack) (v : ℕ) (list : List ℕ) → Pushes s (pushed s v li
 unfolding size height node succs begun pushed
 pushes s v list =
     let old : (i : ℕ) → i < length s.entries → (d : Entry) → get_or (pushed s v list).entries i d ≡ get_or s.entries i d = λ i lt d.
-        get_or_append_left s.entries ((record { node = v; succs = list; begun = 0 }) ∷ []) d i lt in
+    get_or_append_left s.entries ((record { node = v; succs = list; begun = 0 }) ∷ []) d i lt in
     let new : (d : Entry) → get_or (pushed s v list).entries (length s.entries) d ≡ record { node = v; succs = list; begun = 0 } = λ d.
-        get_or_push s.entries (record { node = v; succs = list; begun = 0 }) d (length s.entries) refl in
+    get_or_push s.entries (record { node = v; succs = list; begun = 0 }) d (length s.entries) refl in
     let no_entry : Entry = record { node = 0; succs = []; begun = 0 } in
     let frame : Frame = record { position = length s.entries; low = length s.entries } in
     let taller : length (s.frames ++ frame ∷ []) ≡ length s.frames + 1 = length_push s.frames frame in
@@ -70,12 +70,12 @@ pushes s v list =
             | inr past ↦
                 let is : j ≡ length s.frames = omega (arith, past, le) in
                 position_of (pushed s v list) j frame frame (omega (arith, is, taller)) (get_or_push s.frames frame frame j (sym is))
-                    ∙ sym (ap (position s) is ∙ position_end s)
+                ∙ sym (ap (position s) is ∙ position_end s)
           ];
       low_is = λ j lt.
           same_low s (pushed s v list) j j frame lt (omega (arith, lt, taller)) (get_or_append_left s.frames (frame ∷ []) frame j lt);
       low_new =
-        low_of (pushed s v list) (length s.frames) frame frame (omega (arith, taller)) (get_or_push s.frames frame frame (length s.frames) refl);
+          low_of (pushed s v list) (length s.frames) frame frame (omega (arith, taller)) (get_or_push s.frames frame frame (length s.frames) refl);
       node_is = λ i lt. same_node s (pushed s v list) i (old i lt);
       node_new = ap (λ e. e.node) (new no_entry);
       succs_is = λ i lt. same_succs s (pushed s v list) i (old i lt);
@@ -109,7 +109,7 @@ module _ (s t : Stack) (k : ℕ) (frame : Frame) (within : k < height s) (frames
             elim (cases_eq j k) as (λ _. position t j ≡ position s j) [
               | inl is ↦
                   ap (position t) is ∙ position_of t k frame frame (omega (arith, within, written_height)) written_read ∙ at
-                      ∙ sym (ap (position s) is)
+                  ∙ sym (ap (position s) is)
               | inr ne ↦ same_position s t j j frame lt (omega (arith, lt, written_height)) (unwritten_read j ne)
             ]
         | inr past ↦ position_past t j (omega (arith, past, written_height)) ∙ written_size ∙ sym (position_past s j past)
@@ -158,7 +158,7 @@ begins s place within =
     let no_entry : Entry = record { node = 0; succs = []; begun = 0 } in
     let written : get_or t.entries place no_entry ≡ entry = get_or-set_same s.entries place entry no_entry within in
     let others : (i : ℕ) → (i ≡ place → ⊥) → (d : Entry) → get_or t.entries i d ≡ get_or s.entries i d = λ i ne d.
-        get_or-set_other s.entries place i entry d ne in
+    get_or-set_other s.entries place i entry d ne in
     let long : length t.entries ≡ length s.entries = length-set s.entries place entry in
     record {
       size_is = long;
@@ -195,9 +195,9 @@ retreats s two =
     let next : k + 1 ≡ top s = omega (arith, two) in
     let kept : (j : ℕ) → j < top s → get_or cut.frames j frame ≡ get_or s.frames j frame = λ j lt. get_or-take (top s) s.frames j frame lt in
     let kept_position : (j : ℕ) → j < top s → position cut j ≡ position s j = λ j lt.
-        same_position s cut j j frame (omega (arith, lt)) (omega (arith, lt, cut_height)) (kept j lt) in
+    same_position s cut j j frame (omega (arith, lt)) (omega (arith, lt, cut_height)) (kept j lt) in
     let kept_low : (j : ℕ) → j < top s → low cut j ≡ low s j = λ j lt.
-        same_low s cut j j frame (omega (arith, lt)) (omega (arith, lt, cut_height)) (kept j lt) in
+    same_low s cut j j frame (omega (arith, lt)) (omega (arith, lt, cut_height)) (kept j lt) in
     let lt_k : k < top s = omega (arith, next) in
     record {
       is_second = omega (arith, two);
@@ -222,9 +222,9 @@ keeps s frame shaped lt =
     let few : length t.entries ≡ position s frame =
     length-take-le (position s frame) s.entries (omega (arith, position_within shaped frame lt)) in
     let kept : (j : ℕ) → j < frame → get_or t.frames j no_frame ≡ get_or s.frames j no_frame = λ j below.
-        get_or-take frame s.frames j no_frame below in
+    get_or-take frame s.frames j no_frame below in
     let entry : (i : ℕ) → i < position s frame → (d : Entry) → get_or t.entries i d ≡ get_or s.entries i d = λ i below d.
-        get_or-take (position s frame) s.entries i d below in
+    get_or-take (position s frame) s.entries i d below in
     record {
       within = lt;
       size_is = few;
@@ -253,7 +253,7 @@ holds_from s frame =
     let long : length nodes ≡ length s.entries = length-map s.entries (λ entry. entry.node) in
     let rest : length (drop p nodes) ≡ length nodes - p = length-drop p nodes in
     let read : (i d : ℕ) → i < length s.entries → get_or nodes i d ≡ node s i = λ i d lt.
-        get_or-map (λ entry. entry.node) s.entries i no_entry d lt in
+    get_or-map (λ entry. entry.node) s.entries i no_entry d lt in
     record {
       inhabited = λ lt. omega (arith, lt, rest, long);
       to = λ v (k, lt, at).
@@ -265,7 +265,9 @@ holds_from s frame =
             is = sym (read (p + k) v within) ∙ sym (get_or-drop p nodes k v) ∙ at;
           };
       from = λ i le lt.
-          let back : p + (i - p) ≡ i = omega (arith, le) in
-          (i - p, omega (arith, le, lt, rest, long),
-          get_or-drop p nodes (i - p) (node s i) ∙ ap (λ b. get_or nodes b (node s i)) back ∙ read i (node s i) lt);
+          let back : p + (i - p) ≡ i = omega (arith, le) in (
+            i - p,
+            omega (arith, le, lt, rest, long),
+            get_or-drop p nodes (i - p) (node s i) ∙ ap (λ b. get_or nodes b (node s i)) back ∙ read i (node s i) lt,
+          );
     }

@@ -52,8 +52,8 @@ module _ {lists : List (List ℕ)} {roots done : List ℕ} {s : Stack} {group : 
       let before : own.0 < begun s stands.place = omega (arith, own.1, all_begun stands.place stands.from stands.below) in
       let at : target s stands.place own.0 ≡ q = get_or_default (succs s stands.place) own.0 0 q own.1 ∙ own.2 in
       elim
-          (good.inward (top s) stands.place own.0 top_within stands.from (omega (arith, stands.below, top_end)) before
-          (inr (inr (omega (arith, ripe.done.some), refl)))) as (λ _. Contains group q ⊎ Contains done q) [
+      (good.inward (top s) stands.place own.0 top_within stands.from (omega (arith, stands.below, top_end)) before
+      (inr (inr (omega (arith, ripe.done.some), refl)))) as (λ _. Contains group q ⊎ Contains done q) [
         | inl finished ↦ let F : ℕ → Type 0 = λ u. Contains done u in inr (subst F at finished)
         | inr led ↦
             let G : ℕ → Type 0 = λ u. Contains group u in
@@ -75,8 +75,8 @@ module _ {lists : List (List ℕ)} {roots done : List ℕ} {s : Stack} {group : 
   pub good_take : {t : Stack} → Keeps s t (top s) → IsGood lists roots (done ++ group) false t
   good_take {t} new =
       let lawful : (c : ℕ) → top s ≤ c → c < height s → position s (top s) ≤ low s c = λ c le lt.
-          let is : c ≡ top s = omega (arith, le, lt) in
-          omega (arith, ap (low s) is, ripe.low_is) in
+      let is : c ≡ top s = omega (arith, le, lt) in
+      omega (arith, ap (low s) is, ripe.low_is) in
       good_settle
       (good_more (done ++ group) (good_below good new lawful) (λ u member. Contains-append_left done group u member))
       (λ j is some.

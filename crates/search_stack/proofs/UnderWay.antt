@@ -12,7 +12,7 @@ use Rattle.graph_law.specs.LegalOrder.{IsLegalOrder}
 use Rattle.search_stack.specs.Stack.{Stack, size, height, top, node, succs, begun, target, position, low}
 use Rattle.search_stack.specs.GoodSearch.{IsGood}
 use Rattle.search_stack.specs.Search.{IsOn, IsDistinct, IsLastBegun, IsDone, empty_stack, pushed, lowered, retreated}
-use Rattle.search_stack.specs.GroupsPlain.{IsUnderWay, IsSeen, top_succs, top_begun}
+use Rattle.search_stack.specs.PlainSearch.{IsUnderWay, IsSeen, top_succs, top_begun}
 use Rattle.search_stack.proofs.Changes.{Pushes, Begins, Lowers, Retreats}
 use Rattle.search_stack.proofs.Edges.{good_empty}
 use Rattle.search_stack.proofs.Frames.{position_within}
@@ -122,18 +122,18 @@ module _ {lists : List (List ℕ)} {roots : List ℕ} {seen : List Bool} {groups
       → IsUnderWay lists roots (set seen v true) groups false t
   way_push {t} {list} new good =
       let old_on : (u : ℕ) → IsOn s u → IsOn t u = λ u on.
-          record { place = on.place; within = omega (arith, on.within, new.size_is); is = new.node_is on.place on.within ∙ on.is } in
+      record { place = on.place; within = omega (arith, on.within, new.size_is); is = new.node_is on.place on.within ∙ on.is } in
       let new_on : IsOn t v = record { place = size s; within = omega (arith, new.size_is); is = new.node_new } in
       let on_cases : (u : ℕ) → IsOn t u → IsOn s u ⊎ (u ≡ v) = λ u on.
-          elim (cases_lt on.place (size s)) as (λ _. IsOn s u ⊎ (u ≡ v)) [
-            | inl old ↦ inl (record { place = on.place; within = old; is = sym (new.node_is on.place old) ∙ on.is })
-            | inr le ↦
-                let at : on.place ≡ size s = omega (arith, le, on.within, new.size_is) in
-                inr (sym on.is ∙ ap (node t) at ∙ new.node_new)
-          ] in
+      elim (cases_lt on.place (size s)) as (λ _. IsOn s u ⊎ (u ≡ v)) [
+        | inl old ↦ inl (record { place = on.place; within = old; is = sym (new.node_is on.place old) ∙ on.is })
+        | inr le ↦
+            let at : on.place ≡ size s = omega (arith, le, on.within, new.size_is) in
+            inr (sym on.is ∙ ap (node t) at ∙ new.node_new)
+      ] in
       let off : IsOn s v → ⊥ = unseen_is_off way v no_mark in
       let place_off : (i : ℕ) → i < size s → node t i ≡ v → ⊥ = λ i old is.
-          off (record { place = i; within = old; is = sym (new.node_is i old) ∙ is }) in
+      off (record { place = i; within = old; is = sym (new.node_is i old) ∙ is }) in
       record {
         finished = way.finished;
         good = good;

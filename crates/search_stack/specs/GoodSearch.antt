@@ -37,21 +37,17 @@ IsInward done s j v = Contains done v ⊎ StandsIn s (low s j) (position s (j + 
 -- the stack is good for the graph, the roots and the finished nodes; `opened` says that the last edge that the top has begun is open
 pub record IsGood (lists : List (List ℕ)) (roots done : List ℕ) (opened : Bool) (s : Stack) : Type 0 where
   pub shaped : IsShaped s
-
   -- an entry that isn't a frame's has begun all, and it and its frame's entry reach each other
   pub begun_all : (j i : ℕ) → j < height s → position s j < i → i < position s (j + 1) → begun s i ≡ length (succs s i)
   pub segment : (j i : ℕ) → j < height s → position s j ≤ i → i < position s (j + 1)
       → ReachEachOther (Calls lists) (node s i) (node s (position s j))
-
   -- a frame's entry reaches the next frame's, and the entry at its low
   pub up : (j : ℕ) → j + 1 < height s → Reaches (Calls lists) (node s (position s j)) (node s (position s (j + 1)))
   pub down : (j : ℕ) → j < height s → Reaches (Calls lists) (node s (position s j)) (node s (low s j))
-
   -- where the begun edges lead, those that are settled and the open ones below the top
   pub inward : (j i k : ℕ) → j < height s → position s j ≤ i → i < position s (j + 1) → k < begun s i
       → IsSettled s opened j i k → IsInward done s j (target s i k)
   pub leads : (j : ℕ) → j + 1 < height s → LeadsUp s j
-
   -- every entry is reached from a root, and its successors are those of the graph
   pub reached : (i : ℕ) → i < size s → IsReached (Calls lists) roots (node s i)
   pub true_succs : (i : ℕ) → i < size s → succs s i ≡ slice_index_or lists (node s i) []

@@ -1,5 +1,5 @@
 pub mod Fields
 pub mod GoodSearch
-pub mod GroupsPlain
+pub mod PlainSearch
 pub mod Search
 pub mod Stack

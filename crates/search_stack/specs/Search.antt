@@ -70,8 +70,8 @@ unfoldable pub retreated : Stack → Stack
 retreated s = record {
   entries = s.entries;
   frames =
-    slice_set (take (top s) s.frames) (top s - 1)
-    (record { position = position s (top s - 1); low = min (low s (top s - 1)) (low s (top s)) });
+      slice_set (take (top s) s.frames) (top s - 1)
+      (record { position = position s (top s - 1); low = min (low s (top s - 1)) (low s (top s)) });
 }
 
 -- the part of the stack below frame a

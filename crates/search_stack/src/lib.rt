@@ -2,11 +2,11 @@
 #![tactic(auto)]
 
 mod frame;
-mod groups_plain;
 mod opening;
+mod plain_search;
 mod search;
 
 pub use frame::Frame;
-pub use groups_plain::groups_plain;
 pub use opening::Opening;
+pub use plain_search::groups_plain;
 pub use search::Search;

@@ -109,7 +109,9 @@ impl Search {
     {
         let Opening { node, succs } = opening;
         let position = self.opened.len() as u32;
-        self.opened.insert(node, Opened { succs, begun: 0 }).unwrap();
+        self.opened
+            .insert(node, Opened { succs, begun: 0 })
+            .unwrap();
         self.frames
             .push(Frame {
                 position,
@@ -277,8 +279,7 @@ impl Search {
         ensures { (lists : List (List ℕ)) (roots done more : List ℕ) (opened : Bool) (stack : Stack)
             → IsGood lists roots done opened stack → ((v : ℕ) → Contains done v → Contains more v)
             → IsGood lists roots more opened stack }
-    {
-    }
+    {}
 }
 
 /// The last frame.

@@ -14,9 +14,10 @@ use Rattle.search_stack.proofs.search.Search.back.Goals as goal
 
 pub returns-in_default-clause-on : goal.returns-in_default-clause-on
 returns-in_default-clause-on c =
-    rw (← c.self.view_is)
-    (λ yes. absurd (true≢false (sym yes)),
-    λ on. absurd (missing c.self.inside.opened.entries c.self.inside.frames.items c.args.node (sym c.in_default.ensures.index) on))
+    rw (← c.self.view_is) (
+      λ yes. absurd (true≢false (sym yes)),
+      λ on. absurd (missing c.self.inside.opened.entries c.self.inside.frames.items c.args.node (sym c.in_default.ensures.index) on),
+    )
 
 pub overflow_sub-top : goal.overflow_sub-top
 overflow_sub-top c =
@@ -43,10 +44,12 @@ invariant_of-self c =
       shaped = subst IsShaped (sym is) (shaped_back c.self.invariant.shaped (lowers (stack_of c.self.inside.opened.entries c.self.inside.frames.items) c.in-Some.place height));
       entry_room = c.self.invariant.entry_room;
       frame_room =
-        omega
-        (arith, c.self.invariant.frame_room,
-        length-set c.self.inside.frames.items (c.len-top.result - 1)
-        (record { position = c.index_mut-frame.result.now.position; low = c.min-frame.result }));
+          omega (
+            arith,
+            c.self.invariant.frame_room,
+            length-set c.self.inside.frames.items (c.len-top.result - 1)
+                (record { position = c.index_mut-frame.result.now.position; low = c.min-frame.result }),
+          );
       small = c.self.invariant.small;
     }
 

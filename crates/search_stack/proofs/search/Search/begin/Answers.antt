@@ -122,16 +122,18 @@ invariant_of-self c =
     (subst (Holds (stack_of c.self.inside.opened.entries c.self.inside.frames.items) c.top_frame-position.result.position) same holds) in
     record {
       shaped =
-        subst IsShaped (sym is)
-        (shaped_begin c.self.invariant.shaped (top_begins c.self.inside.opened.entries c.self.inside.frames.items c.top_frame-position.result tops)
-        (more_to_begin read more));
+          subst IsShaped (sym is)
+          (shaped_begin c.self.invariant.shaped (top_begins c.self.inside.opened.entries c.self.inside.frames.items c.top_frame-position.result tops)
+          (more_to_begin read more));
       entry_room = c.self.invariant.entry_room;
       frame_room = c.self.invariant.frame_room;
       small =
-        omega
-        (arith, c.self.invariant.small,
-        index_map_len-with_value_at c.self.inside.opened c.top_frame-position.result.position
-        (record { succs = c.index_mut-opened.result.now.succs; begun = c.index_mut-opened.result.now.begun + 1 }));
+          omega (
+            arith,
+            c.self.invariant.small,
+            index_map_len-with_value_at c.self.inside.opened c.top_frame-position.result.position
+                (record { succs = c.index_mut-opened.result.now.succs; begun = c.index_mut-opened.result.now.begun + 1 }),
+          );
     }
 
 pub returns-clause-next : goal.returns-clause-next

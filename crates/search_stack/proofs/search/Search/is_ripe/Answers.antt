@@ -6,12 +6,13 @@ use Rattle.search_stack.proofs.search.Search.is_ripe.Goals as goal
 pub returns-then-is_empty-clause-ripe : goal.returns-then-is_empty-clause-ripe
 returns-then-is_empty-clause-ripe c =
     let none = eqb-true (vec_len c.self.inside.frames) 0 (sym c.if-is_empty.ensures) in
-    rw (← c.self.view_is)
-    (λ yes. absurd (true≢false (sym yes)),
-    λ ripe.
-    absurd
-    (omega
-    (arith, ripe.done.some, none, c.self.inside.frames.ok.0, height_is c.self.inside.opened.entries c.self.inside.frames.items)))
+    rw (← c.self.view_is) (
+      λ yes. absurd (true≢false (sym yes)),
+      λ ripe.
+          absurd
+          (omega
+          (arith, ripe.done.some, none, c.self.inside.frames.ok.0, height_is c.self.inside.opened.entries c.self.inside.frames.items)),
+    )
 
 pub index-opened-requires : goal.index-opened-requires
 index-opened-requires c =
@@ -32,12 +33,13 @@ returns-then-opened-len-clause-ripe c =
     let read =
     top_holds tops
     (value_read c.self.inside.opened.entries c.self.inside.frames.items c.top_frame-frame.result.position c.index-opened.result.now c.index-opened.ensures) in
-    rw (← c.self.view_is)
-    (λ yes. absurd (true≢false (sym yes)),
-    λ ripe.
-    absurd
-    (c.if-opened-len.true
-    (omega (arith, all_from_done read ripe.done, c.len.ensures, c.index-opened.result.now.succs.ok.0))))
+    rw (← c.self.view_is) (
+      λ yes. absurd (true≢false (sym yes)),
+      λ ripe.
+          absurd
+          (c.if-opened-len.true
+          (omega (arith, all_from_done read ripe.done, c.len.ensures, c.index-opened.result.now.succs.ok.0))),
+    )
 
 pub returns-clause-ripe : goal.returns-clause-ripe
 returns-clause-ripe c =
@@ -49,12 +51,13 @@ returns-clause-ripe c =
     let read =
     top_holds tops
     (value_read c.self.inside.opened.entries c.self.inside.frames.items c.top_frame-frame.result.position c.index-opened.result.now c.index-opened.ensures) in
-    rw (← c.self.view_is)
-    (λ yes.
-    record {
-      done =
-        done_read read (omega (arith, c.if-opened-len.false, c.len.ensures, c.index-opened.result.now.succs.ok.0));
-      low_is = tops.low_is ∙ eqb-true c.top_frame-frame.result.low c.top_frame-frame.result.position yes ∙ sym tops.position_is;
-    },
-    λ ripe.
-    eq-eqb c.top_frame-frame.result.low c.top_frame-frame.result.position (sym tops.low_is ∙ ripe.low_is ∙ tops.position_is))
+    rw (← c.self.view_is) (
+      λ yes.
+          record {
+            done =
+                done_read read (omega (arith, c.if-opened-len.false, c.len.ensures, c.index-opened.result.now.succs.ok.0));
+            low_is = tops.low_is ∙ eqb-true c.top_frame-frame.result.low c.top_frame-frame.result.position yes ∙ sym tops.position_is;
+          },
+      λ ripe.
+          eq-eqb c.top_frame-frame.result.low c.top_frame-frame.result.position (sym tops.low_is ∙ ripe.low_is ∙ tops.position_is),
+    )

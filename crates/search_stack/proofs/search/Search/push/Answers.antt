@@ -18,8 +18,8 @@ invariant_of-self c =
     let fresh = rw (← c.self.view_is) at c.requires.fresh in
     let is =
     (λ k. stack_of (entries k) (frames k))
-        ∙ pushed_is c.self.inside.opened.entries c.self.inside.frames.items c.args.opening.node c.len-position.result
-          (record { succs = c.args.opening.succs; begun = 0 }) refl c.len-position.ensures.len fresh in
+    ∙ pushed_is c.self.inside.opened.entries c.self.inside.frames.items c.args.opening.node c.len-position.result
+    (record { succs = c.args.opening.succs; begun = 0 }) refl c.len-position.ensures.len fresh in
     let new = pushes (stack_of c.self.inside.opened.entries c.self.inside.frames.items) c.args.opening.node c.args.opening.succs.items in
     let led : (height (stack_of c.self.inside.opened.entries c.self.inside.frames.items) ≡ 0) ⊎ IsLastBegun (stack_of c.self.inside.opened.entries c.self.inside.frames.items) c.args.opening.node =
     elim (rw (← c.self.view_is) at c.requires.led) as (λ _. (height (stack_of c.self.inside.opened.entries c.self.inside.frames.items) ≡ 0) ⊎ IsLastBegun (stack_of c.self.inside.opened.entries c.self.inside.frames.items) c.args.opening.node)
@@ -29,13 +29,24 @@ invariant_of-self c =
       shaped = subst IsShaped (sym is) (shaped_push c.self.invariant.shaped new led);
       entry_room = omega (arith, room, c.self.invariant.entry_room, c.insert.ensures.spare);
       frame_room =
-        omega
-        (arith, room, c.self.invariant.frame_room, c.push.ensures.capacity, ap length frames,
-        length_push c.self.inside.frames.items (record { position = c.len-position.result; low = c.len-position.result }));
+          omega (
+            arith,
+            room,
+            c.self.invariant.frame_room,
+            c.push.ensures.capacity,
+            ap length frames,
+            length_push c.self.inside.frames.items (record { position = c.len-position.result; low = c.len-position.result }),
+          );
       small =
-        omega
-        (arith, room, c.self.invariant.small, size_is c.insert.new.self.entries c.push.new.self.items, ap size is, new.size_is,
-        size_is c.self.inside.opened.entries c.self.inside.frames.items);
+          omega (
+            arith,
+            room,
+            c.self.invariant.small,
+            size_is c.insert.new.self.entries c.push.new.self.items,
+            ap size is,
+            new.size_is,
+            size_is c.self.inside.opened.entries c.self.inside.frames.items,
+          );
     }
 
 pub returns-clause-pushed : goal.returns-clause-pushed
@@ -45,8 +56,8 @@ returns-clause-pushed c =
     let fresh = rw (← c.self.view_is) at c.requires.fresh in
     let is =
     (λ k. stack_of (entries k) (frames k))
-        ∙ pushed_is c.self.inside.opened.entries c.self.inside.frames.items c.args.opening.node c.len-position.result
-          (record { succs = c.args.opening.succs; begun = 0 }) refl c.len-position.ensures.len fresh in
+    ∙ pushed_is c.self.inside.opened.entries c.self.inside.frames.items c.args.opening.node c.len-position.result
+    (record { succs = c.args.opening.succs; begun = 0 }) refl c.len-position.ensures.len fresh in
     let new = pushes (stack_of c.self.inside.opened.entries c.self.inside.frames.items) c.args.opening.node c.args.opening.succs.items in
     rw (← c.self.view_is) is
 
@@ -57,8 +68,8 @@ returns-clause-good c =
     let fresh = rw (← c.self.view_is) at c.requires.fresh in
     let is =
     (λ k. stack_of (entries k) (frames k))
-        ∙ pushed_is c.self.inside.opened.entries c.self.inside.frames.items c.args.opening.node c.len-position.result
-          (record { succs = c.args.opening.succs; begun = 0 }) refl c.len-position.ensures.len fresh in
+    ∙ pushed_is c.self.inside.opened.entries c.self.inside.frames.items c.args.opening.node c.len-position.result
+    (record { succs = c.args.opening.succs; begun = 0 }) refl c.len-position.ensures.len fresh in
     let new = pushes (stack_of c.self.inside.opened.entries c.self.inside.frames.items) c.args.opening.node c.args.opening.succs.items in
     let led : (height (stack_of c.self.inside.opened.entries c.self.inside.frames.items) ≡ 0) ⊎ IsLastBegun (stack_of c.self.inside.opened.entries c.self.inside.frames.items) c.args.opening.node =
     elim (rw (← c.self.view_is) at c.requires.led) as (λ _. (height (stack_of c.self.inside.opened.entries c.self.inside.frames.items) ≡ 0) ⊎ IsLastBegun (stack_of c.self.inside.opened.entries c.self.inside.frames.items) c.args.opening.node)

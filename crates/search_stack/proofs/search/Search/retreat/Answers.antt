@@ -48,16 +48,22 @@ invariant_of-self c =
     (λ k. stack_of c.self.inside.opened.entries
     (set (c.truncate.ensures.items k) (c.len-top.result - 1 - 1)
     (record { position = c.index_mut-frame.result.now.position; low = c.min-frame.result })))
-        ∙ retreated_is c.self.inside.opened.entries c.self.inside.frames.items (c.len-top.result - 1) c.min-frame.result c.index-joined.result.now c.index_mut-frame.result.now
-          c.index-joined.result.now c.index_mut-frame.result.now tall last c.index-joined.ensures below c.min-frame.ensures in
+    ∙ retreated_is c.self.inside.opened.entries c.self.inside.frames.items (c.len-top.result - 1) c.min-frame.result c.index-joined.result.now c.index_mut-frame.result.now
+    c.index-joined.result.now c.index_mut-frame.result.now tall last c.index-joined.ensures below c.min-frame.ensures in
     record {
       shaped = subst IsShaped (sym is) (shaped_retreat c.self.invariant.shaped (retreats (stack_of c.self.inside.opened.entries c.self.inside.frames.items) two));
       entry_room = c.self.invariant.entry_room;
       frame_room =
-        omega
-        (arith, c.self.invariant.frame_room, c.truncate.ensures.len, c.truncate.ensures.capacity, c.self.inside.frames.ok.0, c.truncate.new.self.ok.0,
-        length-set c.truncate.new.self.items (c.len-top.result - 1 - 1)
-        (record { position = c.index_mut-frame.result.now.position; low = c.min-frame.result }));
+          omega (
+            arith,
+            c.self.invariant.frame_room,
+            c.truncate.ensures.len,
+            c.truncate.ensures.capacity,
+            c.self.inside.frames.ok.0,
+            c.truncate.new.self.ok.0,
+            length-set c.truncate.new.self.items (c.len-top.result - 1 - 1)
+                (record { position = c.index_mut-frame.result.now.position; low = c.min-frame.result }),
+          );
       small = c.self.invariant.small;
     }
 
@@ -72,8 +78,8 @@ returns-clause-retreated c =
     (λ k. stack_of c.self.inside.opened.entries
     (set (c.truncate.ensures.items k) (c.len-top.result - 1 - 1)
     (record { position = c.index_mut-frame.result.now.position; low = c.min-frame.result })))
-        ∙ retreated_is c.self.inside.opened.entries c.self.inside.frames.items (c.len-top.result - 1) c.min-frame.result c.index-joined.result.now c.index_mut-frame.result.now
-          c.index-joined.result.now c.index_mut-frame.result.now tall last c.index-joined.ensures below c.min-frame.ensures in
+    ∙ retreated_is c.self.inside.opened.entries c.self.inside.frames.items (c.len-top.result - 1) c.min-frame.result c.index-joined.result.now c.index_mut-frame.result.now
+    c.index-joined.result.now c.index_mut-frame.result.now tall last c.index-joined.ensures below c.min-frame.ensures in
     rw (← c.self.view_is)
     (ap (λ (stack : Stack). record { stack = stack; wanted = c.self.inside.wanted; spare = c.self.inside.spare }) is)
 
@@ -88,8 +94,8 @@ returns-clause-good c =
     (λ k. stack_of c.self.inside.opened.entries
     (set (c.truncate.ensures.items k) (c.len-top.result - 1 - 1)
     (record { position = c.index_mut-frame.result.now.position; low = c.min-frame.result })))
-        ∙ retreated_is c.self.inside.opened.entries c.self.inside.frames.items (c.len-top.result - 1) c.min-frame.result c.index-joined.result.now c.index_mut-frame.result.now
-          c.index-joined.result.now c.index_mut-frame.result.now tall last c.index-joined.ensures below c.min-frame.ensures in
+    ∙ retreated_is c.self.inside.opened.entries c.self.inside.frames.items (c.len-top.result - 1) c.min-frame.result c.index-joined.result.now c.index_mut-frame.result.now
+    c.index-joined.result.now c.index_mut-frame.result.now tall last c.index-joined.ensures below c.min-frame.ensures in
     let all = rw (← c.self.view_is) at c.requires.done.all in
     let low_below = rw (← c.self.view_is) at c.requires.low in
     rw (← c.self.view_is)

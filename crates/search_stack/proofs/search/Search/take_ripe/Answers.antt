@@ -48,15 +48,20 @@ invariant_of-self c =
     tops_at c.self.inside.opened.entries c.self.inside.frames.items (c.len-top.result - 1) c.index.result.now c.index.result.now c.self.invariant.shaped some last c.index.ensures in
     let is =
     (λ k. stack_of (c.truncate.ensures.entries k) (c.truncate-2.ensures.items k))
-        ∙ taken_is c.self.inside.opened.entries c.self.inside.frames.items (c.len-top.result - 1) c.index.result.now tops last in
+    ∙ taken_is c.self.inside.opened.entries c.self.inside.frames.items (c.len-top.result - 1) c.index.result.now tops last in
     let new = keeps (stack_of c.self.inside.opened.entries c.self.inside.frames.items) (top (stack_of c.self.inside.opened.entries c.self.inside.frames.items)) c.self.invariant.shaped (omega (arith, height)) in
     record {
       shaped = subst IsShaped (sym is) (shaped_below c.self.invariant.shaped new);
       entry_room = omega (arith, c.self.invariant.entry_room, c.truncate.ensures.room.0);
       frame_room =
-        omega
-        (arith, c.self.invariant.frame_room, c.truncate-2.ensures.len, c.truncate-2.ensures.capacity, c.self.inside.frames.ok.0,
-        c.truncate-2.new.self.ok.0);
+          omega (
+            arith,
+            c.self.invariant.frame_room,
+            c.truncate-2.ensures.len,
+            c.truncate-2.ensures.capacity,
+            c.self.inside.frames.ok.0,
+            c.truncate-2.new.self.ok.0,
+          );
       small = omega (arith, c.self.invariant.small, c.truncate.ensures.len);
     }
 
@@ -69,7 +74,7 @@ returns-clause-group c =
     tops_at c.self.inside.opened.entries c.self.inside.frames.items (c.len-top.result - 1) c.index.result.now c.index.result.now c.self.invariant.shaped some last c.index.ensures in
     let nodes =
     c.in_ok-group.ensures.items_if_clones_equal (λ x y is. is) ∙ take_rest c.as_slice.result.now c.index.result.now.position ∙ ap (drop c.index.result.now.position) (c.as_slice.ensures ∙ c.keys.ensures.rest)
-        ∙ nodes_is c.self.inside.opened.entries c.self.inside.frames.items c.index.result.now tops in
+    ∙ nodes_is c.self.inside.opened.entries c.self.inside.frames.items c.index.result.now tops in
     rw (← c.self.view_is) nodes
 
 pub returns-clause-taken : goal.returns-clause-taken
@@ -81,7 +86,7 @@ returns-clause-taken c =
     tops_at c.self.inside.opened.entries c.self.inside.frames.items (c.len-top.result - 1) c.index.result.now c.index.result.now c.self.invariant.shaped some last c.index.ensures in
     let is =
     (λ k. stack_of (c.truncate.ensures.entries k) (c.truncate-2.ensures.items k))
-        ∙ taken_is c.self.inside.opened.entries c.self.inside.frames.items (c.len-top.result - 1) c.index.result.now tops last in
+    ∙ taken_is c.self.inside.opened.entries c.self.inside.frames.items (c.len-top.result - 1) c.index.result.now tops last in
     let new = keeps (stack_of c.self.inside.opened.entries c.self.inside.frames.items) (top (stack_of c.self.inside.opened.entries c.self.inside.frames.items)) c.self.invariant.shaped (omega (arith, height)) in
     rw (← c.self.view_is)
     (ap (λ (stack : Stack). record { stack = stack; wanted = c.self.inside.wanted; spare = c.self.inside.spare }) is)
@@ -95,7 +100,7 @@ returns-clause-releasable c =
     tops_at c.self.inside.opened.entries c.self.inside.frames.items (c.len-top.result - 1) c.index.result.now c.index.result.now c.self.invariant.shaped some last c.index.ensures in
     let nodes =
     c.in_ok-group.ensures.items_if_clones_equal (λ x y is. is) ∙ take_rest c.as_slice.result.now c.index.result.now.position ∙ ap (drop c.index.result.now.position) (c.as_slice.ensures ∙ c.keys.ensures.rest)
-        ∙ nodes_is c.self.inside.opened.entries c.self.inside.frames.items c.index.result.now tops in
+    ∙ nodes_is c.self.inside.opened.entries c.self.inside.frames.items c.index.result.now tops in
     let ripe = rw (← c.self.view_is) at c.requires in
     let holds = subst (HoldsFrom (stack_of c.self.inside.opened.entries c.self.inside.frames.items) (position (stack_of c.self.inside.opened.entries c.self.inside.frames.items) (top (stack_of c.self.inside.opened.entries c.self.inside.frames.items)))) (sym nodes) (holds_from (stack_of c.self.inside.opened.entries c.self.inside.frames.items) (top (stack_of c.self.inside.opened.entries c.self.inside.frames.items))) in
     rw (← c.self.view_is) (λ lists roots done good. releasable good ripe holds)
@@ -109,12 +114,12 @@ returns-clause-good c =
     tops_at c.self.inside.opened.entries c.self.inside.frames.items (c.len-top.result - 1) c.index.result.now c.index.result.now c.self.invariant.shaped some last c.index.ensures in
     let nodes =
     c.in_ok-group.ensures.items_if_clones_equal (λ x y is. is) ∙ take_rest c.as_slice.result.now c.index.result.now.position ∙ ap (drop c.index.result.now.position) (c.as_slice.ensures ∙ c.keys.ensures.rest)
-        ∙ nodes_is c.self.inside.opened.entries c.self.inside.frames.items c.index.result.now tops in
+    ∙ nodes_is c.self.inside.opened.entries c.self.inside.frames.items c.index.result.now tops in
     let ripe = rw (← c.self.view_is) at c.requires in
     let holds = subst (HoldsFrom (stack_of c.self.inside.opened.entries c.self.inside.frames.items) (position (stack_of c.self.inside.opened.entries c.self.inside.frames.items) (top (stack_of c.self.inside.opened.entries c.self.inside.frames.items)))) (sym nodes) (holds_from (stack_of c.self.inside.opened.entries c.self.inside.frames.items) (top (stack_of c.self.inside.opened.entries c.self.inside.frames.items))) in
     let is =
     (λ k. stack_of (c.truncate.ensures.entries k) (c.truncate-2.ensures.items k))
-        ∙ taken_is c.self.inside.opened.entries c.self.inside.frames.items (c.len-top.result - 1) c.index.result.now tops last in
+    ∙ taken_is c.self.inside.opened.entries c.self.inside.frames.items (c.len-top.result - 1) c.index.result.now tops last in
     let new = keeps (stack_of c.self.inside.opened.entries c.self.inside.frames.items) (top (stack_of c.self.inside.opened.entries c.self.inside.frames.items)) c.self.invariant.shaped (omega (arith, height)) in
     rw (← c.self.view_is)
     (λ lists roots done good.

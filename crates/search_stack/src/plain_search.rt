@@ -6,7 +6,7 @@ ghost use Rattle.graph_law.specs.LegalOrder.{IsComplete, IsLegalOrder};
 ghost use Rattle.search_stack.specs.Stack.{size, height};
 ghost use Rattle.search_stack.specs.GoodSearch.{IsGood};
 ghost use Rattle.search_stack.specs.Search.{IsOn, IsLastBegun, IsDone, pushed};
-ghost use Rattle.search_stack.specs.GroupsPlain.{IsUnderWay, IsSeen, top_succs};
+ghost use Rattle.search_stack.specs.PlainSearch.{IsUnderWay, IsSeen, top_succs};
 
 use crate::opening::Opening;
 use crate::search::Search;
@@ -48,6 +48,7 @@ fn run_out<O: Opener>(
     seen: &mut Vec<bool>,
     groups: &mut Vec<Vec<u32>>,
 ) -> Result<(), AllocError>
+    requires closed { IsClosed (O.lists opener.now) }
     requires wants_nothing { search.old.wanted ≡ None }
     requires under_way { (roots : List ℕ)
         × IsUnderWay (O.lists opener.now) roots seen.old.items (lists_of groups.old.items) false search.old.stack }
