@@ -1,5 +1,5 @@
 -- What the loops of one search after another keep.
-use Rattle.std.proofs.Common.{◌≡◌, ◌⊎◌, inl, inr, ℕ, ◌<◌, ◌≤◌, ◌+◌, ◌-◌, Bool, true, false, not, List, [], length, get_or, set, replicate, Some, None, refl, ap, ◌∙◌, sym, subst, arith, get_or-set_same, get_or-set_other}
+use Rattle.std.proofs.Common.{◌≡◌, ◌⊎◌, inl, inr, ℕ, ◌<◌, ◌≤◌, ◌+◌, ◌-◌, ◌*◌, Bool, true, false, not, List, [], length, get_or, set, replicate, Some, None, refl, ap, ◌∙◌, sym, subst, arith, get_or-set_same, get_or-set_other}
 use Rattle.std.proofs.lemmas.Bool.{cases_lt, cases_eq, cases_Bool}
 use Rattle.std.proofs.lemmas.List.{get_or_past, get_or_default, get_or-replicate, length-replicate}
 use Rattle.std.proofs.lemmas.List.Elements.{All-from_get_or}
@@ -7,13 +7,13 @@ use Rattle.std.proofs.lemmas.Option.{slice_get_within, get_or_from_slice_get}
 use Rattle.std.specs.Prelude.{All, Contains, IsTrue, count_by}
 use Rattle.graph_law.specs.Classes.{HasMember}
 use Rattle.search_stack.specs.Stack.{Entry, Stack, IsShaped, size, height, top, node, succs, begun, target, position, low}
-use Rattle.search_stack.specs.Search.{SearchValue, IsOn, IsLastBegun, IsDone, IsRipe, next_successor, pushed, one_more_begun, lowered, retreated}
+use Rattle.search_stack.specs.Search.{SearchValue, IsOn, IsLastBegun, IsDone, IsRipe, empty_stack, next_successor, pushed, one_more_begun, lowered, retreated}
 use Rattle.search_stack.specs.GoodSearch.{IsGood}
 use Rattle.search_stack.specs.PlainSearch.{IsUnderWay, IsSeen, top_succs, top_begun}
 use Rattle.search_stack.proofs.Changes.{Pushes, Begins, Lowers, Retreats}
-use Rattle.search_stack.proofs.Shapes.{no_entries}
+use Rattle.search_stack.proofs.Shapes.{no_entries, empty_size}
 use Rattle.search_stack.proofs.Steps.{pushes, begins, lowers, retreats}
-use Rattle.search_stack.proofs.UnderWay.{SameNodes, same_begins, same_lowers, same_retreats, way_push, fewer_unseen}
+use Rattle.search_stack.proofs.UnderWay.{SameNodes, same_begins, same_lowers, same_retreats, way_start, way_push, fewer_unseen}
 
 -- what the top frame begins stays, and so do the nodes
 pub record KeepsTop (s t : Stack) : Type 0 where
@@ -190,11 +190,13 @@ way_open {lists} {roots} {seen} {groups} {s} way v list t marks lt no_mark is ma
     let Q : Stack → Type 0 = λ u. Pushes s u v list in
     subst P (sym marked) (way_push way v lt no_mark (subst Q (sym is) (pushes s v list)) good)
 
--- the measure of the run falls
-pub opened_falls : (seen marks : List Bool) (v : ℕ) → v < length seen → get_or seen v false ≡ false → marks ≡ set seen v true
-    → count_by not marks + 1 ≡ count_by not seen
-opened_falls seen marks v lt no_mark is =
-    omega (arith, fewer_unseen seen v lt no_mark, ap (λ (all : List Bool). count_by not all) is)
+-- the measure of the run falls where a node is opened
+pub opened_falls : (seen marks : List Bool) (v : ℕ) (list : List ℕ) (s t u : Stack) → v < length seen → get_or seen v false ≡ false
+    → marks ≡ set seen v true → height t ≡ height s → u ≡ pushed t v list
+    → 2 * count_by not marks + height u < 2 * count_by not seen + height s
+opened_falls seen marks v list s t u lt no_mark is tall new =
+    let fewer : count_by not marks ≡ count_by not (set seen v true) = ap (λ (all : List Bool). count_by not all) is in
+    omega (arith, fewer_unseen seen v lt no_mark, fewer, ap height new, (pushes t v list).height_is, tall)
 
 pub stays_seen : (seen marks : List Bool) (v u : ℕ) → v < length seen → marks ≡ set seen v true → IsSeen seen u → IsSeen marks u
 stays_seen seen marks v u lt is mark =
@@ -236,3 +238,22 @@ all_complete {lists} {roots} {count} {seen} {groups} {now} through le =
     (λ k lt.
     elim (through.under_way.only (get_or roots k 0) (through.through k (omega (arith, lt, le)))) as (λ _. HasMember groups (get_or roots k 0))
     [ inl on ↦ absurd (omega (arith, on.within, through.ended)) | inr member ↦ member ])
+
+-- before the first root
+pub IsThrough-start : (lists : List (List ℕ)) (roots : List ℕ) (count : ℕ) (seen : List Bool) (groups : List (List ℕ)) (now : SearchValue)
+    → count ≡ length lists → seen ≡ replicate count false → groups ≡ [] → now ≡ record { stack = empty_stack; wanted = None; spare = 0 }
+    → IsThrough lists roots 0 seen groups now
+IsThrough-start lists roots count seen groups now counted marks none is =
+    let stack_is : now.stack ≡ empty_stack = ap (λ (value : SearchValue). value.stack) is in
+    let P : List (List ℕ) → Type 0 = λ gs. IsUnderWay lists roots seen gs false now.stack in
+    let Q : Stack → Type 0 = λ s. IsUnderWay lists roots seen [] false s in
+    record {
+      wants_nothing = ap (λ (value : SearchValue). value.wanted) is;
+      ended = ap size stack_is ∙ empty_size;
+      under_way =
+        subst P (sym none)
+        (subst Q (sym stack_is)
+        (way_start lists roots seen (ap length marks ∙ length-replicate count false ∙ counted)
+        (λ v. ap (λ all. get_or all v false) marks ∙ unmarked count v)));
+      through = λ k lt. absurd (omega (arith, lt));
+    }

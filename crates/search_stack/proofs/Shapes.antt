@@ -198,3 +198,7 @@ empty_size = refl
 pub empty_height : height (record { entries = []; frames = [] }) ≡ 0
 unfolding height
 empty_height = refl
+
+-- a stack with frames isn't empty
+pub long_from_tall : {s : Stack} → IsShaped s → 0 < height s → size s ≡ 0 → ⊥
+long_from_tall shaped tall none = omega (arith, few_frames shaped, tall, none)
