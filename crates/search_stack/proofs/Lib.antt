@@ -1,0 +1,14 @@
+pub mod Frames
+pub mod Changes
+pub mod Shapes
+pub mod Push
+pub mod Edges
+pub mod Back
+pub mod Below
+pub mod Retreat
+pub mod Taken
+pub mod Steps
+pub mod FieldLaws
+pub mod UnderWay
+pub mod Released
+pub mod Driving

@@ -1,0 +1,5 @@
+pub mod Fields
+pub mod GoodSearch
+pub mod PlainSearch
+pub mod Search
+pub mod Stack

@@ -1,0 +1,12 @@
+//! One depth-first search whose stack can be cut, moved and resumed, and the groups that it finds.
+#![tactic(auto)]
+
+mod frame;
+mod opening;
+mod plain_search;
+mod search;
+
+pub use frame::Frame;
+pub use opening::Opening;
+pub use plain_search::groups_plain;
+pub use search::Search;
