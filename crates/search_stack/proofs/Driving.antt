@@ -241,14 +241,13 @@ all_complete {lists} {roots} {count} {seen} {groups} {now} through le =
 
 -- before the first root
 pub IsThrough-start : (lists : List (List ℕ)) (roots : List ℕ) (count : ℕ) (seen : List Bool) (groups : List (List ℕ)) (now : SearchValue)
-    → count ≡ length lists → seen ≡ replicate count false → groups ≡ [] → now ≡ record { stack = empty_stack; wanted = None; spare = 0 }
+    → count ≡ length lists → seen ≡ replicate count false → groups ≡ [] → now.stack ≡ empty_stack → now.wanted ≡ None
     → IsThrough lists roots 0 seen groups now
-IsThrough-start lists roots count seen groups now counted marks none is =
-    let stack_is : now.stack ≡ empty_stack = ap (λ (value : SearchValue). value.stack) is in
+IsThrough-start lists roots count seen groups now counted marks none stack_is wants_nothing =
     let P : List (List ℕ) → Type 0 = λ gs. IsUnderWay lists roots seen gs false now.stack in
     let Q : Stack → Type 0 = λ s. IsUnderWay lists roots seen [] false s in
     record {
-      wants_nothing = ap (λ (value : SearchValue). value.wanted) is;
+      wants_nothing = wants_nothing;
       ended = ap size stack_is ∙ empty_size;
       under_way =
         subst P (sym none)

@@ -1,5 +1,6 @@
 pub mod Fields
 pub mod GoodSearch
+pub mod NodeHash
 pub mod PlainSearch
 pub mod Search
 pub mod Stack

@@ -2,6 +2,7 @@
 #![tactic(auto)]
 
 mod frame;
+mod node_hasher;
 mod opening;
 mod plain_search;
 mod search;

@@ -27,8 +27,9 @@ pub fn groups_plain<O: Opener>(
     ensures reached { IfOk result (λ groups. (v : ℕ) → HasMember (lists_of groups.items) v
         → IsReached (Calls (O.lists opener.now)) roots.now v) }
 {
-    let mut search = Search::empty(alloc);
-    let mut seen = vec![in alloc; false; opener.count() as usize]?;
+    let count = opener.count();
+    let mut search = Search::with_room(alloc, count)?;
+    let mut seen = vec![in alloc; false; count as usize]?;
     let mut groups = Vec::new(alloc);
     for &root in roots {
         if seen[root as usize] {

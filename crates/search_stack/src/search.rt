@@ -7,9 +7,11 @@ ghost use Rattle.search_stack.specs.GoodSearch.{IsGood};
 ghost use Rattle.search_stack.specs.Search.{IsOn, IsDistinct, IsLastBegun, IsDone, IsRipe, IsReleasable, empty_stack, pushed, next_successor, one_more_begun, lowered, retreated, below_frame, nodes_from};
 
 use crate::frame::Frame;
+use crate::node_hasher::NodeHasher;
 use crate::opening::Opening;
 use indexmap::IndexMap;
 use std::alloc::{AllocError, Global};
+use std::hash::BuildHasherDefault;
 use std::marker::Model;
 
 /// The successors of a node on the stack, the first of which have begun.
@@ -26,7 +28,7 @@ struct Opened {
 /// segment runs from the position of a frame up to that of the next one. No node is on it twice.
 #[derive(Drop)]
 pub struct Search {
-    opened: IndexMap<u32, Opened>,
+    opened: IndexMap<u32, Opened, BuildHasherDefault<NodeHasher>>,
     frames: Vec<Frame>,
     wanted: Option<u32>,
     spare: u32,
@@ -50,7 +52,7 @@ impl Search {
         ensures { result ≡ record { stack = empty_stack; wanted = None; spare = 0 } }
     {
         Search {
-            opened: IndexMap::new(alloc),
+            opened: IndexMap::with_hasher(alloc, BuildHasherDefault::new()),
             frames: Vec::new(alloc),
             wanted: None,
             spare: 0,

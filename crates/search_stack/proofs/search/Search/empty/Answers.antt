@@ -11,8 +11,8 @@ invariant_of-result c =
     let P : List (ℕ × Opened) → Type 0 = λ es. IsShaped (stack_of es c.new-2.result.items) in
     let Q : List Frame → Type 0 = λ fs. IsShaped (stack_of [] fs) in
     record {
-      shaped = subst P (sym c.new.ensures.empty) (subst Q (sym c.new-2.ensures.items) shaped_empty);
+      shaped = subst P (sym c.with_hasher.ensures.empty) (subst Q (sym c.new-2.ensures.items) shaped_empty);
       entry_room = omega arith;
       frame_room = rw c.new-2.ensures.items (omega arith);
-      small = rw c.new.ensures.empty (omega arith);
+      small = rw c.with_hasher.ensures.empty (omega arith);
     }
