@@ -201,10 +201,10 @@ opened_falls seen marks v list s t u lt no_mark is tall new =
 pub stays_seen : (seen marks : List Bool) (v u : ℕ) → v < length seen → marks ≡ set seen v true → IsSeen seen u → IsSeen marks u
 stays_seen seen marks v u lt is mark =
     ap (λ all. get_or all u false) is
-        ∙ (elim (cases_eq u v) as (λ _. get_or (set seen v true) u false ≡ true) [
-          | inl same ↦ ap (λ b. get_or (set seen v true) b false) same ∙ get_or-set_same seen v true false lt
-          | inr ne ↦ get_or-set_other seen v u true false ne ∙ mark
-        ])
+    ∙ (elim (cases_eq u v) as (λ _. get_or (set seen v true) u false ≡ true) [
+      | inl same ↦ ap (λ b. get_or (set seen v true) b false) same ∙ get_or-set_same seen v true false lt
+      | inr ne ↦ get_or-set_other seen v u true false ne ∙ mark
+    ])
 
 -- what is read of the marks
 pub mark_read : (seen : List Bool) (v : ℕ) (mark value : Bool) → v < length seen → mark ≡ get_or seen v mark → mark ≡ value
@@ -251,9 +251,9 @@ IsThrough-start lists roots count seen groups now counted marks none is =
       wants_nothing = ap (λ (value : SearchValue). value.wanted) is;
       ended = ap size stack_is ∙ empty_size;
       under_way =
-        subst P (sym none)
-        (subst Q (sym stack_is)
-        (way_start lists roots seen (ap length marks ∙ length-replicate count false ∙ counted)
-        (λ v. ap (λ all. get_or all v false) marks ∙ unmarked count v)));
+          subst P (sym none)
+          (subst Q (sym stack_is)
+          (way_start lists roots seen (ap length marks ∙ length-replicate count false ∙ counted)
+          (λ v. ap (λ all. get_or all v false) marks ∙ unmarked count v)));
       through = λ k lt. absurd (omega (arith, lt));
     }
