@@ -1,12 +1,12 @@
 -- What the loops of one search after another keep.
-use Rattle.std.proofs.Common.{◌≡◌, ◌⊎◌, inl, inr, ℕ, ◌<◌, ◌≤◌, ◌+◌, ◌-◌, ◌*◌, Bool, true, false, not, List, [], length, get_or, set, replicate, Some, None, refl, ap, ◌∙◌, sym, subst, arith, get_or-set_same, get_or-set_other}
+use Rattle.std.proofs.Common.{◌≡◌, inl, inr, ℕ, ◌<◌, ◌≤◌, ◌+◌, ◌-◌, ◌*◌, Bool, true, false, not, List, [], length, get_or, set, replicate, Some, None, refl, ap, ◌∙◌, sym, subst, arith, get_or-set_same, get_or-set_other}
 use Rattle.std.proofs.lemmas.Bool.{cases_lt, cases_eq, cases_Bool}
 use Rattle.std.proofs.lemmas.List.{get_or_past, get_or_default, get_or-replicate, length-replicate}
 use Rattle.std.proofs.lemmas.List.Elements.{All-from_get_or}
 use Rattle.std.proofs.lemmas.Option.{slice_get_within, get_or_from_slice_get}
-use Rattle.std.specs.Prelude.{All, Contains, IsTrue, count_by}
+use Rattle.std.specs.Prelude.{All, IsTrue, count_by}
 use Rattle.graph_law.specs.Classes.{HasMember}
-use Rattle.search_stack.specs.Stack.{Entry, Stack, IsShaped, size, height, top, node, succs, begun, target, position, low}
+use Rattle.search_stack.specs.Stack.{Stack, IsShaped, size, height, top, node, succs, begun, position, low}
 use Rattle.search_stack.specs.Search.{SearchValue, IsOn, IsLastBegun, IsDone, IsRipe, empty_stack, next_successor, pushed, one_more_begun, lowered, retreated}
 use Rattle.search_stack.specs.GoodSearch.{IsGood}
 use Rattle.search_stack.specs.PlainSearch.{IsUnderWay, IsSeen, top_succs, top_begun}

@@ -1,12 +1,8 @@
-use Rattle.std.proofs.Common.{◌≡◌, ◌<◌, ◌∙◌, ℕ, Bool, List, [], length, get_or, replicate, true, false, refl, sym, ap, subst, arith, get_or-set_same}
-use Rattle.std.proofs.lemmas.List.{length-replicate}
+use Rattle.std.proofs.Common.{◌<◌, ◌∙◌, [], length, get_or, true, false, refl, ap, arith, get_or-set_same}
 use Rattle.std.proofs.lemmas.List.Elements.{Contains-get_or}
 use Rattle.graph_law.specs.Graph.{Calls, lists_of}
 use Rattle.graph_law.proofs.ReachLaws.{is_reached_start}
-use Rattle.search_stack.specs.Stack.{Stack, size}
-use Rattle.search_stack.specs.Search.{SearchValue}
-use Rattle.search_stack.specs.PlainSearch.{IsUnderWay}
-use Rattle.search_stack.proofs.Driving.{IsThrough, way_open, stays_seen, mark_read, unmarked, through_more, all_complete, IsThrough-start}
+use Rattle.search_stack.proofs.Driving.{way_open, stays_seen, mark_read, through_more, all_complete, IsThrough-start}
 use Rattle.search_stack.proofs.Edges.{good_open}
 use Rattle.search_stack.proofs.UnderWay.{way_same}
 use Rattle.search_stack.proofs.plain_search.groups_plain.Goals as goal

@@ -1,6 +1,6 @@
-use Rattle.std.proofs.Common.{◌≡◌, ◌<◌, ◌+◌, ℕ, Bool, List, [], length, get_or, true, false, true≢false, sym, ap, subst, arith}
+use Rattle.std.proofs.Common.{ℕ, List, [], length, get_or, true, false, true≢false, sym, ap, arith}
 use Rattle.graph_law.specs.Graph.{lists_of}
-use Rattle.search_stack.specs.PlainSearch.{IsUnderWay, top_succs}
+use Rattle.search_stack.specs.PlainSearch.{IsUnderWay}
 use Rattle.search_stack.proofs.Driving.{tall_from_long, way_open, opened_falls, stays_seen}
 use Rattle.search_stack.proofs.Shapes.{long_from_tall}
 use Rattle.search_stack.proofs.UnderWay.{tops_are_nodes, unseen_is_off}
