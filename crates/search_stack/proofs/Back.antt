@@ -1,10 +1,10 @@
 -- A good search stays good where an edge leads back to its stack.
-use Rattle.std.proofs.Common.{◌≡◌, ◌⊎◌, inl, inr, ℕ, ◌<◌, ◌≤◌, ◌+◌, ◌-◌, Bool, false, List, [], length, get_or, refl, ap, ◌∙◌, sym, subst, arith}
+use Rattle.std.proofs.Common.{◌≡◌, inl, inr, ℕ, ◌<◌, ◌≤◌, ◌+◌, ◌-◌, Bool, false, List, [], length, get_or, ap, ◌∙◌, sym, subst, arith}
 use Rattle.std.proofs.lemmas.Bool.{cases_lt, cases_eq}
 use Rattle.graph_law.specs.Graph.{Calls}
 use Rattle.graph_law.specs.Reach.{Reaches, IsReached}
 use Rattle.graph_law.proofs.ReachLaws.{reaches_call}
-use Rattle.search_stack.specs.Stack.{Stack, size, height, top, node, succs, begun, target, position, low}
+use Rattle.search_stack.specs.Stack.{Stack, size, height, top, node, begun, target, position, low}
 use Rattle.search_stack.specs.GoodSearch.{IsGood, IsSettled, IsInward}
 use Rattle.search_stack.specs.Search.{IsLastBegun}
 use Rattle.search_stack.proofs.Changes.{Lowers}

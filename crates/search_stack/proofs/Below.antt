@@ -1,12 +1,12 @@
 -- The part of a good search below a frame is good, where no frame from that one on has a low below its position.
-use Rattle.std.proofs.Common.{◌≡◌, ◌⊎◌, inl, inr, ℕ, ◌<◌, ◌≤◌, ◌+◌, ◌-◌, Bool, true, false, true≢false, List, [], length, get_or, refl, ap, ◌∙◌, sym, subst, arith}
+use Rattle.std.proofs.Common.{◌≡◌, inl, inr, ℕ, ◌<◌, ◌≤◌, ◌+◌, ◌-◌, Bool, true, true≢false, List, [], length, get_or, ap, ◌∙◌, sym, subst, arith}
 use Rattle.std.proofs.lemmas.Bool.{cases_lt}
 use Rattle.graph_law.specs.Graph.{Calls}
 use Rattle.graph_law.specs.Reach.{IsReached}
-use Rattle.search_stack.specs.Stack.{Stack, size, height, node, succs, begun, target, position, low}
+use Rattle.search_stack.specs.Stack.{Stack, height, node, begun, target, position, low}
 use Rattle.search_stack.specs.GoodSearch.{IsGood, IsSettled, IsInward, LeadsUp, Dips}
 use Rattle.search_stack.proofs.Changes.{Keeps}
-use Rattle.search_stack.proofs.Frames.{same_last, position_le, position_within, segment_within, same_reach, same_each_other, inward_to}
+use Rattle.search_stack.proofs.Frames.{same_last, position_le, position_within, same_reach, same_each_other, inward_to}
 use Rattle.search_stack.proofs.Shapes.{shaped_below}
 
 module _ {lists : List (List ℕ)} {roots done : List ℕ} {opened : Bool} {s t : Stack} {frame : ℕ} (good : IsGood lists roots done opened s)

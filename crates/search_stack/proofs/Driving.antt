@@ -1,12 +1,12 @@
 -- What the loops of one search after another keep.
-use Rattle.std.proofs.Common.{◌≡◌, ◌⊎◌, inl, inr, ℕ, ◌<◌, ◌≤◌, ◌+◌, ◌-◌, ◌*◌, Bool, true, false, not, List, [], length, get_or, set, replicate, Some, None, refl, ap, ◌∙◌, sym, subst, arith, get_or-set_same, get_or-set_other}
+use Rattle.std.proofs.Common.{◌≡◌, inl, inr, ℕ, ◌<◌, ◌≤◌, ◌+◌, ◌-◌, ◌*◌, Bool, true, false, not, List, [], length, get_or, set, replicate, Some, None, refl, ap, ◌∙◌, sym, subst, arith, get_or-set_same, get_or-set_other}
 use Rattle.std.proofs.lemmas.Bool.{cases_lt, cases_eq, cases_Bool}
 use Rattle.std.proofs.lemmas.List.{get_or_past, get_or_default, get_or-replicate, length-replicate}
 use Rattle.std.proofs.lemmas.List.Elements.{All-from_get_or}
 use Rattle.std.proofs.lemmas.Option.{slice_get_within, get_or_from_slice_get}
-use Rattle.std.specs.Prelude.{All, Contains, IsTrue, count_by}
+use Rattle.std.specs.Prelude.{All, IsTrue, count_by}
 use Rattle.graph_law.specs.Classes.{HasMember}
-use Rattle.search_stack.specs.Stack.{Entry, Stack, IsShaped, size, height, top, node, succs, begun, target, position, low}
+use Rattle.search_stack.specs.Stack.{Stack, IsShaped, size, height, top, node, succs, begun, position, low}
 use Rattle.search_stack.specs.Search.{SearchValue, IsOn, IsLastBegun, IsDone, IsRipe, empty_stack, next_successor, pushed, one_more_begun, lowered, retreated}
 use Rattle.search_stack.specs.GoodSearch.{IsGood}
 use Rattle.search_stack.specs.PlainSearch.{IsUnderWay, IsSeen, top_succs, top_begun}
@@ -201,10 +201,10 @@ opened_falls seen marks v list s t u lt no_mark is tall new =
 pub stays_seen : (seen marks : List Bool) (v u : ℕ) → v < length seen → marks ≡ set seen v true → IsSeen seen u → IsSeen marks u
 stays_seen seen marks v u lt is mark =
     ap (λ all. get_or all u false) is
-        ∙ (elim (cases_eq u v) as (λ _. get_or (set seen v true) u false ≡ true) [
-          | inl same ↦ ap (λ b. get_or (set seen v true) b false) same ∙ get_or-set_same seen v true false lt
-          | inr ne ↦ get_or-set_other seen v u true false ne ∙ mark
-        ])
+    ∙ (elim (cases_eq u v) as (λ _. get_or (set seen v true) u false ≡ true) [
+      | inl same ↦ ap (λ b. get_or (set seen v true) b false) same ∙ get_or-set_same seen v true false lt
+      | inr ne ↦ get_or-set_other seen v u true false ne ∙ mark
+    ])
 
 -- what is read of the marks
 pub mark_read : (seen : List Bool) (v : ℕ) (mark value : Bool) → v < length seen → mark ≡ get_or seen v mark → mark ≡ value
@@ -250,9 +250,9 @@ IsThrough-start lists roots count seen groups now counted marks none stack_is wa
       wants_nothing = wants_nothing;
       ended = ap size stack_is ∙ empty_size;
       under_way =
-        subst P (sym none)
-        (subst Q (sym stack_is)
-        (way_start lists roots seen (ap length marks ∙ length-replicate count false ∙ counted)
-        (λ v. ap (λ all. get_or all v false) marks ∙ unmarked count v)));
+          subst P (sym none)
+          (subst Q (sym stack_is)
+          (way_start lists roots seen (ap length marks ∙ length-replicate count false ∙ counted)
+          (λ v. ap (λ all. get_or all v false) marks ∙ unmarked count v)));
       through = λ k lt. absurd (omega (arith, lt));
     }

@@ -1,14 +1,14 @@
 -- A good search stays good where an edge begins, where one is settled, and where more nodes are finished.
-use Rattle.std.proofs.Common.{◌≡◌, ◌⊎◌, inl, inr, ℕ, ◌<◌, ◌≤◌, ◌+◌, ◌-◌, Bool, true, false, true≢false, List, [], length, get_or, refl, ap, ◌∙◌, sym, subst, arith}
+use Rattle.std.proofs.Common.{◌≡◌, inl, inr, ℕ, ◌<◌, ◌≤◌, ◌+◌, ◌-◌, Bool, true, false, true≢false, List, [], length, get_or, refl, ap, ◌∙◌, sym, subst, arith}
 use Rattle.std.proofs.lemmas.Bool.{cases_lt, cases_eq}
 use Rattle.std.specs.Prelude.{Contains}
 use Rattle.graph_law.specs.Graph.{Calls}
-use Rattle.graph_law.specs.Reach.{Reaches, IsReached, ReachEachOther}
-use Rattle.search_stack.specs.Stack.{Stack, IsShaped, size, height, top, node, succs, begun, target, position, low}
+use Rattle.graph_law.specs.Reach.{IsReached}
+use Rattle.search_stack.specs.Stack.{Stack, size, height, top, node, succs, begun, target, position, low}
 use Rattle.search_stack.specs.GoodSearch.{IsGood, IsSettled, IsInward, LeadsUp, Dips}
 use Rattle.search_stack.specs.Search.{IsLastBegun}
 use Rattle.search_stack.proofs.Changes.{Begins}
-use Rattle.search_stack.proofs.Frames.{same_last, position_le, position_within, segment_within, inner_is_no_frame, frame_of_segment, same_reach, same_each_other, inward_to}
+use Rattle.search_stack.proofs.Frames.{same_last, position_le, inner_is_no_frame, frame_of_segment, same_reach, same_each_other, inward_to}
 use Rattle.search_stack.proofs.Shapes.{shaped_begin, shaped_empty, empty_size, empty_height}
 
 -- the same stack, where its settled edges lead inward

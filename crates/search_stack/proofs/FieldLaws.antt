@@ -1,5 +1,5 @@
 -- What the fields of a search say of its stack, and what its calls write into them.
-use Rattle.std.proofs.Common.{◌≡◌, ◌⊎◌, inl, inr, ℕ, zero, suc, ◌<◌, ◌≤◌, ◌+◌, ◌-◌, min, Bool, true, false, if◌then◌else◌, nat_eq, nat_lt, List, [], ◌∷◌, ◌++◌, length, get_or, take, drop, set, map, slice_get, position, Option, None, Some, refl, ap, ◌∙◌, sym, subst, arith, eqb-true, ne_eqb, true≢false}
+use Rattle.std.proofs.Common.{◌≡◌, inl, inr, ℕ, zero, suc, ◌<◌, ◌≤◌, ◌+◌, ◌-◌, min, Bool, false, if◌then◌else◌, nat_eq, nat_lt, List, [], ◌∷◌, ◌++◌, length, get_or, take, drop, set, map, slice_get, position, Option, None, Some, refl, ap, ◌∙◌, sym, arith, eqb-true, ne_eqb, true≢false}
 use Rattle.std.proofs.lemmas.Bool.{cases_eq, cases_lt, cases_order, eq-eqb, lt-ltb, cond-true}
 use Rattle.std.proofs.lemmas.List.{length-map, get_or-map, get_or-take, get_or_default, take-map, map_push}
 use Rattle.std.proofs.lemmas.List.Sums.{fails_before_first}
@@ -14,7 +14,7 @@ use Rattle.search_stack.specs.declared.search.Opened.{Opened}
 use Rattle.search_stack.specs.Fields.{entry_of, stack_of}
 use Rattle.search_stack.specs.Stack.{Entry, Stack, IsShaped, size, height, top, node, succs, begun, target, low}
 use Rattle.search_stack.specs.Stack.{position as position_on}
-use Rattle.search_stack.specs.Search.{IsOn, IsDistinct, IsDone, IsLastBegun, IsRipe, pushed, next_successor, one_more_begun, lowered, retreated, below_frame, nodes_from}
+use Rattle.search_stack.specs.Search.{IsOn, IsDistinct, IsDone, IsLastBegun, pushed, next_successor, one_more_begun, lowered, retreated, below_frame, nodes_from}
 use Rattle.search_stack.proofs.Changes.{Begins}
 use Rattle.search_stack.proofs.Frames.{position_within}
 use Rattle.search_stack.proofs.Shapes.{no_entries}

@@ -1,14 +1,14 @@
 -- The order of the frames of a stack, and who reaches whom on a good one.
-use Rattle.std.proofs.Common.{◌≡◌, ◌⊎◌, inl, inr, ℕ, zero, suc, ◌<◌, ◌≤◌, ◌+◌, ◌-◌, Bool, List, [], length, get_or, refl, sym, ap, ◌∙◌, subst, arith}
+use Rattle.std.proofs.Common.{◌≡◌, inl, inr, ℕ, zero, suc, ◌<◌, ◌≤◌, ◌+◌, ◌-◌, Bool, List, length, get_or, sym, ap, ◌∙◌, subst, arith}
 use Rattle.std.proofs.lemmas.Bool.{cases_lt, cases_eq}
 use Rattle.std.proofs.lemmas.List.{get_or_past}
 use Rattle.std.proofs.lemmas.List.Elements.{Contains-get_or}
 use Rattle.std.specs.Prelude.{Contains}
 use Rattle.graph_law.specs.Graph.{Calls}
 use Rattle.graph_law.specs.Reach.{Reaches, ReachEachOther}
-use Rattle.graph_law.proofs.ReachLaws.{reaches_self, reaches_call, reaches_trans}
+use Rattle.graph_law.proofs.ReachLaws.{reaches_self, reaches_trans}
 use Rattle.search_stack.specs.Stack.{Stack, IsShaped, size, height, node, succs, begun, target, position, low}
-use Rattle.search_stack.specs.GoodSearch.{IsGood, StandsIn, IsInward}
+use Rattle.search_stack.specs.GoodSearch.{IsGood, IsInward}
 
 -- past the last frame the position is the size
 pub position_past : (s : Stack) (j : ℕ) → height s ≤ j → position s j ≡ size s

@@ -1,16 +1,15 @@
 -- A good search stays good where a node is pushed.
-use Rattle.std.proofs.Common.{◌≡◌, ◌⊎◌, inl, inr, ℕ, ◌<◌, ◌≤◌, ◌+◌, ◌-◌, Bool, true, false, List, [], length, get_or, refl, ap, ◌∙◌, sym, subst, arith}
+use Rattle.std.proofs.Common.{◌≡◌, ◌⊎◌, inl, inr, ℕ, ◌<◌, ◌≤◌, ◌+◌, ◌-◌, true, false, List, [], length, get_or, refl, ap, ◌∙◌, sym, subst, arith}
 use Rattle.std.proofs.lemmas.Bool.{cases_lt, cases_eq}
-use Rattle.std.specs.Prelude.{Contains}
 use Rattle.graph_law.specs.Graph.{Calls}
 use Rattle.graph_law.specs.Reach.{Reaches, IsReached, ReachEachOther}
 use Rattle.graph_law.proofs.ReachLaws.{reaches_self, reaches_call, is_reached_on, each_other_self}
-use Rattle.search_stack.specs.Stack.{Stack, IsShaped, size, height, top, node, succs, begun, target, position, low}
+use Rattle.search_stack.specs.Stack.{Stack, size, height, top, node, succs, begun, target, position, low}
 use Rattle.search_stack.specs.GoodSearch.{IsGood, IsSettled, IsInward, LeadsUp, Dips}
 use Rattle.search_stack.specs.Search.{IsLastBegun}
 use Rattle.search_stack.proofs.Changes.{Pushes}
-use Rattle.search_stack.proofs.Frames.{same_last, position_end, position_at, position_le, position_within, segment_within, same_reach, same_each_other, begun_edge, inward_to}
-use Rattle.search_stack.proofs.Shapes.{shaped_push, no_entries}
+use Rattle.search_stack.proofs.Frames.{same_last, position_end, position_at, position_within, segment_within, same_reach, same_each_other, begun_edge, inward_to}
+use Rattle.search_stack.proofs.Shapes.{shaped_push}
 
 module _ {lists : List (List ℕ)} {roots done : List ℕ} {s t : Stack} {v : ℕ} {list : List ℕ} (good : IsGood lists roots done true s)
     (new : Pushes s t v list) (led : (height s ≡ 0) ⊎ IsLastBegun s v) where

@@ -1,5 +1,5 @@
 -- A group that is released is a class, and the groups stay a legal order.
-use Rattle.std.proofs.Common.{◌≡◌, ◌⊎◌, inl, inr, ℕ, ◌<◌, ◌≤◌, ◌+◌, ◌-◌, Bool, true, false, List, [], ◌∷◌, ◌++◌, length, get_or, drop, map, eqb, ne_eqb, IsPermutation, IsSorted, nat_cmp, refl, ap, ◌∙◌, sym, subst, arith}
+use Rattle.std.proofs.Common.{◌≡◌, ◌⊎◌, inl, inr, ℕ, ◌<◌, ◌≤◌, ◌+◌, ◌-◌, Bool, false, List, [], ◌∷◌, ◌++◌, length, get_or, drop, map, eqb, ne_eqb, IsPermutation, IsSorted, nat_cmp, ◌∙◌, sym, subst, arith}
 use Rattle.std.proofs.lemmas.Bool.{cases_lt, cases_eq, eq-eqb}
 use Rattle.std.proofs.lemmas.List.{length_push, get_or_push, get_or_append_left, get_or-map, length-map, get_or-drop, length-drop}
 use Rattle.std.proofs.lemmas.List.Elements.{All-push, Contains-append_left, Contains-append_right, Contains-append_cases}
@@ -9,17 +9,16 @@ use Rattle.std.specs.List.{IsDistinct as AreDistinct}
 use Rattle.std.specs.List.Sorted.{IsStrictlyIncreasing}
 use Rattle.std.specs.Prelude.{Contains}
 use Rattle.graph_law.specs.Graph.{Calls}
-use Rattle.graph_law.specs.Reach.{Reaches, IsReached, ReachEachOther}
+use Rattle.graph_law.specs.Reach.{IsReached, ReachEachOther}
 use Rattle.graph_law.specs.Classes.{HasMember, IsClass, group_at}
 use Rattle.graph_law.specs.LegalOrder.{IsLegalOrder, StandsUpTo}
 use Rattle.graph_law.proofs.ClassLaws.{HasMember-push_left, HasMember-push, HasMember-push_cases}
 use Rattle.graph_law.proofs.ReachLaws.{along_walk}
-use Rattle.search_stack.specs.Stack.{Entry, Stack, size, height, top, node, position}
+use Rattle.search_stack.specs.Stack.{Entry, Stack, size, node, position}
 use Rattle.search_stack.specs.GoodSearch.{IsGood, StandsIn}
-use Rattle.search_stack.specs.Search.{IsOn, IsDistinct, IsReleasable, nodes_from, below_frame}
+use Rattle.search_stack.specs.Search.{IsOn, IsDistinct, IsReleasable, nodes_from}
 use Rattle.search_stack.specs.PlainSearch.{IsUnderWay, IsSeen}
 use Rattle.search_stack.proofs.Changes.{Keeps}
-use Rattle.search_stack.proofs.Edges.{good_more}
 use Rattle.search_stack.proofs.Frames.{position_within}
 use Rattle.search_stack.proofs.Steps.{holds_from}
 use Rattle.search_stack.proofs.Taken.{HoldsFrom}

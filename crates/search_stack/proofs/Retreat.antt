@@ -1,14 +1,13 @@
 -- A good search stays good where its top frame joins the one below.
-use Rattle.std.proofs.Common.{◌≡◌, ◌⊎◌, inl, inr, ℕ, ◌<◌, ◌≤◌, ◌+◌, ◌-◌, Bool, false, List, [], length, get_or, refl, ap, ◌∙◌, sym, subst, arith}
+use Rattle.std.proofs.Common.{◌≡◌, inl, inr, ℕ, ◌<◌, ◌≤◌, ◌+◌, ◌-◌, false, List, [], length, get_or, refl, ap, ◌∙◌, sym, subst, arith}
 use Rattle.std.proofs.lemmas.Bool.{cases_lt, cases_eq}
-use Rattle.std.specs.Prelude.{Contains}
 use Rattle.graph_law.specs.Graph.{Calls}
 use Rattle.graph_law.specs.Reach.{Reaches, IsReached, ReachEachOther}
 use Rattle.graph_law.proofs.ReachLaws.{reaches_trans, each_other_trans}
 use Rattle.search_stack.specs.Stack.{Stack, size, height, top, node, succs, begun, target, position, low}
 use Rattle.search_stack.specs.GoodSearch.{IsGood, IsSettled, IsInward, LeadsUp, Dips}
 use Rattle.search_stack.proofs.Changes.{Retreats}
-use Rattle.search_stack.proofs.Frames.{same_last, position_end, position_at, position_le, position_within, same_reach, same_each_other, place_reaches, inward_to}
+use Rattle.search_stack.proofs.Frames.{same_last, position_end, position_at, position_within, same_reach, same_each_other, place_reaches, inward_to}
 use Rattle.search_stack.proofs.Shapes.{shaped_retreat}
 
 module _ {lists : List (List ℕ)} {roots done : List ℕ} {s t : Stack} {frame : ℕ} (good : IsGood lists roots done false s)

@@ -1,7 +1,7 @@
 -- The steps of a search keep the shape of its stack.
-use Rattle.std.proofs.Common.{◌≡◌, ◌⊎◌, inl, inr, ℕ, ◌<◌, ◌≤◌, ◌+◌, ◌-◌, List, [], length, refl, ap, ◌∙◌, sym, arith}
+use Rattle.std.proofs.Common.{◌≡◌, ◌⊎◌, inl, inr, ℕ, ◌<◌, ◌≤◌, ◌+◌, List, [], length, refl, ap, ◌∙◌, sym, arith}
 use Rattle.std.proofs.lemmas.Bool.{cases_lt, cases_eq}
-use Rattle.search_stack.specs.Stack.{Stack, IsShaped, size, height, top, node, succs, begun, position, low}
+use Rattle.search_stack.specs.Stack.{Stack, IsShaped, size, height, top, succs, begun, position, low}
 use Rattle.search_stack.specs.Search.{IsLastBegun}
 use Rattle.search_stack.proofs.Changes.{Pushes, Begins, Lowers, Retreats, Keeps}
 use Rattle.search_stack.proofs.Frames.{position_end, position_at, position_le, position_within}

@@ -1,12 +1,9 @@
 -- What the calls of a search make of its lists, place by place.
-use Rattle.std.proofs.Common.{◌≡◌, ◌≢◌, ◌⊎◌, inl, inr, ℕ, ◌<◌, ◌≤◌, ◌+◌, ◌-◌, min, List, [], ◌∷◌, ◌++◌, length, get_or, take, drop, set, map, refl, ap, ◌∙◌, sym, subst, arith}
+use Rattle.std.proofs.Common.{◌≡◌, inl, inr, ℕ, ◌<◌, ◌≤◌, ◌+◌, ◌-◌, min, List, [], ◌∷◌, ◌++◌, length, get_or, take, drop, set, map, refl, ap, ◌∙◌, sym, arith}
 use Rattle.std.proofs.lemmas.Bool.{cases_lt, cases_eq}
-use Rattle.std.proofs.lemmas.List.{get_or_append_left, get_or_push, length_push, get_or_past, get_or_default, get_or-set_same, get_or-set_other, length-set, get_or-take, length-take, length-take-le, get_or-map, length-map, get_or-drop, length-drop}
-use Rattle.std.proofs.lemmas.List.Elements.{Contains-get_or}
-use Rattle.std.specs.Prelude.{Contains}
+use Rattle.std.proofs.lemmas.List.{get_or_append_left, get_or_push, length_push, get_or_past, get_or_default, get_or-set_same, get_or-set_other, length-set, get_or-take, length-take-le, get_or-map, length-map, get_or-drop, length-drop}
 use Rattle.search_stack.specs.declared.frame.Frame.{Frame}
-use Rattle.search_stack.specs.Stack.{Entry, Stack, IsShaped, size, height, top, node, succs, begun, target, position, low}
-use Rattle.search_stack.specs.GoodSearch.{StandsIn}
+use Rattle.search_stack.specs.Stack.{Entry, Stack, IsShaped, size, height, top, node, succs, begun, position, low}
 use Rattle.search_stack.specs.Search.{pushed, one_more_begun, lowered, retreated, below_frame, nodes_from}
 use Rattle.search_stack.proofs.Changes.{Pushes, Begins, Lowers, Retreats, Keeps}
 use Rattle.search_stack.proofs.Frames.{position_end, position_past, position_within}

@@ -1,14 +1,14 @@
 -- The top segment of a ripe search may be released, and the rest stays good.
-use Rattle.std.proofs.Common.{◌≡◌, ◌⊎◌, inl, inr, ℕ, ◌<◌, ◌≤◌, ◌+◌, ◌-◌, Bool, true, false, List, [], ◌++◌, length, get_or, refl, ap, ◌∙◌, sym, subst, arith}
-use Rattle.std.proofs.lemmas.Bool.{cases_lt, cases_eq}
+use Rattle.std.proofs.Common.{◌≡◌, ◌⊎◌, inl, inr, ℕ, ◌<◌, ◌≤◌, ◌+◌, ◌-◌, false, List, [], ◌++◌, length, get_or, refl, ap, ◌∙◌, sym, subst, arith}
+use Rattle.std.proofs.lemmas.Bool.{cases_eq}
 use Rattle.std.proofs.lemmas.List.{get_or_default}
 use Rattle.std.proofs.lemmas.List.Elements.{Contains-append_left, Contains-append_right}
 use Rattle.std.specs.Prelude.{Contains}
 use Rattle.graph_law.specs.Graph.{Calls}
-use Rattle.graph_law.specs.Reach.{Reaches, IsReached, ReachEachOther}
+use Rattle.graph_law.specs.Reach.{IsReached, ReachEachOther}
 use Rattle.graph_law.proofs.ReachLaws.{each_other_sym, each_other_trans}
 use Rattle.search_stack.specs.Stack.{Stack, size, height, top, node, succs, begun, target, position, low}
-use Rattle.search_stack.specs.GoodSearch.{IsGood, StandsIn, IsInward, LeadsUp}
+use Rattle.search_stack.specs.GoodSearch.{IsGood, StandsIn, LeadsUp}
 use Rattle.search_stack.specs.Search.{IsRipe, IsReleasable}
 use Rattle.search_stack.proofs.Changes.{Keeps}
 use Rattle.search_stack.proofs.Frames.{same_last, position_end, position_at, position_le, position_within}

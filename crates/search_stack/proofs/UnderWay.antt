@@ -1,23 +1,19 @@
 -- The steps of one search after another.
-use Rattle.std.proofs.Common.{◌≡◌, ◌⊎◌, inl, inr, ℕ, ◌<◌, ◌≤◌, ◌+◌, ◌-◌, Bool, true, false, not, cond, true≢false, List, [], ◌∷◌, ◌++◌, length, get_or, set, take, refl, ap, ◌∙◌, sym, subst, arith, get_or-set_same, get_or-set_other, length-set}
-use Rattle.std.proofs.lemmas.Bool.{cases_lt, cases_eq, cases_Bool, false_from_ne_true}
-use Rattle.std.proofs.lemmas.List.{get_or_past}
+use Rattle.std.proofs.Common.{◌≡◌, ◌⊎◌, inl, inr, ℕ, ◌<◌, ◌+◌, Bool, true, false, not, cond, true≢false, List, [], length, get_or, set, ap, ◌∙◌, sym, subst, arith, get_or-set_same, get_or-set_other, length-set}
+use Rattle.std.proofs.lemmas.Bool.{cases_lt, cases_eq}
 use Rattle.std.proofs.lemmas.List.Elements.{Contains-get_or, All-nil}
 use Rattle.std.proofs.lemmas.List.Sums.{sum_by-set}
-use Rattle.std.specs.Prelude.{Contains, count_by, IsTrue}
+use Rattle.std.specs.Prelude.{Contains, count_by}
 use Rattle.graph_law.specs.Graph.{Calls, IsClosed}
-use Rattle.graph_law.specs.Reach.{IsReached}
 use Rattle.graph_law.specs.Classes.{HasMember, IsClass}
-use Rattle.graph_law.specs.LegalOrder.{IsLegalOrder}
-use Rattle.search_stack.specs.Stack.{Stack, size, height, top, node, succs, begun, target, position, low}
+use Rattle.search_stack.specs.Stack.{Stack, size, height, top, node, position}
 use Rattle.search_stack.specs.GoodSearch.{IsGood}
-use Rattle.search_stack.specs.Search.{IsOn, IsDistinct, IsLastBegun, IsDone, empty_stack, pushed, lowered, retreated}
-use Rattle.search_stack.specs.PlainSearch.{IsUnderWay, IsSeen, top_succs, top_begun}
+use Rattle.search_stack.specs.Search.{IsOn, empty_stack}
+use Rattle.search_stack.specs.PlainSearch.{IsUnderWay, IsSeen, top_succs}
 use Rattle.search_stack.proofs.Changes.{Pushes, Begins, Lowers, Retreats}
 use Rattle.search_stack.proofs.Edges.{good_empty}
 use Rattle.search_stack.proofs.Frames.{position_within}
 use Rattle.search_stack.proofs.Shapes.{empty_size}
-use Rattle.search_stack.proofs.Steps.{pushes}
 
 -- the stacks have the same nodes
 pub record SameNodes (s t : Stack) : Type 0 where

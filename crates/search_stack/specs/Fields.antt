@@ -1,5 +1,5 @@
 -- How the fields of a search hold its stack.
-use Rattle.std.specs.Prelude.{ℕ, ◌+◌, ◌<◌, ◌≤◌, ◌^◌, List, length, map, vec_capacity, Vec}
+use Rattle.std.specs.Prelude.{ℕ, ◌+◌, ◌<◌, ◌≤◌, ◌^◌, List, length, map, vec_capacity}
 use Rattle.indexmap.specs.IndexMap.{spare}
 use Rattle.search_stack.specs.declared.frame.Frame.{Frame}
 use Rattle.search_stack.specs.declared.search.Opened.{Opened}

@@ -1,9 +1,8 @@
 -- What contracts see of a search, and what its calls do.
-use Rattle.std.specs.Prelude.{◌≡◌, ℕ, ◌+◌, ◌-◌, ◌<◌, ◌≤◌, ◌⊎◌, min, List, [], ◌∷◌, ◌++◌, length, map, take, drop, slice_get, slice_set, slice_index_or, Contains, Option}
+use Rattle.std.specs.Prelude.{◌≡◌, ℕ, ◌+◌, ◌-◌, ◌<◌, ◌⊎◌, min, List, [], ◌∷◌, ◌++◌, length, map, take, drop, slice_get, slice_set, Contains, Option}
 use Rattle.graph_law.specs.Graph.{Calls}
 use Rattle.graph_law.specs.Reach.{IsReached, ReachEachOther}
-use Rattle.search_stack.specs.declared.frame.Frame.{Frame}
-use Rattle.search_stack.specs.Stack.{Entry, Stack, size, height, top, node, succs, begun, target, position, low}
+use Rattle.search_stack.specs.Stack.{Stack, size, height, top, node, succs, begun, target, position, low}
 
 -- the stack, the node that is wanted, and for how many more entries there is room
 pub record SearchValue : Type 0 where

@@ -11,3 +11,6 @@ pub use frame::Frame;
 pub use opening::Opening;
 pub use plain_search::groups_plain;
 pub use search::Search;
+
+#[cfg(test)]
+mod tests;

@@ -133,6 +133,7 @@ impl Search {
             ≡ record self.old { stack = one_more_begun self.old.stack (position_of self.old.stack (top self.old.stack)) }) }
         ensures last { IfSome result (IsLastBegun self.new.stack) }
         ensures unchanged { IfNone result (self.new ≡ self.old) }
+        ensures wants_nothing { self.new.wanted ≡ None }
         ensures done { IfNone result (IsDone self.new.stack) }
 
         // A good search stays good, with the edge that has begun left open.
@@ -160,6 +161,7 @@ impl Search {
         ensures lowered { IsTrue result → (place : ℕ) → place < size self.old.stack → node_on self.old.stack place ≡ node
             → self.new ≡ record self.old { stack = lowered self.old.stack place } }
         ensures unchanged { OnFalse result (self.new ≡ self.old) }
+        ensures wants_nothing { self.new.wanted ≡ None }
 
         // A good search, with the edge open or not, is good where the node is on the stack or finished.
         ensures good { (lists : List (List ℕ)) (roots done : List ℕ) (opened : Bool)

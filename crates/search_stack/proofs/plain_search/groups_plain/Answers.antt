@@ -1,12 +1,8 @@
-use Rattle.std.proofs.Common.{◌≡◌, ◌<◌, ◌∙◌, ℕ, Bool, List, [], length, get_or, replicate, true, false, refl, sym, ap, subst, arith, get_or-set_same}
-use Rattle.std.proofs.lemmas.List.{length-replicate}
+use Rattle.std.proofs.Common.{◌<◌, ◌∙◌, [], length, get_or, true, false, refl, ap, arith, get_or-set_same}
 use Rattle.std.proofs.lemmas.List.Elements.{Contains-get_or}
 use Rattle.graph_law.specs.Graph.{Calls, lists_of}
 use Rattle.graph_law.proofs.ReachLaws.{is_reached_start}
-use Rattle.search_stack.specs.Stack.{Stack, size}
-use Rattle.search_stack.specs.Search.{SearchValue}
-use Rattle.search_stack.specs.PlainSearch.{IsUnderWay}
-use Rattle.search_stack.proofs.Driving.{IsThrough, way_open, stays_seen, mark_read, unmarked, through_more, all_complete, IsThrough-start}
+use Rattle.search_stack.proofs.Driving.{way_open, stays_seen, mark_read, through_more, all_complete, IsThrough-start}
 use Rattle.search_stack.proofs.Edges.{good_open}
 use Rattle.search_stack.proofs.UnderWay.{way_same}
 use Rattle.search_stack.proofs.plain_search.groups_plain.Goals as goal
@@ -26,8 +22,8 @@ loop-root-preserved-then-index g c =
       ended = c.loop-root.invariant.ended;
       under_way = c.loop-root.invariant.under_way;
       through =
-        through_more c.loop-root.seen.items c.args.roots.now c.loop-root.root-index c.loop-root.invariant.through
-        (mark_read c.loop-root.seen.items (get_or c.args.roots.now c.loop-root.root-index 0) c.index.result.now true within c.index.ensures c.if-index.true);
+          through_more c.loop-root.seen.items c.args.roots.now c.loop-root.root-index c.loop-root.invariant.through
+          (mark_read c.loop-root.seen.items (get_or c.args.roots.now c.loop-root.root-index 0) c.index.result.now true within c.index.ensures c.if-index.true);
     }
 
 pub run_out-requires-clause-under_way : goal.run_out-requires-clause-under_way
@@ -64,12 +60,12 @@ loop-root-preserved g c =
       ended = c.in_ok-run_out.ensures.ended.0;
       under_way = c.in_ok-run_out.ensures.under_way c.args.roots.now way;
       through =
-        through_more c.run_out.new.seen.items c.args.roots.now c.loop-root.root-index
-        (λ k lt.
-        c.in_ok-run_out.ensures.seen (get_or c.args.roots.now k 0)
-        (marked (get_or c.args.roots.now k 0) within c.in_ok-open_node.ensures.marked (c.loop-root.invariant.through k lt)))
-        (c.in_ok-run_out.ensures.seen (get_or c.args.roots.now c.loop-root.root-index 0)
-        (ap (λ all. get_or all (get_or c.args.roots.now c.loop-root.root-index 0) false) c.in_ok-open_node.ensures.marked ∙ get_or-set_same c.loop-root.seen.items (get_or c.args.roots.now c.loop-root.root-index 0) true false within));
+          through_more c.run_out.new.seen.items c.args.roots.now c.loop-root.root-index
+          (λ k lt.
+          c.in_ok-run_out.ensures.seen (get_or c.args.roots.now k 0)
+          (marked (get_or c.args.roots.now k 0) within c.in_ok-open_node.ensures.marked (c.loop-root.invariant.through k lt)))
+          (c.in_ok-run_out.ensures.seen (get_or c.args.roots.now c.loop-root.root-index 0)
+          (ap (λ all. get_or all (get_or c.args.roots.now c.loop-root.root-index 0) false) c.in_ok-open_node.ensures.marked ∙ get_or-set_same c.loop-root.seen.items (get_or c.args.roots.now c.loop-root.root-index 0) true false within));
     }
 
 pub returns-clause-complete : goal.returns-clause-complete

@@ -1,7 +1,7 @@
-use Rattle.std.proofs.Common.{◌≡◌, ◌<◌, ◌∙◌, ◌⊎◌, inl, inr, ℕ, List, Bool, length, sym, ap, subst, arith}
+use Rattle.std.proofs.Common.{◌<◌, ◌∙◌, ◌⊎◌, inl, inr, ℕ, List, length, sym, ap, subst, arith}
 use Rattle.std.specs.Prelude.{All, Contains, IsTrue, true, false}
 use Rattle.std.proofs.lemmas.Bool.{OnFalse_at, both_ways, cases_Bool}
-use Rattle.search_stack.specs.PlainSearch.{IsUnderWay, top_succs, top_begun}
+use Rattle.search_stack.specs.PlainSearch.{IsUnderWay, top_begun}
 use Rattle.search_stack.proofs.Driving.{begun_from, next_is, settles}
 use Rattle.search_stack.proofs.UnderWay.{way_same, seen_is_finished}
 use Rattle.search_stack.proofs.plain_search.next_unseen.Goals as goal

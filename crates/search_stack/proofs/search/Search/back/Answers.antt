@@ -1,9 +1,8 @@
-use Rattle.std.proofs.Common.{◌≡◌, ℕ, ◌<◌, ◌-◌, ◌∙◌, length, refl, sym, ap, subst, arith, inl, inr, length-set, true≢false}
-use Rattle.std.specs.Prelude.{Bool, false}
-use Rattle.search_stack.specs.declared.frame.Frame.{Frame}
+use Rattle.std.proofs.Common.{◌≡◌, ◌<◌, ◌-◌, ◌∙◌, length, refl, sym, ap, subst, arith, inl, inr, length-set, true≢false}
+use Rattle.std.specs.Prelude.{false}
 use Rattle.search_stack.specs.Fields.{stack_of}
 use Rattle.search_stack.specs.Search.{IsLastBegun, lowered}
-use Rattle.search_stack.specs.Stack.{Stack, IsShaped, node}
+use Rattle.search_stack.specs.Stack.{Stack, IsShaped}
 use Rattle.search_stack.specs.GoodSearch.{IsGood}
 use Rattle.search_stack.proofs.Back.{good_back}
 use Rattle.search_stack.proofs.Edges.{good_finished}

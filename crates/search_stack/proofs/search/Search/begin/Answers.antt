@@ -1,4 +1,4 @@
-use Rattle.std.proofs.Common.{◌≡◌, ◌<◌, ◌+◌, ◌∙◌, length, slice_get, refl, ap, sym, subst, arith}
+use Rattle.std.proofs.Common.{◌+◌, length, slice_get, refl, ap, sym, subst, arith}
 use Rattle.std.specs.Prelude.{true}
 use Rattle.std.specs.Map.{values_of}
 use Rattle.search_stack.specs.declared.search.Opened.{Opened}

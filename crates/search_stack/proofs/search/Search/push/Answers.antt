@@ -1,10 +1,10 @@
-use Rattle.std.proofs.Common.{◌≡◌, ◌⊎◌, inl, inr, ◌<◌, ◌∙◌, length, refl, ap, sym, subst, arith}
+use Rattle.std.proofs.Common.{◌≡◌, ◌⊎◌, inl, inr, ◌∙◌, length, refl, ap, sym, subst, arith}
 use Rattle.std.specs.Prelude.{false}
 use Rattle.std.proofs.lemmas.List.{length_push}
 use Rattle.search_stack.specs.Fields.{stack_of}
 use Rattle.search_stack.specs.GoodSearch.{IsGood}
-use Rattle.search_stack.specs.Search.{IsLastBegun, pushed}
-use Rattle.search_stack.specs.Stack.{Stack, IsShaped, size, height}
+use Rattle.search_stack.specs.Search.{IsLastBegun}
+use Rattle.search_stack.specs.Stack.{IsShaped, size, height}
 use Rattle.search_stack.proofs.FieldLaws.{size_is, pushed_is}
 use Rattle.search_stack.proofs.Push.{good_push}
 use Rattle.search_stack.proofs.Shapes.{shaped_push, no_frames, no_entries}

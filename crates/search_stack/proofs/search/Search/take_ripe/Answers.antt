@@ -1,9 +1,8 @@
-use Rattle.std.proofs.Common.{◌≡◌, ◌<◌, ◌-◌, ◌∙◌, ◌++◌, List, ℕ, length, take, drop, ap, sym, subst, arith}
+use Rattle.std.proofs.Common.{◌≡◌, ◌<◌, ◌-◌, ◌∙◌, ◌++◌, length, drop, ap, sym, subst, arith}
 use Rattle.std.specs.Prelude.{false}
 use Rattle.std.proofs.lemmas.List.{take_rest}
 use Rattle.search_stack.specs.Fields.{stack_of}
 use Rattle.search_stack.specs.GoodSearch.{IsGood}
-use Rattle.search_stack.specs.Search.{IsReleasable, nodes_from}
 use Rattle.search_stack.specs.Stack.{Stack, IsShaped, top, position}
 use Rattle.search_stack.proofs.FieldLaws.{size_is, height_is, tops_at, taken_is, nodes_is}
 use Rattle.search_stack.proofs.Shapes.{shaped_below}
