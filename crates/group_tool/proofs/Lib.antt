@@ -5,6 +5,9 @@ pub mod GroupingLemmas
 pub mod IndicatorOrder
 pub mod NumberingLemmas
 pub mod Printable
+mod OneOrder
+mod OneLine
+mod OneReport
 pub mod ReportIsOne
 pub mod ReportLemmas
 mod ReportRows
