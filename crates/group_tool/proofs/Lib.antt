@@ -5,6 +5,7 @@ pub mod GroupingLemmas
 pub mod IndicatorOrder
 pub mod NumberingLemmas
 pub mod Printable
+mod OneAnswer
 mod OneOrder
 mod OneLine
 mod OneReport
