@@ -1,9 +1,8 @@
 -- A text has one reading as clauses, and words over a map of files have one answer.
-use Rattle.std.proofs.Common.{◌≡◌, ℕ, ◌+◌, ◌-◌, ◌<◌, ◌≤◌, List, [], ◌∷◌, ◌++◌, Option, Some, None, length, take, drop, ap, sym, ◌∙◌, subst, refl, inl, inr, arith, length-append, zero, suc}
+use Rattle.std.proofs.Common.{◌≡◌, ℕ, ◌-◌, ◌<◌, List, [], ◌∷◌, ◌++◌, Some, None, length, take, drop, ap, sym, ◌∙◌, subst, refl, inl, inr, arith, length-append, zero, suc}
 use Rattle.std.proofs.lemmas.Bool.{cases_lt}
 use Rattle.std.proofs.lemmas.List.{take-append-le, take_all}
 use Rattle.std.proofs.Math.Seq.{drop-append_seam}
-use Rattle.prolog_tokens.specs.declared.token.Kind.TheVariants.{End}
 use Rattle.prolog_tokens.specs.declared.token.Token.{Token}
 use Rattle.prolog_tokens.proofs.Between.{one_cut}
 use Rattle.prolog_terms.specs.Tree.{Tree}
@@ -14,7 +13,7 @@ use Rattle.file_library.specs.Library.{Files}
 use Rattle.group_tool.specs.Words.{IsLawful}
 use Rattle.group_tool.specs.Clauses.{AreClauses, IsPlainText}
 use Rattle.group_tool.specs.Grouping.{IsReportOf}
-use Rattle.group_tool.specs.Answer.{Answer, usage, faults, report, IsAnswer, AreFaults, HasReport, IsNotBuilt, HasNoClauses, ReportsText, absent_line, not_built_line}
+use Rattle.group_tool.specs.Answer.{Answer, usage, faults, report, IsAnswer, AreFaults, HasReport, ReportsText}
 use Rattle.group_tool.proofs.OneReport.{one_report}
 
 -- tokens are one clause

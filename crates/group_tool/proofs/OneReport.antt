@@ -1,5 +1,5 @@
 -- A list of clauses has one report.
-use Rattle.std.proofs.Common.{◌≡◌, ℕ, ◌+◌, ◌<◌, ◌≤◌, false, cond, List, [], ◌++◌, length, map, max, fold, sum_by, count_by, codes, get_or, Contains, IsPermutation, sym, subst, ◌∙◌, ap, arith}
+use Rattle.std.proofs.Common.{◌≡◌, ℕ, ◌+◌, ◌<◌, ◌≤◌, false, cond, List, [], ◌++◌, length, map, sum_by, count_by, codes, get_or, Contains, IsPermutation, sym, subst, ◌∙◌, ap, arith}
 use Rattle.std.specs.Fmt.{decimal}
 use Rattle.std.specs.List.{flat_map, range_with_len}
 use Rattle.std.specs.Ordering.{ordering_reverse}
@@ -9,7 +9,6 @@ use Rattle.std.proofs.lemmas.List.FromFn.{length-range_with_len}
 use Rattle.std.proofs.lemmas.List.Folds.{flat_map-map}
 use Rattle.std.proofs.lemmas.List.Sorted.{length_permutation}
 use Rattle.prolog_terms.specs.Tree.{Tree}
-use Rattle.graph_law.specs.Classes.{group_at}
 use Rattle.group_release.specs.declared.level.Level.{Level}
 use Rattle.group_release.specs.Level.{AreLevels, level_at}
 use Rattle.group_tool.specs.declared.indicator.Indicator.{Indicator}
