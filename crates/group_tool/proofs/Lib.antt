@@ -5,6 +5,10 @@ pub mod GroupingLemmas
 pub mod IndicatorOrder
 pub mod NumberingLemmas
 pub mod Printable
+mod OneAnswer
+mod OneOrder
+mod OneLine
+mod OneReport
 pub mod ReportIsOne
 pub mod ReportLemmas
 mod ReportRows

@@ -7,6 +7,7 @@ mod clauses;
 mod gate;
 mod grouping;
 mod indicator;
+mod laws;
 mod memory_sink;
 mod numbering;
 mod outcome;
@@ -20,6 +21,7 @@ mod stream_sink;
 mod words;
 
 pub use gate::{Gate, OpenGate};
+pub use laws::{one_answer, one_report};
 pub use memory_sink::MemorySink;
 pub use run::run_groups;
 pub use sink::{Flushed, Put, Sink};
