@@ -1,4 +1,4 @@
-//! One depth-first search whose stack can be cut, moved and resumed, and the groups that it finds.
+//! One depth-first search, kept as a value between its steps, and the groups that it finds.
 #![tactic(auto)]
 
 mod frame;
