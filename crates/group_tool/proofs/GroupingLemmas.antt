@@ -1,9 +1,9 @@
 -- The report of groups and their levels.
-use Rattle.std.proofs.Common.{◌≡◌, ℕ, List, length, map, sym, ◌∙◌, subst}
+use Rattle.std.proofs.Common.{◌≡◌, ℕ, List, length, sym, ◌∙◌, subst}
 use Rattle.std.proofs.lemmas.List.{length-map}
 use Rattle.prolog_terms.specs.Tree.{Tree}
 use Rattle.graph_law.specs.Reach.{Agree, IsReached}
-use Rattle.graph_law.specs.Classes.{HasMember, IsRecursive, group_at}
+use Rattle.graph_law.specs.Classes.{HasMember, group_at}
 use Rattle.graph_law.specs.Graph.{CallGraph, Calls}
 use Rattle.graph_law.specs.LegalOrder.{IsLegalOrder, IsComplete}
 use Rattle.graph_law.proofs.ReachLaws.{is_reached_along}
@@ -14,7 +14,7 @@ use Rattle.group_tool.specs.declared.indicator.Indicator.{Indicator}
 use Rattle.group_tool.specs.Rule.{HeadAndGoals}
 use Rattle.group_tool.specs.RuleOf.{rules_of}
 use Rattle.group_tool.specs.Numbering.{IsNumbering}
-use Rattle.group_tool.specs.CallGraph.{NodeCalls, IsCallGraph, all_nodes}
+use Rattle.group_tool.specs.CallGraph.{NodeCalls, IsCallGraph}
 use Rattle.group_tool.specs.Grouping.{AreGroups, IsReportOf}
 use Rattle.group_tool.specs.Report.{IsReport}
 

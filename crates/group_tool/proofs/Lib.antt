@@ -9,7 +9,6 @@ mod OneAnswer
 mod OneOrder
 mod OneLine
 mod OneReport
-pub mod ReportIsOne
 pub mod ReportLemmas
 mod ReportRows
 pub mod RuleLemmas

@@ -1,5 +1,5 @@
 -- The report: a head line, then a line for each group by height and least member.
-use Rattle.std.specs.Prelude.{◌≡◌, ℕ, ◌+◌, ◌<◌, ◌^◌, ◌≢◌, Bool, false, ◌⊎◌, List, [], ◌++◌, length, max, map, sum_by, count_by, fold, All, AllPairs, IsPermutation, slice_index_or, if◌then◌else◌, codes}
+use Rattle.std.specs.Prelude.{◌≡◌, ℕ, ◌+◌, ◌<◌, ◌^◌, ◌≢◌, Bool, ◌⊎◌, List, [], ◌++◌, length, max, map, sum_by, count_by, fold, All, AllPairs, IsPermutation, slice_index_or, if◌then◌else◌, codes}
 use Rattle.std.specs.Fmt.{decimal}
 use Rattle.std.specs.List.{flat_map, range_with_len}
 use Rattle.std.specs.List.Sorted.{IsStrictlyIncreasing}

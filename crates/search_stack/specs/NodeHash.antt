@@ -10,6 +10,6 @@ shifted node byte = bit_or (node / 2 ^ 8) ((byte * 2 ^ 24) % 2 ^ 32)
 abbrev pub written : NodeHasher → List ℕ → NodeHasher
 written hasher bytes = record { node = fold shifted hasher.node bytes }
 
--- a quarter of the node, multiplied, and its place in the quarter at high bits
+-- the place of nine neighbours, with the low bits of the node at high bits
 abbrev pub node_hash : NodeHasher → ℕ
-node_hash hasher = bit_xor (((hasher.node / 2 ^ 2) * 0x9e37_79b9_7f4a_7c15) % 2 ^ 64) ((bit_and hasher.node 3 * 2 ^ 30) % 2 ^ 64)
+node_hash hasher = bit_xor (hasher.node / 9) ((bit_and hasher.node 255 * 2 ^ 24) % 2 ^ 64)

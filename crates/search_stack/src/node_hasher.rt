@@ -2,12 +2,13 @@ ghost use Rattle.std.specs.Prelude.{◌≡◌};
 
 use std::hash::Hasher;
 
-/// An odd number whose bits have no pattern.
-const MULTIPLIER: u64 = 0x9e37_79b9_7f4a_7c15;
+/// How many entries a table holds for each of its places.
+const NEIGHBOURS: u32 = 9;
 
-/// Hashes a node so that four neighbours come to one place of a table, and differ in the high bits
-/// that the table compares. A search that meets neighbours one after another then seldom waits for
-/// memory, as it would at each node if all were scattered.
+/// Hashes a node so that neighbours come to one place of a table, and next neighbours to the next
+/// place, and differ in the high bits that the table compares. A search that meets neighbours one
+/// after another then seldom waits for memory, and no two nodes compete for a place of a table that
+/// has room for all of them.
 #[derive(Clone, Copy)]
 pub(crate) struct NodeHasher {
     node: u32,
@@ -29,7 +30,7 @@ impl Hasher for NodeHasher {
     ghost finish = { node_hash };
 
     fn finish(&self) -> u64 {
-        ((self.node >> 2) as u64).wrapping_mul(MULTIPLIER) ^ ((self.node & 3) as u64) << 30
+        (self.node / NEIGHBOURS) as u64 ^ ((self.node & 255) as u64) << 24
     }
 
     fn write(&mut self, bytes: &[u8]) {

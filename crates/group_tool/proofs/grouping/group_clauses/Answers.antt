@@ -1,5 +1,5 @@
-use Rattle.std.proofs.Common.{◌≡◌, ℕ, ◌<◌, length, ap, ◌∙◌, subst}
-use Rattle.graph_law.specs.Graph.{Calls, IsGraph, lists_of}
+use Rattle.std.proofs.Common.{◌≡◌, length, ap, ◌∙◌, subst}
+use Rattle.graph_law.specs.Graph.{Calls, lists_of}
 use Rattle.graph_law.specs.Classes.{HasMember}
 use Rattle.group_release.specs.Level.{AreLevels}
 use Rattle.group_tool.proofs.GroupingLemmas.{groups_found, report_of, levels_each}
