@@ -18,7 +18,12 @@ pub struct DiskLibrary<'a, R: Files> {
 }
 
 impl<'a, R: Files> DiskLibrary<'a, R> {
-    pub fn new(rt: &'a R, alloc: Global) -> DiskLibrary<'a, R> {
+    /// The disk, with nothing asked yet.
+    pub fn new(rt: &'a R, alloc: Global) -> DiskLibrary<'a, R>
+        ensures asked { result.asked.items ≡ [] }
+        ensures faults { result.faults ≡ 0 }
+        ensures misses { result.misses ≡ 0 }
+    {
         DiskLibrary {
             rt,
             alloc,

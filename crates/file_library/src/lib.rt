@@ -8,3 +8,6 @@ mod memory_library;
 pub use disk_library::DiskLibrary;
 pub use library::{Library, Read};
 pub use memory_library::MemoryLibrary;
+
+#[cfg(test)]
+mod tests;

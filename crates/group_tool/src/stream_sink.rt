@@ -1,4 +1,4 @@
-ghost use Rattle.std.specs.Prelude.{None};
+ghost use Rattle.std.specs.Prelude.{◌≡◌, true, None};
 
 use crate::sink::{Flushed, Put, Sink};
 use std::io::Write;
@@ -13,7 +13,11 @@ pub struct StreamSink<W: Write + Drop> {
 }
 
 impl<W: Write + Drop> StreamSink<W> {
-    pub fn new(writer: W) -> StreamSink<W> {
+    /// A sink over the stream, with nothing put yet.
+    pub fn new(writer: W) -> StreamSink<W>
+        ensures faults { result.faults ≡ 0 }
+        ensures settled { result.settled ≡ true }
+    {
         StreamSink {
             writer,
             faults: 0,
