@@ -1,5 +1,6 @@
 -- From what was read of a file to what the file is.
-use Rattle.std.proofs.Common.{◌≡◌, ℕ, ◌+◌, ◌≤◌, List, [], ◌∷◌, Option, Some, length, take, string_bytes, All, ap, sym, ◌∙◌, subst, inr, arith, length-append, length-take, min}
+use Rattle.std.proofs.Common.{◌≡◌, ℕ, ◌+◌, ◌≤◌, List, [], ◌∷◌, Option, Some, length, take, string_bytes, All, ap, sym, ◌∙◌, subst, inl, inr, arith, length-append, length-take, min}
+use Rattle.std.proofs.lemmas.Bool.{cases_lt}
 use Rattle.std.proofs.lemmas.List.{take_all}
 use Rattle.std.proofs.lemmas.List.Elements.{All-nil, All-cons}
 use Rattle.prolog_tokens.specs.declared.token.Token.{Token}
@@ -12,7 +13,8 @@ use Rattle.group_tool.specs.declared.outcome.Outcome.{Outcome}
 use Rattle.group_tool.specs.declared.outcome.Outcome.TheVariants.{Usage, Faults, Unread, Report, NoMemory}
 use Rattle.group_tool.specs.Words.{IsLawful}
 use Rattle.group_tool.specs.Clauses.{AreClauses, IsPlainText}
-use Rattle.group_tool.specs.Answer.{HasNoClauses, ReportsText}
+use Rattle.group_tool.specs.TextFault.{IsOutsideForm, IsFaultLine}
+use Rattle.group_tool.specs.Answer.{ReportsText}
 use Rattle.group_tool.specs.Outcome.{TextOutcomeIs}
 use Rattle.group_tool.specs.OutcomeEnd.{OutcomeIs}
 
@@ -30,10 +32,15 @@ read_whole bytes room is small =
     let count : length room ≡ min (65536 + 1) (length bytes) = ap length is ∙ length-take (65536 + 1) bytes in
     is ∙ take_all (65536 + 1) bytes (omega (arith, count, small))
 
-none_whole : (bytes room : List ℕ) → room ≡ take (65536 + 1) bytes → HasNoClauses room → HasNoClauses bytes
-none_whole bytes room is none trees plain =
-    let whole : room ≡ bytes = is ∙ take_all (65536 + 1) bytes (omega (arith, plain.small)) in
-    none trees (subst (λ text. IsPlainText text trees) (sym whole) plain)
+-- a text that was read up to just past the limit is outside the form where its beginning is
+outside_whole : (bytes room : List ℕ) → room ≡ take (65536 + 1) bytes → IsOutsideForm room → IsOutsideForm bytes
+outside_whole bytes room is outside = elim (cases_lt 65536 (length room)) [
+  | inl long ↦ let count : length room ≡ min (65536 + 1) (length bytes) = ap length is ∙ length-take (65536 + 1) bytes in inl (omega (arith, count))
+  | inr small ↦ subst IsOutsideForm (read_whole bytes room is small) outside
+]
+
+faulty_whole : (bytes room name line : List ℕ) → room ≡ take (65536 + 1) bytes → IsFaultLine name room line → room ≡ bytes
+faulty_whole bytes room name line is fault = read_whole bytes room is fault.has.small
 
 reported_whole : (bytes room report : List ℕ) → room ≡ take (65536 + 1) bytes → ReportsText room report → room ≡ bytes
 reported_whole bytes room report is reports = read_whole bytes room is reports.plain.small
@@ -41,14 +48,25 @@ reported_whole bytes room report is reports = read_whole bytes room is reports.p
 pub found_outcome : (words : List (List ℕ)) (told : Option Files) (asked' : List (List ℕ)) (f f' m m' : ℕ) (name room : List ℕ) (outcome : Outcome) → IsLawful words name
     → ((files : Files) → told ≡ Some files → IsFound files name 65536 room) → TextOutcomeIs name room outcome → OutcomeIs words told asked' f f' m m' outcome
 found_outcome words told asked' f f' m m' name room Usage lawful found is = absurd is
-found_outcome words told asked' f f' m m' name room (Faults lines) lawful found is = (
+found_outcome words told asked' f f' m m' name room (Faults lines) lawful found (inl fault) = (
   name,
   lawful,
-  inr (record {
-    none = λ files tells.
-        (let file = found files tells in record { text = file.bytes; there = file.has; none = none_whole file.bytes room file.is is.0 });
-    is = is.1;
-  }),
+  inr (inl (record {
+    text = room;
+    is = fault;
+    there = λ files tells. (let file = found files tells in file.has ∙ ap Some (sym (faulty_whole file.bytes room name (string_bytes lines) file.is fault)));
+  })),
+)
+found_outcome words told asked' f f' m m' name room (Faults lines) lawful found (inr outside) = (
+  name,
+  lawful,
+  inr (inr (record {
+    text = room;
+    outside = outside.0;
+    not_built = λ files tells.
+        (let file = found files tells in record { text = file.bytes; there = file.has; outside = outside_whole file.bytes room file.is outside.0 });
+    is = outside.1;
+  })),
 )
 found_outcome words told asked' f f' m m' name room (Unread line) lawful found is = absurd is
 found_outcome words told asked' f f' m m' name room (Report bytes) lawful found is = (

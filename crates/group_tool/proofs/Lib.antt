@@ -15,3 +15,4 @@ pub mod RuleLemmas
 pub mod RunLemmas
 pub mod Said
 pub mod WordLemmas
+pub mod OneFault

@@ -13,7 +13,9 @@ use Rattle.file_library.specs.Library.{Files}
 use Rattle.group_tool.specs.Words.{IsLawful}
 use Rattle.group_tool.specs.Clauses.{AreClauses, IsPlainText}
 use Rattle.group_tool.specs.Grouping.{IsReportOf}
-use Rattle.group_tool.specs.Answer.{Answer, usage, faults, report, IsAnswer, AreFaults, HasReport, ReportsText}
+use Rattle.group_tool.specs.TextFault.{IsOutsideForm, IsFaultLine}
+use Rattle.group_tool.specs.Answer.{Answer, usage, faults, report, IsAnswer, AreFaults, IsNotBuilt, HasFaultLine, HasReport, ReportsText}
+use Rattle.group_tool.proofs.OneFault.{one_fault_line, faulty_no_clauses, faulty_not_outside, outside_no_clauses}
 use Rattle.group_tool.proofs.OneReport.{one_report}
 
 -- tokens are one clause
@@ -90,25 +92,34 @@ one_text files name text other is also = let both : Some text ≡ Some other = s
 not_absent : (files : Files) (name text : List ℕ) → files name ≡ None → files name ≡ Some text → ⊥
 not_absent files name text is also = let both : None ≡ Some text = sym is ∙ also in cc
 
+-- the text of a file that has two
+same_text : (files : Files) (name text other : List ℕ) (P : List ℕ → Type 0) → files name ≡ Some text → files name ≡ Some other → P other → P text
+same_text files name text other P is also holds = subst P (one_text files name other text also is) holds
+
+not_both : (files : Files) (name line : List ℕ) → HasFaultLine files name line → IsNotBuilt files name → ⊥
+not_both files name line has not_built =
+    faulty_not_outside has.text has.is.fault has.is.has (same_text files name has.text not_built.text IsOutsideForm has.there not_built.there not_built.outside)
+
 one_fault : (files : Files) (name lines other : List ℕ) → AreFaults files name lines → AreFaults files name other → lines ≡ other
-one_fault files name lines other are also = elim are [
-  | inl absent ↦ elim also [
-    | inl too ↦ absent.1 ∙ sym too.1
-    | inr not_built ↦ absurd (not_absent files name not_built.0.text absent.0 not_built.0.there)
-  ]
-  | inr not_built ↦ elim also [
-    | inl absent ↦ absurd (not_absent files name not_built.0.text absent.0 not_built.0.there)
-    | inr too ↦ not_built.1 ∙ sym too.1
-  ]
-]
+one_fault files name lines other (inl absent) (inl too) = absent.1 ∙ sym too.1
+one_fault files name lines other (inl absent) (inr (inl has)) = absurd (not_absent files name has.text absent.0 has.there)
+one_fault files name lines other (inl absent) (inr (inr not_built)) = absurd (not_absent files name not_built.0.text absent.0 not_built.0.there)
+one_fault files name lines other (inr (inl has)) (inl absent) = absurd (not_absent files name has.text absent.0 has.there)
+one_fault files name lines other (inr (inl has)) (inr (inl too)) =
+    one_fault_line name has.text lines other has.is (same_text files name has.text too.text (λ text. IsFaultLine name text other) has.there too.there too.is)
+one_fault files name lines other (inr (inl has)) (inr (inr not_built)) = absurd (not_both files name lines has not_built.0)
+one_fault files name lines other (inr (inr not_built)) (inl absent) = absurd (not_absent files name not_built.0.text absent.0 not_built.0.there)
+one_fault files name lines other (inr (inr not_built)) (inr (inl has)) = absurd (not_both files name other has not_built.0)
+one_fault files name lines other (inr (inr not_built)) (inr (inr too)) = not_built.1 ∙ sym too.1
 
 no_fault : (files : Files) (name lines bytes : List ℕ) → AreFaults files name lines → HasReport files name bytes → ⊥
-no_fault files name lines bytes are has = elim are [
-  | inl absent ↦ not_absent files name has.text absent.0 has.there
-  | inr not_built ↦
-      let same : has.text ≡ not_built.0.text = one_text files name has.text not_built.0.text has.there not_built.0.there in
-      not_built.0.none has.reports.trees (subst (λ text. IsPlainText text has.reports.trees) same has.reports.plain)
-]
+no_fault files name lines bytes (inl absent) has = not_absent files name has.text absent.0 has.there
+no_fault files name lines bytes (inr (inl faulty)) has =
+    faulty_no_clauses faulty.text faulty.is.fault has.reports.trees faulty.is.has
+    (same_text files name faulty.text has.text (λ text. IsPlainText text has.reports.trees) faulty.there has.there has.reports.plain)
+no_fault files name lines bytes (inr (inr not_built)) has =
+    outside_no_clauses not_built.0.text has.reports.trees not_built.0.outside
+    (same_text files name not_built.0.text has.text (λ text. IsPlainText text has.reports.trees) not_built.0.there has.there has.reports.plain)
 
 one_report_of_file : (files : Files) (name bytes other : List ℕ) → HasReport files name bytes → HasReport files name other → bytes ≡ other
 one_report_of_file files name bytes other is also =

@@ -4,7 +4,7 @@ use Rattle.file_library.specs.Counts.{Rose}
 use Rattle.file_library.specs.Library.{Files}
 use Rattle.group_tool.specs.Answer.{Answer, AreFaults, usage_line, memory_line}
 use Rattle.group_tool.specs.Answer as right
-use Rattle.group_tool.specs.Outcome.{IsAbsent, IsOutside}
+use Rattle.group_tool.specs.Outcome.{IsRefused}
 use Rattle.group_tool.specs.Say.{TookAll}
 use Rattle.group_tool.specs.Sink.{more_taken}
 use Rattle.group_tool.specs.Run.{End, usage, faults, unread, report, no_memory, EndIs, EndsBy, Taking, IsRun, SaidWith, SaysAnswer, SaysNoMemory, HasNoName}
@@ -25,12 +25,10 @@ said_all bytes status result sink said quiet = elim said [
   | inr part ↦ absurd (quiet part.1.rose)
 ]
 
-faults_of : (told : Option Files) (m m' : ℕ) (name lines : List ℕ) (files : Files) → told ≡ Some files → IsAbsent told m m' name lines ⊎ IsOutside told name lines
-    → AreFaults files name lines
-faults_of told m m' name lines files tells cause = elim cause [
-  | inl absent ↦ inl (absent.none files tells, absent.is)
-  | inr outside ↦ inr (outside.none files tells, outside.is)
-]
+faults_of : (told : Option Files) (m m' : ℕ) (name lines : List ℕ) (files : Files) → told ≡ Some files → IsRefused told m m' name lines → AreFaults files name lines
+faults_of told m m' name lines files tells (inl absent) = inl (absent.none files tells, absent.is)
+faults_of told m m' name lines files tells (inr (inl faulty)) = inr (inl (record { text = faulty.text; there = faulty.there files tells; is = faulty.is }))
+faults_of told m m' name lines files tells (inr (inr outside)) = inr (inr (outside.not_built files tells, outside.is))
 
 abbrev Says : List (List ℕ) → Files → Taking → Taking → ℕ → Type 0
 Says words files out err result =

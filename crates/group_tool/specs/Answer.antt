@@ -4,6 +4,7 @@ use Rattle.prolog_terms.specs.Tree.{Tree}
 use Rattle.file_library.specs.Library.{Files}
 use Rattle.group_tool.specs.Words.{IsLawful}
 use Rattle.group_tool.specs.Clauses.{IsPlainText}
+use Rattle.group_tool.specs.TextFault.{IsOutsideForm, IsFaultLine}
 use Rattle.group_tool.specs.Grouping.{IsReportOf}
 
 abbrev pub usage_line : List ℕ
@@ -22,10 +23,6 @@ not_built_line name = name ++ codes ": text is outside the built form\n"
 abbrev pub unread_line : List ℕ → List ℕ
 unread_line name = codes "groups: cannot read " ++ (name ++ codes "\n")
 
--- the text is no list of clauses
-abbrev pub HasNoClauses : List ℕ → Type 0
-HasNoClauses text = (trees : List Tree) → IsPlainText text trees → ⊥
-
 -- the bytes are the report of the text
 pub record ReportsText (text bytes : List ℕ) : Type 0 where
   pub trees : List Tree
@@ -41,15 +38,22 @@ pub data Answer : Type 0 where
 pub record IsNotBuilt (files : Files) (name : List ℕ) : Type 0 where
   pub text : List ℕ
   pub there : files name ≡ Some text
-  pub none : HasNoClauses text
+  pub outside : IsOutsideForm text
+
+pub record HasFaultLine (files : Files) (name line : List ℕ) : Type 0 where
+  pub text : List ℕ
+  pub there : files name ≡ Some text
+  pub is : IsFaultLine name text line
 
 pub record HasReport (files : Files) (name bytes : List ℕ) : Type 0 where
   pub text : List ℕ
   pub there : files name ≡ Some text
   pub reports : ReportsText text bytes
 
+-- the file isn't there; something is wrong with its bytes or its tokens; it is outside the built form
 abbrev pub AreFaults : Files → List ℕ → List ℕ → Type 0
-AreFaults files name lines = ((files name ≡ None) × (lines ≡ absent_line name)) ⊎ (IsNotBuilt files name × (lines ≡ not_built_line name))
+AreFaults files name lines =
+    ((files name ≡ None) × (lines ≡ absent_line name)) ⊎ (HasFaultLine files name lines ⊎ (IsNotBuilt files name × (lines ≡ not_built_line name)))
 
 -- the answer to the words over the files
 abbrev pub IsAnswer : List (List ℕ) → Files → Answer → Type 0

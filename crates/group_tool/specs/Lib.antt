@@ -8,6 +8,7 @@ pub mod Sink
 pub mod Words
 pub mod Say
 pub mod Clauses
+pub mod TextFault
 pub mod RuleOf
 pub mod Grouping
 pub mod Answer

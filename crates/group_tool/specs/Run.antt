@@ -3,7 +3,7 @@ use Rattle.std.specs.Prelude.{◌≡◌, ◌≢◌, ℕ, ◌⊎◌, List, Option
 use Rattle.file_library.specs.Library.{Files}
 use Rattle.group_tool.specs.Words.{IsLawful}
 use Rattle.group_tool.specs.Answer.{Answer, IsAnswer, status_of, out_of, err_of, usage_line, memory_line}
-use Rattle.group_tool.specs.Outcome.{IsAbsent, IsOutside, IsReported, IsUnread}
+use Rattle.group_tool.specs.Outcome.{IsRefused, IsReported, IsUnread}
 use Rattle.group_tool.specs.Say.{TookAll, TookPart}
 use Rattle.group_tool.specs.Sink.{more_taken}
 
@@ -19,7 +19,7 @@ pub data End : Type 0 where
 abbrev pub EndIs : List (List ℕ) → Option Files → List (List ℕ) → ℕ → ℕ → ℕ → ℕ → End → Type 0
 EndIs words told asked' f f' m m' usage = (name : List ℕ) → IsLawful words name → ⊥
 EndIs words told asked' f f' m m' (faults lines) =
-    (name : List ℕ) × IsLawful words name × (IsAbsent told m m' name lines ⊎ IsOutside told name lines)
+    (name : List ℕ) × IsLawful words name × IsRefused told m m' name lines
 EndIs words told asked' f f' m m' (unread line) = (name : List ℕ) × IsLawful words name × IsUnread asked' f f' name line
 EndIs words told asked' f f' m m' (report bytes) = (name : List ℕ) × IsLawful words name × IsReported told name bytes
 EndIs words told asked' f f' m m' no_memory = Unit {0}
@@ -102,12 +102,12 @@ pub record HasReported (words : List (List ℕ)) (told : Option Files) (before_o
   pub on_out : after_out ≡ more_taken before_out bytes
   pub on_err : after_err ≡ before_err
 
--- the file of the words has faults: the library missed it, or its text is no list of clauses
+-- the file of the words has no report: the library missed it, something is wrong with it, or it is outside the built form
 pub record HasFaults (words : List (List ℕ)) (told : Option Files) (misses misses' : ℕ) (before_err after_err : Option (List ℕ)) : Type 0 where
   pub name : List ℕ
   pub lawful : IsLawful words name
   pub lines : List ℕ
-  pub cause : IsAbsent told misses misses' name lines ⊎ IsOutside told name lines
+  pub cause : IsRefused told misses misses' name lines
   pub on_err : after_err ≡ more_taken before_err lines
 
 -- a read of the library failed

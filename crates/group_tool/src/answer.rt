@@ -1,19 +1,18 @@
 ghost use Rattle.std.specs.Prelude.{◌≡◌, ◌++◌, IfOk};
 ghost use Rattle.std.specs.String.{string_bytes};
+ghost use Rattle.group_tool.specs.TextFault.{IsRefusal};
 ghost use Rattle.group_tool.specs.Outcome.{TextOutcomeIs};
 ghost use Rattle.group_tool.specs.OutcomeEnd.{OutcomeIs};
 
-use crate::clauses::read_clauses;
+use crate::clauses::{MOST_BYTES, read_clauses};
+use crate::fault_line::fault_line;
 use crate::grouping::group_clauses;
 use crate::outcome::Outcome;
+use crate::text_fault::TextFault;
 use crate::words::file_name;
 use file_library::{Library, Read};
-use prolog_terms::PlainFault;
 use prolog_tokens::Text;
 use std::alloc::{AllocError, Global};
-
-/// The most bytes of a file.
-const MOST_BYTES: u32 = 65_536;
 
 /// The name with words before and behind it.
 fn line(alloc: Global, before: &str, name: &str, behind: &str) -> Result<String, AllocError>
@@ -25,19 +24,31 @@ fn line(alloc: Global, before: &str, name: &str, behind: &str) -> Result<String,
     Ok(text)
 }
 
+/// What a text that isn't read comes out as.
+fn refused_text(alloc: Global, name: &str, text: &[u8], fault: TextFault) -> Outcome
+    requires { IsRefusal text.now fault }
+    ensures { TextOutcomeIs name.now text.now result }
+{
+    match fault {
+        TextFault::Wrong(fault) => match fault_line(alloc, name, text, fault) {
+            Ok(lines) => Outcome::Faults(lines),
+            Err(_) => Outcome::NoMemory,
+        },
+        TextFault::NotBuilt => match line(alloc, "", name, ": text is outside the built form\n") {
+            Ok(lines) => Outcome::Faults(lines),
+            Err(_) => Outcome::NoMemory,
+        },
+        TextFault::NoMemory => Outcome::NoMemory,
+    }
+}
+
 /// What the text of the file of that name comes out as.
 fn answer_text(alloc: Global, name: &str, text: &[u8]) -> Outcome
     ensures { TextOutcomeIs name.now text.now result }
 {
     let clauses = match read_clauses(alloc, text) {
         Ok(clauses) => clauses,
-        Err(PlainFault::NotBuilt) => {
-            return match line(alloc, "", name, ": text is outside the built form\n") {
-                Ok(lines) => Outcome::Faults(lines),
-                Err(_) => Outcome::NoMemory,
-            };
-        }
-        Err(PlainFault::NoMemory) => return Outcome::NoMemory,
+        Err(fault) => return refused_text(alloc, name, text, fault),
     };
     match group_clauses(alloc, &clauses) {
         Ok(report) => Outcome::Report(report),

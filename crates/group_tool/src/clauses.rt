@@ -1,16 +1,18 @@
-ghost use Rattle.std.specs.Prelude.{◌≡◌, ◌≤◌, ◌<◌, List, All, map, length, IfOk, IsErrOf};
+ghost use Rattle.std.specs.Prelude.{◌≡◌, ◌≤◌, ◌<◌, List, All, map, length, IfOk, IfErr, IsErrOf};
 ghost use Rattle.prolog_tokens.specs.Cut.{IsCut};
 ghost use Rattle.prolog_terms.specs.Tree.{Tree, tree_of};
 ghost use Rattle.prolog_terms.specs.declared.plain.PlainFault.TheVariants.{NotBuilt};
 ghost use Rattle.group_tool.specs.RuleOf.{HasSmallArities};
 ghost use Rattle.group_tool.specs.Clauses.{AreClauses, IsPlainText, EndsFirst};
+ghost use Rattle.group_tool.specs.TextFault.{IsRefusal};
 
+use crate::text_fault::{Cause, TextFault, wrong};
 use prolog_terms::{PlainFault, Term, read_plain};
-use prolog_tokens::{Kind, Token, TokenFault, tokens};
+use prolog_tokens::{Kind, Token, tokens};
 use std::alloc::Global;
 
-/// The most bytes of a text.
-const MOST_BYTES: usize = 65_536;
+/// The most bytes of a text of the built form.
+pub const MOST_BYTES: u32 = 65_536;
 
 /// The place behind the first End from `from` on, or behind the last token.
 fn clause_end(tokens: &[Token], from: usize) -> usize
@@ -47,23 +49,23 @@ fn split_clauses(alloc: Global, text: &str, tokens: &[Token]) -> Result<Vec<Term
     Ok(clauses)
 }
 
-/// The clauses of a text of at most 65,536 bytes.
-pub fn read_clauses(alloc: Global, bytes: &[u8]) -> Result<Vec<Term>, PlainFault>
+/// The clauses of a text of at most 65,536 bytes. What is wrong with its bytes comes first, then
+/// what is wrong with its tokens, and then that it isn't of the built form.
+pub fn read_clauses(alloc: Global, bytes: &[u8]) -> Result<Vec<Term>, TextFault>
     ensures ok { IfOk result (λ terms. IsPlainText bytes.now (map tree_of terms.items)) }
     ensures only { IfOk result (λ terms. (others : List Tree) → IsPlainText bytes.now others → others ≡ map tree_of terms.items) }
-    ensures not_built { IsErrOf result NotBuilt → (others : List Tree) → IsPlainText bytes.now others → ⊥ }
+    ensures refused { IfErr result (λ fault. IsRefusal bytes.now fault) }
     ensures few { IfOk result (λ terms. length terms.items ≤ 65536) }
     ensures arities { IfOk result (λ terms. All HasSmallArities (map tree_of terms.items)) }
 {
-    if bytes.len() > MOST_BYTES {
-        return Err(PlainFault::NotBuilt);
+    if bytes.len() > MOST_BYTES as usize {
+        return Err(TextFault::NotBuilt);
     }
-    let Ok(text) = str::from_utf8(bytes) else {
-        return Err(PlainFault::NotBuilt);
+    let text = match str::from_utf8(bytes) {
+        Ok(text) => text,
+        Err(error) => return Err(wrong(Cause::NotUtf8, error.valid_up_to() as u32)),
     };
-    match tokens(alloc, text) {
-        Ok(tokens) => split_clauses(alloc, text, &tokens),
-        Err(TokenFault::NotBuilt) => Err(PlainFault::NotBuilt),
-        Err(TokenFault::NoMemory) => Err(PlainFault::NoMemory),
-    }
+    let tokens = tokens(alloc, text)?;
+    let clauses = split_clauses(alloc, text, &tokens)?;
+    Ok(clauses)
 }

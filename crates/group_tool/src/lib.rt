@@ -4,6 +4,7 @@
 mod answer;
 mod call_graph;
 mod clauses;
+mod fault_line;
 mod gate;
 mod grouping;
 mod indicator;
@@ -18,6 +19,7 @@ mod run;
 mod say;
 mod sink;
 mod stream_sink;
+mod text_fault;
 mod words;
 
 pub use gate::{Gate, OpenGate};

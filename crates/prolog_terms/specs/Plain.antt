@@ -1,5 +1,5 @@
 -- Clauses of the built form: facts and rules whose heads and goals are names, variables and functional terms.
-use Rattle.std.specs.Prelude.{◌≡◌, ◌≢◌, ℕ, ◌+◌, ◌≤◌, ◌⊎◌, List, [], ◌∷◌, ◌++◌, Option, Some, false, length, slice_get, option_map, codes}
+use Rattle.std.specs.Prelude.{◌≡◌, ◌≢◌, ℕ, ◌+◌, ◌≤◌, ◌⊎◌, List, [], ◌∷◌, ◌++◌, Option, Some, true, false, length, slice_get, option_map, codes}
 use Rattle.prolog_tokens.specs.declared.token.Kind.{Kind}
 use Rattle.prolog_tokens.specs.declared.token.Kind.TheVariants.{Name, Variable, OpenRound, CloseRound, Comma, End}
 use Rattle.prolog_tokens.specs.declared.token.Token.{Token}
@@ -8,7 +8,7 @@ use Rattle.prolog_tokens.specs.Values.{IsNameText}
 use Rattle.prolog_terms.specs.declared.term.Span.{Span}
 use Rattle.prolog_terms.specs.declared.term.Form.TheVariants.{Functional, Prefix, Infix, Postfix}
 use Rattle.prolog_terms.specs.Tree.{Tree, Trees, variable, constant, atom, compound, listed, tailed, curly, paren, more, none, span_of, depth}
-use Rattle.prolog_terms.specs.Reserved.{is_among, operator_names, calling_names}
+use Rattle.prolog_terms.specs.Reserved.{is_among, operator_names, calling_names, begins_with_letter}
 
 -- the tokens are a part of those of the text
 pub record ArePart (text : List ℕ) (ts : List Token) : Type 0 where
@@ -38,8 +38,9 @@ pub record IsNameAt (text : List ℕ) (ts : List Token) (at : ℕ) (name : List 
   pub is : IsNameText text token name
   pub place : span ≡ record { from = token.start; to = token.end }
 
--- a name that is no operator and takes no goals
+-- a letter name that is no operator and takes no goals
 pub record IsPlain (name : List ℕ) : Type 0 where
+  pub letters : begins_with_letter name ≡ true
   pub no_operator : is_among operator_names name ≡ false
   pub no_caller : is_among calling_names name ≡ false
 

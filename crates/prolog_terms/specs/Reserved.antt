@@ -1,5 +1,5 @@
--- The names that a clause of the built form doesn't use: operators, and what calls its arguments.
-use Rattle.std.specs.Prelude.{ℕ, Bool, List, [], ◌∷◌, codes}
+-- The names that a clause of the built form doesn't use: those without letters, operators, and what calls its arguments.
+use Rattle.std.specs.Prelude.{ℕ, Bool, ◌&&◌, ◌||◌, nat_le, List, [], ◌∷◌, slice_index, codes}
 use Rattle.std.specs.List.{list_any}
 use Rattle.std.specs.Str.{bytes_eq}
 
@@ -17,3 +17,7 @@ calling_names =
 
 abbrev pub is_among : List (List ℕ) → List ℕ → Bool
 is_among names name = list_any (λ word. bytes_eq word name) names
+
+-- of the name of a Name token: whether it is made of letters, as it begins with an ASCII small letter or with a character past ASCII
+abbrev pub begins_with_letter : List ℕ → Bool
+begins_with_letter name = (nat_le 97 (slice_index name 0) && nat_le (slice_index name 0) 122) || nat_le 128 (slice_index name 0)

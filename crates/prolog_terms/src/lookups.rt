@@ -4,7 +4,7 @@ ghost use Rattle.std.specs.Prelude.{◌≡◌, ◌+◌, ◌↔◌, length, slice
 ghost use Rattle.prolog_terms.specs.Plain.{ArePart, IsPlain, IsNameAt, IsVariableAt, OpensAt, ClosesAt, IsNeckAt, IsLastEnd, kind_at};
 ghost use Rattle.prolog_terms.specs.Reading.{HasNoName, HasNoPlainName, HasNoVariable, HasNoClosing};
 
-use crate::reserved::{is_operator, takes_goals};
+use crate::reserved::{begins_with_letter, is_operator, takes_goals};
 use crate::term::Span;
 use prolog_tokens::{Kind, Token, name_slice};
 
@@ -30,10 +30,13 @@ pub fn is_kind_at(tokens: &[Token], at: usize, kind: Kind) -> bool
     }
 }
 
-/// Whether a name may stand in a term: it is no operator and takes no goals.
+/// Whether a name may stand in a term: it is made of letters, is no operator and takes no goals.
 fn is_plain(name: &str) -> bool
     ensures { IsTrue result ↔ IsPlain name.now }
 {
+    if !begins_with_letter(name) {
+        return false;
+    }
     if is_operator(name) {
         return false;
     }

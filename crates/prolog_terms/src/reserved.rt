@@ -1,5 +1,5 @@
 ghost use Rattle.std.specs.Prelude.{◌≡◌};
-ghost use Rattle.prolog_terms.specs.Reserved.{is_among, operator_names, calling_names};
+ghost use Rattle.prolog_terms.specs.Reserved.{is_among, operator_names, calling_names, begins_with_letter};
 ghost use Rattle.std.specs.List.{list_any};
 ghost use Rattle.std.specs.Str.{bytes_eq};
 
@@ -40,4 +40,14 @@ pub fn takes_goals(name: &str) -> bool
         "phrase",
     ];
     is_one_of(&callers, name)
+}
+
+/// Whether the name of a Name token is made of letters.
+pub fn begins_with_letter(name: &str) -> bool
+    ensures { result ≡ begins_with_letter name.now }
+{
+    match name.as_bytes().first() {
+        Some(&byte) => byte.is_ascii_lowercase() || byte >= 128,
+        None => false,
+    }
 }

@@ -82,7 +82,8 @@ fn reads_facts_and_rules(rt: HostRuntime) -> Result<(), Fail> {
         "p(X) :- q(X), r.",
         "infix :-@0-15(p@0-4(_@2-3;);infix ,@8-15(q@8-12(_@10-11;);r@14-15;);)",
     )?;
-    expect_read(&rt, alloc, "p :- X.", "infix :-@0-6(p@0-1;_@5-6;)")
+    expect_read(&rt, alloc, "p :- X.", "infix :-@0-6(p@0-1;_@5-6;)")?;
+    expect_read(&rt, alloc, "été(É).", "été@0-9(_@6-8;)")
 }
 
 #[test]
@@ -100,6 +101,12 @@ fn refuses_what_is_no_clause(rt: HostRuntime) -> Result<(), Fail> {
         "",
         "p",
         "p. q.",
+        "p :- !.",
+        "p(+).",
+        "p :- 7.",
+        "'p'.",
+        "p(\"s\").",
+        "p([]).",
     ];
     for text in texts {
         assert!(rt; text.len() <= 16);

@@ -1,11 +1,10 @@
 -- A text as layout and tokens in turn, and where it isn't one.
 use Rattle.std.specs.Prelude.{◌≡◌, ℕ, zero, suc, ◌<◌, ◌⊎◌, ◌↔◌, List, [], ◌∷◌, length, IsTrue}
-use Rattle.prolog_tokens.specs.declared.token.Kind.{Kind}
 use Rattle.prolog_tokens.specs.declared.token.Token.{Token}
-use Rattle.prolog_tokens.specs.declared.cut.Next.{Next}
-use Rattle.prolog_tokens.specs.declared.cut.Next.TheVariants.{Found, Nothing, Stuck}
-use Rattle.prolog_tokens.specs.Layout.{Sort, IsPiece, IsLayout}
-use Rattle.prolog_tokens.specs.Spelling.{Spells, IsSpelled}
+use Rattle.prolog_tokens.specs.declared.token.TokenFault.{TokenFault}
+use Rattle.prolog_tokens.specs.Layout.{IsLayout}
+use Rattle.prolog_tokens.specs.Spelling.{IsSpelled}
+use Rattle.prolog_tokens.specs.Faults.{IsWrong}
 
 -- the token stands next after the place, behind layout alone
 pub record IsNext (text : List ℕ) (at : ℕ) (t : Token) : Type 0 where
@@ -24,23 +23,18 @@ pub record IsCut (text : List ℕ) (ts : List Token) : Type 0 where
   pub stand : StandBetween text 0 ts last
   pub layout : IsLayout text last (length text)
 
--- no token and no layout begins at the place
-pub record BeginsNone (text : List ℕ) (a : ℕ) : Type 0 where
-  pub no_token : (k : Kind) (e : ℕ) → Spells text a e k → ⊥
-  pub no_layout : (s : Sort) (e : ℕ) → IsPiece text a e s → ⊥
-
--- layout leads from the place to one within the text where none begins
-pub record IsStuck (text : List ℕ) (at : ℕ) : Type 0 where
+-- behind layout from the place on something is wrong
+pub record IsWrongNext (text : List ℕ) (at : ℕ) (fault : TokenFault) : Type 0 where
   pub place : ℕ
   pub layout : IsLayout text at place
-  pub within : place < length text
-  pub begins_none : BeginsNone text place
+  pub wrong : IsWrong text place fault
 
--- what stands next after the place
-abbrev pub NextIs : List ℕ → ℕ → Next → Type 0
-NextIs text at (Found t) = IsNext text at t
-NextIs text at Nothing = IsLayout text at (length text)
-NextIs text at Stuck = IsStuck text at
+-- tokens with layout between them lead to a place where something is wrong
+pub record HasFault (text : List ℕ) (fault : TokenFault) : Type 0 where
+  pub tokens : List Token
+  pub last : ℕ
+  pub stand : StandBetween text 0 tokens last
+  pub next : IsWrongNext text last fault
 
 -- where the first k of the tokens that stand from the place on have ended
 abbrev pub ended : ℕ → List Token → ℕ → ℕ

@@ -1,5 +1,13 @@
 pub mod Chars
+pub mod Digits
+pub mod Escapes
+pub mod Quoted
+pub mod Numbers
 pub mod Layout
 pub mod Spelling
+pub mod Faults
 pub mod Cut
 pub mod Values
+pub mod Places
+pub mod Ends
+pub mod Begins

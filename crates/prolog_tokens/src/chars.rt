@@ -1,70 +1,182 @@
-ghost use Rattle.std.specs.Prelude.{◌≡◌};
-ghost use Rattle.prolog_tokens.specs.Chars.{byte_class, class_at as class_of_place, continues, is_graphic};
+ghost use Rattle.std.specs.Prelude.{◌≡◌, ◌≢◌, ◌<◌, ◌≤◌, ◌↔◌, length, slice_index, IsTrue};
+ghost use Rattle.prolog_tokens.specs.Chars.{ascii_class, letter_class, past_ascii, class_at as class_of_place, continues, is_graphic};
+ghost use Rattle.prolog_tokens.specs.Numbers.{IsChar};
 
-/// What a character is to the tokens. Bytes past ASCII, the vertical tab and the form feed are
-/// `Other` in the built form.
+use unicode::properties::{GeneralCategory, is_xid_continue, is_xid_start};
+
+/// What a character is to the tokens (ISO/IEC 13211-1, 6.5).
 #[derive(Clone, Copy, Debug, PartialEq, Eq)]
 pub enum Class {
     White,
     Small,
     Capital,
     Digit,
+    SingleQuote,
+    DoubleQuote,
+    BackQuote,
     RoundOpen,
     RoundClose,
+    SquareOpen,
+    SquareClose,
+    CurlyOpen,
+    CurlyClose,
     CommaSign,
+    BarSign,
     Percent,
     Dot,
+    Slash,
+    Solo,
     Graphic,
+    /// It goes on a word, and begins none.
+    Further,
+    /// U+FEFF.
+    OrderMark,
+    /// A byte within a character.
+    Inner,
     Other,
 }
 
 impl Class {
-    pub fn of(byte: u8) -> Class
-        ensures { result ≡ byte_class byte }
-    {
-        match byte {
-            b'\t' | b'\n' | b'\r' | b' ' => Class::White,
-            b'a'..=b'z' => Class::Small,
-            b'A'..=b'Z' | b'_' => Class::Capital,
-            b'0'..=b'9' => Class::Digit,
-            b'(' => Class::RoundOpen,
-            b')' => Class::RoundClose,
-            b',' => Class::CommaSign,
-            b'%' => Class::Percent,
-            b'.' => Class::Dot,
-            b'#' | b'$' | b'&' | b'*' | b'+' | b'-' | b'/' | b':' => Class::Graphic,
-            b'<' | b'=' | b'>' | b'?' | b'@' | b'^' | b'~' | b'\\' => Class::Graphic,
-            _ => Class::Other,
-        }
-    }
-
     /// Whether the character goes on a word.
+    #[inline(always)]
     pub fn continues(self) -> bool
         ensures { result ≡ continues self }
     {
         match self {
-            Class::Small | Class::Capital | Class::Digit => true,
+            Class::Small | Class::Capital | Class::Digit | Class::Further | Class::Inner => true,
             _ => false,
         }
     }
 
-    /// Whether runs are made of the character.
+    /// Whether graphic tokens are made of the character.
+    #[inline(always)]
     pub fn is_graphic(self) -> bool
         ensures { result ≡ is_graphic self }
     {
         match self {
-            Class::Dot | Class::Graphic => true,
+            Class::Dot | Class::Slash | Class::Graphic => true,
             _ => false,
         }
     }
 }
 
-/// The class of the character at `at`, and `Other` past the end.
-pub fn class_at(bytes: &[u8], at: usize) -> Class
-    ensures { result ≡ class_of_place bytes.now at }
+/// The class of an ASCII character.
+#[inline(always)]
+fn ascii_class(byte: u8) -> Class
+    ensures { result ≡ ascii_class byte }
 {
-    match bytes.get(at) {
-        Some(&byte) => Class::of(byte),
+    match byte {
+        9..=13 | b' ' => Class::White,
+        b'a'..=b'z' => Class::Small,
+        b'A'..=b'Z' | b'_' => Class::Capital,
+        b'0'..=b'9' => Class::Digit,
+        b'\'' => Class::SingleQuote,
+        b'"' => Class::DoubleQuote,
+        b'`' => Class::BackQuote,
+        b'(' => Class::RoundOpen,
+        b')' => Class::RoundClose,
+        b'[' => Class::SquareOpen,
+        b']' => Class::SquareClose,
+        b'{' => Class::CurlyOpen,
+        b'}' => Class::CurlyClose,
+        b',' => Class::CommaSign,
+        b'|' => Class::BarSign,
+        b'%' => Class::Percent,
+        b'.' => Class::Dot,
+        b'/' => Class::Slash,
+        b'!' | b';' => Class::Solo,
+        b'#' | b'$' | b'&' | b'*' | b'+' | b'-' | b':' => Class::Graphic,
+        b'<' | b'=' | b'>' | b'?' | b'@' | b'^' | b'~' | b'\\' => Class::Graphic,
+        _ => Class::Other,
+    }
+}
+
+/// The class of a letter past ASCII of this category.
+fn letter_class(category: GeneralCategory) -> Class
+    ensures { result ≡ letter_class category }
+{
+    match category {
+        GeneralCategory::UppercaseLetter | GeneralCategory::TitlecaseLetter => Class::Capital,
+        _ => Class::Small,
+    }
+}
+
+/// The class of a character past ASCII.
+fn past_ascii(c: char) -> Class
+    ensures { result ≡ past_ascii c }
+{
+    if c.is_whitespace() {
+        return Class::White;
+    }
+    if c == '\u{feff}' {
+        return Class::OrderMark;
+    }
+    if is_xid_start(c) {
+        return letter_class(GeneralCategory::for_char(c));
+    }
+    if is_xid_continue(c) {
+        return Class::Further;
+    }
+    Class::Other
+}
+
+/// The class of the character past ASCII that begins at a place, and `Inner` within one.
+#[cold]
+fn far_class_at(text: &str, at: usize) -> Class
+    requires within { at < length text.now }
+    requires far { 128 ≤ slice_index text.now at }
+    ensures { result ≡ class_of_place text.now at }
+{
+    if text.as_bytes()[at] < 192 {
+        return Class::Inner;
+    }
+    match text[at..].chars().next() {
+        Some(c) => past_ascii(c),
         None => Class::Other,
     }
+}
+
+/// The class of the character that begins at a place, `Inner` within a character, and `Other`
+/// past the end.
+#[inline(always)]
+pub fn class_at(text: &str, at: usize) -> Class
+    ensures { result ≡ class_of_place text.now at }
+{
+    let bytes = text.as_bytes();
+    if at >= bytes.len() {
+        return Class::Other;
+    }
+    let byte = bytes[at];
+    if byte < 128 {
+        return ascii_class(byte);
+    }
+    far_class_at(text, at)
+}
+
+/// Whether the byte at a place stands within a character.
+pub fn is_inner(bytes: &[u8], at: usize) -> bool
+    requires { at < length bytes.now }
+    ensures { IsTrue result ↔ (class_of_place bytes.now at ≡ Class.Inner) }
+{
+    let byte = bytes[at];
+    if byte < 128 {
+        return false;
+    }
+    byte < 192
+}
+
+/// The end of the character that begins at a place.
+pub fn char_end(bytes: &[u8], at: usize) -> usize
+    requires within { at < length bytes.now }
+    requires begins { class_of_place bytes.now at ≢ Class.Inner }
+    ensures { IsChar bytes.now at result }
+{
+    let mut end = at + 1;
+    while end < bytes.len() {
+        if !is_inner(bytes, end) {
+            return end;
+        }
+        end += 1;
+    }
+    end
 }

@@ -1,19 +1,14 @@
-ghost use Rattle.std.specs.Prelude.{◌≡◌, ℕ, ◌<◌, ◌≤◌, ◌⊎◌, ◌↔◌, List, length, IsTrue, IfOk, IsErrOf};
+ghost use Rattle.std.specs.Prelude.{◌≡◌, ◌≢◌, ℕ, ◌<◌, ◌≤◌, ◌⊎◌, ◌↔◌, List, length, IsTrue, IfOk, IfErr, IfSome, MatchOption, MatchResult};
+ghost use Rattle.prolog_tokens.specs.Chars.{class_at as class_of_place};
 ghost use Rattle.prolog_tokens.specs.Layout.{IsLayout};
-ghost use Rattle.prolog_tokens.specs.Cut.{IsNext, IsCut, IsStuck, NextIs};
+ghost use Rattle.prolog_tokens.specs.Cut.{IsNext, IsCut, IsWrongNext, HasFault};
+ghost use Rattle.prolog_tokens.specs.Places.{IsOffset, fault_offset};
+ghost use Rattle.prolog_tokens.specs.declared.chars.Class.TheVariants.{Inner};
 
 use crate::layout::layout_end;
 use crate::spelling::spell;
 use crate::token::{Token, TokenFault};
 use std::alloc::Global;
-
-/// What stands next in a text behind a place.
-#[derive(Clone, Copy, Debug)]
-enum Next {
-    Found(Token),
-    Nothing,
-    Stuck,
-}
 
 /// Whether layout or the beginning of the text stands directly before `start`, where the token
 /// before it ended at `at`.
@@ -23,46 +18,43 @@ fn stands_apart(at: usize, start: usize) -> bool
     at == 0 || at < start
 }
 
-/// The token behind the layout that begins at `at`.
-fn next_token(bytes: &[u8], at: usize) -> Next
-    requires small { length bytes.now ≤ 8388608 }
-    requires within { at ≤ length bytes.now }
-    ensures { NextIs bytes.now at result }
+/// The token that stands next after `at`, behind layout, or None where the text ends.
+fn next_token(text: &str, at: usize) -> Result<Option<Token>, TokenFault>
+    requires small { length text.now ≤ 8388608 }
+    requires within { at ≤ length text.now }
+    requires begins { class_of_place text.now at ≢ Inner }
+    ensures { MatchResult result (λ next. MatchOption next (IsLayout text.now at (length text.now)) (λ token. IsNext text.now at token)) (λ fault. IsWrongNext text.now at fault) }
 {
-    let start = layout_end(bytes, at);
-    if start == bytes.len() {
-        return Next::Nothing;
+    let start = layout_end(text, at)?;
+    if start == text.len() {
+        return Ok(None);
     }
-    match spell(bytes, start) {
-        Some(spelling) => Next::Found(Token {
-            kind: spelling.kind,
-            start: start as u32,
-            end: spelling.end as u32,
-            after_layout: stands_apart(at, start),
-        }),
-        None => Next::Stuck,
-    }
+    let spelling = spell(text, start)?;
+    Ok(Some(Token {
+        kind: spelling.kind,
+        start: start as u32,
+        end: spelling.end as u32,
+        after_layout: stands_apart(at, start),
+    }))
 }
 
-/// The tokens of a text of at most 8,388,608 bytes. A text that isn't made of layout and tokens
-/// of the built form is `NotBuilt`.
+/// The tokens of a text of at most 8,388,608 bytes, or what is wrong first in it (ISO/IEC 13211-1,
+/// 6.4; `docs/syntax.md` has the profile).
 pub fn tokens(alloc: Global, text: &str) -> Result<Vec<Token>, TokenFault>
     requires { length text.now ≤ 8388608 }
     ensures ok { IfOk result (λ found. IsCut text.now found.items) }
     ensures only { IfOk result (λ found. (others : List Token) → IsCut text.now others → others ≡ found.items) }
-    ensures not_built { IsErrOf result TokenFault.NotBuilt → (others : List Token) → IsCut text.now others → ⊥ }
+    ensures no_fault { IfOk result (λ _. (fault : TokenFault) → HasFault text.now fault → ⊥) }
+    ensures fault { IfErr result (λ fault. fault ≢ TokenFault.NoMemory → HasFault text.now fault) }
+    ensures only_fault { IfErr result (λ fault. fault ≢ TokenFault.NoMemory → (other : TokenFault) → HasFault text.now other → other ≡ fault) }
+    ensures no_cut { IfErr result (λ fault. fault ≢ TokenFault.NoMemory → (others : List Token) → IsCut text.now others → ⊥) }
+    ensures place { IfErr result (λ fault. IfSome (fault_offset fault) (λ at. IsOffset text.now at)) }
 {
-    let bytes = text.as_bytes();
     let mut found = Vec::new(alloc);
     let mut at = 0;
-    loop {
-        match next_token(bytes, at) {
-            Next::Found(token) => {
-                at = token.end as usize;
-                found.push(token).map_err(|_| TokenFault::NoMemory)?;
-            }
-            Next::Nothing => return Ok(found),
-            Next::Stuck => return Err(TokenFault::NotBuilt),
-        }
+    while let Some(token) = next_token(text, at)? {
+        at = token.end as usize;
+        found.push(token)?;
     }
+    Ok(found)
 }

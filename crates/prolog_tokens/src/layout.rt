@@ -1,22 +1,163 @@
-ghost use Rattle.std.specs.Prelude.{◌≡◌, ◌≢◌, ◌≤◌, length};
-ghost use Rattle.prolog_tokens.specs.Chars.{class_at};
-ghost use Rattle.prolog_tokens.specs.Layout.{IsLayout};
+ghost use Rattle.std.specs.Prelude.{◌≡◌, ◌≢◌, ◌<◌, ◌≤◌, ◌⊎◌, ◌↔◌, length, IsTrue, IfOk, IfErr, MatchOption, MatchResult};
+ghost use Rattle.prolog_tokens.specs.Chars.{class_at as class_of_place};
+ghost use Rattle.prolog_tokens.specs.Layout.{GoesToNewline, IsOpener, IsCloser, IsOrderMark, IsBracketed, IsHashBang, Sort, bracketed, IsPiece, IsLayout};
+ghost use Rattle.prolog_tokens.specs.Faults.{IsOpenComment, IsWrong};
+ghost use Rattle.prolog_tokens.specs.Begins.{BeginsNoLayout};
+ghost use Rattle.prolog_tokens.specs.Cut.{IsWrongNext};
 
-use crate::chars::Class;
+use crate::chars::{Class, char_end, class_at};
+use crate::token::TokenFault;
 
-/// The end of the layout that begins at `from`.
-pub fn layout_end(bytes: &[u8], from: usize) -> usize
+/// The next newline from `from` on, or the end of the text.
+fn newline_at(bytes: &[u8], from: usize) -> usize
     requires { from ≤ length bytes.now }
-    ensures within { result ≤ length bytes.now }
-    ensures layout { IsLayout bytes.now from result }
-    ensures stops { class_at bytes.now result ≢ Class.White }
+    ensures { GoesToNewline bytes.now from result }
 {
     let mut end = from;
     while end < bytes.len() {
-        if Class::of(bytes[end]) != Class::White {
+        if bytes[end] == b'\n' {
             return end;
         }
         end += 1;
     }
     end
+}
+
+/// Whether `/*` stands at a place.
+fn is_opener(bytes: &[u8], at: usize) -> bool
+    requires { at < length bytes.now }
+    ensures { IsTrue result ↔ IsOpener bytes.now at }
+{
+    if bytes[at] != b'/' {
+        return false;
+    }
+    let next = at + 1;
+    if next == bytes.len() {
+        return false;
+    }
+    bytes[next] == b'*'
+}
+
+/// Whether `*/` stands at a place.
+fn is_closer(bytes: &[u8], at: usize) -> bool
+    requires { at < length bytes.now }
+    ensures { IsTrue result ↔ IsCloser bytes.now at }
+{
+    if bytes[at] != b'*' {
+        return false;
+    }
+    let next = at + 1;
+    if next == bytes.len() {
+        return false;
+    }
+    bytes[next] == b'/'
+}
+
+/// The end of the bracketed comment that begins at `start`, or None where it isn't closed.
+fn bracketed_end(bytes: &[u8], start: usize) -> Option<usize>
+    requires within { start < length bytes.now }
+    requires opens { IsOpener bytes.now start }
+    ensures { MatchOption result (IsOpenComment bytes.now start) (λ end. IsBracketed bytes.now start end) }
+{
+    let mut close = start + 2;
+    while close < bytes.len() {
+        if is_closer(bytes, close) {
+            return Some(close + 2);
+        }
+        close += 1;
+    }
+    None
+}
+
+/// The end of the bracketed comment that begins at `at`, or None where none does.
+fn comment_end(bytes: &[u8], at: usize) -> Result<Option<usize>, TokenFault>
+    requires small { length bytes.now ≤ 8388608 }
+    requires within { at < length bytes.now }
+    ensures { MatchResult result (λ found. MatchOption found (IsOpener bytes.now at → ⊥) (λ end. IsPiece bytes.now at end bracketed)) (λ fault. IsWrong bytes.now at fault) }
+{
+    if !is_opener(bytes, at) {
+        return Ok(None);
+    }
+    match bracketed_end(bytes, at) {
+        Some(end) => Ok(Some(end)),
+        None => Err(TokenFault::OpenComment(at as u32)),
+    }
+}
+
+/// Whether `at` is the beginning of the text or stands directly behind the U+FEFF there.
+fn opens_text(text: &str, at: usize) -> bool
+    requires { at < length text.now }
+    ensures { IsTrue result ↔ ((at ≡ 0) ⊎ IsOrderMark text.now at) }
+{
+    if at == 0 {
+        return true;
+    }
+    match class_at(text, 0) {
+        Class::OrderMark => char_end(text.as_bytes(), 0) == at,
+        _ => false,
+    }
+}
+
+/// Whether `#!` stands at a place where it begins layout.
+fn is_hash_bang(text: &str, at: usize) -> bool
+    requires { at < length text.now }
+    ensures { IsTrue result ↔ IsHashBang text.now at }
+{
+    let bytes = text.as_bytes();
+    if bytes[at] != b'#' {
+        return false;
+    }
+    let next = at + 1;
+    if next == bytes.len() {
+        return false;
+    }
+    if bytes[next] != b'!' {
+        return false;
+    }
+    opens_text(text, at)
+}
+
+/// The end of the piece of layout that begins at `at`, or None where none does.
+fn piece_end(text: &str, at: usize) -> Result<Option<usize>, TokenFault>
+    requires small { length text.now ≤ 8388608 }
+    requires within { at ≤ length text.now }
+    ensures { MatchResult result (λ found. MatchOption found (BeginsNoLayout text.now at) (λ end. (sort : Sort) × IsPiece text.now at end sort)) (λ fault. IsWrong text.now at fault) }
+{
+    let bytes = text.as_bytes();
+    match class_at(text, at) {
+        Class::White => Ok(Some(char_end(bytes, at))),
+        Class::Percent => Ok(Some(newline_at(bytes, at))),
+        Class::Slash => comment_end(bytes, at),
+        Class::OrderMark => {
+            if at != 0 {
+                return Ok(None);
+            }
+            Ok(Some(char_end(bytes, at)))
+        }
+        Class::Graphic => {
+            if !is_hash_bang(text, at) {
+                return Ok(None);
+            }
+            Ok(Some(newline_at(bytes, at)))
+        }
+        _ => Ok(None),
+    }
+}
+
+/// The end of the layout that begins at `from`.
+pub fn layout_end(text: &str, from: usize) -> Result<usize, TokenFault>
+    requires small { length text.now ≤ 8388608 }
+    requires within { from ≤ length text.now }
+    requires begins { class_of_place text.now from ≢ Class.Inner }
+    ensures layout { IfOk result (λ end. IsLayout text.now from end) }
+    ensures within { IfOk result (λ end. end ≤ length text.now) }
+    ensures begins { IfOk result (λ end. class_of_place text.now end ≢ Class.Inner) }
+    ensures no_layout { IfOk result (λ end. BeginsNoLayout text.now end) }
+    ensures fault { IfErr result (λ fault. IsWrongNext text.now from fault) }
+{
+    let mut end = from;
+    while let Some(next) = piece_end(text, end)? {
+        end = next;
+    }
+    Ok(end)
 }

@@ -3,17 +3,27 @@
 
 mod chars;
 mod cut;
+mod digits;
+mod escapes;
 mod laws;
 mod layout;
+mod numbers;
+#[cfg(test)]
+mod place_tests;
+mod places;
+mod quoted;
 mod spelling;
 #[cfg(test)]
 mod tests;
 mod text;
 mod token;
+#[cfg(test)]
+mod value_tests;
 mod values;
 
 pub use cut::tokens;
-pub use laws::{cut_is_text, cut_tokens, one_cut};
+pub use laws::{cut_fewer, cut_tokens, fault_is_no_cut, one_cut, one_fault};
+pub use places::{place_of, places_of};
 pub use text::Text;
 pub use token::{Kind, Place, Token, TokenFault};
-pub use values::{name_slice, name_text};
+pub use values::{integer_value, name_slice, name_text};

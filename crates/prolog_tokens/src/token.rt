@@ -1,3 +1,7 @@
+ghost use Rattle.std.specs.Prelude.{◌≡◌};
+ghost use Rattle.prolog_tokens.specs.Places.{fault_offset as offset_of};
+
+use std::alloc::{AllocError, AllocFailed};
 use thiserror::Error;
 
 /// A place in a text, counted from 1 by lines and characters.
@@ -38,12 +42,41 @@ pub struct Token {
     pub after_layout: bool,
 }
 
-/// Why a text has no list of tokens.
-#[derive(Debug, Drop, Error)]
+/// Why a text has no list of tokens, each with its byte offset.
+#[derive(Clone, Copy, Debug, PartialEq, Eq, Error)]
 pub enum TokenFault {
-    /// The text holds what isn't built yet.
-    #[error("text is outside the built form")]
-    NotBuilt,
+    /// A character that begins no token and no layout.
+    #[error("character cannot begin a token")]
+    BadChar(u32),
+    /// A quote that isn't closed.
+    #[error("quoted item is not closed")]
+    OpenQuote(u32),
+    /// A `/*` that isn't closed.
+    #[error("comment is not closed")]
+    OpenComment(u32),
+    /// The backslash of an escape that may not stand there.
+    #[error("escape is not known")]
+    BadEscape(u32),
     #[error("out of memory")]
     NoMemory,
+}
+
+impl From<AllocError> for TokenFault {
+    ghost use Rattle.prolog_tokens.specs.declared.token.TokenFault.TheVariants.{NoMemory};
+
+    ghost from_gives = { λ _ fault. fault ≡ NoMemory };
+
+    fn from(_error: AllocError) -> TokenFault {
+        TokenFault::NoMemory
+    }
+}
+
+impl<T: Drop> From<AllocFailed<T>> for TokenFault {
+    ghost use Rattle.prolog_tokens.specs.declared.token.TokenFault.TheVariants.{NoMemory};
+
+    ghost from_gives = { λ _ fault. fault ≡ NoMemory };
+
+    fn from(_error: AllocFailed<T>) -> TokenFault {
+        TokenFault::NoMemory
+    }
 }

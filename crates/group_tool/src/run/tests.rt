@@ -69,6 +69,20 @@ fn answers_texts(rt: HostRuntime) -> Result<(), Fail> {
         ("p (X).\n", 3, "", outside),
         ("X :- p.\n", 3, "", outside),
         ("p :- q\n", 3, "", outside),
+        ("p :- !.\n", 3, "", outside),
+        ("'p'.\n", 3, "", outside),
+        (
+            "#! a script\n/* two\n * lines */ p(/**/) :- p (X). % no arguments\n",
+            3,
+            "",
+            outside,
+        ),
+        (
+            "\u{FEFF}#!x\n% h\nété(X):-\u{A0}Ñu,/* . */été(X).%",
+            0,
+            "predicates 1 groups 1 recursive 1 levels 1\n0 recursive user:été/1\n",
+            "",
+        ),
     ];
     for (text, status, on_out, on_err) in rows {
         let alloc = rt.alloc();
@@ -90,6 +104,66 @@ fn answers_texts(rt: HostRuntime) -> Result<(), Fail> {
         assert_eq!(rt; shown(&err), on_err, "at {text}");
         assert_eq!(rt; library.asked().len(), 1);
     }
+    Ok(())
+}
+
+#[test]
+fn tells_faults_with_their_places(rt: HostRuntime) -> Result<(), Fail> {
+    let rows = [
+        ("/* open", "f.pl:1:1: comment is not closed\n"),
+        ("p('a", "f.pl:1:3: quoted item is not closed\n"),
+        ("p('\\q').", "f.pl:1:4: escape is not known\n"),
+        ("\u{1}p.", "f.pl:1:1: character cannot begin a token\n"),
+        (
+            "p.\nété. \u{2028}\u{1}",
+            "f.pl:2:7: character cannot begin a token\n",
+        ),
+        ("p :- 0'\\q, 'a", "f.pl:1:8: escape is not known\n"),
+        ("p :- 7.\n'a\\q", "f.pl:2:3: escape is not known\n"),
+        ("p. #!x /", "f.pl: text is outside the built form\n"),
+    ];
+    for (text, wanted) in rows {
+        let alloc = rt.alloc();
+        let words = one_word(alloc, "f.pl")?;
+        let mut library = one_file(alloc, "f.pl", text)?;
+        let mut out = MemorySink::with_room(alloc, 1000)?;
+        let mut err = MemorySink::with_room(alloc, 1000)?;
+        let result = run_groups(
+            &rt,
+            alloc,
+            &words,
+            &mut library,
+            &mut out,
+            &mut err,
+            &OpenGate,
+        );
+        assert_eq!(rt; result, 3, "at {text}");
+        assert_eq!(rt; shown(&err), wanted, "at {text}");
+        assert_eq!(rt; out.taken().len(), 0);
+    }
+    Ok(())
+}
+
+#[test]
+fn tells_the_first_byte_that_begins_no_character(rt: HostRuntime) -> Result<(), Fail> {
+    let alloc = rt.alloc();
+    let words = one_word(alloc, "f.pl")?;
+    let mut files = BTreeMap::new(alloc);
+    files.insert(Text::new(alloc, "f.pl")?, b"'\\q.\n\xFF".to_vec(alloc)?)?;
+    let mut library = MemoryLibrary::new(alloc, files, Vec::new(alloc))?;
+    let mut out = MemorySink::with_room(alloc, 1000)?;
+    let mut err = MemorySink::with_room(alloc, 1000)?;
+    let result = run_groups(
+        &rt,
+        alloc,
+        &words,
+        &mut library,
+        &mut out,
+        &mut err,
+        &OpenGate,
+    );
+    assert_eq!(rt; result, 3);
+    assert_eq!(rt; shown(&err), "f.pl:2:1: byte is not UTF-8\n");
     Ok(())
 }
 

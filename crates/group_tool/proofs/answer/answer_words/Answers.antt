@@ -1,5 +1,6 @@
-use Rattle.std.proofs.Common.{◌≡◌, Some, subst}
+use Rattle.std.proofs.Common.{◌≡◌, Some, None, ap, ◌∙◌, subst, inl}
 use Rattle.file_library.specs.Library.{Files, IsFound}
+use Rattle.group_tool.specs.Answer.{absent_line}
 use Rattle.group_tool.specs.Outcome.{TextOutcomeIs}
 use Rattle.group_tool.proofs.AnswerLemmas.{found_outcome}
 use Rattle.group_tool.proofs.answer.answer_words.Goals as goal
@@ -13,3 +14,14 @@ returns-in-Found g c =
     let is = subst (λ n. TextOutcomeIs n room outcome) c.as_str-in-Found.ensures (subst (λ r. TextOutcomeIs c.as_str-in-Found.result.now r outcome) c.deref.ensures.value c.answer_text.ensures) in
     found_outcome c.args.words.now (g.L.Library.files c.args.library.now) (g.L.Library.asked c.read.new.self) (g.L.Library.faults c.args.library.now)
     (g.L.Library.faults c.read.new.self) (g.L.Library.misses c.args.library.now) (g.L.Library.misses c.read.new.self) name room outcome c.in-Some.ensures found is
+
+pub returns-in-Ok : goal.returns-in-Ok
+returns-in-Ok g c = (
+  c.in-Some.name.now,
+  c.in-Some.ensures,
+  inl (record {
+    missed = c.in-Absent.ensures.answer.1;
+    none = λ files tells. subst (λ n. files n ≡ None) c.as_str.ensures (c.in-Absent.ensures.answer.2 files tells);
+    is = c.in-Ok.ensures ∙ ap absent_line c.as_str-in-Absent.ensures;
+  }),
+)

@@ -7,14 +7,14 @@ pub loop-end-init : goal.loop-end-init
 loop-end-init c = record {
   some = omega arith;
   within = omega arith;
-  graphic = places_more (λ k. is_graphic (class_at c.args.bytes.now k) ≡ true) c.args.start c.args.start (λ k from below. absurd (omega arith)) c.requires.graphic;
+  graphic = places_more (λ k. is_graphic (class_at c.args.text.now k) ≡ true) c.args.start c.args.start (λ k from below. absurd (omega arith)) c.requires.graphic;
 }
 
 pub loop-end-preserved : goal.loop-end-preserved
 loop-end-preserved c =
-    let is : is_graphic (class_at c.args.bytes.now c.loop-end.end) ≡ true = search rules in
+    let is : is_graphic (class_at c.args.text.now c.loop-end.end) ≡ true = search rules in
     record {
       some = omega arith;
       within = omega arith;
-      graphic = places_more (λ k. is_graphic (class_at c.args.bytes.now k) ≡ true) c.args.start c.loop-end.end c.loop-end.invariant.graphic is;
+      graphic = places_more (λ k. is_graphic (class_at c.args.text.now k) ≡ true) c.args.start c.loop-end.end c.loop-end.invariant.graphic is;
     }

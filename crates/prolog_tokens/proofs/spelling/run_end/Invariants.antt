@@ -5,9 +5,9 @@ use Rattle.prolog_tokens.proofs.spelling.run_end.Given as goal
 abbrev pub invariant-loop-end : goal.invariant-loop-end
 invariant-loop-end l = record {
   some : l.start < l.end;
-  within : l.end ≤ length l.bytes;
-  graphic : (k : ℕ) → l.start ≤ k → k < l.end → is_graphic (class_at l.bytes k) ≡ true;
+  within : l.end ≤ length l.text;
+  graphic : (k : ℕ) → l.start ≤ k → k < l.end → is_graphic (class_at l.text k) ≡ true;
 }
 
 abbrev pub decreases-loop-end : goal.decreases-loop-end
-decreases-loop-end l = length l.bytes - l.end
+decreases-loop-end l = length l.text - l.end

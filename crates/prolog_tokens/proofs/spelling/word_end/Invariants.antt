@@ -5,9 +5,9 @@ use Rattle.prolog_tokens.proofs.spelling.word_end.Given as goal
 abbrev pub invariant-loop-end : goal.invariant-loop-end
 invariant-loop-end l = record {
   from : l.from ≤ l.end;
-  within : l.end ≤ length l.bytes;
-  goes_on : (k : ℕ) → l.from ≤ k → k < l.end → continues (class_at l.bytes k) ≡ true;
+  within : l.end ≤ length l.text;
+  goes_on : (k : ℕ) → l.from ≤ k → k < l.end → continues (class_at l.text k) ≡ true;
 }
 
 abbrev pub decreases-loop-end : goal.decreases-loop-end
-decreases-loop-end l = length l.bytes - l.end
+decreases-loop-end l = length l.text - l.end
