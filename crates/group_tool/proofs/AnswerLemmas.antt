@@ -5,26 +5,28 @@ use Rattle.std.proofs.lemmas.List.{take_all}
 use Rattle.std.proofs.lemmas.List.Elements.{All-nil, All-cons}
 use Rattle.prolog_tokens.specs.declared.token.Token.{Token}
 use Rattle.prolog_terms.specs.Tree.{Tree}
-use Rattle.prolog_terms.proofs.ClauseEnds.{clause_ends}
+use Rattle.prolog_terms.specs.Words.{Table}
+use Rattle.prolog_terms.proofs.ReaderTables.{IsTable}
+use Rattle.prolog_terms.proofs.ClausesOf.{clause_once}
+use Rattle.prolog_terms.proofs.ClauseArities.{clause_within}
 use Rattle.prolog_terms.specs.Arity.{HasAritiesWithin}
-use Rattle.prolog_terms.proofs.Arities.{arities_more, clause_tokens}
 use Rattle.file_library.specs.Library.{Files, IsFound}
 use Rattle.group_tool.specs.declared.outcome.Outcome.{Outcome}
 use Rattle.group_tool.specs.declared.outcome.Outcome.TheVariants.{Usage, Faults, Unread, Report, NoMemory}
 use Rattle.group_tool.specs.Words.{IsLawful}
-use Rattle.group_tool.specs.Clauses.{AreClauses, IsPlainText}
+use Rattle.group_tool.specs.Clauses.{AreClauses}
 use Rattle.group_tool.specs.TextFault.{IsOutsideForm, IsFaultLine}
 use Rattle.group_tool.specs.Answer.{ReportsText}
 use Rattle.group_tool.specs.Outcome.{TextOutcomeIs}
 use Rattle.group_tool.specs.OutcomeEnd.{OutcomeIs}
 
 -- there are no more clauses than tokens
-pub few_clauses : (text : List ℕ) (ts : List Token) (trees : List Tree) → AreClauses text ts trees → length trees ≤ length ts
-few_clauses text ts [] are = omega arith
-few_clauses text ts (tree ∷ trees) (part, rest, is, clause, are) =
-    let ends = clause_ends text part tree clause in
+pub few_clauses : (T : Table) → IsTable T → (text : List ℕ) (ts : List Token) (trees : List Tree) → AreClauses T text ts trees → length trees ≤ length ts
+few_clauses T ok text ts [] are = omega arith
+few_clauses T ok text ts (tree ∷ trees) (part, rest, is, clause, are) =
+    let ends = clause_once T ok text part tree clause in
     let count : length ts ≡ length part + length rest = ap length is ∙ length-append part rest in
-    omega (arith, few_clauses text rest trees are, count, ends.some)
+    omega (arith, few_clauses T ok text rest trees are, count, ends.some)
 
 -- a text that isn't longer than the limit was read whole
 read_whole : (bytes room : List ℕ) → room ≡ take (65536 + 1) bytes → length room ≤ 65536 → room ≡ bytes
@@ -43,7 +45,7 @@ faulty_whole : (bytes room name line : List ℕ) → room ≡ take (65536 + 1) b
 faulty_whole bytes room name line is fault = read_whole bytes room is fault.has.small
 
 reported_whole : (bytes room report : List ℕ) → room ≡ take (65536 + 1) bytes → ReportsText room report → room ≡ bytes
-reported_whole bytes room report is reports = read_whole bytes room is reports.plain.small
+reported_whole bytes room report is reports = read_whole bytes room is reports.reads.small
 
 pub found_outcome : (words : List (List ℕ)) (told : Option Files) (asked' : List (List ℕ)) (f f' m m' : ℕ) (name room : List ℕ) (outcome : Outcome) → IsLawful words name
     → ((files : Files) → told ≡ Some files → IsFound files name 65536 room) → TextOutcomeIs name room outcome → OutcomeIs words told asked' f f' m m' outcome
@@ -81,9 +83,9 @@ found_outcome words told asked' f f' m m' name room (Report bytes) lawful found 
 found_outcome words told asked' f f' m m' name room NoMemory lawful found is = tt
 
 -- no compound of a clause has more arguments than the text has tokens
-pub clauses_arities : (text : List ℕ) (ts : List Token) (trees : List Tree) (n : ℕ) → length ts ≤ n → AreClauses text ts trees → All (HasAritiesWithin n) trees
-clauses_arities text ts [] n few are = All-nil (HasAritiesWithin n)
-clauses_arities text ts (tree ∷ trees) n few (part, rest, is, clause, are) =
+pub clauses_arities : (T : Table) (text : List ℕ) (ts : List Token) (trees : List Tree) (n : ℕ) → length ts ≤ n → AreClauses T text ts trees → All (HasAritiesWithin n) trees
+clauses_arities T text ts [] n few are = All-nil (HasAritiesWithin n)
+clauses_arities T text ts (tree ∷ trees) n few (part, rest, is, clause, are) =
     let count : length ts ≡ length part + length rest = ap length is ∙ length-append part rest in
-    All-cons (HasAritiesWithin n) tree trees (arities_more (length part) n tree (omega (arith, count)) (clause_tokens text part tree clause))
-    (clauses_arities text rest trees n (omega (arith, count)) are)
+    All-cons (HasAritiesWithin n) tree trees (clause_within T text part tree n (omega (arith, count)) clause)
+    (clauses_arities T text rest trees n (omega (arith, count)) are)

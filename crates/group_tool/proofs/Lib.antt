@@ -1,6 +1,12 @@
 pub mod AnswerLemmas
 pub mod CallGraphLemmas
 pub mod ClauseSplits
+pub mod FirstParts
+pub mod OneReading
+pub mod TermLemmas
+pub mod ErrLemmas
+pub mod ReadOffsets
+pub mod SpelledLemmas
 pub mod GroupingLemmas
 pub mod IndicatorOrder
 pub mod NumberingLemmas

@@ -1,24 +1,26 @@
--- A text has one fault, or clauses, or is outside the built form.
-use Rattle.std.proofs.Common.{◌≡◌, ℕ, ◌<◌, List, length, take, ap, sym, ◌∙◌, subst, refl, inl, inr, arith}
+-- A text has one fault, or a report, or is outside the built form.
+use Rattle.std.proofs.Common.{◌≡◌, ℕ, ◌<◌, true, false, List, length, ap, sym, ◌∙◌, subst, refl, inl, inr, arith}
 use Rattle.std.specs.Str.{IsUtf8, IsValidUpTo}
 use Rattle.std.proofs.lemmas.Bool.{cases_lt}
 use Rattle.std.proofs.Math.Seq.{take-length}
-use Rattle.prolog_tokens.specs.declared.token.Token.{Token}
-use Rattle.prolog_tokens.specs.declared.token.Place.{Place}
 use Rattle.prolog_tokens.specs.declared.token.TokenFault.{TokenFault}
 use Rattle.prolog_tokens.specs.declared.token.TokenFault.TheVariants as of_tokens
 use Rattle.prolog_tokens.proofs.Between.{one_cut}
 use Rattle.prolog_tokens.proofs.Faults.{one_fault, fault_no_cut}
 use Rattle.prolog_tokens.proofs.PlaceSteps.{place_once}
-use Rattle.prolog_tokens.specs.Cut.{IsCut, HasFault}
 use Rattle.prolog_tokens.specs.Places.{IsPlace}
+use Rattle.prolog_terms.specs.declared.reader.ReadFault.{ReadFault}
+use Rattle.prolog_terms.specs.declared.reader.ReadFault.TheVariants as of_clauses
 use Rattle.prolog_terms.specs.Tree.{Tree}
+use Rattle.prolog_terms.proofs.TokenWords.{cut_spelled}
 use Rattle.group_tool.specs.declared.text_fault.Cause.{Cause}
-use Rattle.group_tool.specs.declared.text_fault.Cause.TheVariants.{NotUtf8, BadChar, OpenQuote, OpenComment, BadEscape}
+use Rattle.group_tool.specs.declared.text_fault.Cause.TheVariants.{NotUtf8, BadChar, OpenQuote, OpenComment, BadEscape, Stuck, TooDeep, NoEnd}
 use Rattle.group_tool.specs.declared.text_fault.Fault.{Fault}
 use Rattle.group_tool.specs.declared.text_fault.TextFault.TheVariants.{Wrong}
-use Rattle.group_tool.specs.Clauses.{AreClauses, IsPlainText}
-use Rattle.group_tool.specs.TextFault.{fault_of_tokens, TokensHave, CausedBy, HasTextFault, IsOutsideForm, IsFaultLine, fault_line}
+use Rattle.group_tool.specs.Clauses.{HasClauseFault, ReadsAs, opening_table}
+use Rattle.group_tool.specs.Built.{are_built}
+use Rattle.group_tool.proofs.OneReading.{opening_table_ok, one_reading, one_clause_fault, list_no_fault}
+use Rattle.group_tool.specs.TextFault.{fault_of_tokens, fault_of_clauses, TokensHave, ClausesHave, CausedBy, HasTextFault, IsOutsideForm, IsFaultLine, fault_line}
 
 valid_not_later : (text : List ℕ) (a b : ℕ) → a < b → IsValidUpTo text a → IsValidUpTo text b → ⊥
 valid_not_later text a b lt p q = p.longest b lt q.front
@@ -35,10 +37,11 @@ valid_once text a b p q = elim (cases_lt a b) [
 not_utf8 : (text : List ℕ) (at : ℕ) → IsValidUpTo text at → IsUtf8 text → ⊥
 not_utf8 text at valid utf8 = valid.longest (length text) valid.short (subst IsUtf8 (sym (take-length text)) utf8)
 
--- a fault of a text is one of its bytes or one of its tokens
+-- a fault of a text is one of its bytes, one of its tokens or one of its clauses
 data Seen (text : List ℕ) (fault : Fault) : Type 0 where
   bytes : fault.cause ≡ NotUtf8 → IsValidUpTo text fault.offset → Seen text fault
   tokens : (of : TokenFault) → fault_of_tokens of ≡ Wrong fault → TokensHave text of → Seen text fault
+  clauses : (of : ReadFault) → fault_of_clauses of ≡ Wrong fault → ClausesHave text of → Seen text fault
 
 abbrev fault_from : Cause → ℕ → Fault
 fault_from cause at = record { cause = cause; offset = at }
@@ -49,9 +52,19 @@ seen text at BadChar by = tokens (of_tokens.BadChar at) refl by
 seen text at OpenQuote by = tokens (of_tokens.OpenQuote at) refl by
 seen text at OpenComment by = tokens (of_tokens.OpenComment at) refl by
 seen text at BadEscape by = tokens (of_tokens.BadEscape at) refl by
+seen text at Stuck by = clauses (of_clauses.Stuck at) refl by
+seen text at TooDeep by = clauses (of_clauses.TooDeep at) refl by
+seen text at NoEnd by = clauses (of_clauses.NoEnd at) refl by
 
 seen_fault : (text : List ℕ) (fault : Fault) → HasTextFault text fault → Seen text fault
 seen_fault text fault has = seen text fault.offset fault.cause has.caused
+
+-- the clauses of a text have one fault
+one_of_clauses : (text : List ℕ) (fault second : ReadFault) → ClausesHave text fault → ClausesHave text second → fault ≡ second
+one_of_clauses text fault second have also =
+    let same : also.tokens ≡ have.tokens = one_cut text also.tokens have.tokens also.cut have.cut in
+    one_clause_fault opening_table opening_table_ok text have.tokens fault second (cut_spelled text have.tokens have.cut) have.has
+    (subst (λ ts. HasClauseFault opening_table text ts second) same also.has)
 
 one_seen : (text : List ℕ) (f g : Fault) → Seen text f → Seen text g → f ≡ g
 one_seen text f g (bytes cause valid) (bytes cause' valid') =
@@ -63,6 +76,14 @@ one_seen text f g (tokens of is have) (bytes cause valid) = absurd (not_utf8 tex
 one_seen text f g (tokens of is have) (tokens second is' have') =
     let same : of ≡ second = one_fault text of second have.1 have'.1 in
     let both : Wrong f ≡ Wrong g = sym is ∙ (ap fault_of_tokens same ∙ is') in
+    cc
+one_seen text f g (bytes cause valid) (clauses of is have) = absurd (not_utf8 text f.offset valid have.utf8)
+one_seen text f g (clauses of is have) (bytes cause valid) = absurd (not_utf8 text g.offset valid have.utf8)
+one_seen text f g (tokens of is have) (clauses second is' have') = absurd (fault_no_cut text of have'.tokens have.1 have'.cut)
+one_seen text f g (clauses of is have) (tokens second is' have') = absurd (fault_no_cut text second have.tokens have'.1 have.cut)
+one_seen text f g (clauses of is have) (clauses second is' have') =
+    let same : of ≡ second = one_of_clauses text of second have have' in
+    let both : Wrong f ≡ Wrong g = sym is ∙ (ap fault_of_clauses same ∙ is') in
     cc
 
 one_text_fault : (text : List ℕ) (f g : Fault) → HasTextFault text f → HasTextFault text g → f ≡ g
@@ -76,22 +97,27 @@ one_fault_line name text line other one two =
     let place : one.place ≡ two.place = place_once text one.fault.offset one.place two.place one.stands stands in
     one.is ∙ (ap (λ p. fault_line name p one.fault.cause) place ∙ (ap (λ (f : Fault). fault_line name two.place f.cause) (sym fault) ∙ sym two.is))
 
-seen_no_cut : (text : List ℕ) (fault : Fault) (ts : List Token) → Seen text fault → IsUtf8 text → IsCut text ts → ⊥
-seen_no_cut text fault ts (bytes cause valid) utf8 cut = not_utf8 text fault.offset valid utf8
-seen_no_cut text fault ts (tokens of is have) utf8 cut = fault_no_cut text of ts have.1 cut
+seen_no_reading : (text : List ℕ) (fault : Fault) (trees : List Tree) → Seen text fault → ReadsAs text trees → ⊥
+seen_no_reading text fault trees (bytes cause valid) reads = not_utf8 text fault.offset valid reads.utf8
+seen_no_reading text fault trees (tokens of is have) reads = fault_no_cut text of reads.tokens have.1 reads.cut
+seen_no_reading text fault trees (clauses of is have) reads =
+    let same : have.tokens ≡ reads.tokens = one_cut text have.tokens reads.tokens have.cut reads.cut in
+    let has = subst (λ ts. HasClauseFault opening_table text ts of) same have.has in
+    list_no_fault opening_table opening_table_ok text reads.tokens trees has.before of (cut_spelled text reads.tokens reads.cut) reads.clauses has.stands
 
--- a text with a fault has no clauses
-pub faulty_no_clauses : (text : List ℕ) (fault : Fault) (trees : List Tree) → HasTextFault text fault → IsPlainText text trees → ⊥
-faulty_no_clauses text fault trees has plain = seen_no_cut text fault plain.tokens (seen_fault text fault has) plain.utf8 plain.cut
+-- a text with a fault is no list of clauses
+pub faulty_no_clauses : (text : List ℕ) (fault : Fault) (trees : List Tree) → HasTextFault text fault → ReadsAs text trees → ⊥
+faulty_no_clauses text fault trees has reads = seen_no_reading text fault trees (seen_fault text fault has) reads
 
 -- and isn't outside the built form
 pub faulty_not_outside : (text : List ℕ) (fault : Fault) → HasTextFault text fault → IsOutsideForm text → ⊥
 faulty_not_outside text fault has (inl long) = omega (arith, has.small)
-faulty_not_outside text fault has (inr outside) = seen_no_cut text fault outside.tokens (seen_fault text fault has) outside.utf8 outside.cut
+faulty_not_outside text fault has (inr outside) = faulty_no_clauses text fault outside.trees has outside.reads
 
--- a text outside the built form has no clauses
-pub outside_no_clauses : (text : List ℕ) (trees : List Tree) → IsOutsideForm text → IsPlainText text trees → ⊥
-outside_no_clauses text trees (inl long) plain = omega (arith, plain.small)
-outside_no_clauses text trees (inr outside) plain =
-    let same : plain.tokens ≡ outside.tokens = one_cut text plain.tokens outside.tokens plain.cut outside.cut in
-    outside.none trees (subst (λ ts. AreClauses text ts trees) same plain.clauses)
+-- no clause of the built form is outside it
+pub outside_no_clauses : (text : List ℕ) (trees : List Tree) → IsOutsideForm text → ReadsAs text trees → are_built trees ≡ true → ⊥
+outside_no_clauses text trees (inl long) reads built = omega (arith, reads.small)
+outside_no_clauses text trees (inr outside) reads built =
+    let same : outside.trees ≡ trees = one_reading text outside.trees trees outside.reads reads in
+    let both : false ≡ true = sym outside.differ ∙ (ap are_built same ∙ built) in
+    cc

@@ -5,6 +5,7 @@ use Rattle.std.specs.Fmt.{digits}
 use Rattle.group_tool.specs.declared.indicator.Indicator.{Indicator}
 use Rattle.group_release.specs.declared.level.Level.{Level}
 use Rattle.group_tool.specs.Report.{head_line, place_line}
+use Rattle.group_tool.specs.Spelled.{spelled_name}
 
 abbrev three : List Indicator
 three = record { name = codes "a"; arity = 0 } ∷ record { name = codes "b"; arity = 0 } ∷ record { name = codes "c"; arity = 0 } ∷ []
@@ -18,10 +19,10 @@ two_levels = record { height = 1; recursive = true } ∷ record { height = 0; re
 -- a loop of two that calls a third
 three_report : head_line two_groups two_levels ++ flat_map (place_line three two_groups two_levels) (1 ∷ 0 ∷ [])
     ≡ codes "predicates 3 groups 2 recursive 1 levels 2\n0 plain user:c/0\n1 recursive user:a/0 user:b/0\n"
-unfolding digits
+unfolding digits spelled_name
 three_report = refl
 
 -- no group
 no_report : head_line [] [] ≡ codes "predicates 0 groups 0 recursive 0 levels 0\n"
-unfolding digits
+unfolding digits spelled_name
 no_report = refl

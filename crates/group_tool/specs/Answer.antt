@@ -1,9 +1,10 @@
 -- The right answer to words over a map of files, with no machine in it.
-use Rattle.std.specs.Prelude.{◌≡◌, ℕ, ◌⊎◌, List, [], ◌++◌, Some, None, codes}
+use Rattle.std.specs.Prelude.{◌≡◌, ℕ, ◌⊎◌, List, [], ◌++◌, true, Some, None, codes}
 use Rattle.prolog_terms.specs.Tree.{Tree}
 use Rattle.file_library.specs.Library.{Files}
 use Rattle.group_tool.specs.Words.{IsLawful}
-use Rattle.group_tool.specs.Clauses.{IsPlainText}
+use Rattle.group_tool.specs.Clauses.{ReadsAs}
+use Rattle.group_tool.specs.Built.{are_built}
 use Rattle.group_tool.specs.TextFault.{IsOutsideForm, IsFaultLine}
 use Rattle.group_tool.specs.Grouping.{IsReportOf}
 
@@ -23,10 +24,11 @@ not_built_line name = name ++ codes ": text is outside the built form\n"
 abbrev pub unread_line : List ℕ → List ℕ
 unread_line name = codes "groups: cannot read " ++ (name ++ codes "\n")
 
--- the bytes are the report of the text
+-- the text is clauses of the built form, and the bytes are their report
 pub record ReportsText (text bytes : List ℕ) : Type 0 where
   pub trees : List Tree
-  pub plain : IsPlainText text trees
+  pub reads : ReadsAs text trees
+  pub built : are_built trees ≡ true
   pub report : IsReportOf trees bytes
 
 -- the words are wrong; the file's faults, line by line; the report
@@ -50,7 +52,7 @@ pub record HasReport (files : Files) (name bytes : List ℕ) : Type 0 where
   pub there : files name ≡ Some text
   pub reports : ReportsText text bytes
 
--- the file isn't there; something is wrong with its bytes or its tokens; it is outside the built form
+-- the file isn't there; something is wrong with its bytes, its tokens or its clauses; it is outside the built form
 abbrev pub AreFaults : Files → List ℕ → List ℕ → Type 0
 AreFaults files name lines =
     ((files name ≡ None) × (lines ≡ absent_line name)) ⊎ (HasFaultLine files name lines ⊎ (IsNotBuilt files name × (lines ≡ not_built_line name)))

@@ -15,3 +15,6 @@ pub mod Answer
 pub mod Outcome
 pub mod Run
 pub mod OutcomeEnd
+pub mod Terms
+pub mod Built
+pub mod Spelled

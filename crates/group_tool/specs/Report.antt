@@ -7,10 +7,11 @@ use Rattle.graph_law.specs.Classes.{group_at, least_member}
 use Rattle.group_tool.specs.declared.indicator.Indicator.{Indicator}
 use Rattle.group_release.specs.declared.level.Level.{Level}
 use Rattle.group_release.specs.Level.{level_at}
+use Rattle.group_tool.specs.Spelled.{spelled_name}
 
--- how the report names a predicate: `user:NAME/ARITY`
+-- how the report names a predicate: `user:NAME/ARITY`, where the name is spelled
 abbrev pub predicate_name : Indicator → List ℕ
-predicate_name predicate = codes "user:" ++ predicate.name ++ codes "/" ++ decimal predicate.arity
+predicate_name predicate = codes "user:" ++ spelled_name predicate.name ++ codes "/" ++ decimal predicate.arity
 
 -- the predicate at a place
 abbrev pub predicate_at : List Indicator → ℕ → Indicator

@@ -1,31 +1,15 @@
 -- What a clause says for the call graph.
-use Rattle.std.specs.Prelude.{ℕ, List, [], ◌++◌, Option, Some, None, option_map, if◌then◌else◌, codes}
+use Rattle.std.specs.Prelude.{List, [], Option, Some, None, option_map, codes}
 use Rattle.std.specs.List.{filter_map}
-use Rattle.std.specs.Option.{option_to_list}
-use Rattle.std.specs.Str.{bytes_eq}
-use Rattle.prolog_terms.specs.declared.term.Form.TheVariants.{Infix}
-use Rattle.prolog_terms.specs.Tree.{Tree, atom, compound, more, none, count}
+use Rattle.prolog_terms.specs.Tree.{Tree}
 use Rattle.prolog_terms.specs.Arity.{HasAritiesWithin}
 use Rattle.group_tool.specs.declared.indicator.Indicator.{Indicator}
 use Rattle.group_tool.specs.Rule.{HeadAndGoals}
-
--- the two sides of the infix operator
-abbrev pub sides_of : List ℕ → Tree → Option (Tree × Tree)
-sides_of operator (compound name (more left (more right none)) Infix span) = if bytes_eq name operator then Some (left, right) else None
-sides_of operator _ = None
-
--- the predicate that a head or a goal names, where it names one
-abbrev pub indicator_of : Tree → Option Indicator
-indicator_of (atom name span) = Some (record { name = name; arity = 0 })
-indicator_of (compound name args form span) = Some (record { name = name; arity = count args })
-indicator_of _ = None
+use Rattle.group_tool.specs.Terms.{sides_of, indicator_of, goals_in}
 
 -- the predicates that the goals of a body name; a variable names none
 abbrev pub goals_of : Tree → List Indicator
-goals_of (compound name (more left (more right none)) Infix span) =
-    if bytes_eq name (codes ",") then goals_of left ++ goals_of right
-    else option_to_list (indicator_of (compound name (more left (more right none)) Infix span))
-goals_of tree = option_to_list (indicator_of tree)
+goals_of body = filter_map indicator_of (goals_in body)
 
 -- the goals of a body, where there is one
 abbrev pub body_goals : Option Tree → List Indicator

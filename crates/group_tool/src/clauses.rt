@@ -1,13 +1,17 @@
-ghost use Rattle.std.specs.Prelude.{◌≡◌, ◌≤◌, ◌<◌, List, All, map, length, IfOk, IfErr, IsErrOf};
+ghost use Rattle.std.specs.Prelude.{◌≡◌, ◌≢◌, ◌≤◌, ◌<◌, List, All, true, map, length, IfOk, IfErr};
 ghost use Rattle.prolog_tokens.specs.Cut.{IsCut};
+ghost use Rattle.prolog_ops.specs.Table.{opening, ops_of};
 ghost use Rattle.prolog_terms.specs.Tree.{Tree, tree_of};
-ghost use Rattle.prolog_terms.specs.declared.plain.PlainFault.TheVariants.{NotBuilt};
+ghost use Rattle.prolog_terms.specs.Words.{table_of};
 ghost use Rattle.group_tool.specs.RuleOf.{HasSmallArities};
-ghost use Rattle.group_tool.specs.Clauses.{AreClauses, IsPlainText, EndsFirst};
+ghost use Rattle.group_tool.specs.Clauses.{AreClauses, HasClauseFault, ReadsAs, EndsFirst, opening_table};
+ghost use Rattle.group_tool.specs.Built.{are_built as all_built};
 ghost use Rattle.group_tool.specs.TextFault.{IsRefusal};
 
+use crate::built::are_built;
 use crate::text_fault::{Cause, TextFault, wrong};
-use prolog_terms::{PlainFault, Term, read_plain};
+use prolog_ops::OpTable;
+use prolog_terms::{ReadFault, Term, read_clause};
 use prolog_tokens::{Kind, Token, tokens};
 use std::alloc::Global;
 
@@ -29,31 +33,50 @@ fn clause_end(tokens: &[Token], from: usize) -> usize
     at + 1
 }
 
-/// The clauses that the tokens of the text are.
-fn split_clauses(alloc: Global, text: &str, tokens: &[Token]) -> Result<Vec<Term>, PlainFault>
-    requires { IsCut text.now tokens.now }
-    ensures ok { IfOk result (λ terms. AreClauses text.now tokens.now (map tree_of terms.items)) }
-    ensures only { IfOk result (λ terms. (others : List Tree) → AreClauses text.now tokens.now others → others ≡ map tree_of terms.items) }
-    ensures not_built { IsErrOf result NotBuilt → (others : List Tree) → AreClauses text.now tokens.now others → ⊥ }
+/// The clauses that the tokens of the text are, each up to its End, or the fault of the first part
+/// that is none.
+fn split_clauses(
+    alloc: Global,
+    table: &OpTable,
+    text: &str,
+    tokens: &[Token],
+) -> Result<Vec<Term>, ReadFault>
+    requires opening { ops_of table.now ≡ opening }
+    requires small { length text.now ≤ 8388608 }
+    requires cut { IsCut text.now tokens.now }
+    ensures ok { IfOk result (λ terms. AreClauses (table_of (ops_of table.now)) text.now tokens.now (map tree_of terms.items)) }
+    ensures fault { IfErr result (λ fault. fault ≢ ReadFault.NoMemory → HasClauseFault (table_of (ops_of table.now)) text.now tokens.now fault) }
 {
     let mut clauses = Vec::new(alloc);
     let mut from = 0;
     while from < tokens.len() {
         let to = clause_end(tokens, from);
-        let clause = read_plain(alloc, text, &tokens[from..to])?;
+        let clause = read_clause(alloc, table, text, &tokens[from..to])?;
         if clauses.push(clause).is_err() {
-            return Err(PlainFault::NoMemory);
+            return Err(ReadFault::NoMemory);
         }
         from = to;
     }
     Ok(clauses)
 }
 
+/// The clauses that the tokens of the text are under the operators that each text begins with.
+fn opening_clauses(alloc: Global, text: &str, tokens: &[Token]) -> Result<Vec<Term>, ReadFault>
+    requires small { length text.now ≤ 8388608 }
+    requires cut { IsCut text.now tokens.now }
+    ensures ok { IfOk result (λ terms. AreClauses opening_table text.now tokens.now (map tree_of terms.items)) }
+    ensures fault { IfErr result (λ fault. fault ≢ ReadFault.NoMemory → HasClauseFault opening_table text.now tokens.now fault) }
+{
+    let table = OpTable::opening(alloc)?;
+    split_clauses(alloc, &table, text, tokens)
+}
+
 /// The clauses of a text of at most 65,536 bytes. What is wrong with its bytes comes first, then
-/// what is wrong with its tokens, and then that it isn't of the built form.
+/// what is wrong with its tokens, then with its clauses, and then that one isn't of the built form.
 pub fn read_clauses(alloc: Global, bytes: &[u8]) -> Result<Vec<Term>, TextFault>
-    ensures ok { IfOk result (λ terms. IsPlainText bytes.now (map tree_of terms.items)) }
-    ensures only { IfOk result (λ terms. (others : List Tree) → IsPlainText bytes.now others → others ≡ map tree_of terms.items) }
+    ensures ok { IfOk result (λ terms. ReadsAs bytes.now (map tree_of terms.items)) }
+    ensures built { IfOk result (λ terms. all_built (map tree_of terms.items) ≡ true) }
+    ensures only { IfOk result (λ terms. (others : List Tree) → ReadsAs bytes.now others → others ≡ map tree_of terms.items) }
     ensures refused { IfErr result (λ fault. IsRefusal bytes.now fault) }
     ensures few { IfOk result (λ terms. length terms.items ≤ 65536) }
     ensures arities { IfOk result (λ terms. All HasSmallArities (map tree_of terms.items)) }
@@ -66,6 +89,9 @@ pub fn read_clauses(alloc: Global, bytes: &[u8]) -> Result<Vec<Term>, TextFault>
         Err(error) => return Err(wrong(Cause::NotUtf8, error.valid_up_to() as u32)),
     };
     let tokens = tokens(alloc, text)?;
-    let clauses = split_clauses(alloc, text, &tokens)?;
+    let clauses = opening_clauses(alloc, text, &tokens)?;
+    if !are_built(&clauses) {
+        return Err(TextFault::NotBuilt);
+    }
     Ok(clauses)
 }

@@ -2,6 +2,7 @@
 #![tactic(auto)]
 
 mod answer;
+mod built;
 mod call_graph;
 mod clauses;
 mod fault_line;
@@ -18,7 +19,9 @@ mod rules;
 mod run;
 mod say;
 mod sink;
+mod spelled;
 mod stream_sink;
+mod terms;
 mod text_fault;
 mod words;
 
@@ -27,4 +30,5 @@ pub use laws::{one_answer, one_report};
 pub use memory_sink::MemorySink;
 pub use run::run_groups;
 pub use sink::{Flushed, Put, Sink};
+pub use spelled::quote_atom;
 pub use stream_sink::StreamSink;

@@ -1,54 +1,27 @@
 ghost use Rattle.std.specs.Prelude.{◌≡◌, ◌≤◌, ◌++◌, None, Some, All, map, length, vec_len, option_map, IfOk, IfSome, OnOk, MatchOption};
 ghost use Rattle.prolog_terms.specs.Tree.{tree_of};
-ghost use Rattle.group_tool.specs.RuleOf.{sides_of, indicator_of, goals_of, rule_with as rule_of_parts, rule_of, rules_of, HasSmallArities};
+ghost use Rattle.group_tool.specs.Terms.{indicator_of};
+ghost use Rattle.group_tool.specs.RuleOf.{goals_of, rule_with as rule_of_parts, rule_of, rules_of, HasSmallArities};
 
 use crate::indicator::Indicator;
 use crate::rule::Rule;
-use prolog_terms::{Form, Term};
+use crate::terms::{named, sides};
+use prolog_terms::Term;
 use prolog_tokens::Text;
 use std::alloc::{AllocError, Global};
-
-/// The two sides of a term that is this infix operator.
-fn sides<'a>(term: &'a Term, operator: &str) -> Option<(&'a Term, &'a Term)>
-    ensures { option_map (λ pair. (tree_of pair.0.now, tree_of pair.1.now)) result ≡ sides_of operator.now (tree_of term.now) }
-{
-    let Term::Compound {
-        name,
-        args,
-        form,
-        ..
-    } = term
-    else {
-        return None;
-    };
-    if *form != Form::Infix {
-        return None;
-    }
-    if name.as_str() != operator {
-        return None;
-    }
-    if args.len() != 2 {
-        return None;
-    }
-    Some((&args[0], &args[1]))
-}
 
 /// The predicate that a head or a goal names.
 fn indicator(alloc: Global, term: &Term) -> Result<Option<Indicator>, AllocError>
     requires { HasSmallArities (tree_of term.now) }
     ensures { IfOk result (λ named. named ≡ indicator_of (tree_of term.now)) }
 {
-    match term {
-        Term::Atom { name, .. } => Ok(Some(Indicator {
-            name: Text::new(alloc, name.as_str())?,
-            arity: 0,
-        })),
-        Term::Compound { name, args, .. } => Ok(Some(Indicator {
-            name: Text::new(alloc, name.as_str())?,
-            arity: args.len() as u32,
-        })),
-        _ => Ok(None),
-    }
+    let Some((name, arity)) = named(term) else {
+        return Ok(None);
+    };
+    Ok(Some(Indicator {
+        name: Text::new(alloc, name)?,
+        arity: arity as u32,
+    }))
 }
 
 /// Adds what the goals of the body name.

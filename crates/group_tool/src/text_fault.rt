@@ -1,7 +1,7 @@
 ghost use Rattle.std.specs.Prelude.{◌≡◌};
 ghost use Rattle.group_tool.specs.TextFault.{cause_text};
 
-use prolog_terms::PlainFault;
+use prolog_terms::ReadFault;
 use prolog_tokens::TokenFault;
 
 /// What is wrong with a text, in the order that breaks ties of one place.
@@ -12,6 +12,9 @@ pub enum Cause {
     OpenQuote,
     OpenComment,
     BadEscape,
+    Stuck,
+    TooDeep,
+    NoEnd,
 }
 
 impl Cause {
@@ -25,6 +28,9 @@ impl Cause {
             Cause::OpenQuote => "quoted item is not closed",
             Cause::OpenComment => "comment is not closed",
             Cause::BadEscape => "escape is not known",
+            Cause::Stuck => "no clause goes on with this token",
+            Cause::TooDeep => "term is nested deeper than 1000",
+            Cause::NoEnd => "clause has no end",
         }
     }
 }
@@ -67,15 +73,17 @@ impl From<TokenFault> for TextFault {
     }
 }
 
-impl From<PlainFault> for TextFault {
+impl From<ReadFault> for TextFault {
     ghost use Rattle.group_tool.specs.TextFault.{fault_of_clauses};
 
     ghost from_gives = { λ fault found. found ≡ fault_of_clauses fault };
 
-    fn from(fault: PlainFault) -> TextFault {
+    fn from(fault: ReadFault) -> TextFault {
         match fault {
-            PlainFault::NotBuilt => TextFault::NotBuilt,
-            PlainFault::NoMemory => TextFault::NoMemory,
+            ReadFault::Stuck(at) => wrong(Cause::Stuck, at),
+            ReadFault::TooDeep(at) => wrong(Cause::TooDeep, at),
+            ReadFault::NoEnd(at) => wrong(Cause::NoEnd, at),
+            ReadFault::NoMemory => TextFault::NoMemory,
         }
     }
 }

@@ -5,7 +5,7 @@ use Rattle.std.proofs.lemmas.List.{get_or_append_left, get_or-append-add}
 use Rattle.prolog_tokens.specs.declared.token.Token.{Token}
 use Rattle.prolog_tokens.specs.Spelling.{IsSpelled}
 use Rattle.prolog_tokens.specs.Cut.{StandBetween, IsCut}
-use Rattle.prolog_terms.specs.Plain.{ArePart}
+use Rattle.prolog_terms.specs.Clause.{ArePart}
 
 pub record IsToken (text : List ℕ) (t : Token) : Type 0 where
   pub spelled : IsSpelled text t.kind t.start t.end

@@ -1,5 +1,11 @@
 pub mod Tree
-pub mod Plain
-pub mod Reserved
-pub mod Reading
 pub mod Arity
+pub mod Clause
+pub mod Words
+pub mod Grammar
+pub mod ReaderSteps
+pub mod ReaderLines
+pub mod ReaderDepth
+pub mod StuckPlace
+pub mod ReaderSeen
+pub mod StackSeen

@@ -1,15 +1,21 @@
 //! What holds of each clause, as laws: functions with nothing to run.
 
-ghost use Rattle.std.specs.Prelude.{ℕ, List, length};
+ghost use Rattle.std.specs.Prelude.{◌≡◌, ◌++◌, ◌∷◌, [], ℕ, List, length};
+ghost use Rattle.prolog_ops.specs.Table.{Ops, IsOps};
 ghost use Rattle.prolog_terms.specs.Tree.{Tree};
-ghost use Rattle.prolog_terms.specs.Plain.{ArePart, IsPlainClause};
+ghost use Rattle.prolog_terms.specs.Words.{Word, Table, table_of};
+ghost use Rattle.prolog_terms.specs.Grammar.{Parse, IsClause, yield};
+ghost use Rattle.prolog_terms.specs.Clause.{IsClauseOf};
 ghost use Rattle.prolog_terms.specs.Arity.{HasAritiesWithin};
 
 use prolog_tokens::Token;
 
-/// No compound of a clause has more arguments than the clause has tokens, nor than its text has
-/// bytes.
+/// No two clauses have the same words, under any table of operators.
+pub fn one_clause()
+    ensures { (ops : Ops) → IsOps ops → (a b : Parse) (e f : Word) → IsClause (table_of ops) a e → IsClause (table_of ops) b f → yield a ++ e ∷ [] ≡ yield b ++ f ∷ [] → a ≡ b }
+{}
+
+/// No compound of a clause has more arguments than the clause has tokens.
 pub fn clause_arities()
-    ensures tokens { (text : List ℕ) (ts : List Token) (tree : Tree) → IsPlainClause text ts tree → HasAritiesWithin (length ts) tree }
-    ensures bytes { (text : List ℕ) (ts : List Token) (tree : Tree) → ArePart text ts → IsPlainClause text ts tree → HasAritiesWithin (length text) tree }
+    ensures { (T : Table) (text : List ℕ) (ts : List Token) (tree : Tree) → IsClauseOf T text ts tree → HasAritiesWithin (length ts) tree }
 {}

@@ -2,15 +2,19 @@
 #![tactic(auto)]
 
 mod build;
+mod frame;
 mod laws;
-mod lookups;
-mod plain;
-mod reserved;
-mod term;
-mod terms;
+mod lines;
+mod nodes;
+mod reader;
 #[cfg(test)]
-mod tests;
+mod reader_tests;
+mod sides;
+mod stack;
+mod steps;
+mod term;
+mod word;
 
-pub use laws::clause_arities;
-pub use plain::{PlainFault, read_plain};
+pub use laws::{clause_arities, one_clause};
+pub use reader::{ReadFault, read_clause};
 pub use term::{ConstKind, Form, Span, Term};

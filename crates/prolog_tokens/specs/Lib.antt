@@ -11,3 +11,4 @@ pub mod Values
 pub mod Places
 pub mod Ends
 pub mod Begins
+pub mod BareNames

@@ -1,6 +1,7 @@
 //! Tokens of Prolog text, and the small types that every layer above them uses.
 #![tactic(auto)]
 
+mod bare_names;
 mod chars;
 mod cut;
 mod digits;
@@ -21,6 +22,7 @@ mod token;
 mod value_tests;
 mod values;
 
+pub use bare_names::is_bare_name;
 pub use cut::tokens;
 pub use laws::{cut_fewer, cut_tokens, fault_is_no_cut, one_cut, one_fault};
 pub use places::{place_of, places_of};

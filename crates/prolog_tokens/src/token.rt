@@ -32,14 +32,14 @@ pub enum Kind {
     End,
 }
 
-/// A token: its kind, where it starts and ends as byte offsets, and whether layout or the
-/// beginning of the text stands directly before it.
+/// A token: its kind, whether layout or the beginning of the text stands directly before it, and
+/// where it starts and ends as byte offsets.
 #[derive(Clone, Copy, Debug, PartialEq, Eq)]
 pub struct Token {
     pub kind: Kind,
+    pub after_layout: bool,
     pub start: u32,
     pub end: u32,
-    pub after_layout: bool,
 }
 
 /// Why a text has no list of tokens, each with its byte offset.

@@ -30,7 +30,6 @@ fn shown(sink: &MemorySink) -> &str {
 
 #[test]
 fn answers_texts(rt: HostRuntime) -> Result<(), Fail> {
-    let outside = "f.pl: text is outside the built form\n";
     let rows = [
         ("", 0, "predicates 0 groups 0 recursive 0 levels 0\n", ""),
         (
@@ -63,24 +62,52 @@ fn answers_texts(rt: HostRuntime) -> Result<(), Fail> {
             "predicates 2 groups 2 recursive 0 levels 2\n0 plain user:p/1\n1 plain user:p/0\n",
             "",
         ),
-        ("p :- 7.\n", 3, "", outside),
-        ("p :- call.\n", 3, "", outside),
-        ("p(is).\n", 3, "", outside),
-        ("p (X).\n", 3, "", outside),
-        ("X :- p.\n", 3, "", outside),
-        ("p :- q\n", 3, "", outside),
-        ("p :- !.\n", 3, "", outside),
-        ("'p'.\n", 3, "", outside),
         (
-            "#! a script\n/* two\n * lines */ p(/**/) :- p (X). % no arguments\n",
-            3,
+            "p :- call, !, [], {}.\n'p'.\n",
+            0,
+            "predicates 1 groups 1 recursive 0 levels 1\n0 plain user:p/0\n",
             "",
-            outside,
+        ),
+        (
+            "p(is).\n",
+            0,
+            "predicates 1 groups 1 recursive 0 levels 1\n0 plain user:p/1\n",
+            "",
         ),
         (
             "\u{FEFF}#!x\n% h\nété(X):-\u{A0}Ñu,/* . */été(X).%",
             0,
             "predicates 1 groups 1 recursive 1 levels 1\n0 recursive user:été/1\n",
+            "",
+        ),
+        (
+            "((p :- (q, (r)), X)).\nq :- (p).\n(r).\n",
+            0,
+            "predicates 3 groups 2 recursive 1 levels 2\n0 plain user:r/0\n1 recursive user:p/0 user:q/0\n",
+            "",
+        ),
+        (
+            "':-'(p, ','(q, p)).\nq.\n",
+            0,
+            "predicates 2 groups 2 recursive 1 levels 2\n0 plain user:q/0\n1 recursive user:p/0\n",
+            "",
+        ),
+        (
+            "p :- q((r ; s), [call(p)|{p}]), findall(p, p), not, forall(p), maplist(p), catch(p, p).",
+            0,
+            "predicates 1 groups 1 recursive 0 levels 1\n0 plain user:p/0\n",
+            "",
+        ),
+        (
+            "- a + b.\n- 1.\n- = x.\nX is 1 - 1 - 1.\nf(+, -).\nX = [1, 2|T].\n",
+            0,
+            "predicates 5 groups 5 recursive 0 levels 1\n0 plain user:+/2\n0 plain user:-/1\n0 plain user:=/2\n0 plain user:f/2\n0 plain user:is/2\n",
+            "",
+        ),
+        (
+            "été(X) :- Ñu = X.\n'hello world'.\n'it''s'.\n",
+            0,
+            "predicates 3 groups 3 recursive 0 levels 1\n0 plain user:'hello world'/0\n0 plain user:'it\\'s'/0\n0 plain user:été/1\n",
             "",
         ),
     ];
@@ -120,7 +147,28 @@ fn tells_faults_with_their_places(rt: HostRuntime) -> Result<(), Fail> {
         ),
         ("p :- 0'\\q, 'a", "f.pl:1:8: escape is not known\n"),
         ("p :- 7.\n'a\\q", "f.pl:2:3: escape is not known\n"),
-        ("p. #!x /", "f.pl: text is outside the built form\n"),
+        ("f(a b).\n'a", "f.pl:2:1: quoted item is not closed\n"),
+        ("p. #!x /", "f.pl:1:5: no clause goes on with this token\n"),
+        ("p (X).\n", "f.pl:1:3: no clause goes on with this token\n"),
+        (
+            "#! a script\n/* two\n * lines */ p(/**/) :- p (X). % no arguments\n",
+            "f.pl:3:19: no clause goes on with this token\n",
+        ),
+        (
+            "a ** b ** c.",
+            "f.pl:1:8: no clause goes on with this token\n",
+        ),
+        (
+            "p :- a === b.\n:- op(700, xfx, ===).\n",
+            "f.pl:1:8: no clause goes on with this token\n",
+        ),
+        ("p :- .", "f.pl:1:6: no clause goes on with this token\n"),
+        (
+            "7.\nété(a b).\n",
+            "f.pl:2:7: no clause goes on with this token\n",
+        ),
+        ("p :- q\n", "f.pl:2:1: clause has no end\n"),
+        ("p.\n7", "f.pl:2:2: clause has no end\n"),
     ];
     for (text, wanted) in rows {
         let alloc = rt.alloc();
@@ -139,6 +187,92 @@ fn tells_faults_with_their_places(rt: HostRuntime) -> Result<(), Fail> {
         );
         assert_eq!(rt; result, 3, "at {text}");
         assert_eq!(rt; shown(&err), wanted, "at {text}");
+        assert_eq!(rt; out.taken().len(), 0);
+    }
+    Ok(())
+}
+
+#[test]
+fn refuses_forms_that_are_not_built(rt: HostRuntime) -> Result<(), Fail> {
+    let texts = [
+        ":- dynamic p/1.",
+        "?- p.",
+        "(:- p).",
+        "a --> b.",
+        "X.",
+        "X :- p.",
+        "-1.",
+        "7.",
+        "\"s\".",
+        "`s`.",
+        "[a].",
+        "[].",
+        "'[]'.",
+        "{a}.",
+        "{}.",
+        "m:p.",
+        "a:b:c.",
+        "p, q.",
+        "\\+ a, b.",
+        "a ; b ; c.",
+        "(p | q).",
+        "p -> q.",
+        "\\+ p.",
+        "!.",
+        "(:- p) :- q.",
+        "(p :- q) :- r.",
+        "p :- 7.",
+        "p :- (3).",
+        "p :- \"s\".",
+        "p :- q, (r, [a]).",
+        "p :- {a}.",
+        "p :- m:q.",
+        "p :- a, b ; c.",
+        "p :- (q | r).",
+        "p :- (q -> r).",
+        "p :- \\+ q.",
+        "p :- \\+ (a, b).",
+        "p :- call(q).",
+        "p :- call(q, 1, 2, 3).",
+        "p :- once(q).",
+        "p :- ignore(q).",
+        "p :- not(q).",
+        "p :- initialization(q).",
+        "p :- initialization q.",
+        "p :- initialization(q, main).",
+        "p :- findall(X, q, L).",
+        "p :- findall(X, q, L, M).",
+        "p :- bagof(X, q, L).",
+        "p :- setof(X, q, L).",
+        "p :- forall(q, r).",
+        "p :- catch(q, X, r).",
+        "p :- maplist(q, L).",
+        "p :- maplist(q, L, M, N).",
+        "p :- phrase(q, L).",
+        "p :- phrase(q, L, M).",
+        "p.\nq :- p.\nr :- s, ((call(q))).",
+    ];
+    for text in texts {
+        let alloc = rt.alloc();
+        let words = one_word(alloc, "f.pl")?;
+        let mut library = one_file(alloc, "f.pl", text)?;
+        let mut out = MemorySink::with_room(alloc, 1000)?;
+        let mut err = MemorySink::with_room(alloc, 1000)?;
+        let result = run_groups(
+            &rt,
+            alloc,
+            &words,
+            &mut library,
+            &mut out,
+            &mut err,
+            &OpenGate,
+        );
+        assert_eq!(rt; result, 3, "at {text}");
+        assert_eq!(rt;
+            shown(&err),
+            "f.pl: text is outside the built form\n",
+            "at {text}"
+        );
         assert_eq!(rt; out.taken().len(), 0);
     }
     Ok(())
@@ -181,12 +315,40 @@ fn nested(alloc: Global, depth: u32) -> Result<String, AllocError> {
     Ok(text)
 }
 
+/// The fact `a` in so many pairs of brackets.
+fn bracketed(alloc: Global, pairs: u32) -> Result<String, AllocError> {
+    let mut text = String::new(alloc);
+    for _ in 0..pairs {
+        text.push_str("(")?;
+    }
+    text.push_str("a")?;
+    for _ in 0..pairs {
+        text.push_str(")")?;
+    }
+    text.push_str(".")?;
+    Ok(text)
+}
+
 #[test]
 fn reads_down_to_the_depth_limit(rt: HostRuntime) -> Result<(), Fail> {
-    for (depth, status) in [(2, 0), (1000, 0), (1001, 3)] {
-        let alloc = rt.alloc();
+    let alloc = rt.alloc();
+    let rows = [
+        (nested(alloc, 2)?, 0, ""),
+        (nested(alloc, 1000)?, 0, ""),
+        (
+            nested(alloc, 1001)?,
+            3,
+            "f.pl:1:2000: term is nested deeper than 1000\n",
+        ),
+        (bracketed(alloc, 999)?, 0, ""),
+        (
+            bracketed(alloc, 1000)?,
+            3,
+            "f.pl:1:1000: term is nested deeper than 1000\n",
+        ),
+    ];
+    for (text, status, on_err) in rows {
         let words = one_word(alloc, "f.pl")?;
-        let text = nested(alloc, depth)?;
         let mut library = one_file(alloc, "f.pl", text.as_str())?;
         let mut out = MemorySink::with_room(alloc, 1000)?;
         let mut err = MemorySink::with_room(alloc, 1000)?;
@@ -199,7 +361,8 @@ fn reads_down_to_the_depth_limit(rt: HostRuntime) -> Result<(), Fail> {
             &mut err,
             &OpenGate,
         );
-        assert_eq!(rt; result, status, "at depth {depth}");
+        assert_eq!(rt; result, status, "at {text}");
+        assert_eq!(rt; shown(&err), on_err, "at {text}");
     }
     Ok(())
 }

@@ -1,6 +1,6 @@
 use Rattle.std.proofs.Common.{◌≢◌, ℕ, ◌-◌, ◌<◌, ◌≤◌, length, Some}
 use Rattle.prolog_tokens.specs.declared.token.Kind.TheVariants.{End}
-use Rattle.prolog_terms.specs.Plain.{kind_at}
+use Rattle.group_tool.specs.Clauses.{kind_at}
 use Rattle.group_tool.proofs.clauses.clause_end.Given as goal
 
 abbrev pub invariant-loop-at : goal.invariant-loop-at

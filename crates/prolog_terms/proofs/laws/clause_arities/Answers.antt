@@ -1,8 +1,6 @@
-use Rattle.prolog_terms.proofs.Arities.{clause_tokens, clause_bytes}
+use Rattle.std.proofs.Common.{length, arith}
+use Rattle.prolog_terms.proofs.ClauseArities.{clause_within}
 use Rattle.prolog_terms.proofs.laws.clause_arities.Goals as goal
 
-pub returns-clause-tokens : goal.returns-clause-tokens
-returns-clause-tokens c = clause_tokens
-
-pub returns-clause-bytes : goal.returns-clause-bytes
-returns-clause-bytes c = clause_bytes
+pub returns : goal.returns
+returns c = λ T text ts tree clause. clause_within T text ts tree (length ts) (omega arith) clause

@@ -1,0 +1,183 @@
+-- Terms with the brackets round them passed through.
+use Rattle.std.proofs.Common.{◌≡◌, ◌≢◌, ℕ, ◌<◌, ◌≤◌, Bool, true, false, ◌&&◌, List, [], ◌∷◌, ◌++◌, Option, Some, None, length, get_or, map, codes, refl, arith, if◌then◌else◌, ap, sym, ◌∙◌, subst}
+use Rattle.std.specs.Option.{option_to_list}
+use Rattle.std.specs.List.{filter_map, list_all}
+use Rattle.std.specs.Str.{bytes_eq}
+use Rattle.std.proofs.lemmas.List.Elements.{filter_map-append}
+use Rattle.prolog_terms.specs.declared.term.Span.{Span}
+use Rattle.prolog_terms.specs.declared.term.Form.{Form}
+use Rattle.prolog_terms.specs.declared.term.Term.{Term}
+use Rattle.prolog_terms.specs.Tree.{Tree, tree_of, variable, constant, atom, compound, listed, tailed, curly, paren, more, none, trees_from, count, depth}
+use Rattle.prolog_terms.specs.Arity.{HasAritiesWithin}
+use Rattle.group_tool.specs.declared.indicator.Indicator.{Indicator}
+use Rattle.group_tool.specs.Terms.{inside, sides_at, sides_of, indicator_at, indicator_of, goals_in}
+use Rattle.group_tool.specs.RuleOf.{goals_of}
+use Rattle.group_tool.specs.Built.{is_plain_goal, is_plain_body}
+
+some_once : {X : Type 0} {x y : X} → Some x ≡ Some y → x ≡ y
+some_once is = cc
+
+some_none : (x : Tree × Tree) → Some x ≡ None → ⊥
+some_none x is = cc
+
+abbrev sides_if : Bool → Tree → Tree → Option (Tree × Tree)
+sides_if test left right = if test then Some (left, right) else None
+
+-- a compound of two arguments has them as sides where its name is the operator
+pub not_two : (operator name : List ℕ) (parts : List Tree) (form : Form) (span : Span) → length parts ≢ 2 → sides_at operator (compound name (trees_from parts) form span) ≡ None
+not_two operator name [] form span other = refl
+not_two operator name (left ∷ []) form span other = refl
+not_two operator name (left ∷ right ∷ []) form span other = absurd (other (omega arith))
+not_two operator name (left ∷ right ∷ next ∷ parts) form span other = refl
+
+pub not_named : (operator name : List ℕ) (parts : List Tree) (form : Form) (span : Span) → bytes_eq name operator ≡ false
+    → sides_at operator (compound name (trees_from parts) form span) ≡ None
+not_named operator name [] form span differs = refl
+not_named operator name (left ∷ []) form span differs = refl
+not_named operator name (left ∷ right ∷ []) form span differs = rw differs refl
+not_named operator name (left ∷ right ∷ next ∷ parts) form span differs = refl
+
+pub two_sides : (operator name : List ℕ) (parts : List Tree) (form : Form) (span : Span) (left right : Tree) → length parts ≡ 2 → left ≡ get_or parts 0 left
+    → right ≡ get_or parts 1 right → bytes_eq name operator ≡ true → Some (left, right) ≡ sides_at operator (compound name (trees_from parts) form span)
+two_sides operator name [] form span left right two first second same = absurd (omega (arith, two))
+two_sides operator name (l ∷ []) form span left right two first second same = absurd (omega (arith, two))
+two_sides operator name (l ∷ r ∷ []) form span left right two first second same =
+    let whole : Some (l, r) ≡ sides_at operator (compound name (more l (more r none)) form span) = rw same refl in
+    ap (λ t. Some (t, right)) first ∙ (ap (λ t. Some (l, t)) second ∙ whole)
+two_sides operator name (l ∷ r ∷ next ∷ parts) form span left right two first second same = absurd (omega (arith, two))
+
+-- inside brackets there are no more brackets
+pub inside_once : (tree : Tree) → inside (inside tree) ≡ inside tree
+inside_once (variable span) = refl
+inside_once (constant kind minus value span) = refl
+inside_once (atom name span) = refl
+inside_once (compound name args form span) = refl
+inside_once (listed items span) = refl
+inside_once (tailed items tail span) = refl
+inside_once (curly inner span) = refl
+inside_once (paren inner span) = inside_once inner
+
+pub inside_arities : (n : ℕ) (tree : Tree) → HasAritiesWithin n tree → HasAritiesWithin n (inside tree)
+inside_arities n (variable span) small = small
+inside_arities n (constant kind minus value span) small = small
+inside_arities n (atom name span) small = small
+inside_arities n (compound name args form span) small = small
+inside_arities n (listed items span) small = small
+inside_arities n (tailed items tail span) small = small
+inside_arities n (curly inner span) small = small
+inside_arities n (paren inner span) small = inside_arities n inner small
+
+pub plain_inside : (tree : Tree) → is_plain_goal (inside tree) ≡ is_plain_goal tree
+plain_inside (variable span) = refl
+plain_inside (constant kind minus value span) = refl
+plain_inside (atom name span) = refl
+plain_inside (compound name args form span) = refl
+plain_inside (listed items span) = refl
+plain_inside (tailed items tail span) = refl
+plain_inside (curly inner span) = refl
+plain_inside (paren inner span) = plain_inside inner
+
+-- the sides of a term are less deep, and a body has their goals
+pub record AreSides (tree left right : Tree) : Type 0 where
+  pub left_below : depth left < depth tree
+  pub right_below : depth right < depth tree
+  pub goals : goals_in tree ≡ goals_in left ++ goals_in right
+
+of_comma : (left right l r : Tree) (form : Form) (span : Span) (name : List ℕ) (alone : List Tree) (test : Bool) → sides_if test left right ≡ Some (l, r)
+    → (depth l < depth (compound name (more left (more right none)) form span)) × (depth r < depth (compound name (more left (more right none)) form span))
+    × ((if test then goals_in left ++ goals_in right else alone) ≡ goals_in l ++ goals_in r)
+of_comma left right l r form span name alone true is =
+    let both : (left, right) ≡ (l, r) = some_once is in
+    let first : left ≡ l = ap (λ (pair : Tree × Tree). pair.0) both in
+    let second : right ≡ r = ap (λ (pair : Tree × Tree). pair.1) both in
+    (omega (arith, ap depth first), omega (arith, ap depth second), ap (λ t. goals_in t ++ goals_in right) first ∙ ap (λ t. goals_in l ++ goals_in t) second)
+of_comma left right l r form span name alone false is = absurd (some_none (l, r) (sym is))
+
+pub comma_sides : (tree left right : Tree) → sides_of (codes ",") tree ≡ Some (left, right) → AreSides tree left right
+comma_sides (compound name (more left (more right none)) form span) l r is =
+    let all = of_comma left right l r form span name (compound name (more left (more right none)) form span ∷ []) (bytes_eq name (codes ",")) is in
+    record { left_below = all.0; right_below = all.1; goals = all.2 }
+comma_sides (paren inner span) l r is =
+    let sides = comma_sides inner l r is in
+    record { left_below = omega (arith, sides.left_below); right_below = omega (arith, sides.right_below); goals = sides.goals }
+comma_sides tree l r is = absurd (some_none (l, r) (sym is))
+
+-- a term that no comma joins is one goal
+pub goals_alone : (tree : Tree) → sides_of (codes ",") tree ≡ None → goals_in tree ≡ inside tree ∷ []
+goals_alone (compound name (more left (more right none)) form span) is =
+    (elim (bytes_eq name (codes ",")) as (λ b. sides_if b left right ≡ None
+    → (if b then goals_in left ++ goals_in right else compound name (more left (more right none)) form span ∷ [])
+    ≡ compound name (more left (more right none)) form span ∷ []) [
+      | true ↦ λ both. absurd (some_none (left, right) both)
+      | false ↦ λ both. refl
+    ]) is
+goals_alone (paren inner span) is = goals_alone inner is
+goals_alone tree is = refl
+
+-- the sides of a term have small arities where it does
+sides_small : (n : ℕ) (left right l r : Tree) (test : Bool) → sides_if test left right ≡ Some (l, r) → HasAritiesWithin n left → HasAritiesWithin n right
+    → HasAritiesWithin n l × HasAritiesWithin n r
+sides_small n left right l r true is small_left small_right =
+    let both : (left, right) ≡ (l, r) = some_once is in
+    (subst (HasAritiesWithin n) (ap (λ (pair : Tree × Tree). pair.0) both) small_left, subst (HasAritiesWithin n) (ap (λ (pair : Tree × Tree). pair.1) both) small_right)
+sides_small n left right l r false is small_left small_right = absurd (some_none (l, r) (sym is))
+
+pub sides_arities : (operator : List ℕ) (n : ℕ) (tree left right : Tree) → sides_of operator tree ≡ Some (left, right) → HasAritiesWithin n tree
+    → HasAritiesWithin n left × HasAritiesWithin n right
+sides_arities operator n (compound name (more left (more right none)) form span) l r is small =
+    sides_small n left right l r (bytes_eq name operator) is small.1.0 small.1.1.0
+sides_arities operator n (paren inner span) l r is small = sides_arities operator n inner l r is small
+sides_arities operator n tree l r is small = absurd (some_none (l, r) (sym is))
+
+pub count_trees : (trees : List Tree) → count (trees_from trees) ≡ length trees
+count_trees [] = refl
+count_trees (tree ∷ trees) = omega (arith, count_trees trees)
+
+-- what the goals of a body name
+pub goals_joined : (tree left right : Tree) → sides_of (codes ",") tree ≡ Some (left, right) → goals_of tree ≡ goals_of left ++ goals_of right
+goals_joined tree left right is =
+    ap (filter_map indicator_of) (comma_sides tree left right is).goals ∙ filter_map-append indicator_of (goals_in left) (goals_in right)
+
+one_named : (tree : Tree) (named : Option Indicator) → indicator_of tree ≡ named → filter_map indicator_of (tree ∷ []) ≡ option_to_list named
+one_named tree None is = rw is refl
+one_named tree (Some named) is = rw is refl
+
+pub goals_one : (tree : Tree) → sides_of (codes ",") tree ≡ None → goals_of tree ≡ option_to_list (indicator_of tree)
+goals_one tree is =
+    ap (filter_map indicator_of) (goals_alone tree is)
+    ∙ one_named (inside tree) (indicator_of tree) (ap indicator_at (inside_once tree))
+
+-- and whether they are plain
+all_joined : (test : Tree → Bool) (trees others : List Tree) → list_all test (trees ++ others) ≡ (list_all test trees && list_all test others)
+all_joined test [] others = refl
+all_joined test (tree ∷ trees) others = one (test tree) (all_joined test trees others)
+  where
+    one : (b : Bool) → list_all test (trees ++ others) ≡ (list_all test trees && list_all test others)
+        → (b && list_all test (trees ++ others)) ≡ ((b && list_all test trees) && list_all test others)
+    one true is = is
+    one false is = refl
+
+pub plain_joined : (tree left right : Tree) → sides_of (codes ",") tree ≡ Some (left, right) → is_plain_body tree ≡ (is_plain_body left && is_plain_body right)
+plain_joined tree left right is = ap (list_all is_plain_goal) (comma_sides tree left right is).goals ∙ all_joined is_plain_goal (goals_in left) (goals_in right)
+
+and_true : (b : Bool) → (b && true) ≡ b
+and_true true = refl
+and_true false = refl
+
+pub plain_one : (tree : Tree) → sides_of (codes ",") tree ≡ None → is_plain_body tree ≡ is_plain_goal tree
+plain_one tree is = ap (list_all is_plain_goal) (goals_alone tree is) ∙ (and_true (is_plain_goal (inside tree)) ∙ plain_inside tree)
+
+-- a predicate that a term names has no more arguments than its compounds
+at_small : (n : ℕ) (tree : Tree) (named : Indicator) → HasAritiesWithin n tree → indicator_at tree ≡ Some named → named.arity ≤ n
+at_small n (atom name span) named small is = let same : record { name = name; arity = 0 } ≡ named = some_once is in omega (arith, ap (λ (p : Indicator). p.arity) same)
+at_small n (compound name args form span) named small is =
+    let same : record { name = name; arity = count args } ≡ named = some_once is in omega (arith, small.0, ap (λ (p : Indicator). p.arity) same)
+at_small n tree named small is = let both : None ≡ Some named = is in absurd (cc)
+
+pub named_small : (n : ℕ) (tree : Tree) (named : Indicator) → HasAritiesWithin n tree → indicator_of tree ≡ Some named → named.arity ≤ n
+named_small n tree named small is = at_small n (inside tree) named (inside_arities n tree small) is
+
+-- all terms pass where all their trees do
+pub all_trees : (test : Tree → Bool) (terms : List Term) → list_all (λ term. test (tree_of term)) terms ≡ list_all test (map tree_of terms)
+all_trees test [] = refl
+all_trees test (term ∷ terms) = ap (λ b. test (tree_of term) && b) (all_trees test terms)

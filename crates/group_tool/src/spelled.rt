@@ -1,0 +1,132 @@
+ghost use Rattle.std.specs.Prelude.{◌≡◌, ◌<◌, ◌++◌, ◌∷◌, ◌/◌, ◌%◌, IfOk, OnOk, chars, codes};
+ghost use Rattle.std.specs.List.{flat_map};
+ghost use Rattle.std.specs.String.{string_bytes};
+ghost use Rattle.group_tool.specs.Spelled.{hex_digit, quoted_char, quoted_name, spelled_name};
+
+use prolog_tokens::is_bare_name;
+use std::alloc::{AllocError, Global};
+
+/// The small hexadecimal digit of a number below 16.
+fn hex_digit(number: u8) -> u8
+    requires { number < 16 }
+    ensures { result ≡ hex_digit number }
+{
+    if number < 10 {
+        return b'0' + number;
+    }
+    b'a' + (number - 10)
+}
+
+/// Adds the escape of a control character.
+fn push_code(text: &mut String, code: u8) -> Result<(), AllocError>
+    requires { code < 128 }
+    ensures { OnOk result (string_bytes text.new
+        ≡ string_bytes text.old ++ (codes "\\x" ++ hex_digit (code / 16) ∷ hex_digit (code % 16) ∷ codes "\\")) }
+{
+    text.push_str("\\x")?;
+    text.push(hex_digit(code / 16) as char)?;
+    text.push(hex_digit(code % 16) as char)?;
+    text.push_str("\\")
+}
+
+/// Adds a character of a name that stands between quotes.
+fn push_quoted_char(text: &mut String, character: char) -> Result<(), AllocError>
+    ensures { OnOk result (string_bytes text.new ≡ string_bytes text.old ++ quoted_char character) }
+{
+    if character == '\'' {
+        return text.push_str("\\'");
+    }
+    if character == '\\' {
+        return text.push_str("\\\\");
+    }
+    if character == '\n' {
+        return text.push_str("\\n");
+    }
+    if character < ' ' {
+        return push_code(text, character as u8);
+    }
+    if character == '\u{7f}' {
+        return push_code(text, 0x7f);
+    }
+    text.push(character)
+}
+
+/// Adds the name between quotes.
+fn push_quoted(text: &mut String, name: &str) -> Result<(), AllocError>
+    ensures { OnOk result (string_bytes text.new ≡ string_bytes text.old ++ quoted_name name.now) }
+{
+    text.push_str("'")?;
+    for character in name.chars() {
+        push_quoted_char(text, character)?;
+    }
+    text.push_str("'")
+}
+
+/// Adds the name as it is, or between quotes where it would read otherwise.
+pub fn push_atom(text: &mut String, name: &str) -> Result<(), AllocError>
+    ensures { OnOk result (string_bytes text.new ≡ string_bytes text.old ++ spelled_name name.now) }
+{
+    if is_bare_name(name) {
+        return text.push_str(name);
+    }
+    push_quoted(text, name)
+}
+
+/// The name as it is, or between quotes where it would read otherwise (ISO/IEC 13211-1, 6.4.2). In
+/// quotes `'` is `\'`, a backslash `\\`, a newline `\n`, and any other character below U+0020 and
+/// U+007F is `\xHH\` with two small hexadecimal digits.
+pub fn quote_atom(alloc: Global, name: &str) -> Result<String, AllocError>
+    ensures { IfOk result (λ text. string_bytes text ≡ spelled_name name.now) }
+{
+    let mut text = String::new(alloc);
+    push_atom(&mut text, name)?;
+    Ok(text)
+}
+
+#[cfg(test)]
+mod tests {
+    use super::*;
+    use std::test::Fail;
+
+    #[test]
+    fn spells_names(rt: HostRuntime) -> Result<(), Fail> {
+        let rows = [
+            ("p", "p"),
+            ("aB_1", "aB_1"),
+            ("été", "été"),
+            ("+", "+"),
+            ("\\", "\\"),
+            ("..", ".."),
+            ("*/", "*/"),
+            ("!", "!"),
+            (";", ";"),
+            ("[]", "[]"),
+            ("{}", "{}"),
+            ("", "''"),
+            (".", "'.'"),
+            ("/*", "'/*'"),
+            (",", "','"),
+            ("|", "'|'"),
+            ("!!", "'!!'"),
+            ("X", "'X'"),
+            ("_a", "'_a'"),
+            ("1", "'1'"),
+            ("Ñu", "'Ñu'"),
+            ("a+", "'a+'"),
+            ("hello world", "'hello world'"),
+            ("it's", "'it\\'s'"),
+            ("a\\b", "'a\\\\b'"),
+            ("a\nb", "'a\\nb'"),
+            ("\u{0}\t\u{1f}", "'\\x00\\\\x09\\\\x1f\\'"),
+            ("\u{7f}é", "'\\x7f\\é'"),
+        ];
+        for (name, spelled) in rows {
+            assert_eq!(rt;
+                quote_atom(rt.alloc(), name)?.as_str(),
+                spelled,
+                "at {name}"
+            );
+        }
+        Ok(())
+    }
+}
