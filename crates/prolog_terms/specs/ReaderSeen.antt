@@ -431,7 +431,7 @@ see_parts xs = parts (trees_from (map tree_of xs.terms.items)) xs.depth
 
 abbrev pub see_operator : Operator → OperatorSeen
 see_operator (operator.Prefix word sides) = prefix_on word sides
-see_operator (operator.Infix left word sides) = infix_on (see_operand left) word sides
+see_operator (operator.Infix left word sides) = infix_on (see_operand left.value) word sides
 
 abbrev pub see_bracket : Bracket → BracketSeen
 see_bracket (bracket.First opener) = first_in opener
@@ -445,15 +445,15 @@ see_frame (frame.Bracket k) = bracket_frame (see_bracket k)
 
 abbrev pub see_mode : Mode → ModeSeen
 see_mode mode.Want = wants
-see_mode (mode.Minus word) = minus_of word
-see_mode (mode.Functor word) = functor_of word
-see_mode (mode.Have t) = has (see_operand t)
-see_mode (mode.Done t) = finished (see_operand t)
+see_mode (mode.Minus word) = minus_of word.value
+see_mode (mode.Functor word) = functor_of word.value
+see_mode (mode.Have t) = has (see_operand t.value)
+see_mode (mode.Done t) = finished (see_operand t.value)
 
 abbrev pub see_line : StackSeen → Line → LineSeen
 see_line S (line.Ready m) = ready_seen S (see_mode m)
-see_line S (line.Named word prefix) = named_seen S word prefix
-see_line S (line.Doubt first prefix second infix_ floor) = doubt_seen S first prefix second infix_ floor
+see_line S (line.Named word prefix) = named_seen S word.value prefix
+see_line S (line.Doubt d) = doubt_seen S d.value.first d.value.prefix d.value.second d.value.between d.value.floor
 
 -- a step that may be refused, with the stack behind it
 abbrev pub see_step : StackSeen → Option Mode → Option StateSeen

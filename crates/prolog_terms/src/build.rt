@@ -36,7 +36,7 @@ pub fn make_compound(name: Text, args: Vec<Term>, form: Form, span: Span) -> Ter
     }
 }
 
-/// Where the term stands.
+/// Where the term stands, its brackets included.
 pub fn span_at(term: &Term) -> Span
     ensures { result ≡ span_of (tree_of term.now) }
 {

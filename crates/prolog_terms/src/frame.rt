@@ -27,7 +27,7 @@ pub enum Operator {
         sides: Sides,
     },
     Infix {
-        left: Operand,
+        left: Box<Operand>,
         word: Word,
         sides: Sides,
     },
@@ -65,13 +65,24 @@ pub enum Mode {
     /// An operand is wanted.
     Want,
     /// The number of this minus is wanted.
-    Minus(Word),
+    Minus(Box<Word>),
     /// The bracket of this functor is wanted.
-    Functor(Word),
+    Functor(Box<Word>),
     /// An operand is complete.
-    Have(Operand),
+    Have(Box<Operand>),
     /// The clause and its End are read.
-    Done(Operand),
+    Done(Box<Operand>),
+}
+
+/// A prefix operator, and a name behind it that is an infix operator and no prefix operator. The
+/// clause is at least `floor` deep.
+#[derive(Drop)]
+pub struct Doubt {
+    pub first: Word,
+    pub prefix: Sides,
+    pub second: Word,
+    pub between: Sides,
+    pub floor: usize,
 }
 
 /// The words that wait for the next word.
@@ -80,18 +91,10 @@ pub enum Line {
     Ready(Mode),
     /// A name where an operand is wanted.
     Named {
-        word: Word,
+        word: Box<Word>,
         prefix: Option<Sides>,
     },
-    /// A prefix operator, and a name behind it that is an infix operator and no prefix operator.
-    /// The clause is at least `floor` deep.
-    Doubt {
-        first: Word,
-        prefix: Sides,
-        second: Word,
-        infix: Sides,
-        floor: usize,
-    },
+    Doubt(Box<Doubt>),
 }
 
 /// What tests and depths need of a stack and the operand on it: the number of frames, the greatest

@@ -4,11 +4,11 @@ ghost use Rattle.std.specs.Prelude.{◌≡◌, ◌∷◌, [], ◌&&◌, not, is_
 ghost use Rattle.prolog_ops.specs.Table.{ops_of};
 ghost use Rattle.prolog_terms.specs.Words.{table_of};
 ghost use Rattle.prolog_terms.specs.ReaderLines.{is_infix_only};
-ghost use Rattle.prolog_terms.specs.ReaderSeen.{see_mode, see_step, see_line, see_fed, settled_seen, enter_seen, then_enter_seen, infix_fits, infix_floor, doubt_step, call_step, feed_named_seen, feed_doubt_seen, feed_seen, mode_floor_seen, line_floor_seen, reduced_measure, infix_held, reduced_seen, atom_operand};
+ghost use Rattle.prolog_terms.specs.ReaderSeen.{StackSeen, doubt_seen, see_mode, see_step, see_line, see_fed, settled_seen, enter_seen, then_enter_seen, infix_fits, infix_floor, doubt_step, call_step, feed_named_seen, feed_doubt_seen, feed_seen, mode_floor_seen, line_floor_seen, reduced_measure, infix_held, reduced_seen, atom_operand};
 ghost use Rattle.prolog_terms.specs.StackSeen.{see_stack};
 
-use crate::frame::{Bracket, Frame, Line, Measure, Mode, Opener, Operator};
-use crate::nodes::atom;
+use crate::frame::{Bracket, Doubt, Frame, Line, Measure, Mode, Opener, Operator};
+use crate::nodes::{atom, boxed};
 use crate::sides::{Sides, infix_of, prefix_of};
 use crate::stack::Stack;
 use crate::steps::{Behind, act, infix_behind, reduce, want_name};
@@ -29,6 +29,7 @@ fn enter(
     if let Mode::Want = mode {
         if is_name(word.kind) {
             let prefix = prefix_of(table, &word);
+            let word = Box::new(alloc, word)?;
             return Ok(Some(Line::Named { word, prefix }));
         }
     }
@@ -86,10 +87,41 @@ fn infix_floor(measure: Measure) -> usize
     measure.reach.max(inner)
 }
 
+/// The two words wait for one more.
+fn in_doubt(
+    alloc: Global,
+    first: Word,
+    prefix: Sides,
+    second: Word,
+    between: Sides,
+    floor: usize,
+) -> Result<Option<Line>, AllocError>
+    ensures { IfOk result (λ next. (S : StackSeen) → see_fed S next ≡ Some (doubt_seen S first prefix second between floor)) }
+{
+    let doubt = Box::new(
+        alloc,
+        Doubt {
+            first,
+            prefix,
+            second,
+            between,
+            floor,
+        },
+    )?;
+    Ok(Some(Line::Doubt(doubt)))
+}
+
 /// Two words that one more has to decide: an atom and its infix operator, or a prefix operator and
 /// a functor.
-fn doubt(stack: &Stack, first: Word, prefix: Sides, second: Word, between: Sides) -> Option<Line>
-    ensures { see_fed (see_stack stack.now) result ≡ doubt_step (see_stack stack.now) first prefix second between (reduced_measure between.priority (see_stack stack.now) 0 1) }
+fn doubt(
+    alloc: Global,
+    stack: &Stack,
+    first: Word,
+    prefix: Sides,
+    second: Word,
+    between: Sides,
+) -> Result<Option<Line>, AllocError>
+    ensures { IfOk result (λ next. see_fed (see_stack stack.now) next ≡ doubt_step (see_stack stack.now) first prefix second between (reduced_measure between.priority (see_stack stack.now) 0 1)) }
 {
     let measure = stack.reduced_measure(between.priority);
     let calls = prefix.priority <= stack.bound();
@@ -100,24 +132,12 @@ fn doubt(stack: &Stack, first: Word, prefix: Sides, second: Word, between: Sides
         } else {
             joined
         };
-        return Some(Line::Doubt {
-            first,
-            prefix,
-            second,
-            infix: between,
-            floor,
-        });
+        return in_doubt(alloc, first, prefix, second, between, floor);
     }
     if !calls {
-        return None;
+        return Ok(None);
     }
-    Some(Line::Doubt {
-        first,
-        prefix,
-        second,
-        infix: between,
-        floor: stack.floor(3),
-    })
+    in_doubt(alloc, first, prefix, second, between, stack.floor(3))
 }
 
 /// A prefix operator, and a functor with its `(`.
@@ -145,15 +165,15 @@ fn feed_named(
     alloc: Global,
     table: &OpTable,
     stack: &mut Stack,
-    name: Word,
+    name: Box<Word>,
     prefix: Option<Sides>,
     word: Word,
 ) -> Result<Option<Line>, AllocError>
-    ensures { IfOk result (λ next. see_fed (see_stack stack.new) next ≡ feed_named_seen (table_of (ops_of table.now)) (see_stack stack.old) name prefix word) }
+    ensures { IfOk result (λ next. see_fed (see_stack stack.new) next ≡ feed_named_seen (table_of (ops_of table.now)) (see_stack stack.old) name.value prefix word) }
 {
     if let Some(sides) = prefix {
         if let Some(infix) = infix_only(table, &word) {
-            return Ok(doubt(stack, name, sides, word, infix));
+            return doubt(alloc, stack, Box::into_inner(name), sides, word, infix);
         }
     }
     let behind = Behind {
@@ -161,7 +181,7 @@ fn feed_named(
         number: is_near_number(&word),
         ends: !begins_term(word.kind),
     };
-    let step = want_name(stack, name, prefix, behind)?;
+    let step = want_name(alloc, stack, name, prefix, behind)?;
     then_enter(alloc, table, stack, step, word)
 }
 
@@ -181,7 +201,8 @@ fn feed_doubt(
     if is_opening(&word) {
         return call(stack, first, prefix, second);
     }
-    let left = reduce(alloc, stack, atom(first), between.priority)?;
+    let first = boxed(alloc, atom(first))?;
+    let left = reduce(alloc, stack, first, between.priority)?;
     let step = infix_behind(stack, left, second, between)?;
     then_enter(alloc, table, stack, step, word)
 }
@@ -201,13 +222,16 @@ pub fn feed(
         Line::Named { word: name, prefix } => {
             feed_named(alloc, table, stack, name, prefix, word)
         }
-        Line::Doubt {
-            first,
-            prefix,
-            second,
-            infix,
-            ..
-        } => feed_doubt(alloc, table, stack, first, prefix, second, infix, word),
+        Line::Doubt(doubt) => {
+            let Doubt {
+                first,
+                prefix,
+                second,
+                between,
+                ..
+            } = Box::into_inner(doubt);
+            feed_doubt(alloc, table, stack, first, prefix, second, between, word)
+        }
     }
 }
 
@@ -230,6 +254,6 @@ pub fn line_floor(stack: &Stack, line: &Line) -> usize
     match line {
         Line::Ready(mode) => mode_floor(stack, mode),
         Line::Named { .. } => stack.floor(1),
-        Line::Doubt { floor, .. } => *floor,
+        Line::Doubt(doubt) => doubt.floor,
     }
 }

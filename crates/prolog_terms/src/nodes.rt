@@ -139,6 +139,16 @@ pub fn one_part(alloc: Global, operand: Operand) -> Result<Parts, AllocError>
     Ok(Parts { terms, depth })
 }
 
+/// One part, with room for more.
+pub fn first_part(alloc: Global, operand: Operand) -> Result<Parts, AllocError>
+    ensures { IfOk result (λ made. see_parts made ≡ parts_one (see_operand operand)) }
+{
+    let depth = operand.depth;
+    let mut terms = Vec::new(alloc);
+    terms.push(operand.term)?;
+    Ok(Parts { terms, depth })
+}
+
 /// The parts and one more.
 pub fn more_parts(parts: Parts, operand: Operand) -> Result<Parts, AllocError>
     ensures { IfOk result (λ made. see_parts made ≡ parts_more (see_parts parts) (see_operand operand)) }
@@ -304,12 +314,30 @@ pub fn postfixed(
     })
 }
 
-/// The operator with its right side.
-pub fn build(alloc: Global, operator: Operator, right: Operand) -> Result<Operand, AllocError>
-    ensures { IfOk result (λ made. see_operand made ≡ built (see_operator operator) (see_operand right)) }
+/// The operand in a box, so that it is cheap to hand on.
+pub fn boxed(alloc: Global, operand: Operand) -> Result<Box<Operand>, AllocError>
+    ensures { IfOk result (λ b. b.value ≡ operand) }
 {
+    Ok(Box::new(alloc, operand)?)
+}
+
+/// The operator with its right side.
+pub fn build(
+    alloc: Global,
+    operator: Operator,
+    right: Box<Operand>,
+) -> Result<Box<Operand>, AllocError>
+    ensures { IfOk result (λ made. see_operand made.value ≡ built (see_operator operator) (see_operand right.value)) }
+{
+    let right = Box::into_inner(right);
     match operator {
-        Operator::Prefix { word, sides } => prefixed(alloc, word, sides, right),
-        Operator::Infix { left, word, sides } => infixed(alloc, left, word, sides, right),
+        Operator::Prefix { word, sides } => {
+            let made = prefixed(alloc, word, sides, right)?;
+            boxed(alloc, made)
+        }
+        Operator::Infix { left, word, sides } => {
+            let made = infixed(alloc, Box::into_inner(left), word, sides, right)?;
+            boxed(alloc, made)
+        }
     }
 }

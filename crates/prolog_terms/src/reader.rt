@@ -52,10 +52,10 @@ fn no_end(text: &str) -> ReadFault
     ReadFault::NoEnd(text.len() as u32)
 }
 
-fn term_alone(operand: Operand) -> Term
-    ensures { (see_operand operand).tree ≡ tree_of result }
+fn term_alone(operand: Box<Operand>) -> Term
+    ensures { (see_operand operand.value).tree ≡ tree_of result }
 {
-    operand.term
+    Box::into_inner(operand).term
 }
 
 /// The clause, once it and its End are read.
@@ -71,7 +71,7 @@ fn finished(line: Line) -> Option<Term>
             Mode::Have(_) => None,
         },
         Line::Named { .. } => None,
-        Line::Doubt { .. } => None,
+        Line::Doubt(_) => None,
     }
 }
 

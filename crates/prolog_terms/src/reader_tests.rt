@@ -474,8 +474,8 @@ fn reads_terms_1000_deep_and_no_deeper(rt: HostRuntime) -> Result<(), Fail> {
 fn reads_long_lists_and_argument_lists(rt: HostRuntime) -> Result<(), Fail> {
     let alloc = rt.alloc();
     let table = OpTable::opening(alloc)?;
-    let list = repeated(alloc, "[a", ",b", 99999, "].")?;
-    expect_parts(&rt, alloc, &table, &list, 100000)?;
-    let call = repeated(alloc, "p(a", ",B", 99999, ").")?;
-    expect_parts(&rt, alloc, &table, &call, 100000)
+    let list = repeated(alloc, "[a", ",b", 999999, "].")?;
+    expect_parts(&rt, alloc, &table, &list, 1000000)?;
+    let call = repeated(alloc, "p(a", ",B", 4194000, ").")?;
+    expect_parts(&rt, alloc, &table, &call, 4194001)
 }

@@ -200,11 +200,12 @@ impl Stack {
             .saturating_add(1);
         let reach = self.reach().max(inner);
         let separates = has_parts(&frame, self.separates());
-        self.entries.push(Entry {
+        self.entries.reserve(1)?;
+        self.entries.push_reserved(Entry {
             frame,
             reach,
             separates,
-        })?;
+        });
         Ok(())
     }
 

@@ -3,12 +3,14 @@
 ghost use Rattle.std.specs.Prelude.{◌≡◌, ◌∷◌, [], Bool, IfOk};
 ghost use Rattle.prolog_ops.specs.Table.{ops_of};
 ghost use Rattle.prolog_terms.specs.Words.{table_of};
-ghost use Rattle.prolog_terms.specs.ReaderSeen.{see_operand, see_parts, see_mode, see_step, held, reduced_seen, closed_seen, goes_seen, wants, has, pushed, bracket_frame, next_in, tail_in, infix_held, postfix_held, infix_step_seen, name_step_seen, separator_seen, comma_in, bar_in, round_in, square_in, curly_in, end_in, with_held, have_step_seen, want_other_seen, want_name_seen, square_pair_seen, curly_pair_seen, prefix_step_seen, act_seen, wrapped_operand, see_bracket, StackSeen};
+ghost use Rattle.prolog_terms.specs.ReaderSeen.{first_in, see_operand, see_parts, see_mode, see_step, held, reduced_seen, closed_seen, goes_seen, wants, has, pushed, bracket_frame, next_in, tail_in, infix_held, postfix_held, infix_step_seen, name_step_seen, separator_seen, comma_in, bar_in, round_in, square_in, curly_in, end_in, with_held, have_step_seen, want_other_seen, want_name_seen, square_pair_seen, curly_pair_seen, prefix_step_seen, act_seen, wrapped_operand, see_bracket, StackSeen};
+ghost use Rattle.prolog_terms.specs.declared.frame.Opener.TheVariants.{Call};
 ghost use Rattle.prolog_terms.specs.StackSeen.{see_stack};
 
 use crate::frame::{Bracket, Frame, Mode, Opener, Operand, Operator, Parts};
 use crate::nodes::{
-    atom, build, group, leaf, more_parts, negative, one_part, pair, postfixed, tailed, wrapped,
+    atom, boxed, build, first_part, group, leaf, more_parts, negative, one_part, pair, postfixed,
+    tailed, wrapped,
 };
 use crate::sides::{Sides, infix_of, postfix_of};
 use crate::stack::Stack;
@@ -21,10 +23,10 @@ use std::alloc::{AllocError, Global};
 pub fn reduce(
     alloc: Global,
     stack: &mut Stack,
-    operand: Operand,
+    operand: Box<Operand>,
     priority: u32,
-) -> Result<Operand, AllocError>
-    ensures { IfOk result (λ left. held (see_stack stack.new) (see_operand left) ≡ reduced_seen priority (see_stack stack.old) (see_operand operand)) }
+) -> Result<Box<Operand>, AllocError>
+    ensures { IfOk result (λ left. held (see_stack stack.new) (see_operand left.value) ≡ reduced_seen priority (see_stack stack.old) (see_operand operand.value)) }
 {
     let mut left = operand;
     while let Some(operator) = stack.pop_operator_below(priority) {
@@ -34,8 +36,12 @@ pub fn reduce(
 }
 
 /// Closes all open operators down to the innermost bracket.
-fn close(alloc: Global, stack: &mut Stack, operand: Operand) -> Result<Operand, AllocError>
-    ensures { IfOk result (λ last. held (see_stack stack.new) (see_operand last) ≡ closed_seen (see_stack stack.old) (see_operand operand)) }
+fn close(
+    alloc: Global,
+    stack: &mut Stack,
+    operand: Box<Operand>,
+) -> Result<Box<Operand>, AllocError>
+    ensures { IfOk result (λ last. held (see_stack stack.new) (see_operand last.value) ≡ closed_seen (see_stack stack.old) (see_operand operand.value)) }
 {
     let mut last = operand;
     while let Some(operator) = stack.pop_operator() {
@@ -44,14 +50,22 @@ fn close(alloc: Global, stack: &mut Stack, operand: Operand) -> Result<Operand, 
     Ok(last)
 }
 
+/// An operand is complete.
+fn have(alloc: Global, made: Operand) -> Result<Option<Mode>, AllocError>
+    ensures { IfOk result (λ next. (S : StackSeen) → see_step S next ≡ goes_seen S (has (see_operand made))) }
+{
+    let operand = boxed(alloc, made)?;
+    Ok(Some(Mode::Have(operand)))
+}
+
 /// An infix operator once the operators before it are closed.
 pub fn infix_behind(
     stack: &mut Stack,
-    left: Operand,
+    left: Box<Operand>,
     word: Word,
     sides: Sides,
 ) -> Result<Option<Mode>, AllocError>
-    ensures { IfOk result (λ next. see_step (see_stack stack.new) next ≡ infix_held (held (see_stack stack.old) (see_operand left)) word sides) }
+    ensures { IfOk result (λ next. see_step (see_stack stack.new) next ≡ infix_held (held (see_stack stack.old) (see_operand left.value)) word sides) }
 {
     if sides.priority > stack.bound() {
         return Ok(None);
@@ -66,11 +80,11 @@ pub fn infix_behind(
 fn postfix_behind(
     alloc: Global,
     stack: &Stack,
-    left: Operand,
+    left: Box<Operand>,
     word: Word,
     sides: Sides,
 ) -> Result<Option<Mode>, AllocError>
-    ensures { IfOk result (λ next. see_step (see_stack stack.now) next ≡ postfix_held (held (see_stack stack.now) (see_operand left)) word sides) }
+    ensures { IfOk result (λ next. see_step (see_stack stack.now) next ≡ postfix_held (held (see_stack stack.now) (see_operand left.value)) word sides) }
 {
     if sides.priority > stack.bound() {
         return Ok(None);
@@ -78,18 +92,18 @@ fn postfix_behind(
     if left.priority > sides.left {
         return Ok(None);
     }
-    let made = postfixed(alloc, left, word, sides)?;
-    Ok(Some(Mode::Have(made)))
+    let made = postfixed(alloc, Box::into_inner(left), word, sides)?;
+    have(alloc, made)
 }
 
 fn infix_step(
     alloc: Global,
     table: &OpTable,
     stack: &mut Stack,
-    operand: Operand,
+    operand: Box<Operand>,
     word: Word,
 ) -> Result<Option<Mode>, AllocError>
-    ensures { IfOk result (λ next. see_step (see_stack stack.new) next ≡ infix_step_seen (see_stack stack.old) (see_operand operand) word ((table_of (ops_of table.now)).infix_ word)) }
+    ensures { IfOk result (λ next. see_step (see_stack stack.new) next ≡ infix_step_seen (see_stack stack.old) (see_operand operand.value) word ((table_of (ops_of table.now)).infix_ word)) }
 {
     let Some(sides) = infix_of(table, &word) else {
         return Ok(None);
@@ -103,10 +117,10 @@ fn name_step(
     alloc: Global,
     table: &OpTable,
     stack: &mut Stack,
-    operand: Operand,
+    operand: Box<Operand>,
     word: Word,
 ) -> Result<Option<Mode>, AllocError>
-    ensures { IfOk result (λ next. see_step (see_stack stack.new) next ≡ name_step_seen (see_stack stack.old) (see_operand operand) word ((table_of (ops_of table.now)).infix_ word) ((table_of (ops_of table.now)).postfix word)) }
+    ensures { IfOk result (λ next. see_step (see_stack stack.new) next ≡ name_step_seen (see_stack stack.old) (see_operand operand.value) word ((table_of (ops_of table.now)).infix_ word) ((table_of (ops_of table.now)).postfix word)) }
 {
     if let Some(sides) = infix_of(table, &word) {
         let left = reduce(alloc, stack, operand, sides.priority)?;
@@ -128,19 +142,23 @@ fn next_part(stack: &mut Stack, opener: Opener, parts: Parts) -> Result<Option<M
 }
 
 /// A Comma where the innermost bracket has parts.
-fn comma_behind(alloc: Global, stack: &mut Stack, last: Operand) -> Result<Option<Mode>, AllocError>
-    ensures { IfOk result (λ next. see_step (see_stack stack.new) next ≡ comma_in (see_stack stack.old) (see_operand last)) }
+fn comma_behind(
+    alloc: Global,
+    stack: &mut Stack,
+    last: Box<Operand>,
+) -> Result<Option<Mode>, AllocError>
+    ensures { IfOk result (λ next. see_step (see_stack stack.new) next ≡ comma_in (see_stack stack.old) (see_operand last.value)) }
 {
     let Some(bracket) = stack.pop_bracket() else {
         return Ok(None);
     };
     match bracket {
         Bracket::First(opener) => {
-            let parts = one_part(alloc, last)?;
+            let parts = first_part(alloc, Box::into_inner(last))?;
             next_part(stack, opener, parts)
         }
         Bracket::Next { opener, parts } => {
-            let parts = more_parts(parts, last)?;
+            let parts = more_parts(parts, Box::into_inner(last))?;
             next_part(stack, opener, parts)
         }
         Bracket::Tail { .. } => Ok(None),
@@ -152,10 +170,10 @@ fn comma(
     alloc: Global,
     table: &OpTable,
     stack: &mut Stack,
-    operand: Operand,
+    operand: Box<Operand>,
     word: Word,
 ) -> Result<Option<Mode>, AllocError>
-    ensures { IfOk result (λ next. see_step (see_stack stack.new) next ≡ separator_seen (see_stack stack.old) (see_operand operand) word ((table_of (ops_of table.now)).infix_ word) comma_in) }
+    ensures { IfOk result (λ next. see_step (see_stack stack.new) next ≡ separator_seen (see_stack stack.old) (see_operand operand.value) word ((table_of (ops_of table.now)).infix_ word) comma_in) }
 {
     if !stack.separates() {
         return infix_step(alloc, table, stack, operand, word);
@@ -173,8 +191,12 @@ fn tail_part(stack: &mut Stack, square: Word, parts: Parts) -> Result<Option<Mod
 }
 
 /// A Bar where the innermost bracket has parts.
-fn bar_behind(alloc: Global, stack: &mut Stack, last: Operand) -> Result<Option<Mode>, AllocError>
-    ensures { IfOk result (λ next. see_step (see_stack stack.new) next ≡ bar_in (see_stack stack.old) (see_operand last)) }
+fn bar_behind(
+    alloc: Global,
+    stack: &mut Stack,
+    last: Box<Operand>,
+) -> Result<Option<Mode>, AllocError>
+    ensures { IfOk result (λ next. see_step (see_stack stack.new) next ≡ bar_in (see_stack stack.old) (see_operand last.value)) }
 {
     let Some(bracket) = stack.pop_bracket() else {
         return Ok(None);
@@ -182,14 +204,14 @@ fn bar_behind(alloc: Global, stack: &mut Stack, last: Operand) -> Result<Option<
     match bracket {
         Bracket::First(opener) => match opener {
             Opener::Square(square) => {
-                let parts = one_part(alloc, last)?;
+                let parts = one_part(alloc, Box::into_inner(last))?;
                 tail_part(stack, square, parts)
             }
             Opener::Call(_) => Ok(None),
         },
         Bracket::Next { opener, parts } => match opener {
             Opener::Square(square) => {
-                let parts = more_parts(parts, last)?;
+                let parts = more_parts(parts, Box::into_inner(last))?;
                 tail_part(stack, square, parts)
             }
             Opener::Call(_) => Ok(None),
@@ -203,10 +225,10 @@ fn bar(
     alloc: Global,
     table: &OpTable,
     stack: &mut Stack,
-    operand: Operand,
+    operand: Box<Operand>,
     word: Word,
 ) -> Result<Option<Mode>, AllocError>
-    ensures { IfOk result (λ next. see_step (see_stack stack.new) next ≡ separator_seen (see_stack stack.old) (see_operand operand) word ((table_of (ops_of table.now)).infix_ word) bar_in) }
+    ensures { IfOk result (λ next. see_step (see_stack stack.new) next ≡ separator_seen (see_stack stack.old) (see_operand operand.value) word ((table_of (ops_of table.now)).infix_ word) bar_in) }
 {
     if !stack.separates() {
         return infix_step(alloc, table, stack, operand, word);
@@ -219,22 +241,22 @@ fn bar(
 fn wrap(
     alloc: Global,
     opening: &Word,
-    inner: Operand,
+    inner: Box<Operand>,
     word: &Word,
 ) -> Result<Option<Mode>, AllocError>
-    ensures { IfOk result (λ next. (S : StackSeen) → see_step S next ≡ goes_seen S (has (wrapped_operand opening.now (see_operand inner) word.now))) }
+    ensures { IfOk result (λ next. (S : StackSeen) → see_step S next ≡ goes_seen S (has (wrapped_operand opening.now (see_operand inner.value) word.now))) }
 {
-    let made = wrapped(alloc, opening, inner, word)?;
-    Ok(Some(Mode::Have(made)))
+    let made = wrapped(alloc, opening, Box::into_inner(inner), word)?;
+    have(alloc, made)
 }
 
 fn round_behind(
     alloc: Global,
     stack: &mut Stack,
-    last: Operand,
+    last: Box<Operand>,
     word: &Word,
 ) -> Result<Option<Mode>, AllocError>
-    ensures { IfOk result (λ next. see_step (see_stack stack.new) next ≡ round_in word.now (see_stack stack.old) (see_operand last)) }
+    ensures { IfOk result (λ next. see_step (see_stack stack.new) next ≡ round_in word.now (see_stack stack.old) (see_operand last.value)) }
 {
     let Some(bracket) = stack.pop_bracket() else {
         return Ok(None);
@@ -242,15 +264,15 @@ fn round_behind(
     match bracket {
         Bracket::First(opener) => match opener {
             Opener::Call(functor) => {
-                let parts = one_part(alloc, last)?;
-                Ok(Some(Mode::Have(group(Opener::Call(functor), parts, word))))
+                let parts = one_part(alloc, Box::into_inner(last))?;
+                have(alloc, group(Opener::Call(functor), parts, word))
             }
             Opener::Square(_) => Ok(None),
         },
         Bracket::Next { opener, parts } => match opener {
             Opener::Call(functor) => {
-                let parts = more_parts(parts, last)?;
-                Ok(Some(Mode::Have(group(Opener::Call(functor), parts, word))))
+                let parts = more_parts(parts, Box::into_inner(last))?;
+                have(alloc, group(Opener::Call(functor), parts, word))
             }
             Opener::Square(_) => Ok(None),
         },
@@ -267,10 +289,10 @@ fn round_behind(
 fn square_behind(
     alloc: Global,
     stack: &mut Stack,
-    last: Operand,
+    last: Box<Operand>,
     word: &Word,
 ) -> Result<Option<Mode>, AllocError>
-    ensures { IfOk result (λ next. see_step (see_stack stack.new) next ≡ square_in word.now (see_stack stack.old) (see_operand last)) }
+    ensures { IfOk result (λ next. see_step (see_stack stack.new) next ≡ square_in word.now (see_stack stack.old) (see_operand last.value)) }
 {
     let Some(bracket) = stack.pop_bracket() else {
         return Ok(None);
@@ -278,21 +300,21 @@ fn square_behind(
     match bracket {
         Bracket::First(opener) => match opener {
             Opener::Square(square) => {
-                let parts = one_part(alloc, last)?;
-                Ok(Some(Mode::Have(group(Opener::Square(square), parts, word))))
+                let parts = one_part(alloc, Box::into_inner(last))?;
+                have(alloc, group(Opener::Square(square), parts, word))
             }
             Opener::Call(_) => Ok(None),
         },
         Bracket::Next { opener, parts } => match opener {
             Opener::Square(square) => {
-                let parts = more_parts(parts, last)?;
-                Ok(Some(Mode::Have(group(Opener::Square(square), parts, word))))
+                let parts = more_parts(parts, Box::into_inner(last))?;
+                have(alloc, group(Opener::Square(square), parts, word))
             }
             Opener::Call(_) => Ok(None),
         },
         Bracket::Tail { square, parts } => {
-            let made = tailed(alloc, &square, parts, last, word)?;
-            Ok(Some(Mode::Have(made)))
+            let made = tailed(alloc, &square, parts, Box::into_inner(last), word)?;
+            have(alloc, made)
         }
         Bracket::Wrap(_) => Ok(None),
     }
@@ -301,10 +323,10 @@ fn square_behind(
 fn curly_behind(
     alloc: Global,
     stack: &mut Stack,
-    last: Operand,
+    last: Box<Operand>,
     word: &Word,
 ) -> Result<Option<Mode>, AllocError>
-    ensures { IfOk result (λ next. see_step (see_stack stack.new) next ≡ curly_in word.now (see_stack stack.old) (see_operand last)) }
+    ensures { IfOk result (λ next. see_step (see_stack stack.new) next ≡ curly_in word.now (see_stack stack.old) (see_operand last.value)) }
 {
     let Some(bracket) = stack.pop_bracket() else {
         return Ok(None);
@@ -323,8 +345,8 @@ fn curly_behind(
 }
 
 /// The End of the clause, where nothing is open.
-fn end_behind(stack: &Stack, last: Operand) -> Option<Mode>
-    ensures { see_step (see_stack stack.now) result ≡ end_in (see_stack stack.now) (see_operand last) }
+fn end_behind(stack: &Stack, last: Box<Operand>) -> Option<Mode>
+    ensures { see_step (see_stack stack.now) result ≡ end_in (see_stack stack.now) (see_operand last.value) }
 {
     if stack.height() > 0 {
         return None;
@@ -337,10 +359,10 @@ fn have_step(
     alloc: Global,
     table: &OpTable,
     stack: &mut Stack,
-    operand: Operand,
+    operand: Box<Operand>,
     word: Word,
 ) -> Result<Option<Mode>, AllocError>
-    ensures { IfOk result (λ next. see_step (see_stack stack.new) next ≡ have_step_seen (table_of (ops_of table.now)) (see_stack stack.old) (see_operand operand) word word.kind) }
+    ensures { IfOk result (λ next. see_step (see_stack stack.new) next ≡ have_step_seen (table_of (ops_of table.now)) (see_stack stack.old) (see_operand operand.value) word word.kind) }
 {
     match word.kind {
         Kind::Name => name_step(alloc, table, stack, operand, word),
@@ -377,7 +399,7 @@ fn square_pair(alloc: Global, stack: &mut Stack, word: &Word) -> Result<Option<M
     match bracket {
         Bracket::First(Opener::Square(square)) => {
             let made = pair(alloc, &square, word)?;
-            Ok(Some(Mode::Have(made)))
+            have(alloc, made)
         }
         Bracket::First(Opener::Call(_)) => Ok(None),
         Bracket::Next { .. } => Ok(None),
@@ -397,7 +419,7 @@ fn curly_pair(alloc: Global, stack: &mut Stack, word: &Word) -> Result<Option<Mo
         Bracket::Wrap(open) => {
             if open.kind == Kind::OpenCurly {
                 let made = pair(alloc, &open, word)?;
-                return Ok(Some(Mode::Have(made)));
+                return have(alloc, made);
             }
             Ok(None)
         }
@@ -414,16 +436,23 @@ fn open_bracket(stack: &mut Stack, bracket: Bracket) -> Result<Option<Mode>, All
     Ok(Some(Mode::Want))
 }
 
+/// The bracket of a functor.
+fn open_call(stack: &mut Stack, functor: Word) -> Result<Option<Mode>, AllocError>
+    ensures { IfOk result (λ next. see_step (see_stack stack.new) next ≡ goes_seen (pushed (see_stack stack.old) (bracket_frame (first_in (Call functor)))) wants) }
+{
+    open_bracket(stack, Bracket::First(Opener::Call(functor)))
+}
+
 /// A word that is no name where an operand is wanted.
 fn want_other(alloc: Global, stack: &mut Stack, word: Word) -> Result<Option<Mode>, AllocError>
     ensures { IfOk result (λ next. see_step (see_stack stack.new) next ≡ want_other_seen (see_stack stack.old) word word.kind) }
 {
     match word.kind {
-        Kind::Variable => Ok(Some(Mode::Have(leaf(&word)))),
-        Kind::Integer => Ok(Some(Mode::Have(leaf(&word)))),
-        Kind::Float => Ok(Some(Mode::Have(leaf(&word)))),
-        Kind::Str => Ok(Some(Mode::Have(leaf(&word)))),
-        Kind::BackStr => Ok(Some(Mode::Have(leaf(&word)))),
+        Kind::Variable => have(alloc, leaf(&word)),
+        Kind::Integer => have(alloc, leaf(&word)),
+        Kind::Float => have(alloc, leaf(&word)),
+        Kind::Str => have(alloc, leaf(&word)),
+        Kind::BackStr => have(alloc, leaf(&word)),
         Kind::OpenRound => open_bracket(stack, Bracket::Wrap(word)),
         Kind::OpenCurly => open_bracket(stack, Bracket::Wrap(word)),
         Kind::OpenSquare => open_bracket(stack, Bracket::First(Opener::Square(word))),
@@ -457,12 +486,13 @@ pub struct Behind {
 
 /// A name where an operand is wanted.
 pub fn want_name(
+    alloc: Global,
     stack: &mut Stack,
-    word: Word,
+    word: Box<Word>,
     prefix: Option<Sides>,
     behind: Behind,
 ) -> Result<Option<Mode>, AllocError>
-    ensures { IfOk result (λ next. see_step (see_stack stack.new) next ≡ want_name_seen (see_stack stack.old) word prefix behind.bracket behind.number behind.ends) }
+    ensures { IfOk result (λ next. see_step (see_stack stack.new) next ≡ want_name_seen (see_stack stack.old) word.value prefix behind.bracket behind.number behind.ends) }
 {
     if behind.bracket {
         return Ok(Some(Mode::Functor(word)));
@@ -471,12 +501,12 @@ pub fn want_name(
         return Ok(Some(Mode::Minus(word)));
     }
     match prefix {
-        None => Ok(Some(Mode::Have(atom(word)))),
+        None => have(alloc, atom(Box::into_inner(word))),
         Some(sides) => {
             if behind.ends {
-                return Ok(Some(Mode::Have(atom(word))));
+                return have(alloc, atom(Box::into_inner(word)));
             }
-            prefix_step(stack, word, sides)
+            prefix_step(stack, Box::into_inner(word), sides)
         }
     }
 }
@@ -493,8 +523,8 @@ pub fn act(
 {
     match mode {
         Mode::Want => want_other(alloc, stack, word),
-        Mode::Minus(minus) => Ok(Some(Mode::Have(negative(&minus, &word)))),
-        Mode::Functor(functor) => open_bracket(stack, Bracket::First(Opener::Call(functor))),
+        Mode::Minus(minus) => have(alloc, negative(&minus, &word)),
+        Mode::Functor(functor) => open_call(stack, Box::into_inner(functor)),
         Mode::Have(operand) => have_step(alloc, table, stack, operand, word),
         Mode::Done(_) => Ok(None),
     }

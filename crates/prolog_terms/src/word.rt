@@ -9,16 +9,16 @@ use crate::term::Span;
 use prolog_tokens::{Kind, Text, Token, integer_value, name_text};
 use std::alloc::{AllocError, Global};
 
-/// A token as terms see it: its kind, the name of a Name or Quoted token (of any other no text),
-/// the value of an Integer that has one, whether layout stands directly before it, and where it
-/// stands.
+/// A token as terms see it: its kind, whether layout stands directly before it, where it stands,
+/// the value of an Integer that has one, and the name of a Name or Quoted token (of any other no
+/// text).
 #[derive(Drop)]
 pub struct Word {
     pub kind: Kind,
-    pub text: Text,
-    pub value: Option<u32>,
     pub after_layout: bool,
     pub span: Span,
+    pub value: Option<u32>,
+    pub text: Text,
 }
 
 /// The text that the token's word has.

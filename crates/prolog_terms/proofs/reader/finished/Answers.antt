@@ -4,7 +4,7 @@ use Rattle.prolog_terms.proofs.reader.finished.Goals as goal
 
 pub returns-in-Done : goal.returns-in-Done
 returns-in-Done c = λ S. (
-  see_operand c.in-Done.clause,
+  see_operand c.in-Done.clause.value,
   ap (see_line S) c.in-Ready.is ∙ ap (λ m. ready_seen S (see_mode m)) c.in-Done.is,
   c.term_alone.ensures,
 )

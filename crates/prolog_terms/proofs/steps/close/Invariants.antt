@@ -4,7 +4,7 @@ use Rattle.prolog_terms.specs.StackSeen.{see_stack}
 use Rattle.prolog_terms.proofs.steps.close.Given as goal
 
 abbrev pub invariant-loop-operator : goal.invariant-loop-operator
-invariant-loop-operator l = closed_seen (see_stack l.stack) (see_operand l.last) ≡ closed_seen (see_stack l.fn.stack) (see_operand l.fn.operand)
+invariant-loop-operator l = closed_seen (see_stack l.stack) (see_operand l.last.value) ≡ closed_seen (see_stack l.fn.stack) (see_operand l.fn.operand.value)
 
 abbrev pub decreases-loop-operator : goal.decreases-loop-operator
 decreases-loop-operator l = length (see_stack l.stack)

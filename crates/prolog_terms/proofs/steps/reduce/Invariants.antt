@@ -4,7 +4,7 @@ use Rattle.prolog_terms.specs.StackSeen.{see_stack}
 use Rattle.prolog_terms.proofs.steps.reduce.Given as goal
 
 abbrev pub invariant-loop-operator : goal.invariant-loop-operator
-invariant-loop-operator l = reduced_seen l.priority (see_stack l.stack) (see_operand l.left) ≡ reduced_seen l.priority (see_stack l.fn.stack) (see_operand l.fn.operand)
+invariant-loop-operator l = reduced_seen l.priority (see_stack l.stack) (see_operand l.left.value) ≡ reduced_seen l.priority (see_stack l.fn.stack) (see_operand l.fn.operand.value)
 
 abbrev pub decreases-loop-operator : goal.decreases-loop-operator
 decreases-loop-operator l = length (see_stack l.stack)

@@ -1,0 +1,116 @@
+#!/usr/bin/env python3
+"""Times `read_clause` beside SWI-Prolog's `read_term/2`, on the same generated text of 8 MiB.
+
+Needs `rt` and `swipl`. Prints a table: the best of five runs of each, in milliseconds and in
+nanoseconds a token. With `--keep FOLDER` the text stays there.
+"""
+
+import argparse
+import pathlib
+import subprocess
+import sys
+import tempfile
+
+ROOT = pathlib.Path(__file__).resolve().parent.parent
+PROGRAM = ROOT / "crates" / "clause_bench" / "out" / "clause_bench"
+MOST_BYTES = 8_388_608
+RUNS = 5
+
+# Reads all terms of a file, and writes their number and the seconds of processor time.
+SWI = """
+:- initialization(main, main).
+
+main([File]) :-
+    setup_call_cleanup(open(File, read, In), timed(In), close(In)).
+
+timed(In) :-
+    statistics(cputime, Begun),
+    count(In, 0, Count),
+    statistics(cputime, Ended),
+    Took is Ended - Begun,
+    format("~w ~w~n", [Count, Took]).
+
+count(In, Before, Count) :-
+    read_term(In, Term, []),
+    ( Term == end_of_file
+    -> Count = Before
+    ;  More is Before + 1,
+       count(In, More, Count)
+    ).
+"""
+
+
+def clauses(number):
+    """Facts and rules with operators, lists, calls, strings and variables."""
+    return (
+        f":- dynamic price_{number}/3.\n"
+        f"price_{number}(bread, \"a loaf\", {number}-eur).\n"
+        f"price_{number}('Old cheese', \"half a pound\", [{number}.5, -1, 0'x]).\n"
+        f"route_{number}(From, To, [From|Path], Cost) :-\n"
+        f"    edge(From, Next, Step), Next \\== To, \\+ member(Next, [From, To]),\n"
+        f"    (  Step >= {number} * 2 + 1 -> Cost is Step * (Step - 1) // 2\n"
+        f"    ;  Cost = max(Step, {number % 9}), format(\"step ~w of ~w~n\", [Step, To])\n"
+        f"    ),\n"
+        f"    route_{number + 1}(Next, To, Path, Rest), Rest = Cost : Step.\n"
+        f"sum_{number}([], Sum, Sum).\n"
+        f"sum_{number}([X|Xs], Before, Sum) :- Then is Before + X, sum_{number}(Xs, Then, Sum).\n\n"
+    )
+
+
+def text():
+    """As many clauses as fit into a text."""
+    parts, size, number = [], 0, 0
+    while size + len(part := clauses(number)) <= MOST_BYTES:
+        parts.append(part)
+        size += len(part)
+        number += 1
+    return "".join(parts)
+
+
+def ours(path):
+    """The least microseconds of the tokens, those of the clauses, and the two numbers of them."""
+    cuts, reads = [], []
+    for _ in range(RUNS):
+        run = subprocess.run([PROGRAM, path], capture_output=True, text=True, check=True)
+        cut, read = run.stderr.split()
+        cuts.append(int(cut))
+        reads.append(int(read))
+        found = [int(word) for word in run.stdout.split()]
+    return min(cuts), min(reads), found[0], found[1]
+
+
+def swi(script, path):
+    """The least microseconds of SWI-Prolog, and its number of terms."""
+    times = []
+    for _ in range(RUNS):
+        run = subprocess.run(["swipl", script, "--", path], capture_output=True, text=True, check=True)
+        count, took = run.stdout.split()
+        times.append(float(took) * 1_000_000)
+    return min(times), int(count)
+
+
+def main():
+    parser = argparse.ArgumentParser(description=__doc__)
+    parser.add_argument("--keep", metavar="FOLDER", type=pathlib.Path)
+    keep = parser.parse_args().keep
+    if not PROGRAM.exists():
+        subprocess.run(["rt", "run", "--", "data/f.pl"], cwd=PROGRAM.parent.parent, check=True, stdout=sys.stderr)
+    with tempfile.TemporaryDirectory() as folder:
+        script = pathlib.Path(folder) / "read.pl"
+        script.write_text(SWI)
+        path = (keep or pathlib.Path(folder)) / "clauses.pl"
+        path.write_text(text())
+        cut, read, tokens, count = ours(path)
+        theirs, also = swi(script, path)
+        if count != also:
+            sys.exit(f"{count} clauses, but SWI-Prolog finds {also}")
+        size = path.stat().st_size
+        print(f"{size} bytes, {tokens} tokens, {count} clauses")
+        print(f"{'':<20}{'ms':>8}{'ns/token':>10}{'MB/s':>7}")
+        for name, took in [("tokens", cut), ("read_clause", read), ("both", cut + read), ("SWI read_term/2", theirs)]:
+            print(f"{name:<20}{took / 1000:>8.1f}{took * 1000 / tokens:>10.1f}{size / took:>7.1f}")
+        print(f"SWI-Prolog takes {theirs / (cut + read):.2f} times as long")
+
+
+if __name__ == "__main__":
+    main()
