@@ -1,0 +1,61 @@
+-- Operator items of some clauses, and what they do.
+use Rattle.std.proofs.Common.{◌≡◌, ℕ, ◌+◌, List, [], ◌∷◌, Some, Err, false, refl, codes}
+use Rattle.prolog_ops.specs.Table.{opening}
+use Rattle.prolog_terms.specs.declared.term.Span.{Span}
+use Rattle.prolog_terms.specs.declared.term.Form.TheVariants.{Functional, Prefix, Infix as between}
+use Rattle.prolog_terms.specs.declared.term.ConstKind.TheVariants.{Integer}
+use Rattle.prolog_terms.specs.Tree.{Tree, variable, constant, atom, compound, listed, tailed, paren, more, none}
+use Rattle.clause_text.specs.declared.cause.Cause.TheVariants.{BadPriority, BadKind, BadName, FixedOp, InfixAndPostfix}
+use Rattle.clause_text.specs.declared.fault.TextFault.TheVariants.{At}
+use Rattle.clause_text.specs.Items.{Item, items_of, item_on}
+
+abbrev at : ℕ → Span
+at from = record { from = from; to = from + 1 }
+
+abbrev number : ℕ → ℕ → Tree
+number value from = constant Integer false (Some value) (at from)
+
+abbrev op : Tree → Tree → Tree → Tree
+op priority kind names = compound (codes "op") (more priority (more kind (more names none))) Functional (at 3)
+
+abbrev one_item : Tree → Tree → Tree → Item
+one_item priority kind names = record { priority = priority; kind = kind; names = names }
+
+abbrev word : List ℕ → ℕ → Tree
+word name from = atom name (at from)
+
+-- `:- op(700, xfx, eq)`, and `?-` and brackets alike
+law_1 : items_of (compound (codes ":-") (more (op (number 700 6) (word (codes "xfx") 11) (word (codes "eq") 16)) none) Prefix (at 0))
+    ≡ one_item (number 700 6) (word (codes "xfx") 11) (word (codes "eq") 16) ∷ []
+law_1 = refl
+
+law_2 : items_of (paren (compound (codes "?-") (more (paren (op (number 700 6) (word (codes "xfx") 11) (word (codes "eq") 16)) (at 2)) none) Prefix (at 1)) (at 0))
+    ≡ one_item (number 700 6) (word (codes "xfx") 11) (word (codes "eq") 16) ∷ []
+law_2 = refl
+
+-- a fact has none
+law_3 : items_of (op (number 700 6) (word (codes "xfx") 11) (word (codes "eq") 16)) ≡ []
+law_3 = refl
+
+-- `:- p, module(m, [q, (op(1, xfx, eq))|T])`: under a comma, in a list with a tail and in brackets
+law_4 : items_of (compound (codes ":-") (more (compound (codes ",") (more (word (codes "p") 3) (more (compound (codes "module") (more (word (codes "m") 13)
+    (more (tailed (more (word (codes "q") 17) (more (paren (op (number 1 24) (word (codes "xfx") 27) (word (codes "eq") 32)) (at 20)) none)) (variable (at 37)) (at 16)) none)) Functional (at 6)) none))
+    between (at 3)) none) Prefix (at 0))
+    ≡ one_item (number 1 24) (word (codes "xfx") 27) (word (codes "eq") 32) ∷ []
+law_4 = refl
+
+-- a priority over 1,200, then another kind, then no name, then a name that is fixed, then one that is infix
+law_5 : item_on (one_item (paren (number 1201 7) (at 6)) (word (codes "k") 13) (variable (at 16))) opening ≡ Err (At BadPriority 7)
+law_5 = refl
+
+law_6 : item_on (one_item (number 1200 6) (word (codes "k") 12) (variable (at 15))) opening ≡ Err (At BadKind 12)
+law_6 = refl
+
+law_7 : item_on (one_item (number 700 6) (word (codes "xf") 11) (listed (more (word (codes "[]") 16) (more (variable (at 20)) none)) (at 15))) opening ≡ Err (At BadName 15)
+law_7 = refl
+
+law_8 : item_on (one_item (number 700 6) (word (codes "xf") 11) (word (codes "[]") 15)) opening ≡ Err (At FixedOp 15)
+law_8 = refl
+
+law_9 : item_on (one_item (number 700 6) (word (codes "xf") 11) (word (codes "is") 15)) opening ≡ Err (At InfixAndPostfix 15)
+law_9 = refl

@@ -1,0 +1,12 @@
+pub mod FirstParts
+pub mod KeptTables
+pub mod EachOn
+pub mod ClauseSplits
+pub mod OneReading
+pub mod OneFault
+pub mod Outcomes
+pub mod Offsets
+pub mod TermShapes
+pub mod SetNames
+pub mod TextLemmas
+pub mod Examples

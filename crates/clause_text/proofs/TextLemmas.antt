@@ -1,0 +1,71 @@
+-- From what was read of the tokens of a text to what the text is.
+use Rattle.std.proofs.Common.{◌≡◌, ◌≢◌, ℕ, ◌+◌, ◌≤◌, List, [], ◌∷◌, length, All, ap, subst, ◌∙◌, arith, length-append}
+use Rattle.std.specs.Str.{IsUtf8}
+use Rattle.std.proofs.lemmas.List.Elements.{All-nil, All-cons}
+use Rattle.prolog_tokens.specs.declared.token.Token.{Token}
+use Rattle.prolog_tokens.specs.declared.token.TokenFault.{TokenFault}
+use Rattle.prolog_tokens.specs.declared.token.TokenFault.TheVariants as of_tokens
+use Rattle.prolog_tokens.specs.Cut.{IsCut, HasFault}
+use Rattle.prolog_ops.specs.Table.{Ops, IsOps}
+use Rattle.prolog_terms.specs.Tree.{Tree}
+use Rattle.prolog_terms.specs.Words.{table_of}
+use Rattle.prolog_terms.specs.Arity.{HasAritiesWithin}
+use Rattle.prolog_terms.proofs.ReaderTables.{table_is}
+use Rattle.prolog_terms.proofs.ClausesOf.{clause_once}
+use Rattle.prolog_terms.proofs.ClauseArities.{clause_within}
+use Rattle.clause_text.specs.declared.fault.TextFault.{TextFault}
+use Rattle.clause_text.specs.declared.fault.TextFault.TheVariants.{At, NoMemory}
+use Rattle.clause_text.specs.Items.{items_of}
+use Rattle.clause_text.specs.Clauses.{AreClauses, ReadsAs, HasClauseFault, opening_ops}
+use Rattle.clause_text.specs.TextFault.{TokensHave, ClausesHave, fault_of_tokens}
+use Rattle.clause_text.proofs.KeptTables.{items_keep}
+use Rattle.clause_text.proofs.Offsets.{IsPlaced, clauses_placed}
+
+-- what was read of the tokens of the text is read of the bytes
+pub reads_as : (bytes text : List ℕ) (ts us : List Token) (trees : List Tree) → text ≡ bytes → us ≡ ts → IsUtf8 bytes → IsCut text ts → AreClauses opening_ops text us trees
+    → ReadsAs bytes trees
+reads_as bytes text ts us trees same listed utf8 cut are = record {
+  utf8 = utf8;
+  tokens = ts;
+  cut = subst (λ t. IsCut t ts) same cut;
+  clauses = subst (λ t. AreClauses opening_ops t ts trees) same (subst (λ all. AreClauses opening_ops text all trees) listed are);
+}
+
+pub clauses_have : (bytes text : List ℕ) (ts us : List Token) (fault : TextFault) → text ≡ bytes → us ≡ ts → IsUtf8 bytes → IsCut text ts
+    → HasClauseFault opening_ops text us fault → ClausesHave bytes fault
+clauses_have bytes text ts us fault same listed utf8 cut has = record {
+  utf8 = utf8;
+  tokens = ts;
+  cut = subst (λ t. IsCut t ts) same cut;
+  has = subst (λ t. HasClauseFault opening_ops t ts fault) same (subst (λ all. HasClauseFault opening_ops text all fault) listed has);
+}
+
+pub tokens_have : (bytes text : List ℕ) (of : TokenFault) (fault : TextFault) → text ≡ bytes → IsUtf8 bytes → fault ≡ fault_of_tokens of
+    → (of ≢ of_tokens.NoMemory → HasFault text of) → fault ≢ NoMemory → TokensHave bytes fault
+tokens_have bytes text of fault same utf8 is has some = record {
+  utf8 = utf8;
+  of = of;
+  is = is;
+  has = subst (λ t. HasFault t of) same (has (λ none. some (is ∙ ap fault_of_tokens none)));
+}
+
+-- a fault of the clauses is placed, or memory was wanting
+pub placed_or_none : (text : List ℕ) (fault : TextFault) → (fault ≢ NoMemory → ClausesHave text fault) → IsPlaced text fault
+placed_or_none text (At cause at) have = clauses_placed text (At cause at) (have (λ e. cc))
+placed_or_none text NoMemory have = tt
+
+-- there are no more clauses than tokens
+pub few_clauses : (table : Ops) → IsOps table → (text : List ℕ) (ts : List Token) (trees : List Tree) → AreClauses table text ts trees → length trees ≤ length ts
+few_clauses table ok text ts [] are = omega arith
+few_clauses table ok text ts (tree ∷ trees) (part, rest, left, is, leaves, are) =
+    let ends = clause_once (table_of table) (table_is table ok) text part tree leaves.clause in
+    let count : length ts ≡ length part + length rest = ap length is ∙ length-append part rest in
+    omega (arith, few_clauses left (items_keep (items_of tree) table left ok leaves.items) text rest trees are, count, ends.some)
+
+-- no compound of a clause has more arguments than the text has tokens
+pub clauses_arities : (table : Ops) (text : List ℕ) (ts : List Token) (trees : List Tree) (n : ℕ) → length ts ≤ n → AreClauses table text ts trees → All (HasAritiesWithin n) trees
+clauses_arities table text ts [] n few are = All-nil (HasAritiesWithin n)
+clauses_arities table text ts (tree ∷ trees) n few (part, rest, left, is, leaves, are) =
+    let count : length ts ≡ length part + length rest = ap length is ∙ length-append part rest in
+    All-cons (HasAritiesWithin n) tree trees (clause_within (table_of table) text part tree n (omega (arith, count)) leaves.clause)
+    (clauses_arities left text rest trees n (omega (arith, count)) are)

@@ -1,0 +1,88 @@
+use Rattle.std.proofs.Common.{◌≤◌, length, arith, ap, sym, refl, subst}
+use Rattle.std.specs.Str.{IsValidUpTo}
+use Rattle.std.proofs.lemmas.List.{length-map}
+use Rattle.prolog_tokens.proofs.Lookups.{cut_fewer}
+use Rattle.prolog_terms.specs.Tree.{tree_of}
+use Rattle.clause_text.specs.declared.Clause.{Clause}
+use Rattle.clause_text.specs.Clauses.{clause_trees, opening_ops}
+use Rattle.clause_text.specs.TextFault.{bytes, tokens, clauses}
+use Rattle.clause_text.proofs.Outcomes.{on_err, err_only, ok_with}
+use Rattle.clause_text.proofs.OneReading.{opening_ops_are, one_reading}
+use Rattle.clause_text.proofs.OneFault.{one_fault, fault_no_reading}
+use Rattle.clause_text.proofs.TextLemmas.{reads_as, clauses_have, tokens_have, placed_or_none, few_clauses, clauses_arities}
+use Rattle.clause_text.proofs.text.read_text.Goals as goal
+
+pub returns-in-Err-clause-only_fault : goal.returns-in-Err-clause-only_fault
+returns-in-Err-clause-only_fault c = λ some other also.
+    one_fault c.args.bytes.now other _ also
+    (bytes (c.valid_up_to.result, refl, subst (IsValidUpTo c.args.bytes.now) (sym c.valid_up_to.ensures) c.in-Err.ensures.cases.1))
+
+pub returns-in_err-tokens-clause-none : goal.returns-in_err-tokens-clause-none
+returns-in_err-tokens-clause-none c =
+    on_err c.from_residual.result _ _ c.from_residual.ensures.1
+    (λ fault same some others reads.
+    fault_no_reading c.args.bytes.now fault others
+    (tokens (tokens_have c.args.bytes.now c.in-Ok.text.now c.in_err-tokens.field-0.0 fault c.in-Ok.ensures.cases.0 c.in-Ok.ensures.cases.1 same c.in_err-tokens.ensures.fault some)) reads)
+
+pub returns-in_err-tokens-clause-fault : goal.returns-in_err-tokens-clause-fault
+returns-in_err-tokens-clause-fault c =
+    on_err c.from_residual.result _ _ c.from_residual.ensures.1
+    (λ fault same some.
+    tokens (tokens_have c.args.bytes.now c.in-Ok.text.now c.in_err-tokens.field-0.0 fault c.in-Ok.ensures.cases.0 c.in-Ok.ensures.cases.1 same c.in_err-tokens.ensures.fault some))
+
+pub returns-in_err-tokens-clause-only_fault : goal.returns-in_err-tokens-clause-only_fault
+returns-in_err-tokens-clause-only_fault c =
+    on_err c.from_residual.result _ _ c.from_residual.ensures.1
+    (λ fault same some other also.
+    one_fault c.args.bytes.now other fault also
+    (tokens (tokens_have c.args.bytes.now c.in-Ok.text.now c.in_err-tokens.field-0.0 fault c.in-Ok.ensures.cases.0 c.in-Ok.ensures.cases.1 same c.in_err-tokens.ensures.fault some)))
+
+pub returns-clause-only : goal.returns-clause-only
+returns-clause-only c =
+    ok_with c.read_clauses.result _ _ c.read_clauses.ensures.ok
+    (λ found are others reads.
+    one_reading c.args.bytes.now others (clause_trees found.items) reads
+    (reads_as c.args.bytes.now c.in-Ok.text.now c.in_ok-tokens.tokens.items c.deref.result.now (clause_trees found.items) c.in-Ok.ensures.cases.0 c.deref.ensures.value
+    c.in-Ok.ensures.cases.1 c.in_ok-tokens.ensures.ok are))
+
+pub returns-clause-none : goal.returns-clause-none
+returns-clause-none c =
+    err_only c.read_clauses.result _ _ c.read_clauses.ensures.fault
+    (λ fault has some others reads.
+    fault_no_reading c.args.bytes.now fault others
+    (clauses (clauses_have c.args.bytes.now c.in-Ok.text.now c.in_ok-tokens.tokens.items c.deref.result.now fault c.in-Ok.ensures.cases.0 c.deref.ensures.value
+    c.in-Ok.ensures.cases.1 c.in_ok-tokens.ensures.ok (has some))) reads)
+
+pub returns-clause-only_fault : goal.returns-clause-only_fault
+returns-clause-only_fault c =
+    err_only c.read_clauses.result _ _ c.read_clauses.ensures.fault
+    (λ fault has some other also.
+    one_fault c.args.bytes.now other fault also
+    (clauses (clauses_have c.args.bytes.now c.in-Ok.text.now c.in_ok-tokens.tokens.items c.deref.result.now fault c.in-Ok.ensures.cases.0 c.deref.ensures.value
+    c.in-Ok.ensures.cases.1 c.in_ok-tokens.ensures.ok (has some))))
+
+pub returns-clause-offset : goal.returns-clause-offset
+returns-clause-offset c =
+    err_only c.read_clauses.result _ _ c.read_clauses.ensures.fault
+    (λ fault has.
+    placed_or_none c.args.bytes.now fault
+    (λ some.
+    clauses_have c.args.bytes.now c.in-Ok.text.now c.in_ok-tokens.tokens.items c.deref.result.now fault c.in-Ok.ensures.cases.0 c.deref.ensures.value
+    c.in-Ok.ensures.cases.1 c.in_ok-tokens.ensures.ok (has some)))
+
+pub returns-clause-arities : goal.returns-clause-arities
+returns-clause-arities c =
+    let fewer : length c.in_ok-tokens.tokens.items ≤ length c.in-Ok.text.now = cut_fewer c.in-Ok.text.now c.in_ok-tokens.tokens.items c.in_ok-tokens.ensures.ok in
+    ok_with c.read_clauses.result _ _ c.read_clauses.ensures.ok
+    (λ found are.
+    clauses_arities opening_ops c.in-Ok.text.now c.deref.result.now (clause_trees found.items) 8388608
+    (omega (arith, fewer, ap length c.deref.ensures.value, ap length c.in-Ok.ensures.cases.0, c.requires)) are)
+
+pub returns-clause-few : goal.returns-clause-few
+returns-clause-few c =
+    let fewer : length c.in_ok-tokens.tokens.items ≤ length c.in-Ok.text.now = cut_fewer c.in-Ok.text.now c.in_ok-tokens.tokens.items c.in_ok-tokens.ensures.ok in
+    ok_with c.read_clauses.result _ _ c.read_clauses.ensures.ok
+    (λ found are.
+    (let few : length (clause_trees found.items) ≤ length c.deref.result.now =
+    few_clauses opening_ops opening_ops_are c.in-Ok.text.now c.deref.result.now (clause_trees found.items) are in
+    omega (arith, fewer, few, length-map found.items (λ (clause : Clause). tree_of clause.term), ap length c.deref.ensures.value, ap length c.in-Ok.ensures.cases.0, c.requires)))

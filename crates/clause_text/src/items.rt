@@ -1,0 +1,239 @@
+ghost use Rattle.std.specs.Prelude.{◌≡◌, ◌≢◌, Some, None, Ok, Err, option_map, map, OnOk, IfErr};
+ghost use Rattle.std.specs.Option.{option_to_list};
+ghost use Rattle.std.specs.List.{filter_map, list_all};
+ghost use Rattle.prolog_ops.specs.Table.{ops_of};
+ghost use Rattle.prolog_terms.specs.Tree.{tree_of};
+ghost use Rattle.clause_text.specs.Items.{Item, priority_of, priority_when, kind_named, kind_of, name_of, is_name, names_of, listed_names, each_on, name_on, with_names, item_on, item_of, items_on, exported_items, goal_items, directive_items, items_of};
+
+use crate::cause::Cause;
+use crate::fault::{TextFault, fault_at, fault_of_ops};
+use crate::terms::{directive_of, inside, listed, operator_item, sides};
+use prolog_ops::{OpKind, OpTable};
+use prolog_terms::{ConstKind, Term};
+use std::alloc::Global;
+
+/// The greatest priority of an operator.
+const MOST_PRIORITY: u32 = 1200;
+
+/// The value of an integer without a minus, where it can be a priority.
+fn priority_when(kind: ConstKind, minus: bool, value: Option<u32>) -> Option<u32>
+    ensures { result ≡ priority_when kind minus value }
+{
+    if kind != ConstKind::Integer {
+        return None;
+    }
+    if minus {
+        return None;
+    }
+    value.filter(|priority| *priority <= MOST_PRIORITY)
+}
+
+fn priority_of(term: &Term) -> Option<u32>
+    ensures { result ≡ priority_of (tree_of term.now) }
+{
+    match inside(term) {
+        Term::Const {
+            kind,
+            minus,
+            value,
+            ..
+        } => priority_when(*kind, *minus, *value),
+        _ => None,
+    }
+}
+
+fn kind_named(name: &str) -> Option<OpKind>
+    ensures { result ≡ kind_named name.now }
+{
+    match name {
+        "xfx" => Some(OpKind::Xfx),
+        "xfy" => Some(OpKind::Xfy),
+        "yfx" => Some(OpKind::Yfx),
+        "fy" => Some(OpKind::Fy),
+        "fx" => Some(OpKind::Fx),
+        "xf" => Some(OpKind::Xf),
+        "yf" => Some(OpKind::Yf),
+        _ => None,
+    }
+}
+
+fn kind_of(term: &Term) -> Option<OpKind>
+    ensures { result ≡ kind_of (tree_of term.now) }
+{
+    match inside(term) {
+        Term::Atom { name, .. } => kind_named(name.as_str()),
+        _ => None,
+    }
+}
+
+/// The name of an atom, and where it stands.
+fn name_of(term: &Term) -> Option<(&str, u32)>
+    ensures { option_map (λ name. record { text = name.0.now; at = name.1 }) result ≡ name_of (tree_of term.now) }
+{
+    match inside(term) {
+        Term::Atom { name, span } => Some((name.as_str(), span.from)),
+        _ => None,
+    }
+}
+
+fn is_name(term: &Term) -> bool
+    ensures { result ≡ is_name (tree_of term.now) }
+{
+    name_of(term).is_some()
+}
+
+fn are_names(terms: &[Term]) -> bool
+    ensures { result ≡ list_all (λ term. is_name (tree_of term)) terms.now }
+{
+    terms.iter().all(|term| is_name(term))
+}
+
+/// The terms of a list without a tail of nothing but atoms.
+fn listed_names(names: &Term) -> Option<&[Term]>
+    ensures { option_map (λ list. map tree_of list.now) result ≡ listed_names (tree_of names.now) }
+{
+    let Term::List { items, tail, .. } = inside(names) else {
+        return None;
+    };
+    if tail.is_some() {
+        return None;
+    }
+    if !are_names(items) {
+        return None;
+    }
+    Some(items)
+}
+
+/// Sets the operator at the name that the term is, where it is an atom.
+fn set_name(
+    alloc: Global,
+    table: &mut OpTable,
+    name: &Term,
+    kind: OpKind,
+    priority: u32,
+) -> Result<(), TextFault>
+    ensures done { OnOk result (each_on (name_on kind priority) (option_to_list (name_of (tree_of name.now))) (ops_of table.old) ≡ Ok (ops_of table.new)) }
+    ensures refused { IfErr result (λ fault. fault ≢ TextFault.NoMemory → each_on (name_on kind priority) (option_to_list (name_of (tree_of name.now))) (ops_of table.old) ≡ Err fault) }
+{
+    let Some((text, at)) = name_of(name) else {
+        return Ok(());
+    };
+    match table.set(alloc, text, kind, priority) {
+        Ok(()) => Ok(()),
+        Err(fault) => Err(fault_of_ops(fault, at)),
+    }
+}
+
+/// Sets the operator at each of the terms that is an atom, in order.
+fn set_each(
+    alloc: Global,
+    table: &mut OpTable,
+    names: &[Term],
+    kind: OpKind,
+    priority: u32,
+) -> Result<(), TextFault>
+    ensures done { OnOk result (each_on (name_on kind priority) (filter_map name_of (map tree_of names.now)) (ops_of table.old) ≡ Ok (ops_of table.new)) }
+    ensures refused { IfErr result (λ fault. fault ≢ TextFault.NoMemory → each_on (name_on kind priority) (filter_map name_of (map tree_of names.now)) (ops_of table.old) ≡ Err fault) }
+{
+    for name in names {
+        set_name(alloc, table, name, kind, priority)?;
+    }
+    Ok(())
+}
+
+/// Sets the operator at the names: an atom, or a list of atoms.
+fn set_names(
+    alloc: Global,
+    table: &mut OpTable,
+    names: &Term,
+    kind: OpKind,
+    priority: u32,
+) -> Result<(), TextFault>
+    ensures done { OnOk result (with_names kind priority (tree_of names.now) (names_of (tree_of names.now)) (ops_of table.old) ≡ Ok (ops_of table.new)) }
+    ensures refused { IfErr result (λ fault. fault ≢ TextFault.NoMemory → with_names kind priority (tree_of names.now) (names_of (tree_of names.now)) (ops_of table.old) ≡ Err fault) }
+{
+    if is_name(names) {
+        return set_name(alloc, table, names, kind, priority);
+    }
+    match listed_names(names) {
+        Some(list) => set_each(alloc, table, list, kind, priority),
+        None => Err(fault_at(Cause::BadName, names)),
+    }
+}
+
+/// Does what an operator item of these parts says.
+fn apply_item(
+    alloc: Global,
+    table: &mut OpTable,
+    priority: &Term,
+    kind: &Term,
+    names: &Term,
+) -> Result<(), TextFault>
+    ensures done { OnOk result (item_on (record { priority = tree_of priority.now; kind = tree_of kind.now; names = tree_of names.now }) (ops_of table.old) ≡ Ok (ops_of table.new)) }
+    ensures refused { IfErr result (λ fault. fault ≢ TextFault.NoMemory → item_on (record { priority = tree_of priority.now; kind = tree_of kind.now; names = tree_of names.now }) (ops_of table.old) ≡ Err fault) }
+{
+    let Some(level) = priority_of(priority) else {
+        return Err(fault_at(Cause::BadPriority, priority));
+    };
+    let Some(op_kind) = kind_of(kind) else {
+        return Err(fault_at(Cause::BadKind, kind));
+    };
+    set_names(alloc, table, names, op_kind, level)
+}
+
+/// Does what the term says where it is an operator item.
+fn apply_operator(alloc: Global, table: &mut OpTable, term: &Term) -> Result<(), TextFault>
+    ensures done { OnOk result (items_on (option_to_list (item_of (tree_of term.now))) (ops_of table.old) ≡ Ok (ops_of table.new)) }
+    ensures refused { IfErr result (λ fault. fault ≢ TextFault.NoMemory → items_on (option_to_list (item_of (tree_of term.now))) (ops_of table.old) ≡ Err fault) }
+{
+    match operator_item(term) {
+        Some((priority, kind, names)) => apply_item(alloc, table, priority, kind, names),
+        None => Ok(()),
+    }
+}
+
+/// Does what the operator items of a list that a module exports say, in order.
+fn apply_exports(alloc: Global, table: &mut OpTable, exports: &Term) -> Result<(), TextFault>
+    ensures done { OnOk result (items_on (exported_items (tree_of exports.now)) (ops_of table.old) ≡ Ok (ops_of table.new)) }
+    ensures refused { IfErr result (λ fault. fault ≢ TextFault.NoMemory → items_on (exported_items (tree_of exports.now)) (ops_of table.old) ≡ Err fault) }
+{
+    let list = listed(exports);
+    for export in list {
+        apply_operator(alloc, table, export)?;
+    }
+    Ok(())
+}
+
+/// Does what the operator items of a goal of a directive say.
+fn apply_goal(alloc: Global, table: &mut OpTable, goal: &Term) -> Result<(), TextFault>
+    ensures done { OnOk result (items_on (goal_items (tree_of goal.now)) (ops_of table.old) ≡ Ok (ops_of table.new)) }
+    ensures refused { IfErr result (λ fault. fault ≢ TextFault.NoMemory → items_on (goal_items (tree_of goal.now)) (ops_of table.old) ≡ Err fault) }
+{
+    match sides(goal, "module") {
+        Some((_, exports)) => apply_exports(alloc, table, exports),
+        None => apply_operator(alloc, table, goal),
+    }
+}
+
+/// Does what the operator items of a directive say, goal by goal.
+fn apply_directive(alloc: Global, table: &mut OpTable, directive: &Term) -> Result<(), TextFault>
+    ensures done { OnOk result (items_on (directive_items (tree_of directive.now)) (ops_of table.old) ≡ Ok (ops_of table.new)) }
+    ensures refused { IfErr result (λ fault. fault ≢ TextFault.NoMemory → items_on (directive_items (tree_of directive.now)) (ops_of table.old) ≡ Err fault) }
+{
+    let Some((first, others)) = sides(directive, ",") else {
+        return apply_goal(alloc, table, directive);
+    };
+    apply_directive(alloc, table, first)?;
+    apply_directive(alloc, table, others)
+}
+
+/// Does what the operator items of a clause say. After a refusal those before it are done.
+pub fn apply_items(alloc: Global, table: &mut OpTable, clause: &Term) -> Result<(), TextFault>
+    ensures done { OnOk result (items_on (items_of (tree_of clause.now)) (ops_of table.old) ≡ Ok (ops_of table.new)) }
+    ensures refused { IfErr result (λ fault. fault ≢ TextFault.NoMemory → items_on (items_of (tree_of clause.now)) (ops_of table.old) ≡ Err fault) }
+{
+    match directive_of(clause) {
+        Some(directive) => apply_directive(alloc, table, directive),
+        None => Ok(()),
+    }
+}

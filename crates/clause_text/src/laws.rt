@@ -1,0 +1,29 @@
+//! What holds of each text, as laws: functions with nothing to run.
+
+ghost use Rattle.std.specs.Prelude.{◌≡◌, ℕ, List, All};
+ghost use Rattle.prolog_terms.specs.Tree.{Tree};
+ghost use Rattle.clause_text.specs.Clauses.{ReadsAs};
+ghost use Rattle.clause_text.specs.Offsets.{HasOffsets};
+ghost use Rattle.clause_text.specs.TextFault.{HasTextFault};
+
+use crate::fault::TextFault;
+
+/// A text reads as one list of clauses at most.
+pub fn one_reading()
+    ensures { (text : List ℕ) (trees others : List Tree) → ReadsAs text trees → ReadsAs text others → trees ≡ others }
+{}
+
+/// A text has one fault at most.
+pub fn one_fault()
+    ensures { (text : List ℕ) (fault second : TextFault) → HasTextFault text fault → HasTextFault text second → fault ≡ second }
+{}
+
+/// A text with a fault reads as no list of clauses.
+pub fn fault_is_no_reading()
+    ensures { (text : List ℕ) (fault : TextFault) (trees : List Tree) → HasTextFault text fault → ReadsAs text trees → ⊥ }
+{}
+
+/// Each term of the clauses of a text starts at an offset of it.
+pub fn terms_placed()
+    ensures { (text : List ℕ) (trees : List Tree) → ReadsAs text trees → All (HasOffsets text) trees }
+{}

@@ -1,0 +1,31 @@
+//! Texts of Prolog: from bytes to clauses, each read with the operators that those before it leave.
+//!
+//! `read_text` answers the one list of clauses that a text is, or its one fault with the byte offset:
+//! of its bytes, else of its tokens, else of the first clause that can't be read or whose operators
+//! can't be set. `Cause` has all faults of a program's files, and `cause_text` their words.
+//!
+//! Of directives it sees the operators alone, and of files nothing but their bytes.
+#![tactic(auto)]
+
+mod cause;
+mod fault;
+mod items;
+mod laws;
+mod parts;
+mod terms;
+#[cfg(test)]
+mod tests;
+mod text;
+
+pub use cause::{Cause, cause_text};
+pub use fault::TextFault;
+pub use laws::{fault_is_no_reading, one_fault, one_reading, terms_placed};
+use prolog_terms::Term;
+pub use terms::{directive_of, inside, sides};
+pub use text::read_text;
+
+/// A clause of a text, directives and grammar rules among them.
+#[derive(Drop)]
+pub struct Clause {
+    pub term: Term,
+}

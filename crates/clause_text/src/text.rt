@@ -1,0 +1,36 @@
+ghost use Rattle.std.specs.Prelude.{◌≡◌, ◌≢◌, ◌≤◌, List, All, length, IfOk, IfErr, IfSome};
+ghost use Rattle.prolog_tokens.specs.Places.{IsOffset};
+ghost use Rattle.prolog_terms.specs.Tree.{Tree};
+ghost use Rattle.prolog_terms.specs.Arity.{HasAritiesWithin};
+ghost use Rattle.clause_text.specs.Clauses.{ReadsAs, clause_trees};
+ghost use Rattle.clause_text.specs.TextFault.{HasTextFault, offset_of};
+
+use crate::Clause;
+use crate::cause::Cause;
+use crate::fault::TextFault;
+use crate::parts::read_clauses;
+use prolog_tokens::tokens;
+use std::alloc::Global;
+
+/// The clauses of a text of at most 8,388,608 bytes, each read with the operators that the operator
+/// items of those before it leave. What is wrong with its bytes comes first, then what is wrong with
+/// its tokens, and then with its clauses in order, each of which is read before its operator items
+/// are done.
+pub fn read_text(alloc: Global, bytes: &[u8]) -> Result<Vec<Clause>, TextFault>
+    requires small { length bytes.now ≤ 8388608 }
+    ensures ok { IfOk result (λ clauses. ReadsAs bytes.now (clause_trees clauses.items)) }
+    ensures only { IfOk result (λ clauses. (others : List Tree) → ReadsAs bytes.now others → others ≡ clause_trees clauses.items) }
+    ensures none { IfErr result (λ fault. fault ≢ TextFault.NoMemory → (others : List Tree) → ReadsAs bytes.now others → ⊥) }
+    ensures fault { IfErr result (λ fault. fault ≢ TextFault.NoMemory → HasTextFault bytes.now fault) }
+    ensures only_fault { IfErr result (λ fault. fault ≢ TextFault.NoMemory → (other : TextFault) → HasTextFault bytes.now other → other ≡ fault) }
+    ensures offset { IfErr result (λ fault. IfSome (offset_of fault) (λ at. IsOffset bytes.now at)) }
+    ensures arities { IfOk result (λ clauses. All (HasAritiesWithin 8388608) (clause_trees clauses.items)) }
+    ensures few { IfOk result (λ clauses. length clauses.items ≤ 8388608) }
+{
+    let text = match str::from_utf8(bytes) {
+        Ok(text) => text,
+        Err(error) => return Err(TextFault::At(Cause::NotUtf8, error.valid_up_to() as u32)),
+    };
+    let tokens = tokens(alloc, text)?;
+    read_clauses(alloc, text, &tokens)
+}
