@@ -1,0 +1,103 @@
+-- What small files say, by their definition.
+use Rattle.std.proofs.Common.{◌≡◌, ℕ, List, [], ◌∷◌, Some, None, Ok, Err, false, codes, refl}
+use Rattle.prolog_terms.specs.declared.term.Span.{Span}
+use Rattle.prolog_terms.specs.declared.term.Form.TheVariants.{Functional, Prefix, Infix}
+use Rattle.prolog_terms.specs.declared.term.ConstKind.TheVariants as const
+use Rattle.prolog_terms.specs.Tree.{Tree, variable, constant, atom, compound, listed, paren, more, none}
+use Rattle.clause_text.specs.declared.cause.Cause.{Cause}
+use Rattle.clause_text.specs.declared.cause.Cause.TheVariants.{LateModule, BadIndicator, BadSpec, ControlHead, BadHead, NotInProfile}
+use Rattle.module_table.specs.declared.load.LoadKind.TheVariants.{UseAll}
+use Rattle.module_table.specs.Defined.{clauses_for}
+use Rattle.module_table.specs.Said.{Said, Part, declares, loads, defines, goal}
+use Rattle.module_table.specs.Facts.{file_said}
+
+abbrev at : ℕ → Span
+at n = record { from = n; to = n }
+
+abbrev one : List ℕ → Tree → ℕ → Tree
+one name a from = compound name (more a none) Functional (at from)
+
+abbrev two : List ℕ → Tree → Tree → ℕ → Tree
+two name a b from = compound name (more a (more b none)) Infix (at from)
+
+abbrev directive : Tree → Tree
+directive term = compound (codes ":-") (more term none) Prefix (at 0)
+
+abbrev number : ℕ → ℕ → Tree
+number n from = constant const.Integer false (Some n) (at from)
+
+abbrev p : Tree
+p = atom (codes "p") (at 0)
+
+abbrev says : List Tree → Said
+says trees = file_said (codes "d/f.pl") trees
+
+abbrev refusal : Cause → ℕ → Said
+refusal cause from = Err (record { cause = cause; offset = from })
+
+abbrev bare : List ℕ → ℕ → Part
+bare name arity = defines (record { name = name; arity = arity; clause = None })
+
+-- `p.`
+fact : says (p ∷ []) ≡ Ok (defines (record { name = codes "p"; arity = 0; clause = Some p }) ∷ [])
+fact = refl
+
+-- `p(X) --> q.` has two arguments more
+abbrev rule : Tree
+rule = two (codes "-->") (one (codes "p") (variable (at 2)) 0) (atom (codes "q") (at 9)) 0
+
+grammar_rule : says (rule ∷ []) ≡ Ok (defines (record { name = codes "p"; arity = 3; clause = Some rule }) ∷ [])
+grammar_rule = refl
+
+-- `p, q.`
+comma_is_no_head : says (two (codes ",") p (atom (codes "q") (at 3)) 0 ∷ []) ≡ refusal ControlHead 0
+comma_is_no_head = refl
+
+-- `(3).`
+number_is_no_head : says (paren (number 3 1) (at 0) ∷ []) ≡ refusal BadHead 1
+number_is_no_head = refl
+
+-- `:- module(m, []).` alone, and behind `p.`
+abbrev module_m : Tree
+module_m = directive (two (codes "module") (atom (codes "m") (at 10)) (atom (codes "[]") (at 13)) 3)
+
+module_first : says (module_m ∷ []) ≡ Ok (declares (record { name = codes "m"; from = 3; exports = [] }) ∷ [])
+module_first = refl
+
+module_late : says (p ∷ module_m ∷ []) ≡ refusal LateModule 3
+module_late = refl
+
+-- `:- dynamic p/1, q//2.`
+dynamic_two : says (directive (one (codes "dynamic") (two (codes ",") (two (codes "/") p (number 1 13) 11) (two (codes "//") (atom (codes "q") (at 16)) (number 2 19) 16) 11) 3) ∷ [])
+    ≡ Ok (bare (codes "p") 1 ∷ bare (codes "q") 4 ∷ [])
+dynamic_two = refl
+
+-- `:- dynamic p.`
+dynamic_name : says (directive (one (codes "dynamic") (atom (codes "p") (at 11)) 3) ∷ []) ≡ refusal BadIndicator 11
+dynamic_name = refl
+
+-- `:- include(x).`
+include : says (directive (one (codes "include") (atom (codes "x") (at 11)) 3) ∷ []) ≡ refusal NotInProfile 3
+include = refl
+
+-- `:- use_module(b), foo.`
+load_then_goal : says (directive (two (codes ",") (one (codes "use_module") (atom (codes "b") (at 14)) 3) (atom (codes "foo") (at 18)) 3) ∷ [])
+    ≡ Ok (loads (record { file = codes "d/b.pl"; kind = UseAll; items = []; from = 14 }) ∷ goal (atom (codes "foo") (at 18)) ∷ [])
+load_then_goal = refl
+
+-- `:- use_module(library(lists)).`
+system_file : says (directive (one (codes "use_module") (one (codes "library") (atom (codes "lists") (at 22)) 14) 3) ∷ []) ≡ Ok []
+system_file = refl
+
+-- `:- ensure_loaded([b]).`
+list_is_no_file : says (directive (one (codes "ensure_loaded") (listed (more (atom (codes "b") (at 18)) none) (at 17)) 3) ∷ []) ≡ refusal BadSpec 17
+list_is_no_file = refl
+
+-- the clauses of one predicate, in order
+abbrev q : Tree
+q = atom (codes "q") (at 3)
+
+clauses_in_order : clauses_for (codes "p") 0
+    (record { name = codes "p"; arity = 0; clause = Some p } ∷ record { name = codes "q"; arity = 0; clause = Some q } ∷ record { name = codes "p"; arity = 0; clause = Some q } ∷ [])
+    ≡ p ∷ q ∷ []
+clauses_in_order = refl

@@ -1,0 +1,13 @@
+pub mod SaidLemmas
+pub mod Shapes
+pub mod FileNameLemmas
+pub mod Grouping
+pub mod PredicateOrder
+pub mod HeadLemmas
+pub mod Parts
+pub mod KindLemmas
+pub mod DirectiveShapes
+pub mod FileLemmas
+pub mod OneFacts
+pub mod RefusalOffsets
+pub mod Examples

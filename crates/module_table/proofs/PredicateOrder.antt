@@ -1,0 +1,140 @@
+-- The order of predicates, and lists that are in this order.
+use Rattle.std.proofs.Common.{Some, ◌<◌, arith, ◌≡◌, ℕ, List, [], ◌∷◌, ◌++◌, Bool, true, false, ◌&&◌, nat_eq, All, Contains, ◌⊎◌, inl, inr, refl, sym, ap, subst, ◌∙◌}
+use Rattle.std.specs.Ordering.{is_eq, is_lt, ordering_reverse}
+use Rattle.std.specs.declared.cmp.Ordering.{Ordering}
+use Rattle.std.specs.declared.cmp.Ordering.TheVariants.{Less, Equal, Greater}
+use Rattle.std.specs.Str.{bytes_eq}
+use Rattle.std.specs.Cmp.{IsTotalOrder, both_tied, unsigned_ties}
+use Rattle.std.specs.Cmp.Lexicographic.{texts_ties}
+use Rattle.std.specs.List.Sorted.{IsStrictlySortedBy}
+use Rattle.std.proofs.lemmas.Cmp.{then_total, on_total, nat_list_cmp_total, nat_cmp_total, tied_itself}
+use Rattle.std.proofs.lemmas.Bool.{and_parts}
+use Rattle.std.proofs.lemmas.Bool.Decides.{Decides-eqb}
+use Rattle.std.proofs.lemmas.Slice.Eq.{bytes_eq-Decides}
+use Rattle.std.proofs.lemmas.List.Elements.{All-cons, All-head, All-tail, All-push, All-contains, All-from_recursion, recursion_from_All, All-nil, All-pop, Contains-push, Contains-push_cases, Contains-append_left, Contains-append_right, Contains-append_cases}
+use Rattle.module_table.specs.Defined.{Predicate, predicate_cmp, key}
+
+pub predicate_cmp_total : IsTotalOrder predicate_cmp
+predicate_cmp_total =
+    then_total (on_total (λ (p : Predicate). p.name) nat_list_cmp_total) (on_total (λ (p : Predicate). p.arity) nat_cmp_total)
+
+-- whether two names with their arities are those of one predicate
+abbrev pub same : List ℕ → ℕ → List ℕ → ℕ → Bool
+same name arity n k = bytes_eq name n && nat_eq arity k
+
+pub same_ties : (name : List ℕ) (arity : ℕ) (n : List ℕ) (k : ℕ) → same name arity n k ≡ is_eq (predicate_cmp (key name arity) (key n k))
+same_ties name arity n k = both_tied _ _ _ _ (texts_ties name n) (unsigned_ties arity k)
+
+pub same_parts : (name : List ℕ) (arity : ℕ) (n : List ℕ) (k : ℕ) → same name arity n k ≡ true → (name ≡ n) × (arity ≡ k)
+same_parts name arity n k e =
+    let both = and_parts (bytes_eq name n) (nat_eq arity k) e in
+    ((bytes_eq-Decides name n).0 both.0, (Decides-eqb arity k).0 both.1)
+
+pub same_itself : (name : List ℕ) (arity : ℕ) → same name arity name arity ≡ true
+same_itself name arity = same_ties name arity name arity ∙ ap is_eq (tied_itself predicate_cmp_total (key name arity))
+
+pub apart_from_Less : (p q : Predicate) → predicate_cmp p q ≡ Less → same p.name p.arity q.name q.arity ≡ false
+apart_from_Less p q e = same_ties p.name p.arity q.name q.arity ∙ ap is_eq e
+
+-- of two predicates, the first of which isn't after the second
+pub Less-from_apart : (p q : Predicate) → is_lt (predicate_cmp q p) ≡ false → same p.name p.arity q.name q.arity ≡ false → predicate_cmp p q ≡ Less
+Less-from_apart p q up other =
+    rank (predicate_cmp q p) (predicate_cmp p q) (predicate_cmp_total.antisymm p q) up (sym (same_ties p.name p.arity q.name q.arity) ∙ other)
+  where
+    rank : (back r : Ordering) → r ≡ ordering_reverse back → is_lt back ≡ false → is_eq r ≡ false → r ≡ Less
+    rank Less r e up other = cc
+    rank Equal r e up other = let flat : is_eq r ≡ true = ap is_eq e in cc
+    rank Greater r e up other = e
+
+pub sorted_push : (ps : List Predicate) (q : Predicate) → IsStrictlySortedBy predicate_cmp ps → All (λ p. predicate_cmp p q ≡ Less) ps → IsStrictlySortedBy predicate_cmp (ps ++ q ∷ [])
+unfolding IsStrictlySortedBy
+sorted_push [] q up below = (tt, tt)
+sorted_push (p ∷ ps) q up below = (
+  recursion_from_All (λ y. predicate_cmp p y ≡ Less) (ps ++ q ∷ [])
+      (All-push (λ y. predicate_cmp p y ≡ Less) ps q (All-from_recursion (λ y. predicate_cmp p y ≡ Less) ps up.0) (All-head (λ x. predicate_cmp x q ≡ Less) p ps below)),
+  sorted_push ps q up.1 (All-tail (λ x. predicate_cmp x q ≡ Less) p ps below),
+)
+
+pub sorted_front : (ps : List Predicate) (q : Predicate) → IsStrictlySortedBy predicate_cmp (ps ++ q ∷ []) → IsStrictlySortedBy predicate_cmp ps
+unfolding IsStrictlySortedBy
+sorted_front [] q up = tt
+sorted_front (p ∷ ps) q up = (
+  recursion_from_All (λ y. predicate_cmp p y ≡ Less) ps (front_of (All-from_recursion (λ y. predicate_cmp p y ≡ Less) (ps ++ q ∷ []) up.0)),
+  sorted_front ps q up.1,
+)
+  where
+    front_of : All (λ y. predicate_cmp p y ≡ Less) (ps ++ q ∷ []) → All (λ y. predicate_cmp p y ≡ Less) ps
+    front_of all = (All-pop (λ y. predicate_cmp p y ≡ Less) (ps ++ q ∷ []) ps (Some q) refl all).0
+
+pub sorted_below : (ps : List Predicate) (q : Predicate) → IsStrictlySortedBy predicate_cmp (ps ++ q ∷ []) → All (λ p. predicate_cmp p q ≡ Less) ps
+unfolding IsStrictlySortedBy
+sorted_below [] q up = All-nil (λ p. predicate_cmp p q ≡ Less)
+sorted_below (p ∷ ps) q up =
+    All-cons (λ x. predicate_cmp x q ≡ Less) p ps
+    (All-contains (λ y. predicate_cmp p y ≡ Less) (ps ++ q ∷ []) q (All-from_recursion (λ y. predicate_cmp p y ≡ Less) (ps ++ q ∷ []) up.0) (Contains-push ps q))
+    (sorted_below ps q up.1)
+
+Contains-nil : (x : Predicate) → Contains [] x → ⊥
+Contains-nil x has = let below : has.0 < 0 = has.1 in omega arith
+
+Contains-head : (p : Predicate) (ps : List Predicate) → Contains (p ∷ ps) p
+Contains-head p ps = Contains-append_left (p ∷ []) ps p (Contains-push [] p)
+
+Contains-tail : (p : Predicate) (ps : List Predicate) (x : Predicate) → Contains ps x → Contains (p ∷ ps) x
+Contains-tail p ps x has = Contains-append_right (p ∷ []) ps x has
+
+Contains-cons_cases : (p : Predicate) (ps : List Predicate) (x : Predicate) → Contains (p ∷ ps) x → (p ≡ x) ⊎ Contains ps x
+Contains-cons_cases p ps x has =
+    elim (Contains-append_cases (p ∷ []) ps x has) [
+      | inl first ↦ elim (Contains-push_cases [] p x first) [ inl none ↦ absurd (Contains-nil x none) | inr e ↦ inl e ]
+      | inr later ↦ inr later
+    ]
+
+Less-flips : (p q : Predicate) → predicate_cmp p q ≡ Less → predicate_cmp q p ≡ Less → ⊥
+Less-flips p q e back =
+    let turned : predicate_cmp p q ≡ Greater = predicate_cmp_total.antisymm p q ∙ ap ordering_reverse back in cc
+
+pub not_itself : (p : Predicate) → predicate_cmp p p ≡ Less → ⊥
+not_itself p e = let tie : predicate_cmp p p ≡ Equal = tied_itself predicate_cmp_total p in cc
+
+one_head : (p q : Predicate) (ps qs : List Predicate) → All (λ y. predicate_cmp p y ≡ Less) ps → All (λ y. predicate_cmp q y ≡ Less) qs
+    → Contains (q ∷ qs) p → Contains (p ∷ ps) q → p ≡ q
+one_head p q ps qs after_p after_q has_p has_q =
+    elim (Contains-cons_cases q qs p has_p) [
+      | inl e ↦ sym e
+      | inr p_later ↦
+          elim (Contains-cons_cases p ps q has_q) [
+            | inl e ↦ e
+            | inr q_later ↦
+                absurd
+                (Less-flips p q
+                (All-contains (λ y. predicate_cmp p y ≡ Less) ps q after_p q_later)
+                (All-contains (λ y. predicate_cmp q y ≡ Less) qs p after_q p_later))
+          ]
+    ]
+
+in_tail : (p q : Predicate) (ps qs : List Predicate) → All (λ y. predicate_cmp p y ≡ Less) ps → q ≡ p
+    → ((x : Predicate) → Contains (p ∷ ps) x → Contains (q ∷ qs) x) → (x : Predicate) → Contains ps x → Contains qs x
+in_tail p q ps qs after e to x has =
+    elim (Contains-cons_cases q qs x (to x (Contains-tail p ps x has))) [
+      | inl first ↦
+          absurd
+          (not_itself p
+          (subst (λ y. predicate_cmp p y ≡ Less) (sym first ∙ e) (All-contains (λ y. predicate_cmp p y ≡ Less) ps x after has)))
+      | inr later ↦ later
+    ]
+
+-- two lists in order that have the same members are the same
+pub one_sorted_list : (ps qs : List Predicate) → IsStrictlySortedBy predicate_cmp ps → IsStrictlySortedBy predicate_cmp qs
+    → ((x : Predicate) → Contains ps x → Contains qs x) → ((x : Predicate) → Contains qs x → Contains ps x) → ps ≡ qs
+unfolding IsStrictlySortedBy
+one_sorted_list [] [] up vp to from = refl
+one_sorted_list [] (q ∷ qs) up vp to from = absurd (Contains-nil q (from q (Contains-head q qs)))
+one_sorted_list (p ∷ ps) [] up vp to from = absurd (Contains-nil p (to p (Contains-head p ps)))
+one_sorted_list (p ∷ ps) (q ∷ qs) up vp to from =
+    let after_p = All-from_recursion (λ y. predicate_cmp p y ≡ Less) ps up.0 in
+    let after_q = All-from_recursion (λ y. predicate_cmp q y ≡ Less) qs vp.0 in
+    let first = one_head p q ps qs after_p after_q (to p (Contains-head p ps)) (from q (Contains-head q qs)) in
+    let later =
+    one_sorted_list ps qs up.1 vp.1 (in_tail p q ps qs after_p (sym first) to) (in_tail q p qs ps after_q first from) in
+    λ i. first i ∷ later i

@@ -1,0 +1,69 @@
+use Rattle.std.proofs.Common.{◌≡◌, ◌<◌, List, [], ◌∷◌, false, length, map, sym, ◌∙◌, ap, subst, arith}
+use Rattle.std.proofs.lemmas.List.{length-map}
+use Rattle.std.proofs.Common.{◌++◌, get_or, take, drop}
+use Rattle.std.specs.Prelude.{suc}
+use Rattle.std.proofs.lemmas.Result.{err_from_is_err_and}
+use Rattle.std.proofs.lemmas.Iterator.Adapters.{YieldsList-from_vec}
+use Rattle.std.proofs.lemmas.Iterator.Consumers.{YieldsList-turn, YieldsList-so_far}
+use Rattle.std.proofs.lemmas.List.{map-append, map-id, take-append-drop}
+use Rattle.std.proofs.lemmas.List.Elements.{All-get_or}
+use Rattle.std.proofs.Math.ListN.{get_or-map}
+use Rattle.std.proofs.Math.Seq.{drop-cons}
+use Rattle.prolog_terms.specs.Arity.{HasAritiesWithin}
+use Rattle.clause_text.specs.declared.Clause.{Clause}
+use Rattle.module_table.specs.Defined.{clause_tree}
+use Rattle.module_table.specs.Said.{IsWhy, see_parts, in_turn}
+use Rattle.module_table.specs.Facts.{clause_said, file_said}
+use Rattle.module_table.proofs.FileLemmas.{IsFirst, file_one, file_stops, more_first}
+use Rattle.module_table.proofs.file_facts.said.Goals as goal
+
+-- the clause at a place, with those before it and behind it
+split : (clauses done : List Clause) (clause : Clause) → done ≡ take (length done) clauses → length done < length clauses → clause ≡ get_or clauses (length done) clause
+    → done ++ clause ∷ drop (suc (length done)) clauses ≡ clauses
+split clauses done clause so_far below is =
+    ap (λ l. l ++ clause ∷ drop (suc (length done)) clauses) so_far
+    ∙ (ap (λ x. take (length done) clauses ++ x ∷ drop (suc (length done)) clauses) is
+    ∙ (ap (λ l. take (length done) clauses ++ l) (sym (drop-cons clauses (length done) clause below)) ∙ take-append-drop (length done) clauses))
+
+pub push_clause-requires : goal.push_clause-requires
+push_clause-requires c =
+    let done = c.loop-clause.yielded in
+    let clauses = c.args.clauses.items in
+    let clause = c.in-Some.clause in
+    let gives = c.into_iter-clause-iterator.ensures.into_iter_gives in
+    let road = YieldsList-from_vec {s = c.into_iter-clause-iterator.result} clauses gives.0 (gives.1 ∙ c.args.clauses.ok.0) in
+    let turn = YieldsList-turn road done c.loop-clause.clause-iterator c.loop-clause.yielded_by c.next.result c.next.new.self clause c.in-Some.is c.next.ensures.steps in
+    let same : get_or (map clause_tree clauses) (length done) (clause_tree clause) ≡ clause_tree clause =
+    get_or-map clause_tree clauses (length done) clause ∙ ap clause_tree (sym turn.1) in
+    subst (HasAritiesWithin 8388608) same
+    (All-get_or (HasAritiesWithin 8388608) (map clause_tree clauses) (length done) (clause_tree clause) (omega (arith, turn.0, length-map clauses clause_tree)) c.requires)
+
+pub returns-in_err-push_clause-clause-refused : goal.returns-in_err-push_clause-clause-refused
+returns-in_err-push_clause-clause-refused c =
+    let done = c.loop-clause.yielded in
+    let clauses = c.args.clauses.items in
+    let clause = c.in-Some.clause in
+    let gives = c.into_iter-clause-iterator.ensures.into_iter_gives in
+    let road = YieldsList-from_vec {s = c.into_iter-clause-iterator.result} clauses gives.0 (gives.1 ∙ c.args.clauses.ok.0) in
+    let turn = YieldsList-turn road done c.loop-clause.clause-iterator c.loop-clause.yielded_by c.next.result c.next.new.self clause c.in-Some.is c.next.ensures.steps in
+    let so_far : done ≡ take (length done) clauses = sym (map-id done) ∙ YieldsList-so_far road done c.loop-clause.clause-iterator c.loop-clause.yielded_by in
+    let behind = drop (suc (length done)) clauses in
+    let whole : map clause_tree done ++ clause_tree clause ∷ map clause_tree behind ≡ map clause_tree clauses =
+    sym (map-append clause_tree done (clause ∷ behind)) ∙ ap (map clause_tree) (split clauses done clause so_far turn.0 turn.1) in
+    let exit = err_from_is_err_and c.from_residual.result c.from_residual.ensures.1 in
+    let fault = c.in_err-push_clause.field-0.0 in
+    rw (exit.1, exit.2)
+    (subst (λ trees. IsWhy (file_said c.args.file.now trees) fault) whole
+    (file_stops c.args.file.now c.loop-clause.first (map clause_tree done) (clause_tree clause) (map clause_tree behind) (see_parts c.loop-clause.parts.items) fault
+    c.loop-clause.invariant.1 c.loop-clause.invariant.0 c.in_err-push_clause.ensures.refused))
+
+pub loop-clause-preserved : goal.loop-clause-preserved
+loop-clause-preserved c =
+    let done = map clause_tree c.loop-clause.yielded in
+    let tree = clause_tree c.in-Some.clause in
+    let file = c.args.file.now in
+    let all : map clause_tree (c.loop-clause.yielded ++ c.in-Some.clause ∷ []) ≡ done ++ tree ∷ [] = map-append clause_tree c.loop-clause.yielded (c.in-Some.clause ∷ []) in (
+      ap (file_said file) all ∙ (file_one file c.loop-clause.first done tree c.loop-clause.invariant.1
+          ∙ (ap (λ said. in_turn said (clause_said file c.loop-clause.first tree)) c.loop-clause.invariant.0 ∙ c.in_ok-push_clause.ensures.ok)),
+      subst (IsFirst false) (sym all) (more_first done tree),
+    )

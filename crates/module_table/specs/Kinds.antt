@@ -1,0 +1,45 @@
+-- The parts of a file by kind.
+use Rattle.std.specs.Prelude.{ℕ, ◌≡◌, List, [], ◌∷◌, Option, Some, None, Bool, true, false, codes, map, option_map}
+use Rattle.std.specs.List.{filter_map}
+use Rattle.prolog_terms.specs.Tree.{Tree, tree_of}
+use Rattle.module_table.specs.declared.indicator.Indicator.{Indicator}
+use Rattle.module_table.specs.declared.kinds.Kinds.{Kinds}
+use Rattle.module_table.specs.Defined.{Defines, see_definition}
+use Rattle.module_table.specs.Said.{Part, Declares, Loads, declares, loads, defines, goal, see_module, see_load}
+
+abbrev pub declared_part : Part → Option Declares
+declared_part (declares own) = Some own
+declared_part part = None
+
+abbrev pub load_part : Part → Option Loads
+load_part (loads own) = Some own
+load_part part = None
+
+abbrev pub defined_part : Part → Option Defines
+defined_part (defines own) = Some own
+defined_part part = None
+
+abbrev pub goal_part : Part → Option Tree
+goal_part (goal own) = Some own
+goal_part part = None
+
+abbrev pub first_of : {A : Type 0} → List A → Option A
+first_of [] = None
+first_of (x ∷ xs) = Some x
+
+-- the first one stays
+abbrev pub first_module_seen : Option Declares → Declares → Option Declares
+first_module_seen (Some first) own = Some first
+first_module_seen None own = Some own
+
+-- the module of a file, whether it is declared, where, and what it exports; a file that declares none belongs to `user`
+abbrev pub IsModule : Option Declares → List ℕ → Bool → ℕ → List Indicator → Type 0
+IsModule (Some own) name is_declared from exports = (name ≡ own.name) × (is_declared ≡ true) × (from ≡ own.from) × (exports ≡ own.exports)
+IsModule None name is_declared from exports = (name ≡ codes "user") × (is_declared ≡ false) × (from ≡ 0) × (exports ≡ [])
+
+-- the parts of each kind, in order, and of the modules the first
+pub record AreKinds (parts : List Part) (kinds : Kinds) : Type 0 where
+  pub declared : option_map see_module kinds.declared ≡ first_of (filter_map declared_part parts)
+  pub loads : map see_load kinds.loads.items ≡ filter_map load_part parts
+  pub definitions : map see_definition kinds.definitions.items ≡ filter_map defined_part parts
+  pub goals : map tree_of kinds.goals.items ≡ filter_map goal_part parts

@@ -1,0 +1,10 @@
+pub mod Defined
+pub mod FileName
+pub mod Said
+pub mod Heads
+pub mod Indicators
+pub mod Loading
+pub mod Directives
+pub mod Told
+pub mod Kinds
+pub mod Facts

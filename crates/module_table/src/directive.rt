@@ -1,0 +1,219 @@
+//! What directives say.
+
+ghost use Rattle.std.specs.Prelude.{◌≡◌, IfOk, IfErr, OnOk, Ok, List};
+ghost use Rattle.prolog_terms.specs.Tree.{tree_of};
+ghost use Rattle.module_table.specs.Said.{IsWhy, more, see_parts, Part as SaidPart};
+ghost use Rattle.module_table.specs.Told.{IsTold};
+ghost use Rattle.module_table.specs.Directives.{dynamic_said, use_some_said, one_said, two_said, three_said, shallow_said, directive_said};
+
+use crate::defined::Definition;
+use crate::indicator::{declared_indicators, listed_indicators};
+use crate::load::{LoadKind, push_load, push_loads, push_use_all};
+use crate::module_directive::module_of;
+use crate::said::{FactFault, Part, push_part, refusal};
+use crate::taken::{Sides, sides_taken};
+use crate::terms::{is_one_of, start_of};
+use clause_text::Cause;
+use prolog_terms::Term;
+use std::alloc::Global;
+
+/// Whether a directive is a goal, which is still to be kept, or has been told.
+#[derive(Clone, Copy)]
+pub enum Told {
+    Goal,
+    Done,
+}
+
+/// Adds what `dynamic` and `multifile` define.
+fn push_dynamic(alloc: Global, list: &Term, parts: &mut Vec<Part>) -> Result<(), FactFault>
+    ensures ok { OnOk result (more (see_parts parts.old.items) (dynamic_said (tree_of list.now)) ≡ Ok (see_parts parts.new.items)) }
+    ensures refused { IfErr result (λ fault. IsWhy (dynamic_said (tree_of list.now)) fault) }
+{
+    for one in declared_indicators(alloc, list)? {
+        let definition = Definition {
+            name: one.name,
+            arity: one.arity,
+            clause: None,
+        };
+        push_part(parts, Part::Definition(definition))?;
+    }
+    Ok(())
+}
+
+/// Adds what `use_module/2` loads.
+fn push_use_some(
+    alloc: Global,
+    user: &str,
+    spec: &Term,
+    list: &Term,
+    parts: &mut Vec<Part>,
+) -> Result<(), FactFault>
+    ensures ok { OnOk result (more (see_parts parts.old.items) (use_some_said user.now (tree_of spec.now) (tree_of list.now)) ≡ Ok (see_parts parts.new.items)) }
+    ensures refused { IfErr result (λ fault. IsWhy (use_some_said user.now (tree_of spec.now) (tree_of list.now)) fault) }
+{
+    match listed_indicators(alloc, list) {
+        Ok(items) => push_load(alloc, user, LoadKind::UseSome, items, spec, parts),
+        Err(FactFault::NoMemory) => Err(FactFault::NoMemory),
+        Err(FactFault::At(cause, offset)) => {
+            push_load(alloc, user, LoadKind::UseSome, Vec::new(alloc), spec, parts)?;
+            Err(FactFault::At(cause, offset))
+        }
+    }
+}
+
+/// A directive of one argument.
+fn one_told(
+    alloc: Global,
+    user: &str,
+    name: &str,
+    argument: &Term,
+    directive: &Term,
+    parts: &mut Vec<Part>,
+) -> Result<Told, FactFault>
+    ensures ok { IfOk result (λ told. IsTold told (see_parts parts.old.items) (one_said user.now name.now (tree_of argument.now) (tree_of directive.now)) (tree_of directive.now) (see_parts parts.new.items)) }
+    ensures refused { IfErr result (λ fault. IsWhy (one_said user.now name.now (tree_of argument.now) (tree_of directive.now)) fault) }
+{
+    if name == "use_module" {
+        push_use_all(alloc, user, argument, parts)?;
+        return Ok(Told::Done);
+    }
+    if is_one_of(&["ensure_loaded", "consult"], name) {
+        push_load(
+            alloc,
+            user,
+            LoadKind::Ensure,
+            Vec::new(alloc),
+            argument,
+            parts,
+        )?;
+        return Ok(Told::Done);
+    }
+    if is_one_of(&["dynamic", "multifile"], name) {
+        push_dynamic(alloc, argument, parts)?;
+        return Ok(Told::Done);
+    }
+    let silent = ["discontiguous", "meta_predicate", "mode", "public", "table"];
+    if is_one_of(&silent, name) {
+        return Ok(Told::Done);
+    }
+    if is_one_of(&["if", "elif", "include", "reexport"], name) {
+        return Err(refusal(Cause::NotInProfile, directive));
+    }
+    Ok(Told::Goal)
+}
+
+/// A directive of two arguments that is no comma.
+fn two_told(
+    alloc: Global,
+    user: &str,
+    first: bool,
+    name: &str,
+    left: &Term,
+    right: &Term,
+    directive: &Term,
+    parts: &mut Vec<Part>,
+) -> Result<Told, FactFault>
+    ensures ok { IfOk result (λ told. IsTold told (see_parts parts.old.items) (two_said user.now first name.now (tree_of left.now) (tree_of right.now) (tree_of directive.now)) (tree_of directive.now) (see_parts parts.new.items)) }
+    ensures refused { IfErr result (λ fault. IsWhy (two_said user.now first name.now (tree_of left.now) (tree_of right.now) (tree_of directive.now)) fault) }
+{
+    if name == "module" {
+        if !first {
+            return Err(refusal(Cause::LateModule, directive));
+        }
+        let own = module_of(alloc, left, right, start_of(directive))?;
+        push_part(parts, Part::Module(own))?;
+        return Ok(Told::Done);
+    }
+    if name == "use_module" {
+        push_use_some(alloc, user, left, right, parts)?;
+        return Ok(Told::Done);
+    }
+    if name == "set_prolog_flag" {
+        return Ok(Told::Done);
+    }
+    if name == "reexport" {
+        return Err(refusal(Cause::NotInProfile, directive));
+    }
+    Ok(Told::Goal)
+}
+
+/// A directive of three arguments.
+fn three_told(name: &str, directive: &Term) -> Result<Told, FactFault>
+    ensures ok { IfOk result (λ told. (parts : List SaidPart) → IsTold told parts (three_said name.now (tree_of directive.now)) (tree_of directive.now) parts) }
+    ensures refused { IfErr result (λ fault. IsWhy (three_said name.now (tree_of directive.now)) fault) }
+{
+    if name == "op" {
+        return Ok(Told::Done);
+    }
+    if name == "use_module" {
+        return Err(refusal(Cause::NotInProfile, directive));
+    }
+    Ok(Told::Goal)
+}
+
+/// A directive without brackets round it that is no comma.
+fn tell(
+    alloc: Global,
+    user: &str,
+    first: bool,
+    directive: &Term,
+    parts: &mut Vec<Part>,
+) -> Result<Told, FactFault>
+    ensures ok { IfOk result (λ told. IsTold told (see_parts parts.old.items) (shallow_said user.now first (tree_of directive.now)) (tree_of directive.now) (see_parts parts.new.items)) }
+    ensures refused { IfErr result (λ fault. IsWhy (shallow_said user.now first (tree_of directive.now)) fault) }
+{
+    match directive {
+        Term::Compound { name, args, .. } => {
+            let name = name.as_str();
+            if args.len() == 1 {
+                return one_told(alloc, user, name, &args[0], directive, parts);
+            }
+            if args.len() == 2 {
+                return two_told(
+                    alloc, user, first, name, &args[0], &args[1], directive, parts,
+                );
+            }
+            if args.len() == 3 {
+                return three_told(name, directive);
+            }
+            Ok(Told::Goal)
+        }
+        Term::Atom { name, .. } => {
+            if is_one_of(&["else", "endif"], name.as_str()) {
+                return Err(refusal(Cause::NotInProfile, directive));
+            }
+            Ok(Told::Goal)
+        }
+        Term::List { items, tail, .. } => match tail {
+            Some(_) => Err(refusal(Cause::BadSpec, directive)),
+            None => {
+                push_loads(alloc, user, LoadKind::Ensure, items, parts)?;
+                Ok(Told::Done)
+            }
+        },
+        _ => Ok(Told::Goal),
+    }
+}
+
+/// Adds what a directive says; first tells whether it is the whole of the first clause.
+pub fn push_directive(
+    alloc: Global,
+    user: &str,
+    first: bool,
+    directive: Term,
+    parts: &mut Vec<Part>,
+) -> Result<(), FactFault>
+    ensures ok { OnOk result (more (see_parts parts.old.items) (directive_said user.now first (tree_of directive)) ≡ Ok (see_parts parts.new.items)) }
+    ensures refused { IfErr result (λ fault. IsWhy (directive_said user.now first (tree_of directive)) fault) }
+{
+    match sides_taken(directive) {
+        Sides::Both(left, right) => {
+            push_directive(alloc, user, false, left, parts)?;
+            push_directive(alloc, user, false, right, parts)
+        }
+        Sides::Alone(alone) => match tell(alloc, user, first, &alone, parts)? {
+            Told::Goal => push_part(parts, Part::Goal(alone)),
+            Told::Done => Ok(()),
+        },
+    }
+}

@@ -1,0 +1,151 @@
+//! The facts of a file, from its clauses.
+
+ghost use Rattle.std.specs.Prelude.{◌≡◌, ◌+◌, IfOk, IfErr, OnOk, Ok, All, ℕ, List, map};
+ghost use Rattle.prolog_terms.specs.Tree.{tree_of};
+ghost use Rattle.prolog_terms.specs.Arity.{HasAritiesWithin};
+ghost use Rattle.module_table.specs.Defined.{clause_tree};
+ghost use Rattle.module_table.specs.Said.{IsWhy, more, see_parts};
+ghost use Rattle.module_table.specs.Facts.{clause_head, headed, clause_said, file_said, AreFacts, Facts, see_facts};
+
+use crate::defined::{Defined, Definition, group};
+use crate::directive::push_directive;
+use crate::head::{grammar_head, head};
+use crate::indicator::Indicator;
+use crate::kinds::{by_kind, module_of_file};
+use crate::load::Load;
+use crate::said::{FactFault, Part, push_part};
+use crate::taken::{Taken, directive_taken};
+use crate::terms::binary_of;
+use clause_text::Clause;
+use prolog_terms::Term;
+use prolog_tokens::Text;
+use std::alloc::Global;
+
+/// What a file says. A file without a module directive belongs to `user`, and then `module_from` is
+/// 0 and `exports` is empty; else `module_from` is the byte offset of the term `module(M, L)`.
+#[derive(Drop)]
+pub struct FileFacts {
+    pub file: Text,
+    pub module: Text,
+    pub is_module: bool,
+    pub module_from: u32,
+    pub exports: Vec<Indicator>,
+    /// One for each file specification that makes a load, in the order of the text.
+    pub loads: Vec<Load>,
+    /// In order of name and arity, each once.
+    pub defined: Vec<Defined>,
+    /// The terms of the goal directives, in the order of the text.
+    pub goals: Vec<Term>,
+}
+
+/// The name and the number of arguments of the predicate that a clause defines.
+fn clause_head(clause: &Term) -> Result<(&str, usize), FactFault>
+    requires { HasAritiesWithin 8388608 (tree_of clause.now) }
+    ensures ok { IfOk result (λ named. clause_head (tree_of clause.now) ≡ Ok (record { name = named.0.now; arity = named.1 })) }
+    ensures refused { IfErr result (λ fault. IsWhy (clause_head (tree_of clause.now)) fault) }
+{
+    let Some(pair) = binary_of(clause) else {
+        return head(clause);
+    };
+    if pair.name == ":-" {
+        return head(pair.left);
+    }
+    if pair.name != "-->" {
+        return head(clause);
+    }
+    match head(grammar_head(pair.left)) {
+        Ok((name, arity)) => Ok((name, arity + 2)),
+        Err(fault) => Err(fault),
+    }
+}
+
+/// The predicate that a clause defines.
+#[derive(Drop)]
+struct Head {
+    name: Text,
+    arity: u32,
+}
+
+fn owned_head(alloc: Global, clause: &Term) -> Result<Head, FactFault>
+    requires { HasAritiesWithin 8388608 (tree_of clause.now) }
+    ensures ok { IfOk result (λ made. clause_head (tree_of clause.now) ≡ Ok (record { name = made.name; arity = made.arity })) }
+    ensures refused { IfErr result (λ fault. IsWhy (clause_head (tree_of clause.now)) fault) }
+{
+    let (name, arity) = match clause_head(clause) {
+        Ok(named) => named,
+        Err(fault) => return Err(fault),
+    };
+    Ok(Head {
+        name: Text::new(alloc, name)?,
+        arity: arity as u32,
+    })
+}
+
+/// Adds a clause that is no directive.
+fn push_headed(alloc: Global, clause: Clause, parts: &mut Vec<Part>) -> Result<(), FactFault>
+    requires { HasAritiesWithin 8388608 (clause_tree clause) }
+    ensures ok { OnOk result (more (see_parts parts.old.items) (headed (clause_head (clause_tree clause)) (clause_tree clause)) ≡ Ok (see_parts parts.new.items)) }
+    ensures refused { IfErr result (λ fault. IsWhy (headed (clause_head (clause_tree clause)) (clause_tree clause)) fault) }
+{
+    let head = owned_head(alloc, &clause.term)?;
+    let definition = Definition {
+        name: head.name,
+        arity: head.arity,
+        clause: Some(clause),
+    };
+    push_part(parts, Part::Definition(definition))
+}
+
+/// Adds what a clause says; first tells whether it is the first of the file.
+fn push_clause(
+    alloc: Global,
+    file: &str,
+    first: bool,
+    clause: Clause,
+    parts: &mut Vec<Part>,
+) -> Result<(), FactFault>
+    requires { HasAritiesWithin 8388608 (clause_tree clause) }
+    ensures ok { OnOk result (more (see_parts parts.old.items) (clause_said file.now first (clause_tree clause)) ≡ Ok (see_parts parts.new.items)) }
+    ensures refused { IfErr result (λ fault. IsWhy (clause_said file.now first (clause_tree clause)) fault) }
+{
+    match directive_taken(clause) {
+        Taken::Directive(directive) => push_directive(alloc, file, first, directive, parts),
+        Taken::Headed(clause) => push_headed(alloc, clause, parts),
+    }
+}
+
+/// All that the clauses say, in order.
+fn said(alloc: Global, file: &str, clauses: Vec<Clause>) -> Result<Vec<Part>, FactFault>
+    requires { All (HasAritiesWithin 8388608) (map clause_tree clauses.items) }
+    ensures ok { IfOk result (λ parts. file_said file.now (map clause_tree clauses.items) ≡ Ok (see_parts parts.items)) }
+    ensures refused { IfErr result (λ fault. IsWhy (file_said file.now (map clause_tree clauses.items)) fault) }
+{
+    let mut parts = Vec::new(alloc);
+    let mut first = true;
+    for clause in clauses {
+        push_clause(alloc, file, first, clause, &mut parts)?;
+        first = false;
+    }
+    Ok(parts)
+}
+
+/// The facts of a file with these clauses (ISO/IEC 13211-1, 7.4).
+pub fn facts(alloc: Global, file: &str, clauses: Vec<Clause>) -> Result<FileFacts, FactFault>
+    requires { All (HasAritiesWithin 8388608) (map clause_tree clauses.items) }
+    ensures ok { IfOk result (λ found. AreFacts file.now (map clause_tree clauses.items) (see_facts found)) }
+    ensures only { IfOk result (λ found. (other : Facts) → AreFacts file.now (map clause_tree clauses.items) other → other ≡ see_facts found) }
+    ensures refused { IfErr result (λ fault. IsWhy (file_said file.now (map clause_tree clauses.items)) fault) }
+{
+    let kinds = by_kind(alloc, said(alloc, file, clauses)?)?;
+    let own = module_of_file(alloc, kinds.declared)?;
+    Ok(FileFacts {
+        file: Text::new(alloc, file)?,
+        module: own.name,
+        is_module: own.is_declared,
+        module_from: own.from,
+        exports: own.exports,
+        loads: kinds.loads,
+        defined: group(alloc, kinds.definitions)?,
+        goals: kinds.goals,
+    })
+}

@@ -1,0 +1,141 @@
+//! Predicate indicators, and lists of them.
+
+ghost use Rattle.std.specs.Prelude.{◌≡◌, IfOk, IfErr, OnOk, Ok, Some, map};
+ghost use Rattle.prolog_terms.specs.Tree.{tree_of};
+ghost use Rattle.module_table.specs.Said.{IsWhy, more};
+ghost use Rattle.module_table.specs.Indicators.{arity_of, arguments_added, indicator, one_indicator, indicators, joined, declared_indicators, listed_indicators};
+
+use crate::said::{FactFault, refusal};
+use crate::terms::{atom_name, binary_of, commas, list_items, start_of};
+use clause_text::{Cause, inside};
+use prolog_terms::Term;
+use prolog_tokens::Text;
+use std::alloc::{AllocError, Global};
+
+/// A predicate indicator: a name and a number of arguments, with the byte offset at which it stands.
+#[derive(Drop)]
+pub struct Indicator {
+    pub name: Text,
+    pub arity: u32,
+    pub from: u32,
+}
+
+/// The value of an integer without minus, and so many more, where that is an arity.
+fn arity_of(term: &Term, added: u32) -> Option<u32>
+    ensures { result ≡ arity_of (tree_of term.now) added }
+{
+    let Term::Const { minus, value, .. } = inside(term) else {
+        return None;
+    };
+    if *minus {
+        return None;
+    }
+    match value {
+        Some(number) => number.checked_add(added),
+        None => None,
+    }
+}
+
+/// How many arguments an indicator of this name adds.
+fn arguments_added(name: &str) -> Option<u32>
+    ensures { result ≡ arguments_added name.now }
+{
+    if name == "/" {
+        return Some(0);
+    }
+    if name == "//" {
+        return Some(2);
+    }
+    None
+}
+
+/// `N/A` or `N//A`.
+fn read_indicator(alloc: Global, term: &Term) -> Result<Option<Indicator>, AllocError>
+    ensures { IfOk result (λ found. found ≡ indicator (tree_of term.now)) }
+{
+    let Some(pair) = binary_of(term) else {
+        return Ok(None);
+    };
+    let Some(added) = arguments_added(pair.name) else {
+        return Ok(None);
+    };
+    let Some(name) = atom_name(pair.left) else {
+        return Ok(None);
+    };
+    let Some(arity) = arity_of(pair.right, added) else {
+        return Ok(None);
+    };
+    Ok(Some(Indicator {
+        name: Text::new(alloc, name)?,
+        arity,
+        from: start_of(term),
+    }))
+}
+
+/// Adds the indicator that the term is.
+pub fn push_indicator(
+    alloc: Global,
+    term: &Term,
+    found: &mut Vec<Indicator>,
+) -> Result<(), FactFault>
+    ensures ok { OnOk result (more found.old.items (one_indicator (tree_of term.now)) ≡ Ok found.new.items) }
+    ensures refused { IfErr result (λ fault. IsWhy (one_indicator (tree_of term.now)) fault) }
+{
+    let Some(one) = read_indicator(alloc, term)? else {
+        return Err(refusal(Cause::BadIndicator, term));
+    };
+    if found.push(one).is_err() {
+        return Err(FactFault::NoMemory);
+    }
+    Ok(())
+}
+
+/// The indicators that the terms are.
+pub fn indicators(alloc: Global, terms: &[Term]) -> Result<Vec<Indicator>, FactFault>
+    ensures ok { IfOk result (λ found. indicators (map tree_of terms.now) ≡ Ok found.items) }
+    ensures refused { IfErr result (λ fault. IsWhy (indicators (map tree_of terms.now)) fault) }
+{
+    let mut found = Vec::new(alloc);
+    for term in terms {
+        push_indicator(alloc, term, &mut found)?;
+    }
+    Ok(found)
+}
+
+/// Adds the indicators that commas join.
+fn push_joined(alloc: Global, term: &Term, found: &mut Vec<Indicator>) -> Result<(), FactFault>
+    ensures ok { OnOk result (more found.old.items (indicators (joined (tree_of term.now))) ≡ Ok found.new.items) }
+    ensures refused { IfErr result (λ fault. IsWhy (indicators (joined (tree_of term.now))) fault) }
+{
+    match commas(term) {
+        Some(pair) => {
+            push_joined(alloc, pair.left, found)?;
+            push_joined(alloc, pair.right, found)
+        }
+        None => push_indicator(alloc, term, found),
+    }
+}
+
+/// The indicators of a list, or those that commas join.
+pub fn declared_indicators(alloc: Global, term: &Term) -> Result<Vec<Indicator>, FactFault>
+    ensures ok { IfOk result (λ found. declared_indicators (tree_of term.now) ≡ Ok found.items) }
+    ensures refused { IfErr result (λ fault. IsWhy (declared_indicators (tree_of term.now)) fault) }
+{
+    if let Some(items) = list_items(term) {
+        return indicators(alloc, items);
+    }
+    let mut found = Vec::new(alloc);
+    push_joined(alloc, term, &mut found)?;
+    Ok(found)
+}
+
+/// The indicators of what must be a list without a tail.
+pub fn listed_indicators(alloc: Global, term: &Term) -> Result<Vec<Indicator>, FactFault>
+    ensures ok { IfOk result (λ found. listed_indicators (tree_of term.now) ≡ Ok found.items) }
+    ensures refused { IfErr result (λ fault. IsWhy (listed_indicators (tree_of term.now)) fault) }
+{
+    match list_items(term) {
+        Some(items) => indicators(alloc, items),
+        None => Err(refusal(Cause::BadIndicator, term)),
+    }
+}

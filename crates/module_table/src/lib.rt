@@ -1,0 +1,35 @@
+//! What a file of Prolog says: its module, its loads, the predicates that it defines and its goals.
+//!
+//! `facts` answers the one record of facts that the clauses of a file are, or the first refusal with
+//! its byte offset: of `:- dynamic p.` the `p`, which is no predicate indicator. `resolve_name` is the
+//! file that a specification names: in `lib/a.pl`, `../x` is `x.pl`.
+//!
+//! It sees one file at a time: whether another one is there, and what it exports, is for the layers
+//! above.
+#![tactic(auto)]
+
+mod defined;
+#[cfg(test)]
+mod defined_tests;
+mod directive;
+#[cfg(test)]
+mod facts_tests;
+mod file_facts;
+mod file_name;
+mod head;
+mod indicator;
+mod kinds;
+mod laws;
+mod load;
+mod module_directive;
+mod said;
+mod taken;
+mod terms;
+
+pub use defined::Defined;
+pub use file_facts::{FileFacts, facts};
+pub use file_name::resolve_name;
+pub use indicator::Indicator;
+pub use laws::{one_facts, refusals_placed};
+pub use load::{Load, LoadKind};
+pub use said::FactFault;

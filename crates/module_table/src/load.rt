@@ -1,0 +1,141 @@
+//! File specifications, and the loads that they make.
+
+ghost use Rattle.std.specs.Prelude.{◌≡◌, IfOk, IfErr, OnOk, Ok, [], map, option_map};
+ghost use Rattle.std.specs.String.{string_bytes};
+ghost use Rattle.prolog_terms.specs.Tree.{tree_of};
+ghost use Rattle.module_table.specs.Said.{IsWhy, more, see_parts};
+ghost use Rattle.module_table.specs.Loading.{path_text, file_of, is_system, load_said, loads_said, use_all_said};
+
+use crate::file_name::resolve_name;
+use crate::indicator::Indicator;
+use crate::said::{FactFault, Part, push_part, refusal};
+use crate::terms::{atom_name, slashes, start_of, written_items};
+use clause_text::{Cause, inside};
+use prolog_terms::{Form, Term};
+use prolog_tokens::Text;
+use std::alloc::{AllocError, Global};
+
+/// What a load imports.
+#[derive(Clone, Copy, Debug, PartialEq, Eq)]
+pub enum LoadKind {
+    /// All exports of the file.
+    UseAll,
+    /// The indicators of a list.
+    UseSome,
+    /// The file is loaded, and imported where it is a module file.
+    Ensure,
+}
+
+/// A file to load: its resolved name, what is imported of it (for `UseSome` alone), and the byte
+/// offset of its specification.
+#[derive(Drop)]
+pub struct Load {
+    pub file: Text,
+    pub kind: LoadKind,
+    pub items: Vec<Indicator>,
+    pub from: u32,
+}
+
+/// The text of an atom, or of such texts with `/` between them.
+fn path_text(alloc: Global, term: &Term) -> Result<Option<String>, AllocError>
+    ensures { IfOk result (λ found. option_map string_bytes found ≡ path_text (tree_of term.now)) }
+{
+    if let Some(name) = atom_name(term) {
+        return Ok(Some(String::from_str(alloc, name)?));
+    }
+    let Some(pair) = slashes(term) else {
+        return Ok(None);
+    };
+    let Some(mut path) = path_text(alloc, pair.left)? else {
+        return Ok(None);
+    };
+    let Some(behind) = path_text(alloc, pair.right)? else {
+        return Ok(None);
+    };
+    path.push_str("/")?;
+    path.push_str(behind.as_str())?;
+    Ok(Some(path))
+}
+
+/// The file that a specification in a file names.
+fn file_of(alloc: Global, user: &str, spec: &Term) -> Result<Option<Text>, AllocError>
+    ensures { IfOk result (λ found. found ≡ file_of user.now (tree_of spec.now)) }
+{
+    match path_text(alloc, spec)? {
+        Some(path) => resolve_name(alloc, user, path.as_str()),
+        None => Ok(None),
+    }
+}
+
+/// Whether the specification is a term of one argument in functional notation.
+fn is_system(spec: &Term) -> bool
+    ensures { result ≡ is_system (tree_of spec.now) }
+{
+    let Term::Compound { args, form, .. } = inside(spec) else {
+        return false;
+    };
+    if args.len() != 1 {
+        return false;
+    }
+    *form == Form::Functional
+}
+
+/// Adds the load that the specification makes.
+pub fn push_load(
+    alloc: Global,
+    user: &str,
+    kind: LoadKind,
+    items: Vec<Indicator>,
+    spec: &Term,
+    parts: &mut Vec<Part>,
+) -> Result<(), FactFault>
+    ensures ok { OnOk result (more (see_parts parts.old.items) (load_said user.now kind items.items (tree_of spec.now)) ≡ Ok (see_parts parts.new.items)) }
+    ensures refused { IfErr result (λ fault. IsWhy (load_said user.now kind items.items (tree_of spec.now)) fault) }
+{
+    if is_system(spec) {
+        return Ok(());
+    }
+    let Some(file) = file_of(alloc, user, spec)? else {
+        return Err(refusal(Cause::BadSpec, spec));
+    };
+    let load = Load {
+        file,
+        kind,
+        items,
+        from: start_of(spec),
+    };
+    push_part(parts, Part::Load(load))
+}
+
+/// Adds one load for each specification.
+pub fn push_loads(
+    alloc: Global,
+    user: &str,
+    kind: LoadKind,
+    specs: &[Term],
+    parts: &mut Vec<Part>,
+) -> Result<(), FactFault>
+    ensures ok { OnOk result (more (see_parts parts.old.items) (loads_said user.now kind (map tree_of specs.now)) ≡ Ok (see_parts parts.new.items)) }
+    ensures refused { IfErr result (λ fault. IsWhy (loads_said user.now kind (map tree_of specs.now)) fault) }
+{
+    for spec in specs {
+        push_load(alloc, user, kind, Vec::new(alloc), spec, parts)?;
+    }
+    Ok(())
+}
+
+/// Adds what `use_module/1` loads.
+pub fn push_use_all(
+    alloc: Global,
+    user: &str,
+    spec: &Term,
+    parts: &mut Vec<Part>,
+) -> Result<(), FactFault>
+    ensures ok { OnOk result (more (see_parts parts.old.items) (use_all_said user.now (tree_of spec.now)) ≡ Ok (see_parts parts.new.items)) }
+    ensures refused { IfErr result (λ fault. IsWhy (use_all_said user.now (tree_of spec.now)) fault) }
+{
+    match written_items(spec) {
+        Some(specs) => push_loads(alloc, user, LoadKind::UseAll, specs, parts),
+        None => push_load(alloc, user, LoadKind::UseAll, Vec::new(alloc), spec, parts),
+    }
+}

@@ -1,0 +1,64 @@
+ghost use Rattle.std.specs.Prelude.{◌≡◌, ◌++◌, ◌∷◌, [], IfErr, OnOk};
+ghost use Rattle.prolog_terms.specs.Tree.{tree_of};
+ghost use Rattle.module_table.specs.declared.said.FactFault.TheVariants.{NoMemory};
+ghost use Rattle.module_table.specs.Said.{see_part, see_parts};
+ghost use Rattle.clause_text.specs.Terms.{start_of};
+
+use crate::defined::Definition;
+use crate::indicator::Indicator;
+use crate::load::Load;
+use crate::terms::start_of;
+use clause_text::Cause;
+use prolog_terms::Term;
+use prolog_tokens::Text;
+use std::alloc::AllocError;
+
+/// Why the facts of a file aren't told: the first refusal, with its byte offset.
+#[derive(Clone, Copy, Debug, PartialEq, Eq)]
+pub enum FactFault {
+    At(Cause, u32),
+    NoMemory,
+}
+
+impl From<AllocError> for FactFault {
+    ghost from_gives = { λ _ fault. fault ≡ NoMemory };
+
+    fn from(_error: AllocError) -> FactFault {
+        FactFault::NoMemory
+    }
+}
+
+/// What `module/2` declares, with the byte offset of its term.
+#[derive(Drop)]
+pub struct Module {
+    pub name: Text,
+    pub from: u32,
+    pub exports: Vec<Indicator>,
+}
+
+/// One thing that a file says.
+#[derive(Drop)]
+pub enum Part {
+    Module(Module),
+    Load(Load),
+    Definition(Definition),
+    Goal(Term),
+}
+
+/// The refusal at the term.
+pub fn refusal(cause: Cause, term: &Term) -> FactFault
+    ensures { result ≡ FactFault.At cause (start_of (tree_of term.now)) }
+{
+    FactFault::At(cause, start_of(term))
+}
+
+/// Adds one thing that the file says.
+pub fn push_part(parts: &mut Vec<Part>, part: Part) -> Result<(), FactFault>
+    ensures ok { OnOk result (see_parts parts.new.items ≡ see_parts parts.old.items ++ see_part part ∷ []) }
+    ensures refused { IfErr result (λ fault. fault ≡ FactFault.NoMemory) }
+{
+    if parts.push(part).is_err() {
+        return Err(FactFault::NoMemory);
+    }
+    Ok(())
+}
