@@ -1,32 +1,15 @@
 -- From what was read of a file to what the file is.
-use Rattle.std.proofs.Common.{◌≡◌, ℕ, ◌+◌, ◌≤◌, List, [], ◌∷◌, Option, Some, length, take, string_bytes, All, ap, sym, ◌∙◌, subst, inl, inr, arith, length-append, length-take, min}
+use Rattle.std.proofs.Common.{◌≡◌, ℕ, ◌+◌, ◌≤◌, List, Option, Some, length, take, string_bytes, ap, sym, ◌∙◌, subst, inl, inr, arith, length-take, min}
 use Rattle.std.proofs.lemmas.Bool.{cases_lt}
 use Rattle.std.proofs.lemmas.List.{take_all}
-use Rattle.std.proofs.lemmas.List.Elements.{All-nil, All-cons}
-use Rattle.prolog_tokens.specs.declared.token.Token.{Token}
-use Rattle.prolog_terms.specs.Tree.{Tree}
-use Rattle.prolog_terms.specs.Words.{Table}
-use Rattle.prolog_terms.proofs.ReaderTables.{IsTable}
-use Rattle.prolog_terms.proofs.ClausesOf.{clause_once}
-use Rattle.prolog_terms.proofs.ClauseArities.{clause_within}
-use Rattle.prolog_terms.specs.Arity.{HasAritiesWithin}
 use Rattle.file_library.specs.Library.{Files, IsFound}
 use Rattle.group_tool.specs.declared.outcome.Outcome.{Outcome}
 use Rattle.group_tool.specs.declared.outcome.Outcome.TheVariants.{Usage, Faults, Unread, Report, NoMemory}
 use Rattle.group_tool.specs.Words.{IsLawful}
-use Rattle.group_tool.specs.Clauses.{AreClauses}
-use Rattle.group_tool.specs.TextFault.{IsOutsideForm, IsFaultLine}
+use Rattle.group_tool.specs.FileFault.{IsOutsideForm, IsFaultLine}
 use Rattle.group_tool.specs.Answer.{ReportsText}
 use Rattle.group_tool.specs.Outcome.{TextOutcomeIs}
 use Rattle.group_tool.specs.OutcomeEnd.{OutcomeIs}
-
--- there are no more clauses than tokens
-pub few_clauses : (T : Table) → IsTable T → (text : List ℕ) (ts : List Token) (trees : List Tree) → AreClauses T text ts trees → length trees ≤ length ts
-few_clauses T ok text ts [] are = omega arith
-few_clauses T ok text ts (tree ∷ trees) (part, rest, is, clause, are) =
-    let ends = clause_once T ok text part tree clause in
-    let count : length ts ≡ length part + length rest = ap length is ∙ length-append part rest in
-    omega (arith, few_clauses T ok text rest trees are, count, ends.some)
 
 -- a text that isn't longer than the limit was read whole
 read_whole : (bytes room : List ℕ) → room ≡ take (65536 + 1) bytes → length room ≤ 65536 → room ≡ bytes
@@ -35,17 +18,17 @@ read_whole bytes room is small =
     is ∙ take_all (65536 + 1) bytes (omega (arith, count, small))
 
 -- a text that was read up to just past the limit is outside the form where its beginning is
-outside_whole : (bytes room : List ℕ) → room ≡ take (65536 + 1) bytes → IsOutsideForm room → IsOutsideForm bytes
-outside_whole bytes room is outside = elim (cases_lt 65536 (length room)) [
+outside_whole : (bytes room name : List ℕ) → room ≡ take (65536 + 1) bytes → IsOutsideForm name room → IsOutsideForm name bytes
+outside_whole bytes room name is outside = elim (cases_lt 65536 (length room)) [
   | inl long ↦ let count : length room ≡ min (65536 + 1) (length bytes) = ap length is ∙ length-take (65536 + 1) bytes in inl (omega (arith, count))
-  | inr small ↦ subst IsOutsideForm (read_whole bytes room is small) outside
+  | inr small ↦ subst (IsOutsideForm name) (read_whole bytes room is small) outside
 ]
 
 faulty_whole : (bytes room name line : List ℕ) → room ≡ take (65536 + 1) bytes → IsFaultLine name room line → room ≡ bytes
 faulty_whole bytes room name line is fault = read_whole bytes room is fault.has.small
 
-reported_whole : (bytes room report : List ℕ) → room ≡ take (65536 + 1) bytes → ReportsText room report → room ≡ bytes
-reported_whole bytes room report is reports = read_whole bytes room is reports.reads.small
+reported_whole : (bytes room name report : List ℕ) → room ≡ take (65536 + 1) bytes → ReportsText name room report → room ≡ bytes
+reported_whole bytes room name report is reports = read_whole bytes room is reports.has.small
 
 pub found_outcome : (words : List (List ℕ)) (told : Option Files) (asked' : List (List ℕ)) (f f' m m' : ℕ) (name room : List ℕ) (outcome : Outcome) → IsLawful words name
     → ((files : Files) → told ≡ Some files → IsFound files name 65536 room) → TextOutcomeIs name room outcome → OutcomeIs words told asked' f f' m m' outcome
@@ -66,7 +49,7 @@ found_outcome words told asked' f f' m m' name room (Faults lines) lawful found 
     text = room;
     outside = outside.0;
     not_built = λ files tells.
-        (let file = found files tells in record { text = file.bytes; there = file.has; outside = outside_whole file.bytes room file.is outside.0 });
+        (let file = found files tells in record { text = file.bytes; there = file.has; outside = outside_whole file.bytes room name file.is outside.0 });
     is = outside.1;
   })),
 )
@@ -77,15 +60,7 @@ found_outcome words told asked' f f' m m' name room (Report bytes) lawful found 
   record {
     text = room;
     reports = is;
-    there = λ files tells. (let file = found files tells in file.has ∙ ap Some (sym (reported_whole file.bytes room (string_bytes bytes) file.is is)));
+    there = λ files tells. (let file = found files tells in file.has ∙ ap Some (sym (reported_whole file.bytes room name (string_bytes bytes) file.is is)));
   },
 )
 found_outcome words told asked' f f' m m' name room NoMemory lawful found is = tt
-
--- no compound of a clause has more arguments than the text has tokens
-pub clauses_arities : (T : Table) (text : List ℕ) (ts : List Token) (trees : List Tree) (n : ℕ) → length ts ≤ n → AreClauses T text ts trees → All (HasAritiesWithin n) trees
-clauses_arities T text ts [] n few are = All-nil (HasAritiesWithin n)
-clauses_arities T text ts (tree ∷ trees) n few (part, rest, is, clause, are) =
-    let count : length ts ≡ length part + length rest = ap length is ∙ length-append part rest in
-    All-cons (HasAritiesWithin n) tree trees (clause_within T text part tree n (omega (arith, count)) clause)
-    (clauses_arities T text rest trees n (omega (arith, count)) are)

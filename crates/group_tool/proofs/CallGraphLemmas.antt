@@ -1,11 +1,9 @@
 -- The loops that gather what rules call.
 use Rattle.std.proofs.Common.{◌≡◌, ℕ, ◌+◌, ◌<◌, ◌≤◌, ◌⊎◌, List, [], ◌∷◌, ◌++◌, length, take, get_or, set, replicate, All, Contains, Some, slice_get, sym, subst, ◌∙◌, ap, inl, inr, arith}
-use Rattle.std.specs.List.{range_with_len}
 use Rattle.std.proofs.lemmas.Bool.{cases_eq, cases_lt}
 use Rattle.std.proofs.lemmas.Cmp.{tied_itself}
 use Rattle.std.proofs.lemmas.List.{take_more, get_or-map, get_or-set_same, get_or-set_other, length-set, length-map, length-replicate, get_or-replicate, get_or_past}
 use Rattle.std.proofs.lemmas.List.Elements.{Contains-push, Contains-push_cases, Contains-append_left}
-use Rattle.std.proofs.lemmas.List.FromFn.{length-range_with_len, get_or-range_with_len}
 use Rattle.std.proofs.lemmas.Option.{slice_get_within, get_or_from_slice_get}
 use Rattle.graph_law.specs.Graph.{CallGraph, IsGraph}
 use Rattle.group_tool.specs.declared.indicator.Indicator.{Indicator}
@@ -44,7 +42,8 @@ not_before xs x p q up at_p at_q lt =
     let tie = tied_itself indicator_cmp_total x in
     cc
 
-one_place : (xs : List Indicator) (x : Indicator) (p q : ℕ) → IsRising xs → slice_get xs p ≡ Some x → slice_get xs q ≡ Some x → p ≡ q
+-- so it stands once
+pub one_place : (xs : List Indicator) (x : Indicator) (p q : ℕ) → IsRising xs → slice_get xs p ≡ Some x → slice_get xs q ≡ Some x → p ≡ q
 one_place xs x p q up at_p at_q =
     elim (cases_lt p q) [
       | inl lt ↦ absurd (not_before xs x p q up at_p at_q lt)
@@ -210,24 +209,20 @@ head_stands rules predicates i rule numbering lt is =
     subst P (get_or-map head rules i rule rule.head lt ∙ ap head (sym is))
     (numbering.each_head i rule.head (omega (arith, length-map rules head)))
 
--- callee lists and all nodes as roots are a graph
-pub is_graph : (rules : List HeadAndGoals) (predicates : List Indicator) (graph : CallGraph) → AreCalleeLists rules predicates graph.lists
-    → graph.roots ≡ range_with_len 0 (length predicates) → length predicates ≤ 1048576 → IsGraph graph
-is_graph rules predicates graph callees roots few =
-    let n = length predicates in
-    record {
-      closed = λ p q call.
-          let c = (callees.calls p q).0 call in
-          omega (arith, slice_get_within predicates q c.goal c.callee, callees.one_each);
-      rooted =
-          subst (All (λ root. root < length graph.lists)) (sym roots)
-          (λ k d lt.
-          let below : k < n = omega (arith, length-range_with_len 0 n) in
-          omega (arith, get_or-range_with_len 0 n k d below, callees.one_each));
-      small = omega (arith, callees.one_each);
-    }
+-- callee lists and some nodes as roots are a graph
+pub is_graph : (rules : List HeadAndGoals) (predicates : List Indicator) (roots : List ℕ) (graph : CallGraph) → AreCalleeLists rules predicates graph.lists
+    → graph.roots ≡ roots → All (λ root. root < length predicates) roots → length predicates ≤ 1048576 → IsGraph graph
+is_graph rules predicates roots graph callees same rooted few = record {
+  closed = λ p q call.
+      let c = (callees.calls p q).0 call in
+      omega (arith, slice_get_within predicates q c.goal c.callee, callees.one_each);
+  rooted =
+      subst (λ n. All (λ root. root < n) graph.roots) (sym callees.one_each)
+      (subst (All (λ root. root < length predicates)) (sym same) rooted);
+  small = omega (arith, callees.one_each);
+}
 
 -- and that graph is the call graph
-pub is_call_graph : (rules : List HeadAndGoals) (predicates : List Indicator) (graph : CallGraph) → AreCalleeLists rules predicates graph.lists
-    → graph.roots ≡ range_with_len 0 (length predicates) → IsCallGraph rules predicates graph
-is_call_graph rules predicates graph callees roots = record { callees = callees; roots = roots }
+pub is_call_graph : (rules : List HeadAndGoals) (predicates : List Indicator) (roots : List ℕ) (graph : CallGraph) → AreCalleeLists rules predicates graph.lists
+    → graph.roots ≡ roots → IsCallGraph rules predicates roots graph
+is_call_graph rules predicates roots graph callees same = record { callees = callees; rooted = same }

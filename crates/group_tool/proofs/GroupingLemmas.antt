@@ -1,7 +1,6 @@
 -- The report of groups and their levels.
 use Rattle.std.proofs.Common.{◌≡◌, ℕ, List, length, sym, ◌∙◌, subst}
 use Rattle.std.proofs.lemmas.List.{length-map}
-use Rattle.prolog_terms.specs.Tree.{Tree}
 use Rattle.graph_law.specs.Reach.{Agree, IsReached}
 use Rattle.graph_law.specs.Classes.{HasMember, group_at}
 use Rattle.graph_law.specs.Graph.{CallGraph, Calls}
@@ -12,10 +11,8 @@ use Rattle.group_release.specs.declared.level.Level.{Level}
 use Rattle.group_release.specs.Level.{AreLevels}
 use Rattle.group_tool.specs.declared.indicator.Indicator.{Indicator}
 use Rattle.group_tool.specs.Rule.{HeadAndGoals}
-use Rattle.group_tool.specs.RuleOf.{rules_of}
-use Rattle.group_tool.specs.Numbering.{IsNumbering}
 use Rattle.group_tool.specs.CallGraph.{NodeCalls, IsCallGraph}
-use Rattle.group_tool.specs.Grouping.{AreGroups, IsReportOf}
+use Rattle.group_tool.specs.Grouping.{AreGroups, Reports}
 use Rattle.group_tool.specs.Report.{IsReport}
 
 -- what a search from the roots finds
@@ -41,18 +38,14 @@ AreLevels-agree {c} {d} {groups} {levels} agree are = record {
 }
 
 -- what the rules say and what the graph holds are the same calls
-pub report_of : {trees : List Tree} {rules : List HeadAndGoals} {predicates : List Indicator} {graph : CallGraph} {groups : List (List ℕ)} {levels : List Level} {bytes : List ℕ}
-    → rules ≡ rules_of trees → IsNumbering rules predicates → IsCallGraph rules predicates graph → AreGroups (Calls graph.lists) graph.roots groups
-    → AreLevels (Calls graph.lists) groups levels → IsReport predicates groups levels bytes → IsReportOf trees bytes
-report_of {trees} {rules} {predicates} {graph} {groups} {levels} {bytes} said numbering is are levels_are report =
-    let agree : Agree (Calls graph.lists) (NodeCalls (rules_of trees) predicates) =
-    subst (λ rs. Agree (Calls graph.lists) (NodeCalls rs predicates)) said
-    (record { to = λ p q. (is.callees.calls p q).0; from = λ p q. (is.callees.calls p q).1 }) in
+pub reports_of : {own : List ℕ} {rules : List HeadAndGoals} {predicates : List Indicator} {roots : List ℕ} {graph : CallGraph} {groups : List (List ℕ)} {levels : List Level} {bytes : List ℕ}
+    → IsCallGraph rules predicates roots graph → AreGroups (Calls graph.lists) graph.roots groups
+    → AreLevels (Calls graph.lists) groups levels → IsReport own predicates groups levels bytes → Reports own rules predicates roots bytes
+reports_of {own} {rules} {predicates} {roots} {graph} {groups} {levels} {bytes} is are levels_are report =
+    let agree : Agree (Calls graph.lists) (NodeCalls rules predicates) = record { to = λ p q. (is.callees.calls p q).0; from = λ p q. (is.callees.calls p q).1 } in
     record {
-      predicates = predicates;
-      numbering = subst (λ rs. IsNumbering rs predicates) said numbering;
       groups = groups;
-      are_groups = subst (λ starts. AreGroups (NodeCalls (rules_of trees) predicates) starts groups) is.roots (AreGroups-agree agree are);
+      are_groups = subst (λ starts. AreGroups (NodeCalls rules predicates) starts groups) is.rooted (AreGroups-agree agree are);
       levels = levels;
       are_levels = AreLevels-agree agree levels_are;
       report = report;

@@ -1,23 +1,20 @@
 pub mod AnswerLemmas
 pub mod CallGraphLemmas
-pub mod ClauseSplits
-pub mod FirstParts
-pub mod OneReading
 pub mod TermLemmas
-pub mod ErrLemmas
-pub mod ReadOffsets
 pub mod SpelledLemmas
 pub mod GroupingLemmas
 pub mod IndicatorOrder
 pub mod NumberingLemmas
+pub mod DefinedClauses
+pub mod PlaceLemmas
 pub mod Printable
+pub mod ReadingLemmas
 mod OneAnswer
 mod OneOrder
 mod OneLine
 mod OneReport
 pub mod ReportLemmas
 mod ReportRows
-pub mod RuleLemmas
 pub mod RunLemmas
 pub mod Said
 pub mod WordLemmas

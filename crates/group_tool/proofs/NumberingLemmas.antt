@@ -1,21 +1,19 @@
 -- What a sort, a removal of neighbours and a binary search say of the numbered predicates.
-use Rattle.std.proofs.Common.{◌≡◌, ℕ, ◌+◌, ◌<◌, List, length, get_or, slice_get, Some, Contains, IsPermutation, subst, sym, ◌∙◌, ap, arith, inl, inr}
-use Rattle.std.specs.List.{HoldsAt, dedup}
-use Rattle.std.specs.List.Sorted.{IsSorted, IsSortedBy, IsStrictlySortedBy, IsNonDecreasingBy, IsPartitionPoint}
+use Rattle.std.proofs.Common.{◌≡◌, ℕ, ◌+◌, ◌<◌, List, length, get_or, slice_get, Some, Contains, ◌∙◌, ap, arith, inl, inr}
+use Rattle.std.specs.List.{HoldsAt}
+use Rattle.std.specs.List.Sorted.{IsSortedBy, IsNonDecreasingBy, IsPartitionPoint}
 use Rattle.std.specs.Ordering.{is_lt, ordering_index, ordering_reverse}
 use Rattle.std.specs.declared.cmp.Ordering.TheVariants.{Less, Equal, Greater}
 use Rattle.std.proofs.lemmas.Bool.{cases_lt}
 use Rattle.std.proofs.lemmas.Cmp.{tied_itself}
 use Rattle.std.proofs.lemmas.List.Elements.{Contains-get_or}
-use Rattle.std.proofs.lemmas.List.Kept.{IsStrictlySortedBy-dedup, Contains-dedup, Contains-from_dedup}
-use Rattle.std.proofs.lemmas.List.Sorted.{Contains-permutation, IsPermutation-sym, searchable_from_sorted}
-use Rattle.std.proofs.lemmas.Map.Keys.{Less-from_sorted}
+use Rattle.std.proofs.lemmas.List.Sorted.{searchable_from_sorted}
 use Rattle.std.proofs.lemmas.Option.{slice_get-get_or}
 use Rattle.group_tool.specs.declared.indicator.Indicator.{Indicator}
 use Rattle.group_tool.specs.Indicator.{indicator_cmp}
 use Rattle.group_tool.specs.Rule.{HeadAndGoals, heads}
 use Rattle.group_tool.specs.Numbering.{IsRising, IsNumbering}
-use Rattle.group_tool.proofs.IndicatorOrder.{indicator_cmp_total, indicator_eq, indicator_eq_equiv, indicator_ties, same_from_eq, same_from_Equal}
+use Rattle.group_tool.proofs.IndicatorOrder.{indicator_cmp_total, same_from_Equal}
 
 pub found : (xs : List Indicator) (wanted : Indicator) (place : ℕ) → place < length xs
     → HoldsAt (λ y. indicator_cmp y wanted ≡ Equal) xs place → slice_get xs place ≡ Some wanted
@@ -37,21 +35,10 @@ absent xs wanted place up split has =
       | inr above ↦ let greater = parts.1 has.0 wanted above has.1 in cc
     ]
 
-pub numbered : (rules : List HeadAndGoals) (all sorted kept : List Indicator) → all ≡ heads rules → IsPermutation all sorted
-    → IsSorted indicator_cmp sorted → kept ≡ dedup indicator_eq sorted → IsNumbering rules kept
-numbered rules all sorted kept whole moved up is = record {
-  rising = λ i j d lt within.
-      Less-from_sorted indicator_cmp kept i j d
-      (subst (IsStrictlySortedBy indicator_cmp) (sym is) (IsStrictlySortedBy-dedup indicator_cmp_total indicator_ties sorted up)) lt within;
-  only_heads = λ k d within.
-      let x = get_or kept k d in
-      let has : List Indicator → Type 0 = λ xs. Contains xs x in
-      let in_sorted = Contains-from_dedup indicator_eq sorted x (subst has is (Contains-get_or kept k d within)) in
-      subst has whole (Contains-permutation sorted all x (IsPermutation-sym all sorted moved) in_sorted);
-  each_head = λ k d within.
-      let x = get_or (heads rules) k d in
-      let has : List Indicator → Type 0 = λ xs. Contains xs x in
-      let in_all = subst has (sym whole) (Contains-get_or (heads rules) k d within) in
-      subst has (sym is)
-      (Contains-dedup indicator_eq_equiv same_from_eq sorted x (Contains-permutation all sorted x moved in_all));
+-- rising heads are their own numbering
+pub numbered : (rules : List HeadAndGoals) → IsRising (heads rules) → IsNumbering rules (heads rules)
+numbered rules up = record {
+  rising = up;
+  only_heads = λ k d within. Contains-get_or (heads rules) k d within;
+  each_head = λ k d within. Contains-get_or (heads rules) k d within;
 }

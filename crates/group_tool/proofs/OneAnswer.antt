@@ -1,20 +1,18 @@
--- A text has one report, and words over a map of files have one answer.
+-- A file has one report, and words over a map of files have one answer.
 use Rattle.std.proofs.Common.{◌≡◌, ℕ, List, [], ◌∷◌, Some, None, ap, sym, ◌∙◌, subst, refl, inl, inr}
 use Rattle.file_library.specs.Library.{Files}
 use Rattle.group_tool.specs.Words.{IsLawful}
-use Rattle.group_tool.specs.Clauses.{ReadsAs}
 use Rattle.group_tool.specs.Grouping.{IsReportOf}
-use Rattle.group_tool.specs.TextFault.{IsOutsideForm, IsFaultLine}
+use Rattle.group_tool.specs.FileFault.{HasFacts, IsOutsideForm, IsFaultLine}
 use Rattle.group_tool.specs.Answer.{Answer, usage, faults, report, IsAnswer, AreFaults, IsNotBuilt, HasFaultLine, HasReport, ReportsText}
-use Rattle.group_tool.proofs.OneFault.{one_fault_line, faulty_no_clauses, faulty_not_outside, outside_no_clauses}
-use Rattle.group_tool.proofs.OneReading.{one_reading}
+use Rattle.group_tool.proofs.OneFault.{same_facts, one_fault_line, faulty_no_facts, faulty_not_outside, built_not_outside}
 use Rattle.group_tool.proofs.OneReport.{one_report}
 
--- a text has one report
-pub one_report_of_text : (text bytes other : List ℕ) → ReportsText text bytes → ReportsText text other → bytes ≡ other
-one_report_of_text text bytes other is also =
-    let same : also.trees ≡ is.trees = one_reading text also.trees is.trees also.reads is.reads in
-    one_report is.trees bytes other is.report (subst (λ trees. IsReportOf trees other) same also.report)
+-- a file has one report
+pub one_report_of_text : (name text bytes other : List ℕ) → ReportsText name text bytes → ReportsText name text other → bytes ≡ other
+one_report_of_text name text bytes other is also =
+    let same : also.facts ≡ is.facts = same_facts name text also.facts is.facts also.has is.has in
+    one_report is.facts bytes other is.report (subst (λ facts. IsReportOf facts other) same also.report)
 
 -- words name one file
 one_file : (words : List (List ℕ)) (name other : List ℕ) → IsLawful words name → IsLawful words other → name ≡ other
@@ -32,7 +30,7 @@ same_text files name text other P is also holds = subst P (one_text files name o
 
 not_both : (files : Files) (name line : List ℕ) → HasFaultLine files name line → IsNotBuilt files name → ⊥
 not_both files name line has not_built =
-    faulty_not_outside has.text has.is.fault has.is.has (same_text files name has.text not_built.text IsOutsideForm has.there not_built.there not_built.outside)
+    faulty_not_outside name has.text has.is.fault has.is.has (same_text files name has.text not_built.text (IsOutsideForm name) has.there not_built.there not_built.outside)
 
 one_fault : (files : Files) (name lines other : List ℕ) → AreFaults files name lines → AreFaults files name other → lines ≡ other
 one_fault files name lines other (inl absent) (inl too) = absent.1 ∙ sym too.1
@@ -49,17 +47,17 @@ one_fault files name lines other (inr (inr not_built)) (inr (inr too)) = not_bui
 no_fault : (files : Files) (name lines bytes : List ℕ) → AreFaults files name lines → HasReport files name bytes → ⊥
 no_fault files name lines bytes (inl absent) has = not_absent files name has.text absent.0 has.there
 no_fault files name lines bytes (inr (inl faulty)) has =
-    faulty_no_clauses faulty.text faulty.is.fault has.reports.trees faulty.is.has
-    (same_text files name faulty.text has.text (λ text. ReadsAs text has.reports.trees) faulty.there has.there has.reports.reads)
+    faulty_no_facts name faulty.text faulty.is.fault has.reports.facts faulty.is.has
+    (same_text files name faulty.text has.text (λ text. HasFacts name text has.reports.facts) faulty.there has.there has.reports.has)
 no_fault files name lines bytes (inr (inr not_built)) has =
-    outside_no_clauses not_built.0.text has.reports.trees not_built.0.outside
-    (same_text files name not_built.0.text has.text (λ text. ReadsAs text has.reports.trees) not_built.0.there has.there has.reports.reads)
+    built_not_outside name not_built.0.text has.reports.facts not_built.0.outside
+    (same_text files name not_built.0.text has.text (λ text. HasFacts name text has.reports.facts) not_built.0.there has.there has.reports.has)
     has.reports.built
 
 one_report_of_file : (files : Files) (name bytes other : List ℕ) → HasReport files name bytes → HasReport files name other → bytes ≡ other
 one_report_of_file files name bytes other is also =
     let same : also.text ≡ is.text = one_text files name also.text is.text also.there is.there in
-    one_report_of_text is.text bytes other is.reports (subst (λ text. ReportsText text other) same also.reports)
+    one_report_of_text name is.text bytes other is.reports (subst (λ text. ReportsText name text other) same also.reports)
 
 pub one_answer : (words : List (List ℕ)) (files : Files) (answer other : Answer) → IsAnswer words files answer → IsAnswer words files other → answer ≡ other
 one_answer words files usage usage is also = refl

@@ -1,123 +1,75 @@
--- A text has one fault, or a report, or is outside the built form.
-use Rattle.std.proofs.Common.{◌≡◌, ℕ, ◌<◌, true, false, List, length, ap, sym, ◌∙◌, subst, refl, inl, inr, arith}
-use Rattle.std.specs.Str.{IsUtf8, IsValidUpTo}
-use Rattle.std.proofs.lemmas.Bool.{cases_lt}
-use Rattle.std.proofs.Math.Seq.{take-length}
-use Rattle.prolog_tokens.specs.declared.token.TokenFault.{TokenFault}
-use Rattle.prolog_tokens.specs.declared.token.TokenFault.TheVariants as of_tokens
-use Rattle.prolog_tokens.proofs.Between.{one_cut}
-use Rattle.prolog_tokens.proofs.Faults.{one_fault, fault_no_cut}
+-- A file has one fault, or facts, or is outside the built form.
+use Rattle.std.proofs.Common.{◌≡◌, ℕ, true, false, List, Ok, Err, ap, sym, ◌∙◌, subst, inl, inr, arith}
 use Rattle.prolog_tokens.proofs.PlaceSteps.{place_once}
 use Rattle.prolog_tokens.specs.Places.{IsPlace}
-use Rattle.prolog_terms.specs.declared.reader.ReadFault.{ReadFault}
-use Rattle.prolog_terms.specs.declared.reader.ReadFault.TheVariants as of_clauses
-use Rattle.prolog_terms.specs.Tree.{Tree}
-use Rattle.prolog_terms.proofs.TokenWords.{cut_spelled}
-use Rattle.group_tool.specs.declared.text_fault.Cause.{Cause}
-use Rattle.group_tool.specs.declared.text_fault.Cause.TheVariants.{NotUtf8, BadChar, OpenQuote, OpenComment, BadEscape, Stuck, TooDeep, NoEnd}
-use Rattle.group_tool.specs.declared.text_fault.Fault.{Fault}
-use Rattle.group_tool.specs.declared.text_fault.TextFault.TheVariants.{Wrong}
-use Rattle.group_tool.specs.Clauses.{HasClauseFault, ReadsAs, opening_table}
-use Rattle.group_tool.specs.Built.{are_built}
-use Rattle.group_tool.proofs.OneReading.{opening_table_ok, one_reading, one_clause_fault, list_no_fault}
-use Rattle.group_tool.specs.TextFault.{fault_of_tokens, fault_of_clauses, TokensHave, ClausesHave, CausedBy, HasTextFault, IsOutsideForm, IsFaultLine, fault_line}
+use Rattle.clause_text.specs.declared.fault.TextFault.TheVariants.{At}
+use Rattle.clause_text.proofs.OneFault as of_text
+use Rattle.clause_text.proofs.OneReading.{one_reading}
+use Rattle.module_table.specs.Said.{Refusal}
+use Rattle.module_table.specs.Facts.{Facts, AreFacts, file_said}
+use Rattle.module_table.proofs.OneFacts.{one_facts}
+use Rattle.group_tool.specs.Built.{is_built}
+use Rattle.group_tool.specs.FileFault.{HasRefusal, HasFileFault, HasFacts, IsOutsideForm, IsFaultLine, fault_line, fault_from}
 
-valid_not_later : (text : List ℕ) (a b : ℕ) → a < b → IsValidUpTo text a → IsValidUpTo text b → ⊥
-valid_not_later text a b lt p q = p.longest b lt q.front
+pub same_facts : (name text : List ℕ) (facts other : Facts) → HasFacts name text facts → HasFacts name text other → facts ≡ other
+same_facts name text facts other is also =
+    let same : also.trees ≡ is.trees = one_reading text also.trees is.trees also.reads is.reads in
+    one_facts name is.trees facts other is.are (subst (λ trees. AreFacts name trees other) same also.are)
 
-valid_once : (text : List ℕ) (a b : ℕ) → IsValidUpTo text a → IsValidUpTo text b → a ≡ b
-valid_once text a b p q = elim (cases_lt a b) [
-  | inl lt ↦ absurd (valid_not_later text a b lt p q)
-  | inr le ↦ elim (cases_lt b a) [
-    | inl lt ↦ absurd (valid_not_later text b a lt q p)
-    | inr ge ↦ omega arith
-  ]
+one_refusal : (name text : List ℕ) (f g : Refusal) → HasRefusal name text f → HasRefusal name text g → f ≡ g
+one_refusal name text f g is also =
+    let same : also.trees ≡ is.trees = one_reading text also.trees is.trees also.reads is.reads in
+    let both : Err f ≡ Err g = sym is.said ∙ (ap (file_said name) (sym same) ∙ also.said) in
+    cc
+
+refusal_no_facts : (name text : List ℕ) (fault : Refusal) (facts : Facts) → HasRefusal name text fault → HasFacts name text facts → ⊥
+refusal_no_facts name text fault facts is has =
+    let same : has.trees ≡ is.trees = one_reading text has.trees is.trees has.reads is.reads in
+    let both : Err fault ≡ Ok has.are.parts = sym is.said ∙ (ap (file_said name) (sym same) ∙ has.are.said) in
+    cc
+
+one_file_fault : (name text : List ℕ) (f g : Refusal) → HasFileFault name text f → HasFileFault name text g → f ≡ g
+one_file_fault name text f g one two = elim one.caused [
+  | inl of_one ↦
+      elim two.caused [
+        | inl of_two ↦
+            let both : At f.cause f.offset ≡ At g.cause g.offset = of_text.one_fault text (At f.cause f.offset) (At g.cause g.offset) of_one of_two in
+            let cause : f.cause ≡ g.cause = cc in
+            let offset : f.offset ≡ g.offset = cc in
+            λ i. fault_from (cause i) (offset i)
+        | inr of_two ↦ absurd (of_text.fault_no_reading text (At f.cause f.offset) of_two.trees of_one of_two.reads)
+      ]
+  | inr of_one ↦
+      elim two.caused [
+        | inl of_two ↦ absurd (of_text.fault_no_reading text (At g.cause g.offset) of_one.trees of_two of_one.reads)
+        | inr of_two ↦ one_refusal name text f g of_one of_two
+      ]
 ]
-
-not_utf8 : (text : List ℕ) (at : ℕ) → IsValidUpTo text at → IsUtf8 text → ⊥
-not_utf8 text at valid utf8 = valid.longest (length text) valid.short (subst IsUtf8 (sym (take-length text)) utf8)
-
--- a fault of a text is one of its bytes, one of its tokens or one of its clauses
-data Seen (text : List ℕ) (fault : Fault) : Type 0 where
-  bytes : fault.cause ≡ NotUtf8 → IsValidUpTo text fault.offset → Seen text fault
-  tokens : (of : TokenFault) → fault_of_tokens of ≡ Wrong fault → TokensHave text of → Seen text fault
-  clauses : (of : ReadFault) → fault_of_clauses of ≡ Wrong fault → ClausesHave text of → Seen text fault
-
-abbrev fault_from : Cause → ℕ → Fault
-fault_from cause at = record { cause = cause; offset = at }
-
-seen : (text : List ℕ) (at : ℕ) (cause : Cause) → CausedBy text at cause → Seen text (fault_from cause at)
-seen text at NotUtf8 by = bytes refl by
-seen text at BadChar by = tokens (of_tokens.BadChar at) refl by
-seen text at OpenQuote by = tokens (of_tokens.OpenQuote at) refl by
-seen text at OpenComment by = tokens (of_tokens.OpenComment at) refl by
-seen text at BadEscape by = tokens (of_tokens.BadEscape at) refl by
-seen text at Stuck by = clauses (of_clauses.Stuck at) refl by
-seen text at TooDeep by = clauses (of_clauses.TooDeep at) refl by
-seen text at NoEnd by = clauses (of_clauses.NoEnd at) refl by
-
-seen_fault : (text : List ℕ) (fault : Fault) → HasTextFault text fault → Seen text fault
-seen_fault text fault has = seen text fault.offset fault.cause has.caused
-
--- the clauses of a text have one fault
-one_of_clauses : (text : List ℕ) (fault second : ReadFault) → ClausesHave text fault → ClausesHave text second → fault ≡ second
-one_of_clauses text fault second have also =
-    let same : also.tokens ≡ have.tokens = one_cut text also.tokens have.tokens also.cut have.cut in
-    one_clause_fault opening_table opening_table_ok text have.tokens fault second (cut_spelled text have.tokens have.cut) have.has
-    (subst (λ ts. HasClauseFault opening_table text ts second) same also.has)
-
-one_seen : (text : List ℕ) (f g : Fault) → Seen text f → Seen text g → f ≡ g
-one_seen text f g (bytes cause valid) (bytes cause' valid') =
-    let offset : f.offset ≡ g.offset = valid_once text f.offset g.offset valid valid' in
-    let causes : f.cause ≡ g.cause = cause ∙ sym cause' in
-    ap (λ c. fault_from c f.offset) causes ∙ ap (λ n. fault_from g.cause n) offset
-one_seen text f g (bytes cause valid) (tokens of is have) = absurd (not_utf8 text f.offset valid have.0)
-one_seen text f g (tokens of is have) (bytes cause valid) = absurd (not_utf8 text g.offset valid have.0)
-one_seen text f g (tokens of is have) (tokens second is' have') =
-    let same : of ≡ second = one_fault text of second have.1 have'.1 in
-    let both : Wrong f ≡ Wrong g = sym is ∙ (ap fault_of_tokens same ∙ is') in
-    cc
-one_seen text f g (bytes cause valid) (clauses of is have) = absurd (not_utf8 text f.offset valid have.utf8)
-one_seen text f g (clauses of is have) (bytes cause valid) = absurd (not_utf8 text g.offset valid have.utf8)
-one_seen text f g (tokens of is have) (clauses second is' have') = absurd (fault_no_cut text of have'.tokens have.1 have'.cut)
-one_seen text f g (clauses of is have) (tokens second is' have') = absurd (fault_no_cut text second have.tokens have'.1 have.cut)
-one_seen text f g (clauses of is have) (clauses second is' have') =
-    let same : of ≡ second = one_of_clauses text of second have have' in
-    let both : Wrong f ≡ Wrong g = sym is ∙ (ap fault_of_clauses same ∙ is') in
-    cc
-
-one_text_fault : (text : List ℕ) (f g : Fault) → HasTextFault text f → HasTextFault text g → f ≡ g
-one_text_fault text f g one two = one_seen text f g (seen_fault text f one) (seen_fault text g two)
 
 -- it is told by one line
 pub one_fault_line : (name text line other : List ℕ) → IsFaultLine name text line → IsFaultLine name text other → line ≡ other
 one_fault_line name text line other one two =
-    let fault : two.fault ≡ one.fault = one_text_fault text two.fault one.fault two.has one.has in
-    let stands : IsPlace text one.fault.offset two.place = subst (λ (f : Fault). IsPlace text f.offset two.place) fault two.stands in
+    let fault : two.fault ≡ one.fault = one_file_fault name text two.fault one.fault two.has one.has in
+    let stands : IsPlace text one.fault.offset two.place = subst (λ (f : Refusal). IsPlace text f.offset two.place) fault two.stands in
     let place : one.place ≡ two.place = place_once text one.fault.offset one.place two.place one.stands stands in
-    one.is ∙ (ap (λ p. fault_line name p one.fault.cause) place ∙ (ap (λ (f : Fault). fault_line name two.place f.cause) (sym fault) ∙ sym two.is))
+    one.is ∙ (ap (λ p. fault_line name p one.fault.cause) place ∙ (ap (λ (f : Refusal). fault_line name two.place f.cause) (sym fault) ∙ sym two.is))
 
-seen_no_reading : (text : List ℕ) (fault : Fault) (trees : List Tree) → Seen text fault → ReadsAs text trees → ⊥
-seen_no_reading text fault trees (bytes cause valid) reads = not_utf8 text fault.offset valid reads.utf8
-seen_no_reading text fault trees (tokens of is have) reads = fault_no_cut text of reads.tokens have.1 reads.cut
-seen_no_reading text fault trees (clauses of is have) reads =
-    let same : have.tokens ≡ reads.tokens = one_cut text have.tokens reads.tokens have.cut reads.cut in
-    let has = subst (λ ts. HasClauseFault opening_table text ts of) same have.has in
-    list_no_fault opening_table opening_table_ok text reads.tokens trees has.before of (cut_spelled text reads.tokens reads.cut) reads.clauses has.stands
-
--- a text with a fault is no list of clauses
-pub faulty_no_clauses : (text : List ℕ) (fault : Fault) (trees : List Tree) → HasTextFault text fault → ReadsAs text trees → ⊥
-faulty_no_clauses text fault trees has reads = seen_no_reading text fault trees (seen_fault text fault has) reads
+-- a file with a fault has no facts
+pub faulty_no_facts : (name text : List ℕ) (fault : Refusal) (facts : Facts) → HasFileFault name text fault → HasFacts name text facts → ⊥
+faulty_no_facts name text fault facts is has = elim is.caused [
+  | inl of ↦ of_text.fault_no_reading text (At fault.cause fault.offset) has.trees of has.reads
+  | inr of ↦ refusal_no_facts name text fault facts of has
+]
 
 -- and isn't outside the built form
-pub faulty_not_outside : (text : List ℕ) (fault : Fault) → HasTextFault text fault → IsOutsideForm text → ⊥
-faulty_not_outside text fault has (inl long) = omega (arith, has.small)
-faulty_not_outside text fault has (inr outside) = faulty_no_clauses text fault outside.trees has outside.reads
+pub faulty_not_outside : (name text : List ℕ) (fault : Refusal) → HasFileFault name text fault → IsOutsideForm name text → ⊥
+faulty_not_outside name text fault has (inl long) = omega (arith, has.small)
+faulty_not_outside name text fault has (inr outside) = faulty_no_facts name text fault outside.facts has outside.has
 
--- no clause of the built form is outside it
-pub outside_no_clauses : (text : List ℕ) (trees : List Tree) → IsOutsideForm text → ReadsAs text trees → are_built trees ≡ true → ⊥
-outside_no_clauses text trees (inl long) reads built = omega (arith, reads.small)
-outside_no_clauses text trees (inr outside) reads built =
-    let same : outside.trees ≡ trees = one_reading text outside.trees trees outside.reads reads in
-    let both : false ≡ true = sym outside.differ ∙ (ap are_built same ∙ built) in
+-- no file of the built form is outside it
+pub built_not_outside : (name text : List ℕ) (facts : Facts) → IsOutsideForm name text → HasFacts name text facts → is_built facts ≡ true → ⊥
+built_not_outside name text facts (inl long) has built = omega (arith, has.small)
+built_not_outside name text facts (inr outside) has built =
+    let same : outside.facts ≡ facts = same_facts name text outside.facts facts outside.has has in
+    let both : false ≡ true = sym outside.differ ∙ (ap is_built same ∙ built) in
     cc

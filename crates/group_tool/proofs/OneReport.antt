@@ -1,5 +1,5 @@
--- A list of clauses has one report.
-use Rattle.std.proofs.Common.{◌≡◌, ℕ, ◌+◌, ◌<◌, ◌≤◌, false, cond, List, [], ◌++◌, length, map, sum_by, count_by, codes, get_or, Contains, IsPermutation, sym, subst, ◌∙◌, ap, arith}
+-- A file has one report.
+use Rattle.std.proofs.Common.{◌≡◌, ℕ, ◌+◌, ◌<◌, ◌≤◌, false, cond, List, [], ◌∷◌, ◌++◌, Some, slice_get, refl, length, map, sum_by, count_by, codes, get_or, Contains, IsPermutation, sym, subst, ◌∙◌, ap, arith}
 use Rattle.std.specs.Fmt.{decimal}
 use Rattle.std.specs.List.{flat_map, range_with_len}
 use Rattle.std.specs.Ordering.{ordering_reverse}
@@ -8,16 +8,16 @@ use Rattle.std.proofs.lemmas.List.{get_or-map, length-map}
 use Rattle.std.proofs.lemmas.List.FromFn.{length-range_with_len}
 use Rattle.std.proofs.lemmas.List.Folds.{flat_map-map}
 use Rattle.std.proofs.lemmas.List.Sorted.{length_permutation}
-use Rattle.prolog_terms.specs.Tree.{Tree}
+use Rattle.module_table.specs.Facts.{Facts}
 use Rattle.group_release.specs.declared.level.Level.{Level}
-use Rattle.group_release.specs.Level.{AreLevels, level_at}
+use Rattle.group_release.specs.Level.{level_at}
 use Rattle.group_tool.specs.declared.indicator.Indicator.{Indicator}
 use Rattle.group_tool.specs.Indicator.{indicator_cmp}
 use Rattle.group_tool.specs.Rule.{HeadAndGoals, heads}
-use Rattle.group_tool.specs.RuleOf.{rules_of}
-use Rattle.group_tool.specs.Numbering.{IsNumbering}
-use Rattle.group_tool.specs.CallGraph.{NodeCalls, all_nodes}
-use Rattle.group_tool.specs.Grouping.{AreGroups, IsReportOf}
+use Rattle.group_tool.specs.RuleOf.{rules_of, roots_of}
+use Rattle.group_tool.specs.Numbering.{IsRising, IsNumbering, AreNumbers}
+use Rattle.group_tool.specs.Grouping.{Reports, IsReportOf}
+use Rattle.group_tool.proofs.CallGraphLemmas.{one_place}
 use Rattle.group_tool.specs.Report.{IsReport, IsLineOrder, group_line, place_line, head_line, height_count}
 use Rattle.group_tool.proofs.IndicatorOrder.{indicator_cmp_total}
 use Rattle.group_tool.proofs.OneOrder.{IsStrict, same_order, holds_of, sum_by-map, sum_by_places, most_upto, most_each}
@@ -86,13 +86,13 @@ head_of predicates groups recursive levels =
     ++ (codes " recursive " ++ decimal recursive)
     ++ (codes " levels " ++ decimal levels) ++ codes "\n"
 
-abbrev line_text : List Indicator → List ℕ × Level → List ℕ
-line_text predicates line = group_line predicates line.0 line.1
+abbrev line_text : List ℕ → List Indicator → List ℕ × Level → List ℕ
+line_text own predicates line = group_line own predicates line.0 line.1
 
-same_bytes : {calls : ℕ → ℕ → Type 0} {starts : List ℕ} {groups others : List (List ℕ)} {levels marks : List Level} (predicates : List Indicator) (bytes other : List ℕ)
-    → AreLeveled calls starts groups levels → AreLeveled calls starts others marks → IsReport predicates groups levels bytes → IsReport predicates others marks other
+same_bytes : {calls : ℕ → ℕ → Type 0} {starts : List ℕ} {groups others : List (List ℕ)} {levels marks : List Level} (own : List ℕ) (predicates : List Indicator) (bytes other : List ℕ)
+    → AreLeveled calls starts groups levels → AreLeveled calls starts others marks → IsReport own predicates groups levels bytes → IsReport own predicates others marks other
     → bytes ≡ other
-same_bytes {calls} {starts} {groups} {others} {levels} {marks} predicates bytes other a b first second =
+same_bytes {calls} {starts} {groups} {others} {levels} {marks} own predicates bytes other a b first second =
     let same = same_lines a b first.order second.order first.in_order second.in_order in
     let size : sum_by length groups ≡ sum_by length others =
     sizes groups levels first.order first.in_order
@@ -104,18 +104,37 @@ same_bytes {calls} {starts} {groups} {others} {levels} {marks} predicates bytes 
     ∙ (ap (sum_by (λ (line : List ℕ × Level). cond line.1.recursive 1 0)) same ∙ sym (marked others marks second.order (one_each b.leveled) second.in_order)) in
     let heights : height_count levels ≡ height_count marks = omega (arith, counts_le a b, counts_le b a) in
     let head : head_line groups levels ≡ head_line others marks = λ i. head_of (size i) (many i) (recursive i) (heights i) in
-    let rest : flat_map (place_line predicates groups levels) first.order ≡ flat_map (place_line predicates others marks) second.order =
-    sym (flat_map-map (line_text predicates) (line_at groups levels) first.order)
-    ∙ (ap (flat_map (line_text predicates)) same ∙ flat_map-map (line_text predicates) (line_at others marks) second.order) in
+    let rest : flat_map (place_line own predicates groups levels) first.order ≡ flat_map (place_line own predicates others marks) second.order =
+    sym (flat_map-map (line_text own predicates) (line_at groups levels) first.order)
+    ∙ (ap (flat_map (line_text own predicates)) same ∙ flat_map-map (line_text own predicates) (line_at others marks) second.order) in
     first.is ∙ ((λ i. head i ++ rest i) ∙ sym second.is)
 
-pub one_report : (trees : List Tree) (bytes other : List ℕ) → IsReportOf trees bytes → IsReportOf trees other → bytes ≡ other
-one_report trees bytes other a b =
-    let rules = rules_of trees in
+-- a list of numbers by its predicates
+one_numbers : (predicates wanted : List Indicator) (numbers others : List ℕ) → IsRising predicates → AreNumbers predicates wanted numbers → AreNumbers predicates wanted others → numbers ≡ others
+one_numbers predicates [] [] [] up are also = refl
+one_numbers predicates [] [] (n ∷ others) up are also = absurd (cc)
+one_numbers predicates [] (n ∷ numbers) others up are also = absurd (cc)
+one_numbers predicates (p ∷ wanted) [] others up are also = absurd (cc)
+one_numbers predicates (p ∷ wanted) (n ∷ numbers) [] up are also = absurd (cc)
+one_numbers predicates (p ∷ wanted) (n ∷ numbers) (m ∷ others) up are also =
+    let here : slice_get predicates n ≡ Some p = cc in
+    let there : slice_get predicates m ≡ Some p = cc in
+    let behind : AreNumbers predicates wanted numbers = cc in
+    let behind_too : AreNumbers predicates wanted others = cc in
+    let first : n ≡ m = one_place predicates p n m up here there in
+    let rest : numbers ≡ others = one_numbers predicates wanted numbers others up behind behind_too in
+    λ i. first i ∷ rest i
+
+one_made : (own : List ℕ) (rules : List HeadAndGoals) (predicates : List Indicator) (roots bytes other : List ℕ) → Reports own rules predicates roots bytes
+    → Reports own rules predicates roots other → bytes ≡ other
+one_made own rules predicates roots bytes other a b =
+    same_bytes own predicates bytes other (record { are = a.are_groups; leveled = a.are_levels }) (record { are = b.are_groups; leveled = b.are_levels }) a.report b.report
+
+pub one_report : (facts : Facts) (bytes other : List ℕ) → IsReportOf facts bytes → IsReportOf facts other → bytes ≡ other
+one_report facts bytes other a b =
+    let rules = rules_of facts in
     let same : b.predicates ≡ a.predicates = one_numbering rules b.predicates a.predicates b.numbering a.numbering in
-    let groups_too : AreGroups (NodeCalls rules a.predicates) (all_nodes a.predicates) b.groups =
-    subst (λ ps. AreGroups (NodeCalls rules ps) (all_nodes ps) b.groups) same b.are_groups in
-    let levels_too : AreLevels (NodeCalls rules a.predicates) b.groups b.levels =
-    subst (λ ps. AreLevels (NodeCalls rules ps) b.groups b.levels) same b.are_levels in
-    same_bytes a.predicates bytes other (record { are = a.are_groups; leveled = a.are_levels }) (record { are = groups_too; leveled = levels_too }) a.report
-    (subst (λ ps. IsReport ps b.groups b.levels other) same b.report)
+    let roots_too : AreNumbers a.predicates (roots_of facts) b.roots = subst (λ ps. AreNumbers ps (roots_of facts) b.roots) same b.are_roots in
+    let roots : b.roots ≡ a.roots = one_numbers a.predicates (roots_of facts) b.roots a.roots a.numbering.rising roots_too a.are_roots in
+    one_made facts.module_ rules a.predicates a.roots bytes other a.reports
+    (subst (λ starts. Reports facts.module_ rules a.predicates starts other) roots (subst (λ ps. Reports facts.module_ rules ps b.roots other) same b.reports))

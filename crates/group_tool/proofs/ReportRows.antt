@@ -17,7 +17,7 @@ abbrev two_levels : List Level
 two_levels = record { height = 1; recursive = true } ∷ record { height = 0; recursive = false } ∷ []
 
 -- a loop of two that calls a third
-three_report : head_line two_groups two_levels ++ flat_map (place_line three two_groups two_levels) (1 ∷ 0 ∷ [])
+three_report : head_line two_groups two_levels ++ flat_map (place_line (codes "user") three two_groups two_levels) (1 ∷ 0 ∷ [])
     ≡ codes "predicates 3 groups 2 recursive 1 levels 2\n0 plain user:c/0\n1 recursive user:a/0 user:b/0\n"
 unfolding digits spelled_name
 three_report = refl

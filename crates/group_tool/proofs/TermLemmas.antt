@@ -1,16 +1,17 @@
 -- Terms with the brackets round them passed through.
-use Rattle.std.proofs.Common.{◌≡◌, ◌≢◌, ℕ, ◌<◌, ◌≤◌, Bool, true, false, ◌&&◌, List, [], ◌∷◌, ◌++◌, Option, Some, None, length, get_or, map, codes, refl, arith, if◌then◌else◌, ap, sym, ◌∙◌, subst}
+use Rattle.std.proofs.Common.{◌≡◌, ℕ, ◌<◌, ◌≤◌, Bool, true, false, ◌&&◌, All, List, [], ◌∷◌, ◌++◌, Option, Some, None, length, get_or, map, codes, refl, arith, if◌then◌else◌, ap, sym, ◌∙◌, subst}
 use Rattle.std.specs.Option.{option_to_list}
 use Rattle.std.specs.List.{filter_map, list_all}
 use Rattle.std.specs.Str.{bytes_eq}
+use Rattle.std.proofs.lemmas.List.{length-map}
 use Rattle.std.proofs.lemmas.List.Elements.{filter_map-append}
-use Rattle.prolog_terms.specs.declared.term.Span.{Span}
-use Rattle.prolog_terms.specs.declared.term.Form.{Form}
-use Rattle.prolog_terms.specs.declared.term.Term.{Term}
-use Rattle.prolog_terms.specs.Tree.{Tree, tree_of, variable, constant, atom, compound, listed, tailed, curly, paren, more, none, trees_from, count, depth}
+use Rattle.std.proofs.Math.ListN.{get_or-map}
+use Rattle.prolog_terms.specs.Tree.{Tree, variable, constant, atom, compound, listed, tailed, curly, paren, more, none, trees_from, count}
 use Rattle.prolog_terms.specs.Arity.{HasAritiesWithin}
+use Rattle.clause_text.specs.Terms.{inside, sides_of, goals_in}
+use Rattle.clause_text.proofs.TermShapes.{comma_sides, goals_alone, inside_once}
 use Rattle.group_tool.specs.declared.indicator.Indicator.{Indicator}
-use Rattle.group_tool.specs.Terms.{inside, sides_at, sides_of, indicator_at, indicator_of, goals_in}
+use Rattle.group_tool.specs.Terms.{indicator_at, indicator_of}
 use Rattle.group_tool.specs.RuleOf.{goals_of}
 use Rattle.group_tool.specs.Built.{is_plain_goal, is_plain_body}
 
@@ -22,40 +23,6 @@ some_none x is = cc
 
 abbrev sides_if : Bool → Tree → Tree → Option (Tree × Tree)
 sides_if test left right = if test then Some (left, right) else None
-
--- a compound of two arguments has them as sides where its name is the operator
-pub not_two : (operator name : List ℕ) (parts : List Tree) (form : Form) (span : Span) → length parts ≢ 2 → sides_at operator (compound name (trees_from parts) form span) ≡ None
-not_two operator name [] form span other = refl
-not_two operator name (left ∷ []) form span other = refl
-not_two operator name (left ∷ right ∷ []) form span other = absurd (other (omega arith))
-not_two operator name (left ∷ right ∷ next ∷ parts) form span other = refl
-
-pub not_named : (operator name : List ℕ) (parts : List Tree) (form : Form) (span : Span) → bytes_eq name operator ≡ false
-    → sides_at operator (compound name (trees_from parts) form span) ≡ None
-not_named operator name [] form span differs = refl
-not_named operator name (left ∷ []) form span differs = refl
-not_named operator name (left ∷ right ∷ []) form span differs = rw differs refl
-not_named operator name (left ∷ right ∷ next ∷ parts) form span differs = refl
-
-pub two_sides : (operator name : List ℕ) (parts : List Tree) (form : Form) (span : Span) (left right : Tree) → length parts ≡ 2 → left ≡ get_or parts 0 left
-    → right ≡ get_or parts 1 right → bytes_eq name operator ≡ true → Some (left, right) ≡ sides_at operator (compound name (trees_from parts) form span)
-two_sides operator name [] form span left right two first second same = absurd (omega (arith, two))
-two_sides operator name (l ∷ []) form span left right two first second same = absurd (omega (arith, two))
-two_sides operator name (l ∷ r ∷ []) form span left right two first second same =
-    let whole : Some (l, r) ≡ sides_at operator (compound name (more l (more r none)) form span) = rw same refl in
-    ap (λ t. Some (t, right)) first ∙ (ap (λ t. Some (l, t)) second ∙ whole)
-two_sides operator name (l ∷ r ∷ next ∷ parts) form span left right two first second same = absurd (omega (arith, two))
-
--- inside brackets there are no more brackets
-pub inside_once : (tree : Tree) → inside (inside tree) ≡ inside tree
-inside_once (variable span) = refl
-inside_once (constant kind minus value span) = refl
-inside_once (atom name span) = refl
-inside_once (compound name args form span) = refl
-inside_once (listed items span) = refl
-inside_once (tailed items tail span) = refl
-inside_once (curly inner span) = refl
-inside_once (paren inner span) = inside_once inner
 
 pub inside_arities : (n : ℕ) (tree : Tree) → HasAritiesWithin n tree → HasAritiesWithin n (inside tree)
 inside_arities n (variable span) small = small
@@ -76,43 +43,6 @@ plain_inside (listed items span) = refl
 plain_inside (tailed items tail span) = refl
 plain_inside (curly inner span) = refl
 plain_inside (paren inner span) = plain_inside inner
-
--- the sides of a term are less deep, and a body has their goals
-pub record AreSides (tree left right : Tree) : Type 0 where
-  pub left_below : depth left < depth tree
-  pub right_below : depth right < depth tree
-  pub goals : goals_in tree ≡ goals_in left ++ goals_in right
-
-of_comma : (left right l r : Tree) (form : Form) (span : Span) (name : List ℕ) (alone : List Tree) (test : Bool) → sides_if test left right ≡ Some (l, r)
-    → (depth l < depth (compound name (more left (more right none)) form span)) × (depth r < depth (compound name (more left (more right none)) form span))
-    × ((if test then goals_in left ++ goals_in right else alone) ≡ goals_in l ++ goals_in r)
-of_comma left right l r form span name alone true is =
-    let both : (left, right) ≡ (l, r) = some_once is in
-    let first : left ≡ l = ap (λ (pair : Tree × Tree). pair.0) both in
-    let second : right ≡ r = ap (λ (pair : Tree × Tree). pair.1) both in
-    (omega (arith, ap depth first), omega (arith, ap depth second), ap (λ t. goals_in t ++ goals_in right) first ∙ ap (λ t. goals_in l ++ goals_in t) second)
-of_comma left right l r form span name alone false is = absurd (some_none (l, r) (sym is))
-
-pub comma_sides : (tree left right : Tree) → sides_of (codes ",") tree ≡ Some (left, right) → AreSides tree left right
-comma_sides (compound name (more left (more right none)) form span) l r is =
-    let all = of_comma left right l r form span name (compound name (more left (more right none)) form span ∷ []) (bytes_eq name (codes ",")) is in
-    record { left_below = all.0; right_below = all.1; goals = all.2 }
-comma_sides (paren inner span) l r is =
-    let sides = comma_sides inner l r is in
-    record { left_below = omega (arith, sides.left_below); right_below = omega (arith, sides.right_below); goals = sides.goals }
-comma_sides tree l r is = absurd (some_none (l, r) (sym is))
-
--- a term that no comma joins is one goal
-pub goals_alone : (tree : Tree) → sides_of (codes ",") tree ≡ None → goals_in tree ≡ inside tree ∷ []
-goals_alone (compound name (more left (more right none)) form span) is =
-    (elim (bytes_eq name (codes ",")) as (λ b. sides_if b left right ≡ None
-    → (if b then goals_in left ++ goals_in right else compound name (more left (more right none)) form span ∷ [])
-    ≡ compound name (more left (more right none)) form span ∷ []) [
-      | true ↦ λ both. absurd (some_none (left, right) both)
-      | false ↦ λ both. refl
-    ]) is
-goals_alone (paren inner span) is = goals_alone inner is
-goals_alone tree is = refl
 
 -- the sides of a term have small arities where it does
 sides_small : (n : ℕ) (left right l r : Tree) (test : Bool) → sides_if test left right ≡ Some (l, r) → HasAritiesWithin n left → HasAritiesWithin n right
@@ -177,7 +107,6 @@ at_small n tree named small is = let both : None ≡ Some named = is in absurd (
 pub named_small : (n : ℕ) (tree : Tree) (named : Indicator) → HasAritiesWithin n tree → indicator_of tree ≡ Some named → named.arity ≤ n
 named_small n tree named small is = at_small n (inside tree) named (inside_arities n tree small) is
 
--- all terms pass where all their trees do
-pub all_trees : (test : Tree → Bool) (terms : List Term) → list_all (λ term. test (tree_of term)) terms ≡ list_all test (map tree_of terms)
-all_trees test [] = refl
-all_trees test (term ∷ terms) = ap (λ b. test (tree_of term) && b) (all_trees test terms)
+-- what holds of each as it is seen holds of one
+pub each_seen : {X Y : Type 0} (P : Y → Type 0) (see : X → Y) (xs : List X) (i : ℕ) (x : X) → All P (map see xs) → i < length xs → x ≡ get_or xs i x → P (see x)
+each_seen {X} {Y} P see xs i x all lt is = subst P (get_or-map see xs i x ∙ ap see (sym is)) (all i (see x) (omega (arith, lt, length-map xs see)))

@@ -1,11 +1,10 @@
 -- The right answer to words over a map of files, with no machine in it.
 use Rattle.std.specs.Prelude.{◌≡◌, ℕ, ◌⊎◌, List, [], ◌++◌, true, Some, None, codes}
-use Rattle.prolog_terms.specs.Tree.{Tree}
 use Rattle.file_library.specs.Library.{Files}
 use Rattle.group_tool.specs.Words.{IsLawful}
-use Rattle.group_tool.specs.Clauses.{ReadsAs}
-use Rattle.group_tool.specs.Built.{are_built}
-use Rattle.group_tool.specs.TextFault.{IsOutsideForm, IsFaultLine}
+use Rattle.module_table.specs.Facts.{Facts}
+use Rattle.group_tool.specs.Built.{is_built}
+use Rattle.group_tool.specs.FileFault.{HasFacts, IsOutsideForm, IsFaultLine}
 use Rattle.group_tool.specs.Grouping.{IsReportOf}
 
 abbrev pub usage_line : List ℕ
@@ -24,12 +23,12 @@ not_built_line name = name ++ codes ": text is outside the built form\n"
 abbrev pub unread_line : List ℕ → List ℕ
 unread_line name = codes "groups: cannot read " ++ (name ++ codes "\n")
 
--- the text is clauses of the built form, and the bytes are their report
-pub record ReportsText (text bytes : List ℕ) : Type 0 where
-  pub trees : List Tree
-  pub reads : ReadsAs text trees
-  pub built : are_built trees ≡ true
-  pub report : IsReportOf trees bytes
+-- the file of that name with the text is of the built form, and the bytes are its report
+pub record ReportsText (name text bytes : List ℕ) : Type 0 where
+  pub facts : Facts
+  pub has : HasFacts name text facts
+  pub built : is_built facts ≡ true
+  pub report : IsReportOf facts bytes
 
 -- the words are wrong; the file's faults, line by line; the report
 pub data Answer : Type 0 where
@@ -40,7 +39,7 @@ pub data Answer : Type 0 where
 pub record IsNotBuilt (files : Files) (name : List ℕ) : Type 0 where
   pub text : List ℕ
   pub there : files name ≡ Some text
-  pub outside : IsOutsideForm text
+  pub outside : IsOutsideForm name text
 
 pub record HasFaultLine (files : Files) (name line : List ℕ) : Type 0 where
   pub text : List ℕ
@@ -50,9 +49,9 @@ pub record HasFaultLine (files : Files) (name line : List ℕ) : Type 0 where
 pub record HasReport (files : Files) (name bytes : List ℕ) : Type 0 where
   pub text : List ℕ
   pub there : files name ≡ Some text
-  pub reports : ReportsText text bytes
+  pub reports : ReportsText name text bytes
 
--- the file isn't there; something is wrong with its bytes, its tokens or its clauses; it is outside the built form
+-- the file isn't there; something is wrong with its text or with what it says; it is outside the built form
 abbrev pub AreFaults : Files → List ℕ → List ℕ → Type 0
 AreFaults files name lines =
     ((files name ≡ None) × (lines ≡ absent_line name)) ⊎ (HasFaultLine files name lines ⊎ (IsNotBuilt files name × (lines ≡ not_built_line name)))

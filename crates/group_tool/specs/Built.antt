@@ -1,30 +1,16 @@
--- Which clauses are of the built form: rules and facts whose goals hold no goals themselves.
-use Rattle.std.specs.Prelude.{ℕ, List, [], ◌∷◌, Bool, true, false, not, ◌&&◌, ◌==◌, nat_le, Option, Some, None, if◌then◌else◌, codes}
+-- Which files are of the built form: they load nothing, run nothing, and their goals hold no goals themselves.
+use Rattle.std.specs.Prelude.{ℕ, List, [], ◌∷◌, Bool, true, false, not, ◌&&◌, ◌==◌, nat_eq, nat_le, is_some, Option, Some, None, length, if◌then◌else◌, codes}
 use Rattle.std.specs.List.{list_all, list_any}
 use Rattle.std.specs.Str.{bytes_eq}
 use Rattle.prolog_terms.specs.Tree.{Tree, variable, constant, atom, compound, listed, tailed, curly, paren, count}
+use Rattle.clause_text.specs.Terms.{sides_of, goals_in}
+use Rattle.module_table.specs.Defined.{Predicate}
+use Rattle.module_table.specs.Facts.{Facts}
 use Rattle.group_tool.specs.declared.indicator.Indicator.{Indicator}
-use Rattle.group_tool.specs.Terms.{sides_of, indicator_of, goals_in}
+use Rattle.group_tool.specs.RuleOf.{predicates_of, roots_of}
 
 abbrev pub is_among : List (List ℕ) → List ℕ → Bool
 is_among names name = list_any (λ word. bytes_eq word name) names
-
--- the names of so many arguments that no clause defines: control constructs, the clauses of other kinds,
--- the empty list and the empty curly brackets, and what names a module
-abbrev pub undefined_names : ℕ → List (List ℕ)
-undefined_names arity =
-    if arity == 0 then codes "!" ∷ codes "[]" ∷ codes "{}" ∷ []
-    else if arity == 1 then codes "\\+" ∷ codes ":-" ∷ codes "?-" ∷ []
-    else if arity == 2 then codes "," ∷ codes ";" ∷ codes "|" ∷ codes "->" ∷ codes ":-" ∷ codes "-->" ∷ codes ":" ∷ []
-    else []
-
--- a head names what a clause can define
-abbrev pub is_definable : Option Indicator → Bool
-is_definable (Some p) = not (is_among (undefined_names p.arity) p.name)
-is_definable None = false
-
-abbrev pub is_head : Tree → Bool
-is_head tree = is_definable (indicator_of tree)
 
 -- the names of so many arguments, some of which are goals
 abbrev pub calling_names : ℕ → List (List ℕ)
@@ -56,13 +42,33 @@ is_plain_goal (paren inner span) = is_plain_goal inner
 abbrev pub is_plain_body : Tree → Bool
 is_plain_body body = list_all is_plain_goal (goals_in body)
 
--- a rule by the sides of its `:-`, a fact by itself; directives and grammar rules have no head
-abbrev pub is_built_by : Tree → Option (Tree × Tree) → Bool
-is_built_by tree (Some sides) = is_head sides.0 && is_plain_body sides.1
-is_built_by tree None = is_head tree
+-- a rule by its body; a fact is plain
+abbrev pub is_plain_by : Option (Tree × Tree) → Bool
+is_plain_by (Some sides) = is_plain_body sides.1
+is_plain_by None = true
 
-abbrev pub is_built : Tree → Bool
-is_built tree = is_built_by tree (sides_of (codes ":-") tree)
+abbrev pub is_grammar_rule : Tree → Bool
+is_grammar_rule clause = is_some (sides_of (codes "-->") clause)
 
-abbrev pub are_built : List Tree → Bool
-are_built trees = list_all is_built trees
+abbrev pub is_plain_clause : Tree → Bool
+is_plain_clause clause = not (is_grammar_rule clause) && is_plain_by (sides_of (codes ":-") clause)
+
+abbrev pub has_plain_clauses : Predicate → Bool
+has_plain_clauses p = list_all is_plain_clause p.clauses
+
+-- the most predicates of a graph
+abbrev pub most_predicates : ℕ
+most_predicates = 1048576
+
+-- nothing is loaded and nothing run, and all clauses are plain
+abbrev pub is_plain_file : Facts → Bool
+is_plain_file facts =
+    (length facts.loads == 0) && (length facts.goals == 0) && nat_le (length facts.defined) most_predicates && list_all has_plain_clauses facts.defined
+
+-- the predicate is one of these
+abbrev pub is_one_of : List Indicator → Indicator → Bool
+is_one_of predicates p = list_any (λ q. bytes_eq q.name p.name && nat_eq q.arity p.arity) predicates
+
+-- a plain file, which defines its roots
+abbrev pub is_built : Facts → Bool
+is_built facts = is_plain_file facts && list_all (is_one_of (predicates_of facts)) (roots_of facts)

@@ -1,6 +1,5 @@
 -- What rules say of calls between numbered predicates.
 use Rattle.std.specs.Prelude.{◌≡◌, ℕ, ◌↔◌, ◌⊎◌, List, length, Contains, Some, slice_get}
-use Rattle.std.specs.List.{range_with_len}
 use Rattle.graph_law.specs.Graph.{CallGraph, Calls}
 use Rattle.group_tool.specs.declared.indicator.Indicator.{Indicator}
 use Rattle.group_tool.specs.Rule.{HeadAndGoals}
@@ -19,14 +18,10 @@ pub record AreCalleeLists (rules : List HeadAndGoals) (predicates : List Indicat
   pub one_each : length lists ≡ length predicates
   pub calls : (p q : ℕ) → Calls lists p q ↔ NodeCalls rules predicates p q
 
--- the numbers of all predicates
-abbrev pub all_nodes : List Indicator → List ℕ
-all_nodes predicates = range_with_len 0 (length predicates)
-
--- the graph's calls are those of the rules, and each node is a root
-pub record IsCallGraph (rules : List HeadAndGoals) (predicates : List Indicator) (graph : CallGraph) : Type 0 where
+-- the graph's calls are those of the rules, and these are its roots
+pub record IsCallGraph (rules : List HeadAndGoals) (predicates : List Indicator) (roots : List ℕ) (graph : CallGraph) : Type 0 where
   pub callees : AreCalleeLists rules predicates graph.lists
-  pub roots : graph.roots ≡ all_nodes predicates
+  pub rooted : graph.roots ≡ roots
 
 -- some goal is predicate q
 pub record HasGoalAt (predicates goals : List Indicator) (q : ℕ) : Type 0 where

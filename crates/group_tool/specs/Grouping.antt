@@ -1,15 +1,16 @@
--- The report of the clauses of a text.
+-- The report of a file.
 use Rattle.std.specs.Prelude.{ℕ, List}
-use Rattle.prolog_terms.specs.Tree.{Tree}
+use Rattle.module_table.specs.Facts.{Facts}
 use Rattle.graph_law.specs.Reach.{IsReached}
 use Rattle.graph_law.specs.Classes.{HasMember}
 use Rattle.graph_law.specs.LegalOrder.{IsLegalOrder, IsComplete}
 use Rattle.group_release.specs.declared.level.Level.{Level}
 use Rattle.group_release.specs.Level.{AreLevels}
 use Rattle.group_tool.specs.declared.indicator.Indicator.{Indicator}
-use Rattle.group_tool.specs.RuleOf.{rules_of}
-use Rattle.group_tool.specs.Numbering.{IsNumbering}
-use Rattle.group_tool.specs.CallGraph.{NodeCalls, all_nodes}
+use Rattle.group_tool.specs.Rule.{HeadAndGoals}
+use Rattle.group_tool.specs.RuleOf.{rules_of, roots_of}
+use Rattle.group_tool.specs.Numbering.{IsNumbering, AreNumbers}
+use Rattle.group_tool.specs.CallGraph.{NodeCalls}
 use Rattle.group_tool.specs.Report.{IsReport}
 
 -- the groups are the classes of mutual reach of what the starts reach, each after those that it calls
@@ -18,12 +19,18 @@ pub record AreGroups (calls : ℕ → ℕ → Type 0) (starts : List ℕ) (group
   pub complete : IsComplete starts groups
   pub reached : (p : ℕ) → HasMember groups p → IsReached calls starts p
 
--- the bytes are the report of the groups of the predicates that the clauses define
-pub record IsReportOf (trees : List Tree) (bytes : List ℕ) : Type 0 where
-  pub predicates : List Indicator
-  pub numbering : IsNumbering (rules_of trees) predicates
+-- the bytes are the report of the groups that the roots reach
+pub record Reports (own : List ℕ) (rules : List HeadAndGoals) (predicates : List Indicator) (roots bytes : List ℕ) : Type 0 where
   pub groups : List (List ℕ)
-  pub are_groups : AreGroups (NodeCalls (rules_of trees) predicates) (all_nodes predicates) groups
+  pub are_groups : AreGroups (NodeCalls rules predicates) roots groups
   pub levels : List Level
-  pub are_levels : AreLevels (NodeCalls (rules_of trees) predicates) groups levels
-  pub report : IsReport predicates groups levels bytes
+  pub are_levels : AreLevels (NodeCalls rules predicates) groups levels
+  pub report : IsReport own predicates groups levels bytes
+
+-- the bytes are the report of a file, whose predicates are numbered, and whose roots have these numbers
+pub record IsReportOf (facts : Facts) (bytes : List ℕ) : Type 0 where
+  pub predicates : List Indicator
+  pub numbering : IsNumbering (rules_of facts) predicates
+  pub roots : List ℕ
+  pub are_roots : AreNumbers predicates (roots_of facts) roots
+  pub reports : Reports facts.module_ (rules_of facts) predicates roots bytes

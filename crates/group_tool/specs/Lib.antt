@@ -7,8 +7,7 @@ pub mod Rule
 pub mod Sink
 pub mod Words
 pub mod Say
-pub mod Clauses
-pub mod TextFault
+pub mod FileFault
 pub mod RuleOf
 pub mod Grouping
 pub mod Answer

@@ -1,5 +1,5 @@
--- The predicates that rules define, numbered by their places in a rising list.
-use Rattle.std.specs.Prelude.{◌≡◌, List, All, AllPairs, Contains}
+-- The predicates of rules, numbered by their places in a rising list.
+use Rattle.std.specs.Prelude.{◌≡◌, ℕ, List, Some, All, AllPairs, Contains, map, slice_get}
 use Rattle.std.specs.declared.cmp.Ordering.TheVariants.{Less}
 use Rattle.group_tool.specs.declared.indicator.Indicator.{Indicator}
 use Rattle.group_tool.specs.Indicator.{indicator_cmp}
@@ -14,3 +14,7 @@ pub record IsNumbering (rules : List HeadAndGoals) (predicates : List Indicator)
   pub rising : IsRising predicates
   pub only_heads : All (Contains (heads rules)) predicates
   pub each_head : All (Contains predicates) (heads rules)
+
+-- these are the numbers of the wanted predicates, in their order
+abbrev pub AreNumbers : List Indicator → List Indicator → List ℕ → Type 0
+AreNumbers predicates wanted numbers = map (slice_get predicates) numbers ≡ map (λ p. Some p) wanted

@@ -4,13 +4,13 @@ use Rattle.file_library.specs.Counts.{Rose}
 use Rattle.file_library.specs.Library.{Files}
 use Rattle.group_tool.specs.declared.outcome.Outcome.{Outcome}
 use Rattle.group_tool.specs.declared.outcome.Outcome.TheVariants.{Faults, Report, NoMemory}
-use Rattle.group_tool.specs.TextFault.{IsOutsideForm, IsFaultLine}
+use Rattle.group_tool.specs.FileFault.{IsOutsideForm, IsFaultLine}
 use Rattle.group_tool.specs.Answer.{ReportsText, IsNotBuilt, absent_line, not_built_line, unread_line}
 
--- what a text comes out as
+-- what the file of that name with the text comes out as
 abbrev pub TextOutcomeIs : List ℕ → List ℕ → Outcome → Type 0
-TextOutcomeIs name text (Report bytes) = ReportsText text (string_bytes bytes)
-TextOutcomeIs name text (Faults lines) = IsFaultLine name text (string_bytes lines) ⊎ (IsOutsideForm text × (string_bytes lines ≡ not_built_line name))
+TextOutcomeIs name text (Report bytes) = ReportsText name text (string_bytes bytes)
+TextOutcomeIs name text (Faults lines) = IsFaultLine name text (string_bytes lines) ⊎ (IsOutsideForm name text × (string_bytes lines ≡ not_built_line name))
 TextOutcomeIs name text NoMemory = Unit {0}
 TextOutcomeIs name text _ = ⊥
 
@@ -20,7 +20,7 @@ pub record IsAbsent (told : Option Files) (misses misses' : ℕ) (name lines : L
   pub none : (files : Files) → told ≡ Some files → files name ≡ None
   pub is : lines ≡ absent_line name
 
--- the line tells what is wrong with a text, which is the library's of that name
+-- the line tells what is wrong with a file, whose text is the library's of that name
 pub record IsFaulty (told : Option Files) (name line : List ℕ) : Type 0 where
   pub text : List ℕ
   pub is : IsFaultLine name text line
@@ -29,7 +29,7 @@ pub record IsFaulty (told : Option Files) (name line : List ℕ) : Type 0 where
 -- what was read is outside the built form, and so is the library's text of that name
 pub record IsOutside (told : Option Files) (name lines : List ℕ) : Type 0 where
   pub text : List ℕ
-  pub outside : IsOutsideForm text
+  pub outside : IsOutsideForm name text
   pub not_built : (files : Files) → told ≡ Some files → IsNotBuilt files name
   pub is : lines ≡ not_built_line name
 
@@ -40,7 +40,7 @@ IsRefused told misses misses' name lines = IsAbsent told misses misses' name lin
 -- the bytes are the report of a text, which is the library's of that name
 pub record IsReported (told : Option Files) (name bytes : List ℕ) : Type 0 where
   pub text : List ℕ
-  pub reports : ReportsText text bytes
+  pub reports : ReportsText name text bytes
   pub there : (files : Files) → told ≡ Some files → files name ≡ Some text
 
 -- a read failed, and the name is the last that was asked for

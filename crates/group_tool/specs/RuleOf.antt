@@ -1,37 +1,49 @@
--- What a clause says for the call graph.
-use Rattle.std.specs.Prelude.{List, [], Option, Some, None, option_map, codes}
-use Rattle.std.specs.List.{filter_map}
+-- What a file says for the call graph.
+use Rattle.std.specs.Prelude.{List, [], Option, Some, None, All, map, if◌then◌else◌, codes}
+use Rattle.std.specs.List.{filter_map, flat_map}
 use Rattle.prolog_terms.specs.Tree.{Tree}
 use Rattle.prolog_terms.specs.Arity.{HasAritiesWithin}
+use Rattle.clause_text.specs.Terms.{sides_of, goals_in}
+use Rattle.module_table.specs.Defined.{Predicate}
+use Rattle.module_table.specs.Facts.{Facts}
+use Rattle.module_table.specs.declared.indicator.Indicator.{Indicator as Export}
 use Rattle.group_tool.specs.declared.indicator.Indicator.{Indicator}
-use Rattle.group_tool.specs.Rule.{HeadAndGoals}
-use Rattle.group_tool.specs.Terms.{sides_of, indicator_of, goals_in}
+use Rattle.group_tool.specs.Rule.{HeadAndGoals, heads}
+use Rattle.group_tool.specs.Terms.{indicator_of}
 
 -- the predicates that the goals of a body name; a variable names none
 abbrev pub goals_of : Tree → List Indicator
 goals_of body = filter_map indicator_of (goals_in body)
 
--- the goals of a body, where there is one
-abbrev pub body_goals : Option Tree → List Indicator
-body_goals None = []
-body_goals (Some body) = goals_of body
+-- a rule names what its body does, a fact nothing
+abbrev pub goals_by : Option (Tree × Tree) → List Indicator
+goals_by (Some sides) = goals_of sides.1
+goals_by None = []
 
--- the rule of a head and a body, where the head names a predicate
-abbrev pub rule_with : Tree → Option Tree → Option HeadAndGoals
-rule_with head body = option_map (λ named. record { head = named; goals = body_goals body }) (indicator_of head)
+abbrev pub clause_goals : Tree → List Indicator
+clause_goals clause = goals_by (sides_of (codes ":-") clause)
 
--- a rule by the sides of its `:-`, a fact by itself
-abbrev pub rule_by : Tree → Option (Tree × Tree) → Option HeadAndGoals
-rule_by tree (Some sides) = rule_with sides.0 (Some sides.1)
-rule_by tree None = rule_with tree None
+-- a predicate with the goals of all its clauses
+abbrev pub rule_of : Predicate → HeadAndGoals
+rule_of p = record { head = record { name = p.name; arity = p.arity }; goals = flat_map clause_goals p.clauses }
 
-abbrev pub rule_of : Tree → Option HeadAndGoals
-rule_of tree = rule_by tree (sides_of (codes ":-") tree)
+abbrev pub rules_of : Facts → List HeadAndGoals
+rules_of facts = map rule_of facts.defined
+
+-- the predicates of a file, in order
+abbrev pub predicates_of : Facts → List Indicator
+predicates_of facts = heads (rules_of facts)
+
+abbrev pub exported : Export → Indicator
+exported export = record { name = export.name; arity = export.arity }
+
+-- the roots: what a module file exports, all predicates of another file
+abbrev pub roots_of : Facts → List Indicator
+roots_of facts = if facts.is_module then map exported facts.exports else predicates_of facts
 
 -- no compound within the term has more arguments than a text has bytes
 abbrev pub HasSmallArities : Tree → Type 0
-HasSmallArities tree = HasAritiesWithin 65536 tree
+HasSmallArities tree = HasAritiesWithin 8388608 tree
 
--- what the clauses of a text say
-abbrev pub rules_of : List Tree → List HeadAndGoals
-rules_of trees = filter_map rule_of trees
+abbrev pub HasSmallClauses : Predicate → Type 0
+HasSmallClauses p = All HasSmallArities p.clauses

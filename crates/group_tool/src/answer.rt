@@ -1,14 +1,15 @@
-ghost use Rattle.std.specs.Prelude.{◌≡◌, ◌++◌, IfOk};
+ghost use Rattle.std.specs.Prelude.{◌≡◌, ◌++◌, IfOk, IfErr};
 ghost use Rattle.std.specs.String.{string_bytes};
-ghost use Rattle.group_tool.specs.TextFault.{IsRefusal};
+ghost use Rattle.group_tool.specs.Answer.{ReportsText};
+ghost use Rattle.group_tool.specs.FileFault.{IsRefused};
 ghost use Rattle.group_tool.specs.Outcome.{TextOutcomeIs};
 ghost use Rattle.group_tool.specs.OutcomeEnd.{OutcomeIs};
 
-use crate::clauses::{MOST_BYTES, read_clauses};
 use crate::fault_line::fault_line;
-use crate::grouping::group_clauses;
+use crate::file_fault::FileFault;
+use crate::grouping::group_file;
 use crate::outcome::Outcome;
-use crate::text_fault::TextFault;
+use crate::reading::{MOST_BYTES, read_facts};
 use crate::words::file_name;
 use file_library::{Library, Read};
 use prolog_tokens::Text;
@@ -24,35 +25,43 @@ fn line(alloc: Global, before: &str, name: &str, behind: &str) -> Result<String,
     Ok(text)
 }
 
-/// What a text that isn't read comes out as.
-fn refused_text(alloc: Global, name: &str, text: &[u8], fault: TextFault) -> Outcome
-    requires { IsRefusal text.now fault }
+/// What a file without facts comes out as.
+fn refused_file(alloc: Global, name: &str, text: &[u8], fault: FileFault) -> Outcome
+    requires { IsRefused name.now text.now fault }
     ensures { TextOutcomeIs name.now text.now result }
 {
     match fault {
-        TextFault::Wrong(fault) => match fault_line(alloc, name, text, fault) {
+        FileFault::At(cause, offset) => match fault_line(alloc, name, text, cause, offset) {
             Ok(lines) => Outcome::Faults(lines),
             Err(_) => Outcome::NoMemory,
         },
-        TextFault::NotBuilt => match line(alloc, "", name, ": text is outside the built form\n") {
+        FileFault::NotBuilt => match line(alloc, "", name, ": text is outside the built form\n") {
             Ok(lines) => Outcome::Faults(lines),
             Err(_) => Outcome::NoMemory,
         },
-        TextFault::NoMemory => Outcome::NoMemory,
+        FileFault::NoMemory => Outcome::NoMemory,
     }
 }
 
-/// What the text of the file of that name comes out as.
+/// The report of the file of that name with the text.
+fn report_text(alloc: Global, name: &str, text: &[u8]) -> Result<String, FileFault>
+    ensures ok { IfOk result (λ report. ReportsText name.now text.now (string_bytes report)) }
+    ensures refused { IfErr result (λ fault. IsRefused name.now text.now fault) }
+{
+    let facts = read_facts(alloc, name, text)?;
+    match group_file(alloc, &facts)? {
+        Some(report) => Ok(report),
+        None => Err(FileFault::NotBuilt),
+    }
+}
+
+/// What the file of that name with the text comes out as.
 fn answer_text(alloc: Global, name: &str, text: &[u8]) -> Outcome
     ensures { TextOutcomeIs name.now text.now result }
 {
-    let clauses = match read_clauses(alloc, text) {
-        Ok(clauses) => clauses,
-        Err(fault) => return refused_text(alloc, name, text, fault),
-    };
-    match group_clauses(alloc, &clauses) {
+    match report_text(alloc, name, text) {
         Ok(report) => Outcome::Report(report),
-        Err(_) => Outcome::NoMemory,
+        Err(fault) => refused_file(alloc, name, text, fault),
     }
 }
 

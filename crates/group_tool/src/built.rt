@@ -2,37 +2,21 @@ ghost use Rattle.std.specs.Prelude.{◌≡◌};
 ghost use Rattle.std.specs.List.{list_all, list_any};
 ghost use Rattle.std.specs.Str.{bytes_eq};
 ghost use Rattle.prolog_terms.specs.Tree.{tree_of};
-ghost use Rattle.group_tool.specs.Built.{is_among, undefined_names, calling_names, takes_goals, is_head, is_plain_goal, is_plain_body, is_built};
+ghost use Rattle.module_table.specs.Defined.{clause_tree, see_defined};
+ghost use Rattle.module_table.specs.Facts.{see_facts};
+ghost use Rattle.group_tool.specs.Built.{is_among, calling_names, takes_goals, is_plain_goal, is_plain_body, is_plain_clause, has_plain_clauses, is_plain_file};
 
-use crate::terms::{named, sides};
+use clause_text::{Clause, sides};
+use module_table::{Defined, FileFacts};
 use prolog_terms::Term;
+
+/// The most predicates of a graph.
+const MOST_PREDICATES: usize = 1_048_576;
 
 fn is_one_of(words: &[&str], name: &str) -> bool
     ensures { result ≡ list_any (λ word. bytes_eq word.now name.now) words.now }
 {
     words.iter().any(|word| *word == name)
-}
-
-/// Whether no clause defines the predicate of this name with so many arguments.
-fn is_undefined(name: &str, arity: usize) -> bool
-    ensures { result ≡ is_among (undefined_names arity) name.now }
-{
-    match arity {
-        0 => is_one_of(&["!", "[]", "{}"], name),
-        1 => is_one_of(&["\\+", ":-", "?-"], name),
-        2 => is_one_of(&[",", ";", "|", "->", ":-", "-->", ":"], name),
-        _ => false,
-    }
-}
-
-/// Whether the term is the head of a clause.
-fn is_head(term: &Term) -> bool
-    ensures { result ≡ is_head (tree_of term.now) }
-{
-    match named(term) {
-        Some((name, arity)) => !is_undefined(name, arity),
-        None => false,
-    }
 }
 
 /// Whether the name is one of those of so many arguments, some of which are goals.
@@ -93,19 +77,50 @@ fn is_plain_body(body: &Term) -> bool
     is_plain_goal(rest)
 }
 
-/// Whether the clause is a rule or a fact of the built form.
-fn is_built(clause: &Term) -> bool
-    ensures { result ≡ is_built (tree_of clause.now) }
+/// Whether the clause is a fact, or a rule whose goals are plain. No grammar rule is.
+fn is_plain_clause(clause: &Term) -> bool
+    ensures { result ≡ is_plain_clause (tree_of clause.now) }
 {
+    if sides(clause, "-->").is_some() {
+        return false;
+    }
     match sides(clause, ":-") {
-        Some((head, body)) => is_head(head) && is_plain_body(body),
-        None => is_head(clause),
+        Some((_, body)) => is_plain_body(body),
+        None => true,
     }
 }
 
-/// Whether each clause is of the built form.
-pub fn are_built(clauses: &[Term]) -> bool
-    ensures { result ≡ list_all (λ clause. is_built (tree_of clause)) clauses.now }
+fn are_plain_clauses(clauses: &[Clause]) -> bool
+    ensures { result ≡ list_all (λ clause. is_plain_clause (clause_tree clause)) clauses.now }
 {
-    clauses.iter().all(|clause| is_built(clause))
+    clauses.iter().all(|clause| is_plain_clause(&clause.term))
+}
+
+/// Whether each clause of the predicate is plain.
+fn has_plain_clauses(predicate: &Defined) -> bool
+    ensures { result ≡ has_plain_clauses (see_defined predicate.now) }
+{
+    are_plain_clauses(&predicate.clauses)
+}
+
+fn are_plain(defined: &[Defined]) -> bool
+    ensures { result ≡ list_all (λ predicate. has_plain_clauses (see_defined predicate)) defined.now }
+{
+    defined.iter().all(|predicate| has_plain_clauses(predicate))
+}
+
+/// Whether the file loads nothing and runs nothing, and all its clauses are plain.
+pub fn is_plain_file(facts: &FileFacts) -> bool
+    ensures { result ≡ is_plain_file (see_facts facts.now) }
+{
+    if facts.loads.len() != 0 {
+        return false;
+    }
+    if facts.goals.len() != 0 {
+        return false;
+    }
+    if facts.defined.len() > MOST_PREDICATES {
+        return false;
+    }
+    are_plain(&facts.defined)
 }

@@ -1,5 +1,4 @@
-ghost use Rattle.std.specs.Prelude.{◌≡◌, ◌≤◌, [], IfOk, OnOk, length, replicate};
-ghost use Rattle.std.specs.List.{range_with_len};
+ghost use Rattle.std.specs.Prelude.{◌≡◌, ◌<◌, ◌≤◌, [], All, IfOk, OnOk, length, replicate};
 ghost use Rattle.graph_law.specs.Graph.{lists_of};
 ghost use Rattle.group_tool.specs.CallGraph.{AddsCallees, AreCalleeLists, IsCallGraph};
 ghost use Rattle.group_tool.specs.Numbering.{IsNumbering, IsRising};
@@ -11,28 +10,23 @@ use graph_law::Graph;
 use std::alloc::{AllocError, Global};
 
 /// The graph in which each predicate calls the predicates that are goals of its rules. A goal
-/// that no rule defines calls nothing. Each predicate is a root.
+/// that no rule defines calls nothing.
 pub fn call_graph(
     alloc: Global,
     rules: &[Rule],
     predicates: &[Indicator],
+    roots: Vec<u32>,
 ) -> Result<Graph, AllocError>
     requires numbering { IsNumbering rules.now predicates.now }
     requires few { length predicates.now ≤ 1048576 }
-    ensures { IfOk result (λ graph. IsCallGraph rules.now predicates.now graph) }
+    requires rooted { All (λ root. root < length predicates.now) roots.items }
+    ensures { IfOk result (λ graph. IsCallGraph rules.now predicates.now roots.items graph) }
 {
     let lists = callee_lists(alloc, rules, predicates)?;
-    let roots = numbers_below(alloc, predicates.len() as u32)?;
     match Graph::new(lists, roots) {
         Some(graph) => Ok(graph),
         None => unreachable!(),
     }
-}
-
-fn numbers_below(alloc: Global, count: u32) -> Result<Vec<u32>, AllocError>
-    ensures { IfOk result (λ numbers. numbers.items ≡ range_with_len 0 count) }
-{
-    (0..count).collect(alloc)
 }
 
 /// For each predicate the places of the goals of its rules, in order.
@@ -83,45 +77,4 @@ fn push_callees(
         callees.push(callee)?;
     }
     Ok(())
-}
-
-#[cfg(test)]
-mod tests {
-    use super::*;
-    use crate::numbering::numbering;
-    use graph_law::Opener;
-    use prolog_tokens::Text;
-    use std::test::Fail;
-
-    fn indicator(alloc: Global, name: &str) -> Result<Indicator, AllocError> {
-        Ok(Indicator {
-            name: Text::new(alloc, name)?,
-            arity: 0,
-        })
-    }
-
-    #[test]
-    fn calls_only_what_rules_define(rt: HostRuntime) -> Result<(), Fail> {
-        let alloc = rt.alloc();
-        let mut goals = Vec::new(alloc);
-        goals.push(indicator(alloc, "c")?)?;
-        goals.push(indicator(alloc, "b")?)?;
-        let mut rules = Vec::new(alloc);
-        rules.push(Rule {
-            head: indicator(alloc, "a")?,
-            goals,
-        })?;
-        rules.push(Rule {
-            head: indicator(alloc, "b")?,
-            goals: Vec::new(alloc),
-        })?;
-        let predicates = numbering(alloc, &rules)?;
-        assert_eq!(rt; predicates.len(), 2);
-        let graph = call_graph(alloc, &rules, &predicates)?;
-        assert_eq!(rt; graph.count(), 2);
-        let mut callees = Vec::new(alloc);
-        graph.expand(0, &mut callees)?;
-        assert_eq!(rt; callees.as_slice(), [1].as_slice());
-        Ok(())
-    }
 }

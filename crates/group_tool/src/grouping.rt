@@ -1,29 +1,97 @@
-ghost use Rattle.std.specs.Prelude.{◌≤◌, All, length, map, IfOk};
+ghost use Rattle.std.specs.Prelude.{◌≡◌, ◌<◌, ◌≤◌, All, IfOk, MatchOption, false, length, map, true};
+ghost use Rattle.std.specs.List.{list_all};
 ghost use Rattle.std.specs.String.{string_bytes};
-ghost use Rattle.prolog_terms.specs.Tree.{tree_of};
-ghost use Rattle.group_tool.specs.RuleOf.{HasSmallArities};
-ghost use Rattle.group_tool.specs.Grouping.{IsReportOf};
+ghost use Rattle.module_table.specs.Defined.{see_defined};
+ghost use Rattle.module_table.specs.Facts.{see_facts};
+ghost use Rattle.group_tool.specs.Built.{is_built, is_one_of};
+ghost use Rattle.group_tool.specs.Numbering.{AreNumbers, IsNumbering, IsRising};
+ghost use Rattle.group_tool.specs.RuleOf.{HasSmallClauses, exported, predicates_of, roots_of};
+ghost use Rattle.group_tool.specs.Grouping.{IsReportOf, Reports};
 
+use crate::built::is_plain_file;
 use crate::call_graph::call_graph;
-use crate::numbering::numbering;
+use crate::indicator::Indicator;
+use crate::numbering::{heads, places};
 use crate::report::report;
+use crate::rule::Rule;
 use crate::rules::rules;
 use group_release::levels;
-use prolog_terms::Term;
+use module_table::{FileFacts, Indicator as Export};
+use prolog_tokens::Text;
 use search_stack::groups_plain;
 use std::alloc::{AllocError, Global};
 
-/// The report of the clauses of a text: their predicates, grouped by mutual reach.
-pub fn group_clauses(alloc: Global, clauses: &[Term]) -> Result<String, AllocError>
-    requires few { length clauses.now ≤ 1048576 }
-    requires arities { All HasSmallArities (map tree_of clauses.now) }
-    ensures { IfOk result (λ text. IsReportOf (map tree_of clauses.now) (string_bytes text)) }
+/// The predicates that the indicators of a list are.
+fn exported(alloc: Global, exports: &[Export]) -> Result<Vec<Indicator>, AllocError>
+    ensures { IfOk result (λ found. found.items ≡ map exported exports.now) }
 {
-    let rules = rules(alloc, clauses)?;
-    let predicates = numbering(alloc, &rules)?;
-    let graph = call_graph(alloc, &rules, &predicates)?;
+    let mut found = Vec::new(alloc);
+    for export in exports {
+        found.push(Indicator {
+            name: Text::new(alloc, export.name.as_str())?,
+            arity: export.arity,
+        })?;
+    }
+    Ok(found)
+}
+
+/// The places of the file's roots among its predicates, or `None` where one isn't there: what a
+/// module file exports, or all predicates of another file.
+fn roots(
+    alloc: Global,
+    facts: &FileFacts,
+    predicates: &[Indicator],
+) -> Result<Option<Vec<u32>>, AllocError>
+    requires predicates { predicates.now ≡ predicates_of (see_facts facts.now) }
+    requires rising { IsRising predicates.now }
+    requires few { length predicates.now ≤ 1048576 }
+    ensures { IfOk result (λ found. MatchOption found
+        (list_all (is_one_of predicates.now) (roots_of (see_facts facts.now)) ≡ false)
+        (λ roots. (list_all (is_one_of predicates.now) (roots_of (see_facts facts.now)) ≡ true) × AreNumbers predicates.now (roots_of (see_facts facts.now)) roots.items)) }
+{
+    if facts.is_module {
+        let exports = exported(alloc, &facts.exports)?;
+        return places(alloc, predicates, &exports);
+    }
+    places(alloc, predicates, predicates)
+}
+
+/// The report of the predicates that the roots reach, grouped by mutual reach.
+fn group(
+    alloc: Global,
+    module_name: &str,
+    rules: &[Rule],
+    predicates: &[Indicator],
+    roots: Vec<u32>,
+) -> Result<String, AllocError>
+    requires numbering { IsNumbering rules.now predicates.now }
+    requires few { length predicates.now ≤ 1048576 }
+    requires rooted { All (λ root. root < length predicates.now) roots.items }
+    ensures { IfOk result (λ text. Reports module_name.now rules.now predicates.now roots.items (string_bytes text)) }
+{
+    let graph = call_graph(alloc, rules, predicates, roots)?;
     let groups = groups_plain(alloc, &graph, graph.roots())?;
     let levels = levels(alloc, &graph, &groups)?;
-    let text = report(alloc, &predicates, &groups, &levels)?;
+    let text = report(alloc, module_name, predicates, &groups, &levels)?;
     Ok(text)
+}
+
+/// The report of a file, or `None` where it is outside the built form.
+pub fn group_file(alloc: Global, facts: &FileFacts) -> Result<Option<String>, AllocError>
+    requires arities { All HasSmallClauses (map see_defined facts.now.defined.items) }
+    requires rising { IsRising (predicates_of (see_facts facts.now)) }
+    ensures { IfOk result (λ found. MatchOption found
+        (is_built (see_facts facts.now) ≡ false)
+        (λ text. (is_built (see_facts facts.now) ≡ true) × IsReportOf (see_facts facts.now) (string_bytes text))) }
+{
+    if !is_plain_file(facts) {
+        return Ok(None);
+    }
+    let rules = rules(alloc, &facts.defined)?;
+    let predicates = heads(alloc, &rules)?;
+    let Some(roots) = roots(alloc, facts, &predicates)? else {
+        return Ok(None);
+    };
+    let text = group(alloc, facts.module.as_str(), &rules, &predicates, roots)?;
+    Ok(Some(text))
 }

@@ -1,15 +1,15 @@
-//! What holds of each list of clauses and of each command line, as laws: functions with nothing to
+//! What holds of each file and of each command line, as laws: functions with nothing to
 //! run.
 
 ghost use Rattle.std.specs.Prelude.{◌≡◌, ℕ, List};
-ghost use Rattle.prolog_terms.specs.Tree.{Tree};
+ghost use Rattle.module_table.specs.Facts.{Facts};
 ghost use Rattle.file_library.specs.Library.{Files};
 ghost use Rattle.group_tool.specs.Grouping.{IsReportOf};
 ghost use Rattle.group_tool.specs.Answer.{Answer, IsAnswer};
 
-/// A list of clauses has one report.
+/// A file has one report.
 pub fn one_report()
-    ensures { (trees : List Tree) (bytes other : List ℕ) → IsReportOf trees bytes → IsReportOf trees other → bytes ≡ other }
+    ensures { (facts : Facts) (bytes other : List ℕ) → IsReportOf facts bytes → IsReportOf facts other → bytes ≡ other }
 {}
 
 /// Words over a map of files have one answer.

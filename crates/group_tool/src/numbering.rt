@@ -1,22 +1,22 @@
-ghost use Rattle.std.specs.Prelude.{◌≡◌, ◌<◌, ◌≤◌, ◌^◌, ℕ, vec_len, IfOk, MatchOption, Contains, length, slice_get, Some};
-ghost use Rattle.group_tool.specs.Numbering.{IsNumbering, IsRising};
+ghost use Rattle.std.specs.Prelude.{◌≡◌, ◌<◌, ◌^◌, false, true, IfOk, MatchOption, Contains, length, slice_get, Some};
+ghost use Rattle.std.specs.List.{list_all};
+ghost use Rattle.group_tool.specs.Rule.{heads};
+ghost use Rattle.group_tool.specs.Built.{is_one_of};
+ghost use Rattle.group_tool.specs.Numbering.{AreNumbers, IsRising};
 
 use crate::indicator::Indicator;
 use crate::rule::Rule;
 use std::alloc::{AllocError, Global};
 
-/// The predicates that `rules` define, each once, in the order of indicators.
-pub fn numbering(alloc: Global, rules: &[Rule]) -> Result<Vec<Indicator>, AllocError>
-    ensures numbering { IfOk result (λ predicates. IsNumbering rules.now predicates.items) }
-    ensures few { IfOk result (λ predicates. vec_len predicates ≤ length rules.now) }
+/// The predicates of the rules, in order.
+pub fn heads(alloc: Global, rules: &[Rule]) -> Result<Vec<Indicator>, AllocError>
+    ensures { IfOk result (λ predicates. predicates.items ≡ heads rules.now) }
 {
-    let mut heads = Vec::new(alloc);
+    let mut predicates = Vec::new(alloc);
     for rule in rules {
-        heads.push(rule.head().clone_in(alloc)?)?;
+        predicates.push(rule.head().clone_in(alloc)?)?;
     }
-    heads.sort()?;
-    heads.dedup();
-    Ok(heads)
+    Ok(predicates)
 }
 
 /// The place of `wanted` among `predicates`, or `None` where it isn't there.
@@ -33,6 +33,28 @@ pub fn find(predicates: &[Indicator], wanted: &Indicator) -> Option<u32>
     }
 }
 
+/// The places of the wanted predicates, in their order, or `None` where one isn't there.
+pub fn places(
+    alloc: Global,
+    predicates: &[Indicator],
+    wanted: &[Indicator],
+) -> Result<Option<Vec<u32>>, AllocError>
+    requires rising { IsRising predicates.now }
+    requires fits { length predicates.now < 2 ^ 32 }
+    ensures { IfOk result (λ found. MatchOption found
+        (list_all (is_one_of predicates.now) wanted.now ≡ false)
+        (λ places. (list_all (is_one_of predicates.now) wanted.now ≡ true) × AreNumbers predicates.now wanted.now places.items)) }
+{
+    let mut places = Vec::new(alloc);
+    for predicate in wanted {
+        let Some(place) = find(predicates, predicate) else {
+            return Ok(None);
+        };
+        places.push(place)?;
+    }
+    Ok(Some(places))
+}
+
 #[cfg(test)]
 mod tests {
     use super::*;
@@ -47,20 +69,17 @@ mod tests {
     }
 
     #[test]
-    fn numbers_each_head_once(rt: HostRuntime) -> Result<(), Fail> {
+    fn finds_places(rt: HostRuntime) -> Result<(), Fail> {
         let alloc = rt.alloc();
         let mut rules = Vec::new(alloc);
-        for name in ["b", "a", "b"] {
-            rules.push(Rule {
-                head: indicator(alloc, name)?,
-                goals: Vec::new(alloc),
-            })?;
-        }
-        let predicates = numbering(alloc, &rules)?;
-        assert_eq!(rt; predicates.len(), 2);
+        rules.push(Rule {
+            head: indicator(alloc, "a")?,
+            goals: Vec::new(alloc),
+        })?;
+        let predicates = heads(alloc, &rules)?;
+        assert_eq!(rt; predicates.len(), 1);
         assert_eq!(rt; predicates[0].name.as_str(), "a");
-        assert_eq!(rt; predicates[1].name.as_str(), "b");
-        assert_eq!(rt; find(&predicates, &indicator(alloc, "b")?), Some(1));
+        assert_eq!(rt; find(&predicates, &indicator(alloc, "a")?), Some(0));
         assert_eq!(rt; find(&predicates, &indicator(alloc, "c")?), None);
         Ok(())
     }

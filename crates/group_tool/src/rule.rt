@@ -1,7 +1,8 @@
 use crate::indicator::Indicator;
 use std::marker::Model;
 
-/// What a clause says for the call graph: its head, and the goals of its body in order.
+/// What the clauses of a predicate say for the call graph: the predicate, and the goals of its
+/// clauses in order.
 #[derive(Debug, Drop)]
 pub struct Rule {
     pub head: Indicator,

@@ -1,16 +1,19 @@
-ghost use Rattle.std.specs.Prelude.{◌≡◌, ◌≤◌, ◌++◌, None, Some, All, map, length, vec_len, option_map, IfOk, IfSome, OnOk, MatchOption};
+ghost use Rattle.std.specs.Prelude.{◌≡◌, ◌≤◌, ◌++◌, All, map, length, IfOk, OnOk};
 ghost use Rattle.prolog_terms.specs.Tree.{tree_of};
+ghost use Rattle.module_table.specs.Defined.{see_defined};
 ghost use Rattle.group_tool.specs.Terms.{indicator_of};
-ghost use Rattle.group_tool.specs.RuleOf.{goals_of, rule_with as rule_of_parts, rule_of, rules_of, HasSmallArities};
+ghost use Rattle.group_tool.specs.RuleOf.{goals_of, clause_goals, rule_of, HasSmallArities, HasSmallClauses};
 
 use crate::indicator::Indicator;
 use crate::rule::Rule;
-use crate::terms::{named, sides};
+use crate::terms::named;
+use clause_text::sides;
+use module_table::Defined;
 use prolog_terms::Term;
 use prolog_tokens::Text;
 use std::alloc::{AllocError, Global};
 
-/// The predicate that a head or a goal names.
+/// The predicate that a goal names.
 fn indicator(alloc: Global, term: &Term) -> Result<Option<Indicator>, AllocError>
     requires { HasSmallArities (tree_of term.now) }
     ensures { IfOk result (λ named. named ≡ indicator_of (tree_of term.now)) }
@@ -40,45 +43,45 @@ fn push_goals(alloc: Global, body: &Term, goals: &mut Vec<Indicator>) -> Result<
     Ok(())
 }
 
-/// The rule of a head and a body, where the head names a predicate.
-fn rule_with(alloc: Global, head: &Term, body: Option<&Term>) -> Result<Option<Rule>, AllocError>
-    requires head { HasSmallArities (tree_of head.now) }
-    requires body { IfSome body (λ b. HasSmallArities (tree_of b.now)) }
-    ensures { IfOk result (λ found. found ≡ rule_of_parts (tree_of head.now) (option_map (λ b. tree_of b.now) body.entry)) }
-{
-    let Some(head) = indicator(alloc, head)? else {
-        return Ok(None);
-    };
-    let mut goals = Vec::new(alloc);
-    if let Some(body) = body {
-        push_goals(alloc, body, &mut goals)?;
-    }
-    Ok(Some(Rule { head, goals }))
-}
-
-/// What a clause says, where it says something.
-fn rule(alloc: Global, clause: &Term) -> Result<Option<Rule>, AllocError>
+/// Adds what the goals of the clause name.
+fn push_clause_goals(
+    alloc: Global,
+    clause: &Term,
+    goals: &mut Vec<Indicator>,
+) -> Result<(), AllocError>
     requires { HasSmallArities (tree_of clause.now) }
-    ensures { IfOk result (λ found. found ≡ rule_of (tree_of clause.now)) }
+    ensures { OnOk result (goals.new.items ≡ goals.old.items ++ clause_goals (tree_of clause.now)) }
 {
     match sides(clause, ":-") {
-        Some((head, body)) => rule_with(alloc, head, Some(body)),
-        None => rule_with(alloc, clause, None),
+        Some((_, body)) => push_goals(alloc, body, goals),
+        None => Ok(()),
     }
 }
 
-/// What the clauses of a text say.
-pub fn rules(alloc: Global, clauses: &[Term]) -> Result<Vec<Rule>, AllocError>
-    requires { All HasSmallArities (map tree_of clauses.now) }
-    ensures rules { IfOk result (λ found. found.items ≡ rules_of (map tree_of clauses.now)) }
-    ensures few { IfOk result (λ found. vec_len found ≤ length clauses.now) }
+/// What the clauses of a predicate say.
+fn rule(alloc: Global, predicate: &Defined) -> Result<Rule, AllocError>
+    requires { HasSmallClauses (see_defined predicate.now) }
+    ensures { IfOk result (λ rule. rule ≡ rule_of (see_defined predicate.now)) }
+{
+    let mut goals = Vec::new(alloc);
+    for clause in &predicate.clauses {
+        push_clause_goals(alloc, &clause.term, &mut goals)?;
+    }
+    let head = Indicator {
+        name: Text::new(alloc, predicate.name.as_str())?,
+        arity: predicate.arity,
+    };
+    Ok(Rule { head, goals })
+}
+
+/// What the clauses of each predicate say.
+pub fn rules(alloc: Global, defined: &[Defined]) -> Result<Vec<Rule>, AllocError>
+    requires { All HasSmallClauses (map see_defined defined.now) }
+    ensures { IfOk result (λ found. found.items ≡ map rule_of (map see_defined defined.now)) }
 {
     let mut found = Vec::new(alloc);
-    for clause in clauses {
-        let Some(rule) = rule(alloc, clause)? else {
-            continue;
-        };
-        found.push(rule)?;
+    for predicate in defined {
+        found.push(rule(alloc, predicate)?)?;
     }
     Ok(found)
 }

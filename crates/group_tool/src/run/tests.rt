@@ -110,6 +110,48 @@ fn answers_texts(rt: HostRuntime) -> Result<(), Fail> {
             "predicates 3 groups 3 recursive 0 levels 1\n0 plain user:'hello world'/0\n0 plain user:'it\\'s'/0\n0 plain user:été/1\n",
             "",
         ),
+        (
+            ":- module(ev, [even/1]).\neven(0).\neven(N) :- N > 0, M is N - 1, odd(M).\nodd(N) :- N > 0, M is N - 1, even(M).\n",
+            0,
+            "predicates 2 groups 1 recursive 1 levels 1\n0 recursive ev:even/1 ev:odd/1\n",
+            "",
+        ),
+        (
+            ":- module(a, [p/0]).\np :- q, r.\nq :- r.\nr.\n",
+            0,
+            "predicates 3 groups 3 recursive 0 levels 3\n0 plain a:r/0\n1 plain a:q/0\n2 plain a:p/0\n",
+            "",
+        ),
+        (
+            ":- module('M x', [q/0, q/0, p/0]).\np :- q.\nq :- p.\nr :- p.\n",
+            0,
+            "predicates 2 groups 1 recursive 1 levels 1\n0 recursive 'M x':p/0 'M x':q/0\n",
+            "",
+        ),
+        (
+            ":- module(m, []).\np.\n",
+            0,
+            "predicates 0 groups 0 recursive 0 levels 0\n",
+            "",
+        ),
+        (
+            ":- op(700, xfx, ===).\np :- a === b.\n",
+            0,
+            "predicates 1 groups 1 recursive 0 levels 1\n0 plain user:p/0\n",
+            "",
+        ),
+        (
+            ":- use_module(library(lists)).\np.\n",
+            0,
+            "predicates 1 groups 1 recursive 0 levels 1\n0 plain user:p/0\n",
+            "",
+        ),
+        (
+            ":- dynamic d/1.\np :- d(1).\n",
+            0,
+            "predicates 2 groups 2 recursive 0 levels 2\n0 plain user:d/1\n1 plain user:p/0\n",
+            "",
+        ),
     ];
     for (text, status, on_out, on_err) in rows {
         let alloc = rt.alloc();
@@ -169,6 +211,27 @@ fn tells_faults_with_their_places(rt: HostRuntime) -> Result<(), Fail> {
         ),
         ("p :- q\n", "f.pl:2:1: clause has no end\n"),
         ("p.\n7", "f.pl:2:2: clause has no end\n"),
+        (
+            "p.\n:- module(m, []).\n",
+            "f.pl:2:4: module directive is not the first clause\n",
+        ),
+        (
+            ":- op(1201, xfx, a).\n",
+            "f.pl:1:7: operator priority is not 0 to 1200\n",
+        ),
+        (
+            ":- dynamic p.\n",
+            "f.pl:1:12: predicate indicator is expected\n",
+        ),
+        ("p, q.", "f.pl:1:1: control construct cannot be defined\n"),
+        (
+            ":- include(x).\n",
+            "f.pl:1:4: directive is outside this profile\n",
+        ),
+        (
+            "p.\n7.\n",
+            "f.pl:2:1: clause head is not an atom or a compound term\n",
+        ),
     ];
     for (text, wanted) in rows {
         let alloc = rt.alloc();
@@ -195,32 +258,15 @@ fn tells_faults_with_their_places(rt: HostRuntime) -> Result<(), Fail> {
 #[test]
 fn refuses_forms_that_are_not_built(rt: HostRuntime) -> Result<(), Fail> {
     let texts = [
-        ":- dynamic p/1.",
+        ":- use_module(b).",
+        ":- [b].",
+        ":- foo.",
         "?- p.",
         "(:- p).",
+        "(a --> b).",
+        ":- module(m, [p/0]).",
+        ":- module(m, [p/0, q/1]).\np.\nq(X, Y).",
         "a --> b.",
-        "X.",
-        "X :- p.",
-        "-1.",
-        "7.",
-        "\"s\".",
-        "`s`.",
-        "[a].",
-        "[].",
-        "'[]'.",
-        "{a}.",
-        "{}.",
-        "m:p.",
-        "a:b:c.",
-        "p, q.",
-        "\\+ a, b.",
-        "a ; b ; c.",
-        "(p | q).",
-        "p -> q.",
-        "\\+ p.",
-        "!.",
-        "(:- p) :- q.",
-        "(p :- q) :- r.",
         "p :- 7.",
         "p :- (3).",
         "p :- \"s\".",

@@ -1,7 +1,8 @@
 use Rattle.std.proofs.Common.{◌≡◌, ◌&&◌, true, false, sym, ap, ◌∙◌, arith}
 use Rattle.prolog_terms.specs.Tree.{tree_of}
 use Rattle.group_tool.specs.Built.{is_plain_body}
-use Rattle.group_tool.proofs.TermLemmas.{comma_sides, plain_joined, plain_one}
+use Rattle.clause_text.proofs.TermShapes.{comma_sides}
+use Rattle.group_tool.proofs.TermLemmas.{plain_joined, plain_one}
 use Rattle.group_tool.proofs.built.+is_plain_body.Goals as goal
 
 pub is_plain_body-requires : goal.is_plain_body-requires

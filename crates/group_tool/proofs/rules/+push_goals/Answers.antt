@@ -2,7 +2,8 @@ use Rattle.std.proofs.Common.{◌++◌, codes, ap, sym, ◌∙◌, append_assoc,
 use Rattle.std.specs.Option.{option_to_list}
 use Rattle.prolog_terms.specs.Tree.{tree_of}
 use Rattle.group_tool.specs.RuleOf.{goals_of}
-use Rattle.group_tool.proofs.TermLemmas.{AreSides, comma_sides, goals_joined, goals_one, sides_arities}
+use Rattle.clause_text.proofs.TermShapes.{AreSides, comma_sides}
+use Rattle.group_tool.proofs.TermLemmas.{goals_joined, goals_one, sides_arities}
 use Rattle.group_tool.proofs.rules.+push_goals.Goals as goal
 
 pub loop-goal-preserved : goal.loop-goal-preserved
@@ -15,7 +16,7 @@ loop-goal-preserved t c =
       ap (λ goals. goals ++ goals_of right) c.in_ok-push_goals.ensures
           ∙ (append_assoc before (goals_of left) (goals_of right) ∙ (ap (λ goals. before ++ goals) (sym (goals_joined here left right (sym c.in-Some.ensures))) ∙ c.loop-goal.invariant.0)),
       omega (arith, sides.right_below, c.loop-goal.invariant.1),
-      (sides_arities (codes ",") 65536 here left right (sym c.in-Some.ensures) c.loop-goal.invariant.2).1,
+      (sides_arities (codes ",") 8388608 here left right (sym c.in-Some.ensures) c.loop-goal.invariant.2).1,
     )
 
 pub push_goals-requires : goal.push_goals-requires
@@ -24,7 +25,7 @@ push_goals-requires t c =
     let left = tree_of c.in-Some.goal.now in
     let right = tree_of c.in-Some.others.now in
     let sides : AreSides here left right = comma_sides here left right (sym c.in-Some.ensures) in
-    (omega (arith, sides.left_below, c.loop-goal.invariant.1), (sides_arities (codes ",") 65536 here left right (sym c.in-Some.ensures) c.loop-goal.invariant.2).0)
+    (omega (arith, sides.left_below, c.loop-goal.invariant.1), (sides_arities (codes ",") 8388608 here left right (sym c.in-Some.ensures) c.loop-goal.invariant.2).0)
 
 pub loop-goal-smaller : goal.loop-goal-smaller
 loop-goal-smaller t c =

@@ -5,4 +5,4 @@ use Rattle.group_tool.proofs.rules.indicator.Goals as goal
 
 pub overflow_cast-result : goal.overflow_cast-result
 overflow_cast-result c =
-    omega (arith, named_small 65536 (tree_of c.args.term.now) (record { name = c.in-Some.name.now; arity = c.in-Some.arity }) c.requires (sym c.in-Some.ensures))
+    omega (arith, named_small 8388608 (tree_of c.args.term.now) (record { name = c.in-Some.name.now; arity = c.in-Some.arity }) c.requires (sym c.in-Some.ensures))

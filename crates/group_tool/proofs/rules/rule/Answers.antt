@@ -1,12 +1,11 @@
-use Rattle.std.proofs.Common.{codes, sym}
-use Rattle.prolog_terms.specs.Tree.{tree_of}
-use Rattle.group_tool.proofs.TermLemmas.{sides_arities}
+use Rattle.std.proofs.Common.{All, map, sym, subst}
+use Rattle.module_table.specs.Defined.{clause_tree}
+use Rattle.group_tool.specs.RuleOf.{HasSmallArities}
+use Rattle.group_tool.proofs.TermLemmas.{each_seen}
 use Rattle.group_tool.proofs.rules.rule.Goals as goal
 
-pub rule_with-requires-clause-head : goal.rule_with-requires-clause-head
-rule_with-requires-clause-head c =
-    (sides_arities (codes ":-") 65536 (tree_of c.args.clause.now) (tree_of c.in-Some.head.now) (tree_of c.in-Some.body.now) (sym c.in-Some.ensures) c.requires).0
-
-pub rule_with-requires-clause-body : goal.rule_with-requires-clause-body
-rule_with-requires-clause-body c =
-    (sides_arities (codes ":-") 65536 (tree_of c.args.clause.now) (tree_of c.in-Some.head.now) (tree_of c.in-Some.body.now) (sym c.in-Some.ensures) c.requires).1
+pub push_clause_goals-requires : goal.push_clause_goals-requires
+push_clause_goals-requires c =
+    let items = c.deref-clause-items.result.now in
+    let small = subst (λ clauses. All HasSmallArities (map clause_tree clauses)) (sym c.deref-clause-items.ensures.value) c.requires in
+    each_seen HasSmallArities clause_tree items c.loop-clause.clause-index c.clause-item.result small c.loop-clause-test.true c.clause-item.is

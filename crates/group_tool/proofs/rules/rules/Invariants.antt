@@ -1,7 +1,8 @@
-use Rattle.std.proofs.Common.{◌≡◌, ◌≤◌, map, take, vec_len}
-use Rattle.prolog_terms.specs.Tree.{tree_of}
-use Rattle.group_tool.specs.RuleOf.{rules_of}
+use Rattle.std.proofs.Common.{◌≡◌, map, take}
+use Rattle.module_table.specs.Defined.{see_defined}
+use Rattle.group_tool.specs.RuleOf.{rule_of}
 use Rattle.group_tool.proofs.rules.rules.Given as goal
 
-abbrev pub invariant-loop-clause : goal.invariant-loop-clause
-invariant-loop-clause l = (l.found.items ≡ rules_of (map tree_of (take l.clause-index l.clauses))) × (vec_len l.found ≤ l.clause-index)
+-- the predicates so far
+abbrev pub invariant-loop-predicate : goal.invariant-loop-predicate
+invariant-loop-predicate l = l.found.items ≡ map rule_of (map see_defined (take l.predicate-index l.defined))

@@ -1,0 +1,72 @@
+-- From what was read of a text to the facts of the file.
+use Rattle.std.proofs.Common.{◌≡◌, ◌≢◌, ℕ, ◌<◌, ◌≤◌, List, Err, Result, Ok, IfErr, IsErrAnd, All, length, get_or, map, sym, subst, ◌∙◌, ap, inl, inr, arith}
+use Rattle.std.specs.Option.{IfSome}
+use Rattle.std.specs.List.Sorted.{IsStrictlySortedBy}
+use Rattle.std.specs.declared.cmp.Ordering.TheVariants.{Less}
+use Rattle.std.proofs.lemmas.List.{get_or-map, length-map}
+use Rattle.std.proofs.lemmas.List.Elements.{Contains-get_or}
+use Rattle.std.proofs.lemmas.Map.Keys.{Less-from_sorted}
+use Rattle.prolog_tokens.specs.Places.{IsOffset}
+use Rattle.prolog_terms.specs.Tree.{Tree}
+use Rattle.clause_text.specs.declared.fault.TextFault.{TextFault}
+use Rattle.clause_text.specs.declared.fault.TextFault.TheVariants as of_text
+use Rattle.clause_text.specs.Clauses.{ReadsAs}
+use Rattle.clause_text.specs.TextFault.{HasTextFault, offset_of}
+use Rattle.clause_text.proofs.Offsets.{reading_placed}
+use Rattle.module_table.specs.declared.said.FactFault.{FactFault}
+use Rattle.module_table.specs.declared.said.FactFault.TheVariants as of_facts
+use Rattle.module_table.specs.Defined.{Predicate, predicate_cmp, key}
+use Rattle.module_table.specs.Said.{IsWhy}
+use Rattle.module_table.specs.Facts.{Facts, AreFacts, file_said}
+use Rattle.module_table.proofs.RefusalOffsets.{refusals_placed}
+use Rattle.group_tool.specs.declared.indicator.Indicator.{Indicator}
+use Rattle.group_tool.specs.Indicator.{indicator_cmp}
+use Rattle.group_tool.specs.Rule.{HeadAndGoals, heads}
+use Rattle.group_tool.specs.RuleOf.{rule_of, predicates_of, HasSmallArities, HasSmallClauses}
+use Rattle.group_tool.specs.Numbering.{IsRising}
+use Rattle.group_tool.specs.FileFault.{IsRefused, fault_of_text, fault_of_facts, fault_from, most_bytes}
+use Rattle.group_tool.proofs.DefinedClauses.{defined_clauses_small}
+
+-- what holds of an error
+pub on_err : {T E : Type 0} (r : Result T E) (P Q : E → Type 0) → IsErrAnd r P → ((e : E) → P e → Q e) → IfErr r Q
+on_err (Ok x) P Q is then = tt
+on_err (Err e) P Q is then = then e is
+
+pub text_refused : (name text : List ℕ) (fault : TextFault) → length text ≤ most_bytes → (fault ≢ of_text.NoMemory → HasTextFault text fault)
+    → IfSome (offset_of fault) (λ at. IsOffset text at) → IsRefused name text (fault_of_text fault)
+text_refused name text (of_text.At cause at) small has offset = (record { small = small; caused = inl (has (λ e. cc)) }, offset)
+text_refused name text of_text.NoMemory small has offset = tt
+
+pub facts_refused : (name text : List ℕ) (trees : List Tree) (fault : FactFault) → length text ≤ most_bytes → ReadsAs text trees → IsWhy (file_said name trees) fault
+    → IsRefused name text (fault_of_facts fault)
+facts_refused name text trees (of_facts.At cause at) small reads why = (
+  record { small = small; caused = inr (record { trees = trees; reads = reads; said = why }) },
+  refusals_placed text name trees (fault_from cause at) (reading_placed text trees reads) why,
+)
+facts_refused name text trees of_facts.NoMemory small reads why = tt
+
+pub small_defined : (name : List ℕ) (trees : List Tree) (facts : Facts) → AreFacts name trees facts → All HasSmallArities trees → All HasSmallClauses facts.defined
+small_defined name trees facts are small k d lt =
+    defined_clauses_small 8388608 name trees facts are small (get_or facts.defined k d) (Contains-get_or facts.defined k d lt)
+
+abbrev head_of : HeadAndGoals → Indicator
+head_of rule = rule.head
+
+-- the predicates rise as they are defined
+rising : (ps : List Predicate) → IsStrictlySortedBy predicate_cmp ps → IsRising (heads (map rule_of ps))
+rising ps up i j d lt within =
+    let none : Predicate = key d.name d.arity in
+    let outer : length (heads (map rule_of ps)) ≡ length (map rule_of ps) = length-map (map rule_of ps) head_of in
+    let inner : length (map rule_of ps) ≡ length ps = length-map ps rule_of in
+    let below : j < length ps = omega (arith, outer, inner, within) in
+    let above : i < length ps = omega (arith, below, lt) in
+    let less = Less-from_sorted predicate_cmp ps i j none up lt below in
+    let read : (k : ℕ) → k < length ps → get_or (heads (map rule_of ps)) k d ≡ head_of (rule_of (get_or ps k none)) =
+    λ k inside.
+    get_or-map head_of (map rule_of ps) k (rule_of none) d (omega (arith, inner, inside))
+    ∙ ap head_of (get_or-map rule_of ps k none (rule_of none) inside) in
+    let one = subst (λ p. indicator_cmp p (head_of (rule_of (get_or ps j none))) ≡ Less) (sym (read i above)) less in
+    subst (λ p. indicator_cmp (get_or (heads (map rule_of ps)) i d) p ≡ Less) (sym (read j below)) one
+
+pub rising_predicates : (name : List ℕ) (trees : List Tree) (facts : Facts) → AreFacts name trees facts → IsRising (predicates_of facts)
+rising_predicates name trees facts are = rising facts.defined are.are.defined.in_order

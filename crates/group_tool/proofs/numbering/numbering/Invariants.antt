@@ -1,7 +1,0 @@
-use Rattle.std.proofs.Common.{◌≡◌, take}
-use Rattle.group_tool.specs.Rule.{heads}
-use Rattle.group_tool.proofs.numbering.numbering.Given as goal
-
--- the heads of the rules so far
-abbrev pub invariant-loop-rule : goal.invariant-loop-rule
-invariant-loop-rule l = l.heads.items ≡ heads (take l.rule-index l.rules)

@@ -1,0 +1,29 @@
+use Rattle.std.proofs.Common.{map, subst, sym, arith}
+use Rattle.module_table.specs.Defined.{clause_tree}
+use Rattle.module_table.specs.Facts.{see_facts}
+use Rattle.group_tool.specs.FileFault.{IsRefused}
+use Rattle.group_tool.proofs.ReadingLemmas.{on_err, text_refused, facts_refused, small_defined, rising_predicates}
+use Rattle.group_tool.proofs.reading.read_facts.Goals as goal
+
+pub returns-in_err-clauses-clause-refused : goal.returns-in_err-clauses-clause-refused
+returns-in_err-clauses-clause-refused c =
+    on_err c.from_residual.result _ _ c.from_residual.ensures.1
+    (λ found same.
+    subst (IsRefused c.args.name.now c.args.text.now) (sym same)
+    (text_refused c.args.name.now c.args.text.now c.in_err-clauses.field-0.0 (omega (arith, c.if-text.false)) c.in_err-clauses.ensures.fault c.in_err-clauses.ensures.offset))
+
+pub returns-in_err-found-clause-refused : goal.returns-in_err-found-clause-refused
+returns-in_err-found-clause-refused c =
+    on_err c.from_residual-in_err-found.result _ _ c.from_residual-in_err-found.ensures.1
+    (λ found same.
+    subst (IsRefused c.args.name.now c.args.text.now) (sym same)
+    (facts_refused c.args.name.now c.args.text.now (map clause_tree c.in_ok-clauses.clauses.items) c.in_err-found.field-0.0 (omega (arith, c.if-text.false))
+    c.in_ok-clauses.ensures.ok c.in_err-found.ensures.refused))
+
+pub returns-clause-arities : goal.returns-clause-arities
+returns-clause-arities c =
+    small_defined c.args.name.now (map clause_tree c.in_ok-clauses.clauses.items) (see_facts c.in_ok-found.found) c.in_ok-found.ensures.ok c.in_ok-clauses.ensures.arities
+
+pub returns-clause-rising : goal.returns-clause-rising
+returns-clause-rising c =
+    rising_predicates c.args.name.now (map clause_tree c.in_ok-clauses.clauses.items) (see_facts c.in_ok-found.found) c.in_ok-found.ensures.ok
