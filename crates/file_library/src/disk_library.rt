@@ -1,9 +1,10 @@
-ghost use Rattle.std.specs.Prelude.{◌≡◌, ◌≤◌, [], None, length};
+ghost use Rattle.std.specs.Prelude.{◌≡◌, ◌≤◌, ◌⊎◌, ◌+◌, [], None, OnOk, length};
+ghost use Rattle.std.specs.Io.KnownBytes.{Consumes, IsAtEnd};
 
 use crate::library::{Library, Read};
 use prolog_tokens::Text;
 use std::alloc::Global;
-use std::io::{ErrorKind, Read as _};
+use std::io::ErrorKind;
 use std::rt::Files;
 use std::{fs, io};
 
@@ -34,18 +35,30 @@ impl<'a, R: Files> DiskLibrary<'a, R> {
     }
 }
 
-/// Reads the file into the empty room, up to `most` bytes.
-fn read_file<R: Files>(rt: &R, name: &str, most: usize, room: &mut Vec<u8>) -> io::Result<()>
+/// Reads the file into the empty room, or one byte more than `limit` where it is longer.
+fn read_file<R: Files>(rt: &R, name: &str, limit: u32, room: &mut Vec<u8>) -> io::Result<()>
     requires { room.old.items ≡ [] }
-    ensures { length room.new.items ≤ most }
+    ensures { length room.new.items ≤ limit + 1 }
 {
     let mut file = fs::open(rt, name)?;
+    read_first(&mut file, limit, room)
+}
+
+/// Reads all that the source gives into the empty room, or one byte more than `limit` where it is
+/// longer.
+fn read_first<S: io::Read>(source: &mut S, limit: u32, room: &mut Vec<u8>) -> io::Result<()>
+    requires { room.old.items ≡ [] }
+    ensures within { length room.new.items ≤ limit + 1 }
+    ensures bytes { OnOk result (Consumes (S.remaining source.old) (S.remaining source.new) room.new.items) }
+    ensures end { OnOk result ((length room.new.items ≡ limit + 1) ⊎ IsAtEnd (S.remaining source.new)) }
+{
+    let most = limit as usize + 1;
     let mut buffer = [0u8; 8192];
     while room.len() < most {
         let wanted = buffer.len().min(most - room.len());
-        let count = file.read(&mut buffer[..wanted])?;
+        let count = source.read(&mut buffer[..wanted])?;
         if count == 0 {
-            break;
+            return Ok(());
         }
         room.extend_from_slice(&buffer[..count])?;
     }
@@ -68,7 +81,7 @@ impl<'a, R: Files> Library for DiskLibrary<'a, R> {
         if self.asked.push(asked).is_err() {
             return Read::NoMemory;
         }
-        match read_file(self.rt, name, limit as usize + 1, room) {
+        match read_file(self.rt, name, limit, room) {
             Ok(()) => Read::Found,
             Err(error) => {
                 room.clear();

@@ -1,4 +1,9 @@
 //! Files on demand: a library that is asked for files by name, in memory or on the disk.
+//!
+//! A `Library` keeps the names that it was asked for, and counts its misses and its faults. It may tell
+//! its map of files, as `MemoryLibrary` does; then a file is found exactly where the map has it, but
+//! where a read was ordered to fail. `DiskLibrary` tells nothing of what the disk holds: it is the
+//! trusted edge, a few lines.
 #![tactic(auto)]
 
 mod disk_library;

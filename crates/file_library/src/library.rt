@@ -1,4 +1,5 @@
 ghost use Rattle.std.specs.Prelude.{◌≡◌, ◌≤◌, ℕ, List, [], Option};
+ghost use Rattle.file_library.specs.Counts.{CountsAre};
 ghost use Rattle.file_library.specs.Library.{Files, ReadIs, AskedIs};
 
 /// What a library answers to a read.
@@ -27,6 +28,7 @@ pub trait Library {
         requires { room.old.items ≡ [] }
         ensures answer { ReadIs (files self.old) name.now limit room.new.items (faults self.old) (faults self.new) (misses self.old) (misses self.new) result }
         ensures asked { AskedIs (asked self.old) (asked self.new) name.now result }
+        ensures counts { CountsAre (faults self.old) (faults self.new) (misses self.old) (misses self.new) result }
         ensures same_files { files self.new ≡ files self.old }
         ensures faults_kept { faults self.old ≤ faults self.new }
         ensures misses_kept { misses self.old ≤ misses self.new };

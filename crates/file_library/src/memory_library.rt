@@ -1,4 +1,5 @@
 ghost use Rattle.std.specs.Prelude.{◌≡◌, ◌≤◌, ◌↔◌, ℕ, [], Some, Contains, IsTrue, IfOk};
+ghost use Rattle.file_library.specs.Counts.{CountsAre};
 ghost use Rattle.file_library.specs.Library.{ReadIs, AskedIs};
 ghost use Rattle.file_library.specs.Copied.{CopiedIs};
 
@@ -91,6 +92,7 @@ impl Library for MemoryLibrary {
         requires { room.old.items ≡ [] }
         ensures answer { ReadIs (Some (files_of self.old.files)) name.now limit room.new.items self.old.faults self.new.faults self.old.misses self.new.misses result }
         ensures asked { AskedIs self.old.asked.items self.new.asked.items name.now result }
+        ensures counts { CountsAre self.old.faults self.new.faults self.old.misses self.new.misses result }
         ensures same_files { Some (files_of self.new.files) ≡ Some (files_of self.old.files) }
         ensures faults_kept { self.old.faults ≤ self.new.faults }
         ensures misses_kept { self.old.misses ≤ self.new.misses }

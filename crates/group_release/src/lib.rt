@@ -1,4 +1,10 @@
 //! Released groups, and the levels of groups in a legal order.
+//!
+//! `Released` keeps groups in the order of their release, and says which nodes they hold. `levels`
+//! tells of each group of a legal order how high it stands, which is 0 where it calls no other group,
+//! and whether it is recursive, in one pass over the calls.
+//!
+//! It doesn't see how the groups were found, nor what their nodes stand for.
 #![tactic(auto)]
 
 mod level;

@@ -1,4 +1,11 @@
 //! Tokens of Prolog text, and the small types that every layer above them uses.
+//!
+//! `tokens` cuts a text into the one list of tokens that it is, or tells its one fault with the byte
+//! offset: of `p('a` it tells the quote at 2. `name_text` and `integer_value` are what a token says,
+//! and `place_of` and `places_of` the lines and columns of offsets. `Text` is an owned text.
+//!
+//! It knows no operators and no terms: `- 1` and `-1` are two tokens each, and what they mean is for
+//! the layers above.
 #![tactic(auto)]
 
 mod bare_names;
