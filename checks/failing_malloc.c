@@ -1,0 +1,43 @@
+/* Preloaded before a program: its allocation number FAIL_AT fails, counted from 1. When the program
+   ends, the number of its allocations is written to the file COUNT_TO. */
+#define _GNU_SOURCE
+#include <dlfcn.h>
+#include <errno.h>
+#include <fcntl.h>
+#include <stdio.h>
+#include <stdlib.h>
+#include <string.h>
+#include <unistd.h>
+
+static unsigned long asked, fail_at;
+
+__attribute__((constructor)) static void begin(void) {
+    const char *number = getenv("FAIL_AT");
+    fail_at = number ? strtoul(number, NULL, 10) : 0;
+    asked = 0;
+}
+
+__attribute__((destructor)) static void end(void) {
+    const char *path = getenv("COUNT_TO");
+    char text[32];
+    int file = path ? open(path, O_WRONLY | O_CREAT | O_TRUNC, 0600) : -1;
+    if (file < 0) return;
+    int length = snprintf(text, sizeof text, "%lu\n", asked);
+    if (write(file, text, length) < 0) _exit(99);
+    close(file);
+}
+
+static int fails(void) {
+    if (++asked != fail_at) return 0;
+    errno = ENOMEM;
+    return 1;
+}
+
+#define REAL(name) ((__typeof__(&name))dlsym(RTLD_NEXT, #name))
+
+void *malloc(size_t size) { return fails() ? NULL : REAL(malloc)(size); }
+void *realloc(void *place, size_t size) { return fails() ? NULL : REAL(realloc)(place, size); }
+void *aligned_alloc(size_t align, size_t size) { return fails() ? NULL : REAL(aligned_alloc)(align, size); }
+int posix_memalign(void **place, size_t align, size_t size) {
+    return fails() ? ENOMEM : REAL(posix_memalign)(place, align, size);
+}

@@ -1,0 +1,121 @@
+#!/usr/bin/env python3
+"""Runs `groups` on hostile input: each must answer at once, with a lawful status and lines.
+
+- each prefix of an example, cut at every byte: status 0 or 3, and at 3 one line or more;
+- files of random bytes, of quotes, of opening brackets, of `:- ` again and again, and one long line;
+- a run in which the Nth allocation fails, for each N in turn: status 7 with nothing on standard
+  output, or the answer of a run in which none fails. This needs a C compiler, `cc`.
+
+Ends with status 1 where an answer is wrong. The whole takes about a minute.
+"""
+
+import argparse
+import pathlib
+import random
+import subprocess
+import sys
+import tempfile
+import time
+
+ROOT = pathlib.Path(__file__).resolve().parent.parent
+GROUPS = ROOT / "groups"
+PROGRAM = ROOT / "crates" / "groups" / "out" / "groups"
+EXAMPLE = ROOT / "examples" / "module.pl"
+MOST_BYTES = 65_536
+MOST_SECONDS = 20.0
+
+wrong = []
+
+
+def run(folder, data):
+    """The status, the outputs and the seconds of a run on a file with these bytes."""
+    (folder / "f.pl").write_bytes(data)
+    begun = time.monotonic()
+    done = subprocess.run([GROUPS, "f.pl"], cwd=folder, capture_output=True, timeout=60)
+    return done.returncode, done.stdout, done.stderr, time.monotonic() - begun
+
+
+def check(folder, name, data):
+    status, out, err, took = run(folder, data)
+    lawful = (status == 0 and out and not err) or (status == 3 and not out and err.endswith(b"\n"))
+    if not lawful:
+        wrong.append(f"{name}: status {status}, {len(out)} bytes on out, {err[:80]!r}")
+    if took > MOST_SECONDS:
+        wrong.append(f"{name}: {took:.1f} s")
+    return status, took
+
+
+def prefixes(folder):
+    text = EXAMPLE.read_bytes()
+    seen = [check(folder, f"prefix of {size} bytes", text[:size])[0] for size in range(len(text) + 1)]
+    print(f"{len(seen)} prefixes: {seen.count(0)} reports, {seen.count(3)} refused")
+
+
+def patterns():
+    """Names and bytes of hostile files, each of the greatest size that is read."""
+    source = random.Random(20)
+    yield "random bytes", bytes(source.randrange(256) for _ in range(MOST_BYTES))
+    yield "random ASCII", bytes(source.randrange(32, 127) for _ in range(MOST_BYTES))
+    yield "quotes", b"'" * MOST_BYTES
+    yield "double quotes", b'"' * MOST_BYTES
+    for bracket in (b"(", b"[", b"{", b"f("):
+        yield f"opening {bracket.decode()}", bracket * (MOST_BYTES // len(bracket))
+    yield "prefix operators", b":- " * (MOST_BYTES // 3)
+    yield "minus signs", b"- " * (MOST_BYTES // 2)
+    yield "infix operators", b"a=" * (MOST_BYTES // 2)
+    yield "commas", b"a," * (MOST_BYTES // 2)
+    yield "one long line", b"a" * MOST_BYTES
+    yield "open comment", b"/*" + b"*" * (MOST_BYTES - 2)
+    yield "facts", b"".join(b"p%d.\n" % number for number in range(9000))[:MOST_BYTES]
+    yield "a long list", b"p([a" + b",b" * 32_000 + b"])."
+    yield "one predicate often", b"p.\n" * (MOST_BYTES // 3)
+    yield "operators set often", b":-op(1,fx,a).\n" * (MOST_BYTES // 14)
+    yield "a long declaration", b":- dynamic a/1" + b",a/1" * 16_000 + b"."
+    yield "a long path", b":- use_module(a" + b"/a" * 900 + b")."
+    yield "nothing", b""
+
+
+def hostile_files(folder):
+    for name, data in patterns():
+        status, took = check(folder, name, data)
+        print(f"{name:<22} status {status}  {took * 1000:7.1f} ms")
+
+
+def memory(folder):
+    """Fails each allocation of a run in turn, by a library that is loaded before the program."""
+    shim, count = folder / "failing_malloc.so", folder / "count"
+    source = ROOT / "checks" / "failing_malloc.c"
+    subprocess.run(["cc", "-O1", "-shared", "-fPIC", "-o", shim, source, "-ldl"], check=True)
+    (folder / "f.pl").write_bytes(EXAMPLE.read_bytes())
+
+    def answer(number):
+        env = {"LD_PRELOAD": str(shim), "FAIL_AT": str(number), "COUNT_TO": str(count)}
+        done = subprocess.run([PROGRAM, "f.pl"], cwd=folder, capture_output=True, env=env, timeout=60)
+        return done.returncode, done.stdout, done.stderr
+
+    whole = answer(0)
+    total = int(count.read_text())
+    wanting = (7, b"", b"groups: out of memory\n")
+    seen = []
+    for number in range(1, total + 1):
+        seen.append(answer(number))
+        if seen[-1] not in (wanting, whole):
+            wrong.append(f"allocation {number}: status {seen[-1][0]}, {len(seen[-1][1])} bytes on out")
+    print(f"{total} allocations: {seen.count(wanting)} times out of memory, {seen.count(whole)} as without")
+
+
+def main():
+    parser = argparse.ArgumentParser(description=__doc__.splitlines()[0])
+    parser.parse_args()
+    with tempfile.TemporaryDirectory() as name:
+        folder = pathlib.Path(name)
+        prefixes(folder)
+        hostile_files(folder)
+        memory(folder)
+    for line in wrong:
+        print("WRONG", line)
+    sys.exit(1 if wrong else 0)
+
+
+if __name__ == "__main__":
+    main()
