@@ -9,5 +9,8 @@ pub mod KindLemmas
 pub mod DirectiveShapes
 pub mod FileLemmas
 pub mod OneFacts
+pub mod PathLemmas
+pub mod DirectiveParts
+pub mod ClausesOf
 pub mod RefusalOffsets
 pub mod Examples

@@ -1,5 +1,5 @@
 -- What the clauses of a file say, and the facts of the file.
-use Rattle.std.specs.Prelude.{ℕ, ◌≡◌, List, [], ◌∷◌, Option, Some, None, Result, Ok, Err, Bool, true, false, if◌then◌else◌, codes, map, ◌+◌}
+use Rattle.std.specs.Prelude.{ℕ, ◌≡◌, List, [], ◌∷◌, Option, Some, None, Result, Ok, Err, Bool, true, false, if◌then◌else◌, codes, map, ◌+◌, ◌&&◌, nat_eq}
 use Rattle.std.specs.List.{filter_map}
 use Rattle.std.specs.Str.{bytes_eq}
 use Rattle.prolog_terms.specs.Tree.{Tree, tree_of}
@@ -28,6 +28,15 @@ head_with tree None = head tree
 -- the predicate that a clause defines which is no directive
 abbrev pub clause_head : Tree → Result Named Refusal
 clause_head tree = head_with tree (binary tree)
+
+-- whether that is the predicate of the name and arity
+abbrev pub is_headed : List ℕ → ℕ → Result Named Refusal → Bool
+is_headed name arity (Ok named) = bytes_eq name named.name && nat_eq arity named.arity
+is_headed name arity (Err refusal) = false
+
+-- whether the term is a clause of the predicate
+abbrev pub is_clause_of : List ℕ → ℕ → Tree → Bool
+is_clause_of name arity tree = elim (directive_of tree) [ Some term ↦ false | None ↦ is_headed name arity (clause_head tree) ]
 
 abbrev pub headed : Result Named Refusal → Tree → Said
 headed (Ok named) tree = only (defines (record { name = named.name; arity = named.arity; clause = Some tree }))

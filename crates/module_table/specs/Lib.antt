@@ -1,5 +1,6 @@
 pub mod Defined
 pub mod FileName
+pub mod Paths
 pub mod Said
 pub mod Heads
 pub mod Indicators

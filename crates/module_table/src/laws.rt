@@ -1,11 +1,15 @@
-//! What holds of the facts of each file, as laws: functions with nothing to run.
+//! What holds of the facts of each file, and of the names of files, as laws: functions with nothing to run.
 
-ghost use Rattle.std.specs.Prelude.{◌≡◌, ℕ, List, All, Err};
+ghost use Rattle.std.specs.Prelude.{◌≡◌, ◌↔◌, ℕ, List, [], Some, None, Err, All, Contains, filter, true};
 ghost use Rattle.prolog_tokens.specs.Places.{IsOffset};
 ghost use Rattle.prolog_terms.specs.Tree.{Tree};
+ghost use Rattle.clause_text.specs.Items.{directive_of};
 ghost use Rattle.clause_text.specs.Offsets.{HasOffsets};
-ghost use Rattle.module_table.specs.Said.{Refusal};
-ghost use Rattle.module_table.specs.Facts.{Facts, AreFacts, file_said};
+ghost use Rattle.module_table.specs.FileName.{begins_with_slash, folder, resolved};
+ghost use Rattle.module_table.specs.Paths.{IsFileName, led, as_prolog};
+ghost use Rattle.module_table.specs.Defined.{Predicate};
+ghost use Rattle.module_table.specs.Said.{Refusal, Loads};
+ghost use Rattle.module_table.specs.Facts.{Facts, AreFacts, file_said, is_clause_of};
 
 /// The clauses of a file have one record of facts at most.
 pub fn one_facts()
@@ -15,4 +19,45 @@ pub fn one_facts()
 /// A refusal of the facts stands at an offset of the text, where the terms of the clauses do.
 pub fn refusals_placed()
     ensures { (text user : List ℕ) (trees : List Tree) (refusal : Refusal) → All (HasOffsets text) trees → file_said user trees ≡ Err refusal → IsOffset text refusal.offset }
+{}
+
+/// The clauses of a predicate are those of the file that are of its name and arity, in order. Each
+/// clause of the file that is no directive is one of a predicate.
+pub fn clauses_kept()
+    ensures are { (user : List ℕ) (trees : List Tree) (facts : Facts) → AreFacts user trees facts → (p : Predicate) → Contains facts.defined p
+        → p.clauses ≡ filter (is_clause_of p.name p.arity) trees }
+    ensures all { (user : List ℕ) (trees : List Tree) (facts : Facts) → AreFacts user trees facts → (tree : Tree) → Contains trees tree → directive_of tree ≡ None
+        → (p : Predicate) × Contains facts.defined p × Contains p.clauses tree }
+{}
+
+/// Each file that is loaded has the name of a file.
+pub fn loads_named()
+    ensures { (user : List ℕ) (trees : List Tree) (facts : Facts) → AreFacts user trees facts → All (λ (load : Loads). IsFileName load.file) facts.loads }
+{}
+
+/// What a specification means is the name of a file.
+pub fn names_resolved()
+    ensures { (user spec name : List ℕ) → resolved user spec ≡ Some name → IsFileName name }
+{}
+
+/// Each name of a file means itself, and one that begins with a slash does so in every file.
+pub fn names_kept()
+    ensures alone { (name : List ℕ) → IsFileName name → resolved [] name ≡ Some name }
+    ensures from_the_root { (user name : List ℕ) → IsFileName name → begins_with_slash name ≡ true → resolved user name ≡ Some name }
+{}
+
+/// Wherever one stands, the name leads to where the specification leads from the folder of the
+/// file, but for the ending.
+pub fn names_lead()
+    ensures { (user spec name : List ℕ) → resolved user spec ≡ Some name → (place : List (List ℕ)) → led place name ≡ as_prolog (led (led place (folder user)) spec) }
+{}
+
+/// A specification means no file just where it leads from the root to the root.
+pub fn none_named()
+    ensures { (user spec : List ℕ) → (resolved user spec ≡ None) ↔ (led (led [] (folder user)) spec ≡ []) }
+{}
+
+/// Two names of files that lead to one place from wherever one stands are one name.
+pub fn one_name()
+    ensures { (name other : List ℕ) → IsFileName name → IsFileName other → ((place : List (List ℕ)) → led place name ≡ led place other) → name ≡ other }
 {}

@@ -30,6 +30,9 @@ pub use defined::Defined;
 pub use file_facts::{FileFacts, facts};
 pub use file_name::resolve_name;
 pub use indicator::Indicator;
-pub use laws::{one_facts, refusals_placed};
+pub use laws::{
+    clauses_kept, loads_named, names_kept, names_lead, names_resolved, none_named, one_facts,
+    one_name, refusals_placed,
+};
 pub use load::{Load, LoadKind};
 pub use said::FactFault;

@@ -1,0 +1,5 @@
+use Rattle.module_table.proofs.PathLemmas as of_paths
+use Rattle.module_table.proofs.laws.one_name.Goals as goal
+
+pub returns : goal.returns
+returns c = λ name other it also same. of_paths.one_name name other it also same
