@@ -5,16 +5,9 @@ Needs `rt` and `swipl`. Prints a table: the best of five runs of each, in millis
 nanoseconds a token. With `--keep FOLDER` the text stays there.
 """
 
-import argparse
-import pathlib
-import subprocess
 import sys
-import tempfile
 
-ROOT = pathlib.Path(__file__).resolve().parent.parent
-PROGRAM = ROOT / "crates" / "clause_bench" / "out" / "clause_bench"
-MOST_BYTES = 8_388_608
-RUNS = 5
+from common import built, filled, folders, runs
 
 # Reads all terms of a file, and writes their number and the seconds of processor time.
 SWI = """
@@ -57,50 +50,26 @@ def clauses(number):
     )
 
 
-def text():
-    """As many clauses as fit into a text."""
-    parts, size, number = [], 0, 0
-    while size + len(part := clauses(number)) <= MOST_BYTES:
-        parts.append(part)
-        size += len(part)
-        number += 1
-    return "".join(parts)
-
-
-def ours(path):
+def ours(program, path):
     """The least microseconds of the tokens, those of the clauses, and the two numbers of them."""
-    cuts, reads = [], []
-    for _ in range(RUNS):
-        run = subprocess.run([PROGRAM, path], capture_output=True, text=True, check=True)
-        cut, read = run.stderr.split()
-        cuts.append(int(cut))
-        reads.append(int(read))
-        found = [int(word) for word in run.stdout.split()]
-    return min(cuts), min(reads), found[0], found[1]
+    found = [[int(word) for word in err + out] for out, err in runs(program, path)]
+    return min(run[0] for run in found), min(run[1] for run in found), found[-1][2], found[-1][3]
 
 
 def swi(script, path):
     """The least microseconds of SWI-Prolog, and its number of terms."""
-    times = []
-    for _ in range(RUNS):
-        run = subprocess.run(["swipl", script, "--", path], capture_output=True, text=True, check=True)
-        count, took = run.stdout.split()
-        times.append(float(took) * 1_000_000)
-    return min(times), int(count)
+    found = [out for out, _ in runs("swipl", script, "--", path)]
+    return min(float(took) for _, took in found) * 1_000_000, int(found[-1][0])
 
 
 def main():
-    parser = argparse.ArgumentParser(description=__doc__)
-    parser.add_argument("--keep", metavar="FOLDER", type=pathlib.Path)
-    keep = parser.parse_args().keep
-    if not PROGRAM.exists():
-        subprocess.run(["rt", "run", "--", "data/f.pl"], cwd=PROGRAM.parent.parent, check=True, stdout=sys.stderr)
-    with tempfile.TemporaryDirectory() as folder:
-        script = pathlib.Path(folder) / "read.pl"
+    with folders(__doc__) as (folder, texts):
+        program = built("clause_bench", "data/f.pl")
+        script = folder / "read.pl"
         script.write_text(SWI)
-        path = (keep or pathlib.Path(folder)) / "clauses.pl"
-        path.write_text(text())
-        cut, read, tokens, count = ours(path)
+        path = texts / "clauses.pl"
+        path.write_text(filled(clauses))
+        cut, read, tokens, count = ours(program, path)
         theirs, also = swi(script, path)
         if count != also:
             sys.exit(f"{count} clauses, but SWI-Prolog finds {also}")

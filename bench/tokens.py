@@ -5,26 +5,10 @@ Needs `rt` and `g++`. Prints a table: the best of five runs of each, in millisec
 `--keep FOLDER` the texts stay there.
 """
 
-import argparse
-import pathlib
 import subprocess
 import sys
-import tempfile
 
-ROOT = pathlib.Path(__file__).resolve().parent.parent
-PROGRAM = ROOT / "crates" / "token_bench" / "out" / "token_bench"
-MOST_BYTES = 8_388_608
-RUNS = 5
-
-
-def filled(part):
-    """The parts 0, 1, .. one after another, as many as fit into a text."""
-    parts, size, number = [], 0, 0
-    while size + len(text := part(number)) <= MOST_BYTES:
-        parts.append(text)
-        size += len(text)
-        number += 1
-    return "".join(parts)
+from common import ROOT, best, built, filled, folders
 
 
 def dense(number):
@@ -45,30 +29,16 @@ def ordinary(number):
     )
 
 
-def best(program, text):
-    """The least time in milliseconds, and the number of tokens."""
-    times = []
-    for _ in range(RUNS):
-        run = subprocess.run([program, text], capture_output=True, text=True, check=True)
-        times.append(int(run.stderr) / 1000)
-        tokens = int(run.stdout)
-    return min(times), tokens
-
-
 def main():
-    parser = argparse.ArgumentParser(description=__doc__)
-    parser.add_argument("--keep", metavar="FOLDER", type=pathlib.Path)
-    keep = parser.parse_args().keep
-    if not PROGRAM.exists():
-        subprocess.run(["rt", "run", "--", "data/f.pl"], cwd=PROGRAM.parent.parent, check=True, stdout=sys.stderr)
-    with tempfile.TemporaryDirectory() as folder:
-        scan = pathlib.Path(folder) / "scan"
+    with folders(__doc__) as (folder, texts):
+        program = built("token_bench", "data/f.pl")
+        scan = folder / "scan"
         subprocess.run(["g++", "-O2", "-o", scan, ROOT / "bench" / "scan.cpp"], check=True)
         print(f"{'text':<10}{'bytes':>10}{'tokens':>10}{'ours':>8}{'C++':>8}{'factor':>8}{'MB/s':>7}")
         for name, part in [("dense", dense), ("ordinary", ordinary)]:
-            text = (keep or pathlib.Path(folder)) / f"{name}.pl"
+            text = texts / f"{name}.pl"
             text.write_text(filled(part))
-            ours, found = best(PROGRAM, text)
+            ours, found = best(program, text)
             theirs, also = best(scan, text)
             if found != also:
                 sys.exit(f"{name}: {found} tokens, but the scanner finds {also}")

@@ -1,5 +1,6 @@
 pub mod ClassLaws
 mod ClassSteps
+pub mod Examples
 pub mod GraphClasses
 pub mod GraphLaws
 mod HeightLeads

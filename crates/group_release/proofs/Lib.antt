@@ -1,3 +1,4 @@
+pub mod Examples
 mod FewGroups
 mod LevelSteps
 mod MemberSteps

@@ -1,3 +1,4 @@
+pub mod Examples
 pub mod Lookups
 pub mod Changes
 pub mod OpeningOps

@@ -101,8 +101,8 @@ impl OpTable {
     }
 
     /// Makes the name an operator of this kind and priority, in place of what it is at the kind's
-    /// place, or no operator there where the priority is 0, which takes no memory. A refusal leaves
-    /// the table as it was.
+    /// place, or no operator there where the priority is 0, which takes no memory. A fault is told
+    /// also where memory is wanting. A refusal leaves the table as it was.
     pub fn set(
         &mut self,
         alloc: Global,
@@ -113,6 +113,7 @@ impl OpTable {
         ensures lawful { OnOk result (set_fault (ops_of self.old) name.now kind priority ≡ None) }
         ensures done { OnOk result (ops_of self.new ≡ with_set (ops_of self.old) name.now kind priority) }
         ensures refused { IfErr result (λ fault. (fault ≡ OpFault.NoMemory) ⊎ (set_fault (ops_of self.old) name.now kind priority ≡ Some fault)) }
+        ensures told { (fault : OpFault) → set_fault (ops_of self.old) name.now kind priority ≡ Some fault → result ≡ Err fault }
         ensures kept { OnErr result (self.new ≡ self.old) }
         ensures removes { priority ≡ 0 → set_fault (ops_of self.old) name.now kind priority ≡ None → IsOk result }
     {

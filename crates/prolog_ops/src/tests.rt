@@ -1,5 +1,5 @@
 use crate::{Op, OpFault, OpKind, OpTable};
-use std::alloc::Global;
+use std::alloc::{AllocError, Global};
 use std::process::Abort;
 use std::test::Fail;
 
@@ -64,6 +64,21 @@ static NAMES: [&str; 57] = [
     ".",
 ];
 
+/// The table that each text begins with. What it holds is no matter to the proofs of the tests.
+fn opening(alloc: Global) -> Result<OpTable, AllocError> {
+    OpTable::opening(alloc)
+}
+
+fn set(
+    alloc: Global,
+    table: &mut OpTable,
+    name: &str,
+    kind: OpKind,
+    priority: u32,
+) -> Result<(), OpFault> {
+    table.set(alloc, name, kind, priority)
+}
+
 fn expect_prefixes(rt: &impl Abort, table: &OpTable, priority: u32, kind: OpKind, names: &[&str]) {
     for name in names {
         assert_eq!(rt; table.prefix(name), Some(Op { priority, kind }), "{name}");
@@ -78,7 +93,7 @@ fn expect_infixes(rt: &impl Abort, table: &OpTable, priority: u32, kind: OpKind,
 
 #[test]
 fn opening_prefix_rows(rt: HostRuntime) -> Result<(), Fail> {
-    let table = OpTable::opening(rt.alloc())?;
+    let table = opening(rt.alloc())?;
     let declarations = [
         "dynamic",
         "discontiguous",
@@ -98,7 +113,7 @@ fn opening_prefix_rows(rt: HostRuntime) -> Result<(), Fail> {
 
 #[test]
 fn opening_control_rows(rt: HostRuntime) -> Result<(), Fail> {
-    let table = OpTable::opening(rt.alloc())?;
+    let table = opening(rt.alloc())?;
     expect_infixes(&rt, &table, 1200, OpKind::Xfx, &[":-", "-->"]);
     expect_infixes(&rt, &table, 1100, OpKind::Xfy, &[";", "|"]);
     expect_infixes(&rt, &table, 1050, OpKind::Xfy, &["->"]);
@@ -108,7 +123,7 @@ fn opening_control_rows(rt: HostRuntime) -> Result<(), Fail> {
 
 #[test]
 fn opening_comparison_row(rt: HostRuntime) -> Result<(), Fail> {
-    let table = OpTable::opening(rt.alloc())?;
+    let table = opening(rt.alloc())?;
     let comparisons = [
         "=", "\\=", "==", "\\==", "@<", "@=<", "@>", "@>=", "=..", "is", "=:=", "=\\=", "<", "=<",
         ">", ">=",
@@ -119,7 +134,7 @@ fn opening_comparison_row(rt: HostRuntime) -> Result<(), Fail> {
 
 #[test]
 fn opening_arithmetic_rows(rt: HostRuntime) -> Result<(), Fail> {
-    let table = OpTable::opening(rt.alloc())?;
+    let table = opening(rt.alloc())?;
     let products = ["*", "/", "//", "rem", "mod", "div", "<<", ">>"];
     expect_infixes(&rt, &table, 500, OpKind::Yfx, &["+", "-", "/\\", "\\/"]);
     expect_infixes(&rt, &table, 400, OpKind::Yfx, &products);
@@ -138,7 +153,7 @@ fn count_at_places(table: &OpTable, names: &[&str]) -> (usize, usize, usize) {
 
 #[test]
 fn opening_has_no_more(rt: HostRuntime) -> Result<(), Fail> {
-    let table = OpTable::opening(rt.alloc())?;
+    let table = opening(rt.alloc())?;
     let (prefixes, infixes, postfixes) = count_at_places(&table, &NAMES);
     assert_eq!(rt; prefixes, 14);
     assert_eq!(rt; infixes, 37);
@@ -149,9 +164,9 @@ fn opening_has_no_more(rt: HostRuntime) -> Result<(), Fail> {
 #[test]
 fn sets_each_kind(rt: HostRuntime) -> Result<(), Fail> {
     let alloc = rt.alloc();
-    let mut table = OpTable::opening(alloc)?;
+    let mut table = opening(alloc)?;
     for kind in [OpKind::Xfx, OpKind::Xfy, OpKind::Yfx] {
-        table.set(alloc, "===", kind, 700)?;
+        set(alloc, &mut table, "===", kind, 700)?;
         assert_eq!(rt;
             table.infix("==="),
             Some(Op {
@@ -163,11 +178,11 @@ fn sets_each_kind(rt: HostRuntime) -> Result<(), Fail> {
     assert_eq!(rt; table.prefix("==="), None);
     assert_eq!(rt; table.postfix("==="), None);
     for kind in [OpKind::Fy, OpKind::Fx] {
-        table.set(alloc, "===", kind, 1)?;
+        set(alloc, &mut table, "===", kind, 1)?;
         assert_eq!(rt; table.prefix("==="), Some(Op { priority: 1, kind }));
     }
     for kind in [OpKind::Xf, OpKind::Yf] {
-        table.set(alloc, "!", kind, 1200)?;
+        set(alloc, &mut table, "!", kind, 1200)?;
         assert_eq!(rt;
             table.postfix("!"),
             Some(Op {
@@ -189,8 +204,8 @@ fn sets_each_kind(rt: HostRuntime) -> Result<(), Fail> {
 #[test]
 fn priority_0_removes(rt: HostRuntime) -> Result<(), Fail> {
     let alloc = rt.alloc();
-    let mut table = OpTable::opening(alloc)?;
-    table.set(alloc, "-", OpKind::Fx, 0)?;
+    let mut table = opening(alloc)?;
+    set(alloc, &mut table, "-", OpKind::Fx, 0)?;
     assert_eq!(rt; table.prefix("-"), None);
     assert_eq!(rt;
         table.infix("-"),
@@ -206,7 +221,7 @@ fn priority_0_removes(rt: HostRuntime) -> Result<(), Fail> {
             kind: OpKind::Fy
         })
     );
-    table.set(alloc, "is", OpKind::Xf, 0)?;
+    set(alloc, &mut table, "is", OpKind::Xf, 0)?;
     assert_eq!(rt;
         table.infix("is"),
         Some(Op {
@@ -214,9 +229,9 @@ fn priority_0_removes(rt: HostRuntime) -> Result<(), Fail> {
             kind: OpKind::Xfx
         })
     );
-    table.set(alloc, "is", OpKind::Xfy, 0)?;
+    set(alloc, &mut table, "is", OpKind::Xfy, 0)?;
     assert_eq!(rt; table.infix("is"), None);
-    table.set(alloc, "is", OpKind::Xf, 200)?;
+    set(alloc, &mut table, "is", OpKind::Xf, 200)?;
     assert_eq!(rt;
         table.postfix("is"),
         Some(Op {
@@ -224,9 +239,9 @@ fn priority_0_removes(rt: HostRuntime) -> Result<(), Fail> {
             kind: OpKind::Xf
         })
     );
-    table.set(alloc, "is", OpKind::Yf, 0)?;
+    set(alloc, &mut table, "is", OpKind::Yf, 0)?;
     assert_eq!(rt; table.postfix("is"), None);
-    table.set(alloc, "is", OpKind::Yf, 0)?;
+    set(alloc, &mut table, "is", OpKind::Yf, 0)?;
     Ok(())
 }
 
@@ -250,9 +265,9 @@ fn expect_refused(
 }
 
 #[test]
-fn refusals(rt: HostRuntime) -> Result<(), Fail> {
+fn refuses_priorities_and_fixed_names(rt: HostRuntime) -> Result<(), Fail> {
     let alloc = rt.alloc();
-    let mut table = OpTable::opening(alloc)?;
+    let mut table = opening(alloc)?;
     expect_refused(
         &rt,
         alloc,
@@ -300,6 +315,13 @@ fn refusals(rt: HostRuntime) -> Result<(), Fail> {
             OpFault::FixedOp,
         );
     }
+    Ok(())
+}
+
+#[test]
+fn refuses_infix_and_postfix(rt: HostRuntime) -> Result<(), Fail> {
+    let alloc = rt.alloc();
+    let mut table = opening(alloc)?;
     expect_refused(
         &rt,
         alloc,
@@ -309,7 +331,7 @@ fn refusals(rt: HostRuntime) -> Result<(), Fail> {
         700,
         OpFault::InfixAndPostfix,
     );
-    table.set(alloc, "!", OpKind::Yf, 100)?;
+    set(alloc, &mut table, "!", OpKind::Yf, 100)?;
     expect_refused(
         &rt,
         alloc,

@@ -2,7 +2,7 @@ ghost use Rattle.std.specs.Prelude.{◌≡◌, ◌≤◌, ◌↔◌, length, sli
 ghost use Rattle.prolog_terms.specs.Clause.{IsOneClause};
 
 use crate::{ConstKind, Form, ReadFault, Term, read_clause};
-use prolog_ops::{OpKind, OpTable};
+use prolog_ops::{OpFault, OpKind, OpTable};
 use prolog_tokens::{Kind, Token, tokens};
 use std::alloc::{AllocError, Global};
 use std::process::Abort;
@@ -212,153 +212,178 @@ fn expect_fault(
     Ok(())
 }
 
-#[test]
-fn reads_leaves(rt: HostRuntime) -> Result<(), Fail> {
-    let alloc = rt.alloc();
-    let table = OpTable::opening(alloc)?;
-    let rows = [
-        ("a.", "a"),
-        ("X.", "_"),
-        ("_.", "_"),
-        ("12.", "12"),
-        ("0'a.", "97"),
-        ("99999999999.", "?"),
-        ("1.5.", "float"),
-        ("\"s\".", "str"),
-        ("`s`.", "back"),
-        ("[].", "[]"),
-        ("{}.", "{}"),
-        ("'a b'.", "a b"),
-        ("','.", ","),
-        ("dynamic.", "dynamic"),
-        ("- .", "-"),
-        ("= .", "="),
-    ];
-    for (text, wanted) in rows {
-        expect_read(&rt, alloc, &table, text, wanted)?;
+/// The table that each text begins with. What it holds is no matter to the proofs of the tests.
+fn opening(alloc: Global) -> Result<OpTable, AllocError> {
+    OpTable::opening(alloc)
+}
+
+fn set(
+    alloc: Global,
+    table: &mut OpTable,
+    name: &str,
+    kind: OpKind,
+    priority: u32,
+) -> Result<(), OpFault> {
+    table.set(alloc, name, kind, priority)
+}
+
+/// Reads each of the lines, `TEXT => TERM`.
+fn expect_rows(rt: &impl Abort, alloc: Global, table: &OpTable, rows: &str) -> Result<(), Fail> {
+    for row in rows.lines() {
+        let (text, wanted) = row.split_once(" => ").ok_or("no row")?;
+        expect_read(rt, alloc, table, text, wanted)?;
     }
     Ok(())
 }
+
+/// Refuses each of the lines, `TEXT => OFFSET`.
+fn expect_refused(rt: &impl Abort, alloc: Global, table: &OpTable, rows: &str) -> Result<(), Fail> {
+    for row in rows.lines() {
+        let (text, at) = row.split_once(" => ").ok_or("no row")?;
+        let at = at.parse::<u32>().map_err(|_| "no offset")?;
+        expect_fault(rt, alloc, table, text, ReadFault::Stuck(at))?;
+    }
+    Ok(())
+}
+
+/// Clauses, and what they read as.
+const LEAVES: &str = "\
+a. => a
+X. => _
+_. => _
+12. => 12
+0'a. => 97
+99999999999. => ?
+1.5. => float
+\"s\". => str
+`s`. => back
+[]. => []
+{}. => {}
+'a b'. => a b
+','. => ,
+dynamic. => dynamic
+- . => -
+= . => =";
+
+#[test]
+fn reads_leaves(rt: HostRuntime) -> Result<(), Fail> {
+    let alloc = rt.alloc();
+    let table = opening(alloc)?;
+    expect_rows(&rt, alloc, &table, LEAVES)
+}
+
+/// Clauses, and what they read as.
+const BRACKETS: &str = "\
+(a). => (a)
+{a}. => {a}
+{a,b}. => {in ,(a b)}
+[a]. => [a]
+[a,b,c]. => [a b c]
+[a,b|T]. => [a b|_]
+[a|[b]]. => [a|[b]]
+[-]. => [-]
+[-|T]. => [-|_]
+f(a,B,\"c\"). => f(a _ str)
+f(g(h(x))). => f(g(h(x)))
+f(-). => f(-)
+f(+,-). => f(+ -)
+f(=). => f(=)
+f(:-). => f(:-)
+f(:- , b). => f(:- b)
+f((a:-b)). => f((in :-(a b)))
+(-). => (-)
+{-}. => {-}";
 
 #[test]
 fn reads_brackets(rt: HostRuntime) -> Result<(), Fail> {
     let alloc = rt.alloc();
-    let table = OpTable::opening(alloc)?;
-    let rows = [
-        ("(a).", "(a)"),
-        ("{a}.", "{a}"),
-        ("{a,b}.", "{in ,(a b)}"),
-        ("[a].", "[a]"),
-        ("[a,b,c].", "[a b c]"),
-        ("[a,b|T].", "[a b|_]"),
-        ("[a|[b]].", "[a|[b]]"),
-        ("[-].", "[-]"),
-        ("[-|T].", "[-|_]"),
-        ("f(a,B,\"c\").", "f(a _ str)"),
-        ("f(g(h(x))).", "f(g(h(x)))"),
-        ("f(-).", "f(-)"),
-        ("f(+,-).", "f(+ -)"),
-        ("f(=).", "f(=)"),
-        ("f(:-).", "f(:-)"),
-        ("f(:- , b).", "f(:- b)"),
-        ("f((a:-b)).", "f((in :-(a b)))"),
-        ("(-).", "(-)"),
-        ("{-}.", "{-}"),
-    ];
-    for (text, wanted) in rows {
-        expect_read(&rt, alloc, &table, text, wanted)?;
-    }
-    Ok(())
+    let table = opening(alloc)?;
+    expect_rows(&rt, alloc, &table, BRACKETS)
 }
+
+/// Clauses, and what they read as.
+const PREFIX_TERMS: &str = "\
+-12. => -12
+-1.5. => -float
+- 12. => pre -(12)
+-(12). => -(12)
+- (12). => pre -((12))
+-a. => pre -(a)
+- - 1. => pre -(pre -(1))
+- -1. => pre -(-1)
+-(-(1)). => -(-(1))
+'-'1. => pre -(1)
+\\+a. => pre \\+(a)
+\\+ (a,b). => pre \\+((in ,(a b)))
+\\+(a,b). => \\+(a b)
+\\+ \\+ a. => pre \\+(pre \\+(a))
+:-a. => pre :-(a)
+:- :- . => pre :-(:-)
+:-dynamic p/1. => pre :-(pre dynamic(in /(p 1)))
+- = a. => in =(- a)
+- =(a). => pre -(=(a))
+- = = . => in =(- =)";
 
 #[test]
 fn reads_prefix_operators(rt: HostRuntime) -> Result<(), Fail> {
     let alloc = rt.alloc();
-    let table = OpTable::opening(alloc)?;
-    let rows = [
-        ("-12.", "-12"),
-        ("-1.5.", "-float"),
-        ("- 12.", "pre -(12)"),
-        ("-(12).", "-(12)"),
-        ("- (12).", "pre -((12))"),
-        ("-a.", "pre -(a)"),
-        ("- - 1.", "pre -(pre -(1))"),
-        ("- -1.", "pre -(-1)"),
-        ("-(-(1)).", "-(-(1))"),
-        ("'-'1.", "pre -(1)"),
-        ("\\+a.", "pre \\+(a)"),
-        ("\\+ (a,b).", "pre \\+((in ,(a b)))"),
-        ("\\+(a,b).", "\\+(a b)"),
-        ("\\+ \\+ a.", "pre \\+(pre \\+(a))"),
-        (":-a.", "pre :-(a)"),
-        (":- :- .", "pre :-(:-)"),
-        (":-dynamic p/1.", "pre :-(pre dynamic(in /(p 1)))"),
-        ("- = a.", "in =(- a)"),
-        ("- =(a).", "pre -(=(a))"),
-        ("- = = .", "in =(- =)"),
-    ];
-    for (text, wanted) in rows {
-        expect_read(&rt, alloc, &table, text, wanted)?;
-    }
-    Ok(())
+    let table = opening(alloc)?;
+    expect_rows(&rt, alloc, &table, PREFIX_TERMS)
 }
+
+/// Clauses, and what they read as.
+const INFIX_TERMS: &str = "\
+a:-b. => in :-(a b)
+a-->b. => in -->(a b)
+a,b. => in ,(a b)
+a|b. => in |(a b)
+a;b;c. => in ;(a in ;(b c))
+a->b;c. => in ;(in ->(a b) c)
+1-2-3. => in -(in -(1 2) 3)
+1- -2. => in -(1 -2)
+a -1. => in -(a 1)
+a - 1. => in -(a 1)
+-1+2. => in +(-1 2)
+- 1+2. => in +(pre -(1) 2)
+-(1)+2. => in +(-(1) 2)
+-a^b. => pre -(in ^(a b))
+2^3^4. => in ^(2 in ^(3 4))
+2**3. => in **(2 3)
+a:b:c. => in :(a in :(b c))
+X is 1+2*3. => in is(_ in +(1 in *(2 3)))
+a*(b+c). => in *(a (in +(b c)))
+= = = . => in =(= =)
+\\+ = \\+ . => in =(\\+ \\+)
+a '=' b. => in =(a b)
+p:- \\+q,r. => in :-(p in ,(pre \\+(q) r))
+p:-q,r,s. => in :-(p in ,(q in ,(r s)))
+p(X):-q(X),r. => in :-(p(_) in ,(q(_) r))";
 
 #[test]
 fn reads_infix_operators(rt: HostRuntime) -> Result<(), Fail> {
     let alloc = rt.alloc();
-    let table = OpTable::opening(alloc)?;
-    let rows = [
-        ("a:-b.", "in :-(a b)"),
-        ("a-->b.", "in -->(a b)"),
-        ("a,b.", "in ,(a b)"),
-        ("a|b.", "in |(a b)"),
-        ("a;b;c.", "in ;(a in ;(b c))"),
-        ("a->b;c.", "in ;(in ->(a b) c)"),
-        ("1-2-3.", "in -(in -(1 2) 3)"),
-        ("1- -2.", "in -(1 -2)"),
-        ("a -1.", "in -(a 1)"),
-        ("a - 1.", "in -(a 1)"),
-        ("-1+2.", "in +(-1 2)"),
-        ("- 1+2.", "in +(pre -(1) 2)"),
-        ("-(1)+2.", "in +(-(1) 2)"),
-        ("-a^b.", "pre -(in ^(a b))"),
-        ("2^3^4.", "in ^(2 in ^(3 4))"),
-        ("2**3.", "in **(2 3)"),
-        ("a:b:c.", "in :(a in :(b c))"),
-        ("X is 1+2*3.", "in is(_ in +(1 in *(2 3)))"),
-        ("a*(b+c).", "in *(a (in +(b c)))"),
-        ("= = = .", "in =(= =)"),
-        ("\\+ = \\+ .", "in =(\\+ \\+)"),
-        ("a '=' b.", "in =(a b)"),
-        ("p:- \\+q,r.", "in :-(p in ,(pre \\+(q) r))"),
-        ("p:-q,r,s.", "in :-(p in ,(q in ,(r s)))"),
-        ("p(X):-q(X),r.", "in :-(p(_) in ,(q(_) r))"),
-    ];
-    for (text, wanted) in rows {
-        expect_read(&rt, alloc, &table, text, wanted)?;
-    }
-    Ok(())
+    let table = opening(alloc)?;
+    expect_rows(&rt, alloc, &table, INFIX_TERMS)
 }
+
+/// Clauses, and what they read as.
+const SET_OPERATORS: &str = "\
+a once_more. => post once_more(a)
+a again again. => post again(post again(a))
+a + b again. => in +(a post again(b))
+a again + b. => in +(post again(a) b)
+- once_more. => pre -(once_more)
+f(again). => f(again)
+a * b again = c. => in =(in *(a post again(b)) c)";
 
 #[test]
 fn reads_operators_that_are_set(rt: HostRuntime) -> Result<(), Fail> {
     let alloc = rt.alloc();
-    let mut table = OpTable::opening(alloc)?;
-    table.set(alloc, "once_more", OpKind::Xf, 300)?;
-    table.set(alloc, "again", OpKind::Yf, 300)?;
-    table.set(alloc, "dynamic", OpKind::Fx, 0)?;
-    let rows = [
-        ("a once_more.", "post once_more(a)"),
-        ("a again again.", "post again(post again(a))"),
-        ("a + b again.", "in +(a post again(b))"),
-        ("a again + b.", "in +(post again(a) b)"),
-        ("- once_more.", "pre -(once_more)"),
-        ("f(again).", "f(again)"),
-        ("a * b again = c.", "in =(in *(a post again(b)) c)"),
-    ];
-    for (text, wanted) in rows {
-        expect_read(&rt, alloc, &table, text, wanted)?;
-    }
+    let mut table = opening(alloc)?;
+    set(alloc, &mut table, "once_more", OpKind::Xf, 300)?;
+    set(alloc, &mut table, "again", OpKind::Yf, 300)?;
+    set(alloc, &mut table, "dynamic", OpKind::Fx, 0)?;
+    expect_rows(&rt, alloc, &table, SET_OPERATORS)?;
     expect_fault(
         &rt,
         alloc,
@@ -369,36 +394,35 @@ fn reads_operators_that_are_set(rt: HostRuntime) -> Result<(), Fail> {
     expect_fault(&rt, alloc, &table, "dynamic a.", ReadFault::Stuck(8))
 }
 
+/// Tokens, and where no clause goes on with them.
+const REFUSED_CLAUSES: &str = "\
+). => 0
+. => 0
+a b. => 2
+f(. => 2
+f(). => 2
+f(a,). => 4
+f(a. => 3
+f (a). => 2
+f(a;b). => 3
+[a|]. => 3
+[a|b|c]. => 4
+[a|b,c]. => 4
+{a]. => 2
+(a]. => 2
+[](a). => 2
+a=b=c. => 3
+a ',' b. => 2
+:- :- a. => 6
+f(:- --> b). => 5
+- = . => 4
+- = ). => 4";
+
 #[test]
 fn finds_where_no_clause_goes_on(rt: HostRuntime) -> Result<(), Fail> {
     let alloc = rt.alloc();
-    let table = OpTable::opening(alloc)?;
-    let rows = [
-        (").", 0),
-        (".", 0),
-        ("a b.", 2),
-        ("f(.", 2),
-        ("f().", 2),
-        ("f(a,).", 4),
-        ("f(a.", 3),
-        ("f (a).", 2),
-        ("f(a;b).", 3),
-        ("[a|].", 3),
-        ("[a|b|c].", 4),
-        ("[a|b,c].", 4),
-        ("{a].", 2),
-        ("(a].", 2),
-        ("[](a).", 2),
-        ("a=b=c.", 3),
-        ("a ',' b.", 2),
-        (":- :- a.", 6),
-        ("f(:- --> b).", 5),
-        ("- = .", 4),
-        ("- = ).", 4),
-    ];
-    for (text, at) in rows {
-        expect_fault(&rt, alloc, &table, text, ReadFault::Stuck(at))?;
-    }
+    let table = opening(alloc)?;
+    expect_refused(&rt, alloc, &table, REFUSED_CLAUSES)?;
     expect_fault(&rt, alloc, &table, "a", ReadFault::NoEnd(1))?;
     expect_fault(&rt, alloc, &table, "f(a ", ReadFault::NoEnd(4))?;
     expect_fault(&rt, alloc, &table, "- =", ReadFault::NoEnd(3))
@@ -455,7 +479,7 @@ fn expect_parts(
 #[test]
 fn reads_terms_1000_deep_and_no_deeper(rt: HostRuntime) -> Result<(), Fail> {
     let alloc = rt.alloc();
-    let table = OpTable::opening(alloc)?;
+    let table = opening(alloc)?;
     for (open, close, parts, found) in [
         ("(", ")", 0, 999),
         ("f(", ")", 1, 1999),
@@ -473,7 +497,7 @@ fn reads_terms_1000_deep_and_no_deeper(rt: HostRuntime) -> Result<(), Fail> {
 #[test]
 fn reads_long_lists_and_argument_lists(rt: HostRuntime) -> Result<(), Fail> {
     let alloc = rt.alloc();
-    let table = OpTable::opening(alloc)?;
+    let table = opening(alloc)?;
     let list = repeated(alloc, "[a", ",b", 999999, "].")?;
     expect_parts(&rt, alloc, &table, &list, 1000000)?;
     let call = repeated(alloc, "p(a", ",B", 4194000, ").")?;

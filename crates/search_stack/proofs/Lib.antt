@@ -12,3 +12,4 @@ pub mod FieldLaws
 pub mod UnderWay
 pub mod Released
 pub mod Driving
+pub mod Examples

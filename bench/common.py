@@ -1,0 +1,53 @@
+"""What the benchmarks share: generated texts, the built programs and their runs."""
+
+import argparse
+import contextlib
+import pathlib
+import subprocess
+import sys
+import tempfile
+
+ROOT = pathlib.Path(__file__).resolve().parent.parent
+MOST_BYTES = 8_388_608
+RUNS = 5
+
+
+def filled(part):
+    """The parts 0, 1, .. one after another, as many as fit into a text."""
+    parts, size, number = [], 0, 0
+    while size + len(text := part(number)) <= MOST_BYTES:
+        parts.append(text)
+        size += len(text)
+        number += 1
+    return "".join(parts)
+
+
+def built(crate, *words):
+    """The program of a crate, which is proved and built first where it isn't there; the words are a lawful run."""
+    program = ROOT / "crates" / crate / "out" / crate
+    if not program.exists():
+        subprocess.run(["rt", "run", "--", *words], cwd=program.parent.parent, check=True, stdout=sys.stderr)
+    return program
+
+
+def runs(*words):
+    """What each of the runs of a command wrote: the words on its output, and those on its errors."""
+    for _ in range(RUNS):
+        run = subprocess.run(words, capture_output=True, text=True, check=True)
+        yield run.stdout.split(), run.stderr.split()
+
+
+def best(*words):
+    """The least time in milliseconds of a program that writes it to its errors in microseconds, and the number that it writes."""
+    found = [(int(err[0]) / 1000, int(out[0])) for out, err in runs(*words)]
+    return min(found)[0], found[-1][1]
+
+
+@contextlib.contextmanager
+def folders(description):
+    """A folder that goes, and the one for texts, which is the same but for `--keep FOLDER`."""
+    parser = argparse.ArgumentParser(description=description)
+    parser.add_argument("--keep", metavar="FOLDER", type=pathlib.Path)
+    keep = parser.parse_args().keep
+    with tempfile.TemporaryDirectory() as name:
+        yield pathlib.Path(name), keep or pathlib.Path(name)
