@@ -1,5 +1,6 @@
--- Operator items of some clauses, and what they do.
-use Rattle.std.proofs.Common.{◌≡◌, ℕ, ◌+◌, List, [], ◌∷◌, Some, Err, false, refl, codes}
+-- Operator items of some clauses and what they do, and where terms start.
+use Rattle.std.proofs.Common.{◌≡◌, ℕ, ◌+◌, List, [], ◌∷◌, Some, Err, false, refl, codes, arith}
+use Rattle.std.proofs.lemmas.Str.{IsUtf8-nil}
 use Rattle.prolog_ops.specs.Table.{opening}
 use Rattle.prolog_terms.specs.declared.term.Span.{Span}
 use Rattle.prolog_terms.specs.declared.term.Form.TheVariants.{Functional, Prefix, Infix as between}
@@ -8,6 +9,7 @@ use Rattle.prolog_terms.specs.Tree.{Tree, variable, constant, atom, compound, li
 use Rattle.clause_text.specs.declared.cause.Cause.TheVariants.{BadPriority, BadKind, BadName, FixedOp, InfixAndPostfix}
 use Rattle.clause_text.specs.declared.fault.TextFault.TheVariants.{At}
 use Rattle.clause_text.specs.Items.{Item, items_of, item_on}
+use Rattle.clause_text.specs.Offsets.{HasOffsets}
 
 abbrev at : ℕ → Span
 at from = record { from = from; to = from + 1 }
@@ -59,3 +61,16 @@ law_8 = refl
 
 law_9 : item_on (one_item (number 700 6) (word (codes "xf") 11) (word (codes "is") 15)) opening ≡ Err (At InfixAndPostfix 15)
 law_9 = refl
+
+-- a term that starts in the text, and some that start or have a part behind its end
+starts_first : HasOffsets (codes "p") (word (codes "p") 0)
+starts_first = record { within = omega arith; utf8 = IsUtf8-nil }
+
+part_at_the_start : HasOffsets (codes "p") (paren (word (codes "p") 0) (at 0))
+part_at_the_start = (record { within = omega arith; utf8 = IsUtf8-nil }, record { within = omega arith; utf8 = IsUtf8-nil })
+
+starts_behind : HasOffsets (codes "p") (word (codes "p") 2) → ⊥
+starts_behind starts = omega (arith, starts.within)
+
+part_behind : HasOffsets (codes "p") (paren (word (codes "p") 2) (at 0)) → ⊥
+part_behind starts = omega (arith, starts.1.within)

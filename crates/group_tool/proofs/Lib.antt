@@ -2,6 +2,10 @@ pub mod AnswerLemmas
 pub mod CallGraphLemmas
 pub mod TermLemmas
 pub mod SpelledLemmas
+pub mod Examples
+mod QuotedNames
+mod BareSpells
+mod ReadBack
 pub mod GroupingLemmas
 pub mod IndicatorOrder
 pub mod NumberingLemmas

@@ -17,3 +17,4 @@ pub mod OutcomeEnd
 pub mod Terms
 pub mod Built
 pub mod Spelled
+pub mod ReadBack

@@ -37,7 +37,7 @@ mod terms;
 mod words;
 
 pub use gate::{Gate, OpenGate};
-pub use laws::{one_answer, one_report};
+pub use laws::{names_differ, names_read_back, one_answer, one_report};
 pub use memory_sink::MemorySink;
 pub use run::run_groups;
 pub use sink::{Flushed, Put, Sink};

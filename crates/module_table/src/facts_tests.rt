@@ -274,7 +274,7 @@ fn files_are_loaded(rt: HostRuntime) -> Result<(), Fail> {
 }
 
 #[test]
-fn directives_say_what_they_say(rt: HostRuntime) -> Result<(), Fail> {
+fn declarations_say_what_they_say(rt: HostRuntime) -> Result<(), Fail> {
     let alloc = rt.alloc();
     let rows = [
         (":- op(700, xfx, ===).", ""),
@@ -315,6 +315,18 @@ fn directives_say_what_they_say(rt: HostRuntime) -> Result<(), Fail> {
         (":- public p/1.", ""),
         (":- table p/1.", ""),
         (":- set_prolog_flag(a, b).", ""),
+    ];
+    for (text, wanted) in rows {
+        let found = told(alloc, text)?;
+        assert_eq!(rt; found.as_str(), wanted);
+    }
+    Ok(())
+}
+
+#[test]
+fn other_directives_are_refused_or_goals(rt: HostRuntime) -> Result<(), Fail> {
+    let alloc = rt.alloc();
+    let rows = [
         (":- if(a).", "directive is outside this profile at 3"),
         (":- elif(a).", "directive is outside this profile at 3"),
         (":- else.", "directive is outside this profile at 3"),

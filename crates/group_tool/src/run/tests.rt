@@ -5,6 +5,7 @@ use crate::sink::{Flushed, Put, Sink};
 use file_library::MemoryLibrary;
 use std::alloc::AllocError;
 use std::collections::BTreeMap;
+use std::process::Abort;
 use std::test::Fail;
 
 /// A library with one file.
@@ -28,298 +29,259 @@ fn shown(sink: &MemorySink) -> &str {
     }
 }
 
+/// Runs on the file `f.pl` with this text, and compares the status and what both sinks have taken.
+fn expect_run<R: Threads + Wait + Sync + Abort>(
+    rt: &R,
+    alloc: Global,
+    text: &str,
+    status: u8,
+    on_out: &str,
+    on_err: &str,
+) -> Result<(), Fail> {
+    let words = one_word(alloc, "f.pl")?;
+    let mut library = one_file(alloc, "f.pl", text)?;
+    let mut out = MemorySink::with_room(alloc, 1000)?;
+    let mut err = MemorySink::with_room(alloc, 1000)?;
+    let result = run_groups(
+        rt,
+        alloc,
+        &words,
+        &mut library,
+        &mut out,
+        &mut err,
+        &OpenGate,
+    );
+    assert_eq!(rt; result, status, "at {text}");
+    assert_eq!(rt; shown(&out), on_out, "at {text}");
+    assert_eq!(rt; shown(&err), on_err, "at {text}");
+    assert_eq!(rt; library.asked().len(), 1);
+    Ok(())
+}
+
+/// Texts, and their reports.
+static ANSWERED: [(&str, &str); 14] = [
+    ("", "predicates 0 groups 0 recursive 0 levels 0\n"),
+    (
+        "p :- p.\n",
+        "predicates 1 groups 1 recursive 1 levels 1\n0 recursive user:p/0\n",
+    ),
+    (
+        "a :- b, c.\nb :- a.\nc.\n",
+        "predicates 3 groups 2 recursive 1 levels 2\n0 plain user:c/0\n1 recursive user:a/0 user:b/0\n",
+    ),
+    (
+        "p :- q, r.\nq :- r.\nr.",
+        "predicates 3 groups 3 recursive 0 levels 3\n0 plain user:r/0\n1 plain user:q/0\n2 plain user:p/0\n",
+    ),
+    (
+        "p(X) :- q(X), r.\nq(X) :- p(X).\nr.\n",
+        "predicates 3 groups 2 recursive 1 levels 2\n0 plain user:r/0\n1 recursive user:p/1 user:q/1\n",
+    ),
+    (
+        "p :- p(f(a, B)), X, q.\np(_).",
+        "predicates 2 groups 2 recursive 0 levels 2\n0 plain user:p/1\n1 plain user:p/0\n",
+    ),
+    (
+        "p :- call, !, [], {}.\n'p'.\n",
+        "predicates 1 groups 1 recursive 0 levels 1\n0 plain user:p/0\n",
+    ),
+    (
+        "p(is).\n",
+        "predicates 1 groups 1 recursive 0 levels 1\n0 plain user:p/1\n",
+    ),
+    (
+        "\u{FEFF}#!x\n% h\nété(X):-\u{A0}Ñu,/* . */été(X).%",
+        "predicates 1 groups 1 recursive 1 levels 1\n0 recursive user:été/1\n",
+    ),
+    (
+        "((p :- (q, (r)), X)).\nq :- (p).\n(r).\n",
+        "predicates 3 groups 2 recursive 1 levels 2\n0 plain user:r/0\n1 recursive user:p/0 user:q/0\n",
+    ),
+    (
+        "':-'(p, ','(q, p)).\nq.\n",
+        "predicates 2 groups 2 recursive 1 levels 2\n0 plain user:q/0\n1 recursive user:p/0\n",
+    ),
+    (
+        "p :- q((r ; s), [call(p)|{p}]), findall(p, p), not, forall(p), maplist(p), catch(p, p).",
+        "predicates 1 groups 1 recursive 0 levels 1\n0 plain user:p/0\n",
+    ),
+    (
+        "- a + b.\n- 1.\n- = x.\nX is 1 - 1 - 1.\nf(+, -).\nX = [1, 2|T].\n",
+        "predicates 5 groups 5 recursive 0 levels 1\n0 plain user:+/2\n0 plain user:-/1\n0 plain user:=/2\n0 plain user:f/2\n0 plain user:is/2\n",
+    ),
+    (
+        "été(X) :- Ñu = X.\n'hello world'.\n'it''s'.\n",
+        "predicates 3 groups 3 recursive 0 levels 1\n0 plain user:'hello world'/0\n0 plain user:'it\\'s'/0\n0 plain user:été/1\n",
+    ),
+];
+
 #[test]
 fn answers_texts(rt: HostRuntime) -> Result<(), Fail> {
-    let rows = [
-        ("", 0, "predicates 0 groups 0 recursive 0 levels 0\n", ""),
-        (
-            "p :- p.\n",
-            0,
-            "predicates 1 groups 1 recursive 1 levels 1\n0 recursive user:p/0\n",
-            "",
-        ),
-        (
-            "a :- b, c.\nb :- a.\nc.\n",
-            0,
-            "predicates 3 groups 2 recursive 1 levels 2\n0 plain user:c/0\n1 recursive user:a/0 user:b/0\n",
-            "",
-        ),
-        (
-            "p :- q, r.\nq :- r.\nr.",
-            0,
-            "predicates 3 groups 3 recursive 0 levels 3\n0 plain user:r/0\n1 plain user:q/0\n2 plain user:p/0\n",
-            "",
-        ),
-        (
-            "p(X) :- q(X), r.\nq(X) :- p(X).\nr.\n",
-            0,
-            "predicates 3 groups 2 recursive 1 levels 2\n0 plain user:r/0\n1 recursive user:p/1 user:q/1\n",
-            "",
-        ),
-        (
-            "p :- p(f(a, B)), X, q.\np(_).",
-            0,
-            "predicates 2 groups 2 recursive 0 levels 2\n0 plain user:p/1\n1 plain user:p/0\n",
-            "",
-        ),
-        (
-            "p :- call, !, [], {}.\n'p'.\n",
-            0,
-            "predicates 1 groups 1 recursive 0 levels 1\n0 plain user:p/0\n",
-            "",
-        ),
-        (
-            "p(is).\n",
-            0,
-            "predicates 1 groups 1 recursive 0 levels 1\n0 plain user:p/1\n",
-            "",
-        ),
-        (
-            "\u{FEFF}#!x\n% h\nété(X):-\u{A0}Ñu,/* . */été(X).%",
-            0,
-            "predicates 1 groups 1 recursive 1 levels 1\n0 recursive user:été/1\n",
-            "",
-        ),
-        (
-            "((p :- (q, (r)), X)).\nq :- (p).\n(r).\n",
-            0,
-            "predicates 3 groups 2 recursive 1 levels 2\n0 plain user:r/0\n1 recursive user:p/0 user:q/0\n",
-            "",
-        ),
-        (
-            "':-'(p, ','(q, p)).\nq.\n",
-            0,
-            "predicates 2 groups 2 recursive 1 levels 2\n0 plain user:q/0\n1 recursive user:p/0\n",
-            "",
-        ),
-        (
-            "p :- q((r ; s), [call(p)|{p}]), findall(p, p), not, forall(p), maplist(p), catch(p, p).",
-            0,
-            "predicates 1 groups 1 recursive 0 levels 1\n0 plain user:p/0\n",
-            "",
-        ),
-        (
-            "- a + b.\n- 1.\n- = x.\nX is 1 - 1 - 1.\nf(+, -).\nX = [1, 2|T].\n",
-            0,
-            "predicates 5 groups 5 recursive 0 levels 1\n0 plain user:+/2\n0 plain user:-/1\n0 plain user:=/2\n0 plain user:f/2\n0 plain user:is/2\n",
-            "",
-        ),
-        (
-            "été(X) :- Ñu = X.\n'hello world'.\n'it''s'.\n",
-            0,
-            "predicates 3 groups 3 recursive 0 levels 1\n0 plain user:'hello world'/0\n0 plain user:'it\\'s'/0\n0 plain user:été/1\n",
-            "",
-        ),
-        (
-            ":- module(ev, [even/1]).\neven(0).\neven(N) :- N > 0, M is N - 1, odd(M).\nodd(N) :- N > 0, M is N - 1, even(M).\n",
-            0,
-            "predicates 2 groups 1 recursive 1 levels 1\n0 recursive ev:even/1 ev:odd/1\n",
-            "",
-        ),
-        (
-            ":- module(a, [p/0]).\np :- q, r.\nq :- r.\nr.\n",
-            0,
-            "predicates 3 groups 3 recursive 0 levels 3\n0 plain a:r/0\n1 plain a:q/0\n2 plain a:p/0\n",
-            "",
-        ),
-        (
-            ":- module('M x', [q/0, q/0, p/0]).\np :- q.\nq :- p.\nr :- p.\n",
-            0,
-            "predicates 2 groups 1 recursive 1 levels 1\n0 recursive 'M x':p/0 'M x':q/0\n",
-            "",
-        ),
-        (
-            ":- module(m, []).\np.\n",
-            0,
-            "predicates 0 groups 0 recursive 0 levels 0\n",
-            "",
-        ),
-        (
-            ":- op(700, xfx, ===).\np :- a === b.\n",
-            0,
-            "predicates 1 groups 1 recursive 0 levels 1\n0 plain user:p/0\n",
-            "",
-        ),
-        (
-            ":- use_module(library(lists)).\np.\n",
-            0,
-            "predicates 1 groups 1 recursive 0 levels 1\n0 plain user:p/0\n",
-            "",
-        ),
-        (
-            ":- dynamic d/1.\np :- d(1).\n",
-            0,
-            "predicates 2 groups 2 recursive 0 levels 2\n0 plain user:d/1\n1 plain user:p/0\n",
-            "",
-        ),
-    ];
-    for (text, status, on_out, on_err) in rows {
-        let alloc = rt.alloc();
-        let words = one_word(alloc, "f.pl")?;
-        let mut library = one_file(alloc, "f.pl", text)?;
-        let mut out = MemorySink::with_room(alloc, 1000)?;
-        let mut err = MemorySink::with_room(alloc, 1000)?;
-        let result = run_groups(
-            &rt,
-            alloc,
-            &words,
-            &mut library,
-            &mut out,
-            &mut err,
-            &OpenGate,
-        );
-        assert_eq!(rt; result, status, "at {text}");
-        assert_eq!(rt; shown(&out), on_out, "at {text}");
-        assert_eq!(rt; shown(&err), on_err, "at {text}");
-        assert_eq!(rt; library.asked().len(), 1);
+    for (text, report) in &ANSWERED {
+        expect_run(&rt, rt.alloc(), text, 0, report, "")?;
     }
     Ok(())
 }
+
+/// Texts with directives, and their reports.
+static WITH_DIRECTIVES: [(&str, &str); 7] = [
+    (
+        ":- module(ev, [even/1]).\neven(0).\neven(N) :- N > 0, M is N - 1, odd(M).\nodd(N) :- N > 0, M is N - 1, even(M).\n",
+        "predicates 2 groups 1 recursive 1 levels 1\n0 recursive ev:even/1 ev:odd/1\n",
+    ),
+    (
+        ":- module(a, [p/0]).\np :- q, r.\nq :- r.\nr.\n",
+        "predicates 3 groups 3 recursive 0 levels 3\n0 plain a:r/0\n1 plain a:q/0\n2 plain a:p/0\n",
+    ),
+    (
+        ":- module('M x', [q/0, q/0, p/0]).\np :- q.\nq :- p.\nr :- p.\n",
+        "predicates 2 groups 1 recursive 1 levels 1\n0 recursive 'M x':p/0 'M x':q/0\n",
+    ),
+    (
+        ":- module(m, []).\np.\n",
+        "predicates 0 groups 0 recursive 0 levels 0\n",
+    ),
+    (
+        ":- op(700, xfx, ===).\np :- a === b.\n",
+        "predicates 1 groups 1 recursive 0 levels 1\n0 plain user:p/0\n",
+    ),
+    (
+        ":- use_module(library(lists)).\np.\n",
+        "predicates 1 groups 1 recursive 0 levels 1\n0 plain user:p/0\n",
+    ),
+    (
+        ":- dynamic d/1.\np :- d(1).\n",
+        "predicates 2 groups 2 recursive 0 levels 2\n0 plain user:d/1\n1 plain user:p/0\n",
+    ),
+];
+
+#[test]
+fn answers_texts_with_directives(rt: HostRuntime) -> Result<(), Fail> {
+    for (text, report) in &WITH_DIRECTIVES {
+        expect_run(&rt, rt.alloc(), text, 0, report, "")?;
+    }
+    Ok(())
+}
+
+/// Texts, and the lines of their faults.
+static FAULTY: [(&str, &str); 23] = [
+    ("/* open", "f.pl:1:1: comment is not closed\n"),
+    ("p('a", "f.pl:1:3: quoted item is not closed\n"),
+    ("p('\\q').", "f.pl:1:4: escape is not known\n"),
+    ("\u{1}p.", "f.pl:1:1: character cannot begin a token\n"),
+    (
+        "p.\nété. \u{2028}\u{1}",
+        "f.pl:2:7: character cannot begin a token\n",
+    ),
+    ("p :- 0'\\q, 'a", "f.pl:1:8: escape is not known\n"),
+    ("p :- 7.\n'a\\q", "f.pl:2:3: escape is not known\n"),
+    ("f(a b).\n'a", "f.pl:2:1: quoted item is not closed\n"),
+    ("p. #!x /", "f.pl:1:5: no clause goes on with this token\n"),
+    ("p (X).\n", "f.pl:1:3: no clause goes on with this token\n"),
+    (
+        "#! a script\n/* two\n * lines */ p(/**/) :- p (X). % no arguments\n",
+        "f.pl:3:19: no clause goes on with this token\n",
+    ),
+    (
+        "a ** b ** c.",
+        "f.pl:1:8: no clause goes on with this token\n",
+    ),
+    (
+        "p :- a === b.\n:- op(700, xfx, ===).\n",
+        "f.pl:1:8: no clause goes on with this token\n",
+    ),
+    ("p :- .", "f.pl:1:6: no clause goes on with this token\n"),
+    (
+        "7.\nété(a b).\n",
+        "f.pl:2:7: no clause goes on with this token\n",
+    ),
+    ("p :- q\n", "f.pl:2:1: clause has no end\n"),
+    ("p.\n7", "f.pl:2:2: clause has no end\n"),
+    (
+        "p.\n:- module(m, []).\n",
+        "f.pl:2:4: module directive is not the first clause\n",
+    ),
+    (
+        ":- op(1201, xfx, a).\n",
+        "f.pl:1:7: operator priority is not 0 to 1200\n",
+    ),
+    (
+        ":- dynamic p.\n",
+        "f.pl:1:12: predicate indicator is expected\n",
+    ),
+    ("p, q.", "f.pl:1:1: control construct cannot be defined\n"),
+    (
+        ":- include(x).\n",
+        "f.pl:1:4: directive is outside this profile\n",
+    ),
+    (
+        "p.\n7.\n",
+        "f.pl:2:1: clause head is not an atom or a compound term\n",
+    ),
+];
 
 #[test]
 fn tells_faults_with_their_places(rt: HostRuntime) -> Result<(), Fail> {
-    let rows = [
-        ("/* open", "f.pl:1:1: comment is not closed\n"),
-        ("p('a", "f.pl:1:3: quoted item is not closed\n"),
-        ("p('\\q').", "f.pl:1:4: escape is not known\n"),
-        ("\u{1}p.", "f.pl:1:1: character cannot begin a token\n"),
-        (
-            "p.\nété. \u{2028}\u{1}",
-            "f.pl:2:7: character cannot begin a token\n",
-        ),
-        ("p :- 0'\\q, 'a", "f.pl:1:8: escape is not known\n"),
-        ("p :- 7.\n'a\\q", "f.pl:2:3: escape is not known\n"),
-        ("f(a b).\n'a", "f.pl:2:1: quoted item is not closed\n"),
-        ("p. #!x /", "f.pl:1:5: no clause goes on with this token\n"),
-        ("p (X).\n", "f.pl:1:3: no clause goes on with this token\n"),
-        (
-            "#! a script\n/* two\n * lines */ p(/**/) :- p (X). % no arguments\n",
-            "f.pl:3:19: no clause goes on with this token\n",
-        ),
-        (
-            "a ** b ** c.",
-            "f.pl:1:8: no clause goes on with this token\n",
-        ),
-        (
-            "p :- a === b.\n:- op(700, xfx, ===).\n",
-            "f.pl:1:8: no clause goes on with this token\n",
-        ),
-        ("p :- .", "f.pl:1:6: no clause goes on with this token\n"),
-        (
-            "7.\nété(a b).\n",
-            "f.pl:2:7: no clause goes on with this token\n",
-        ),
-        ("p :- q\n", "f.pl:2:1: clause has no end\n"),
-        ("p.\n7", "f.pl:2:2: clause has no end\n"),
-        (
-            "p.\n:- module(m, []).\n",
-            "f.pl:2:4: module directive is not the first clause\n",
-        ),
-        (
-            ":- op(1201, xfx, a).\n",
-            "f.pl:1:7: operator priority is not 0 to 1200\n",
-        ),
-        (
-            ":- dynamic p.\n",
-            "f.pl:1:12: predicate indicator is expected\n",
-        ),
-        ("p, q.", "f.pl:1:1: control construct cannot be defined\n"),
-        (
-            ":- include(x).\n",
-            "f.pl:1:4: directive is outside this profile\n",
-        ),
-        (
-            "p.\n7.\n",
-            "f.pl:2:1: clause head is not an atom or a compound term\n",
-        ),
-    ];
-    for (text, wanted) in rows {
-        let alloc = rt.alloc();
-        let words = one_word(alloc, "f.pl")?;
-        let mut library = one_file(alloc, "f.pl", text)?;
-        let mut out = MemorySink::with_room(alloc, 1000)?;
-        let mut err = MemorySink::with_room(alloc, 1000)?;
-        let result = run_groups(
-            &rt,
-            alloc,
-            &words,
-            &mut library,
-            &mut out,
-            &mut err,
-            &OpenGate,
-        );
-        assert_eq!(rt; result, 3, "at {text}");
-        assert_eq!(rt; shown(&err), wanted, "at {text}");
-        assert_eq!(rt; out.taken().len(), 0);
+    for (text, line) in &FAULTY {
+        expect_run(&rt, rt.alloc(), text, 3, "", line)?;
     }
     Ok(())
 }
 
+/// Texts outside the built form.
+static OUTSIDE: [&str; 39] = [
+    ":- use_module(b).",
+    ":- [b].",
+    ":- foo.",
+    "?- p.",
+    "(:- p).",
+    "(a --> b).",
+    ":- module(m, [p/0]).",
+    ":- module(m, [p/0, q/1]).\np.\nq(X, Y).",
+    "a --> b.",
+    "p :- 7.",
+    "p :- (3).",
+    "p :- \"s\".",
+    "p :- q, (r, [a]).",
+    "p :- {a}.",
+    "p :- m:q.",
+    "p :- a, b ; c.",
+    "p :- (q | r).",
+    "p :- (q -> r).",
+    "p :- \\+ q.",
+    "p :- \\+ (a, b).",
+    "p :- call(q).",
+    "p :- call(q, 1, 2, 3).",
+    "p :- once(q).",
+    "p :- ignore(q).",
+    "p :- not(q).",
+    "p :- initialization(q).",
+    "p :- initialization q.",
+    "p :- initialization(q, main).",
+    "p :- findall(X, q, L).",
+    "p :- findall(X, q, L, M).",
+    "p :- bagof(X, q, L).",
+    "p :- setof(X, q, L).",
+    "p :- forall(q, r).",
+    "p :- catch(q, X, r).",
+    "p :- maplist(q, L).",
+    "p :- maplist(q, L, M, N).",
+    "p :- phrase(q, L).",
+    "p :- phrase(q, L, M).",
+    "p.\nq :- p.\nr :- s, ((call(q))).",
+];
+
 #[test]
 fn refuses_forms_that_are_not_built(rt: HostRuntime) -> Result<(), Fail> {
-    let texts = [
-        ":- use_module(b).",
-        ":- [b].",
-        ":- foo.",
-        "?- p.",
-        "(:- p).",
-        "(a --> b).",
-        ":- module(m, [p/0]).",
-        ":- module(m, [p/0, q/1]).\np.\nq(X, Y).",
-        "a --> b.",
-        "p :- 7.",
-        "p :- (3).",
-        "p :- \"s\".",
-        "p :- q, (r, [a]).",
-        "p :- {a}.",
-        "p :- m:q.",
-        "p :- a, b ; c.",
-        "p :- (q | r).",
-        "p :- (q -> r).",
-        "p :- \\+ q.",
-        "p :- \\+ (a, b).",
-        "p :- call(q).",
-        "p :- call(q, 1, 2, 3).",
-        "p :- once(q).",
-        "p :- ignore(q).",
-        "p :- not(q).",
-        "p :- initialization(q).",
-        "p :- initialization q.",
-        "p :- initialization(q, main).",
-        "p :- findall(X, q, L).",
-        "p :- findall(X, q, L, M).",
-        "p :- bagof(X, q, L).",
-        "p :- setof(X, q, L).",
-        "p :- forall(q, r).",
-        "p :- catch(q, X, r).",
-        "p :- maplist(q, L).",
-        "p :- maplist(q, L, M, N).",
-        "p :- phrase(q, L).",
-        "p :- phrase(q, L, M).",
-        "p.\nq :- p.\nr :- s, ((call(q))).",
-    ];
-    for text in texts {
-        let alloc = rt.alloc();
-        let words = one_word(alloc, "f.pl")?;
-        let mut library = one_file(alloc, "f.pl", text)?;
-        let mut out = MemorySink::with_room(alloc, 1000)?;
-        let mut err = MemorySink::with_room(alloc, 1000)?;
-        let result = run_groups(
+    for text in &OUTSIDE {
+        expect_run(
             &rt,
-            alloc,
-            &words,
-            &mut library,
-            &mut out,
-            &mut err,
-            &OpenGate,
-        );
-        assert_eq!(rt; result, 3, "at {text}");
-        assert_eq!(rt;
-            shown(&err),
+            rt.alloc(),
+            text,
+            3,
+            "",
             "f.pl: text is outside the built form\n",
-            "at {text}"
-        );
-        assert_eq!(rt; out.taken().len(), 0);
+        )?;
     }
     Ok(())
 }
