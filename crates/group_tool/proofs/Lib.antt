@@ -1,4 +1,5 @@
 pub mod AnswerLemmas
+pub mod Asked
 pub mod CallGraphLemmas
 pub mod TermLemmas
 pub mod SpelledLemmas

@@ -5,12 +5,10 @@ use Rattle.std.specs.Str.{bytes_eq}
 use Rattle.prolog_terms.specs.Tree.{Tree, variable, constant, atom, compound, listed, tailed, curly, paren, count}
 use Rattle.clause_text.specs.Terms.{sides_of, goals_in}
 use Rattle.module_table.specs.Defined.{Predicate}
+use Rattle.module_table.specs.Heads.{is_among}
 use Rattle.module_table.specs.Facts.{Facts}
 use Rattle.group_tool.specs.declared.indicator.Indicator.{Indicator}
 use Rattle.group_tool.specs.RuleOf.{predicates_of, roots_of}
-
-abbrev pub is_among : List (List ℕ) → List ℕ → Bool
-is_among names name = list_any (λ word. bytes_eq word name) names
 
 -- the names of so many arguments, some of which are goals
 abbrev pub calling_names : ℕ → List (List ℕ)

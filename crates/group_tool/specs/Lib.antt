@@ -18,3 +18,4 @@ pub mod Terms
 pub mod Built
 pub mod Spelled
 pub mod ReadBack
+pub mod StreamSink

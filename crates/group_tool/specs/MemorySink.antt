@@ -1,8 +1,11 @@
 -- Sinks in memory.
-use Rattle.std.specs.Prelude.{◌≡◌, ℕ, ◌≤◌, [], true, length}
+use Rattle.std.specs.Prelude.{◌≡◌, ℕ, ◌-◌, ◌<◌, ◌≤◌, List, [], true, length, min}
+use Rattle.file_library.specs.Counts.{one_more}
 use Rattle.group_tool.specs.declared.memory_sink.MemorySink.{MemorySink}
 use Rattle.group_tool.specs.declared.sink.Put.{Put}
-use Rattle.group_tool.specs.declared.sink.Put.TheVariants.{Failed}
+use Rattle.group_tool.specs.declared.sink.Put.TheVariants.{Took, Failed}
+use Rattle.group_tool.specs.declared.sink.Flushed.{Flushed}
+use Rattle.group_tool.specs.declared.sink.Flushed.TheVariants.{Done}
 
 -- it has taken nothing, and has room for so many bytes
 pub record IsNewSink (room : ℕ) (sink : MemorySink) : Type 0 where
@@ -11,8 +14,14 @@ pub record IsNewSink (room : ℕ) (sink : MemorySink) : Type 0 where
   pub no_faults : sink.faults ≡ 0
   pub is_settled : sink.settled ≡ true
 
--- a put fails just where no room is left
-pub record FailsWhenFull (old new : MemorySink) (answer : Put) : Type 0 where
+-- a put takes as many of the bytes as there is room for; just where there is none it fails, and that is counted
+pub record PutsWithin (bytes : List ℕ) (old new : MemorySink) (answer : Put) : Type 0 where
   pub same_room : new.room ≡ old.room
-  pub full : answer ≡ Failed → old.room ≤ length old.bytes.items
-  pub fails : old.room ≤ length old.bytes.items → answer ≡ Failed
+  pub took : length old.bytes.items < old.room → (answer ≡ Took (min (length bytes) (old.room - length old.bytes.items))) × (new.faults ≡ old.faults)
+  pub full : old.room ≤ length old.bytes.items → (answer ≡ Failed) × (new.faults ≡ one_more old.faults)
+
+-- a flush never fails, and leaves the room and the count
+pub record IsFlushed (old new : MemorySink) (answer : Flushed) : Type 0 where
+  pub done : answer ≡ Done
+  pub same_room : new.room ≡ old.room
+  pub same_faults : new.faults ≡ old.faults

@@ -1,5 +1,5 @@
 -- What an outcome says, and why.
-use Rattle.std.specs.Prelude.{ℕ, List, Option, string_bytes}
+use Rattle.std.specs.Prelude.{◌≡◌, ℕ, ◌⊎◌, List, [], ◌∷◌, ◌++◌, Option, string_bytes}
 use Rattle.file_library.specs.Library.{Files}
 use Rattle.group_tool.specs.declared.outcome.Outcome.{Outcome}
 use Rattle.group_tool.specs.declared.outcome.Outcome.TheVariants.{Usage, Faults, Unread, Report, NoMemory}
@@ -14,3 +14,7 @@ end_of NoMemory = no_memory
 
 abbrev pub OutcomeIs : List (List ℕ) → Option Files → List (List ℕ) → ℕ → ℕ → ℕ → ℕ → Outcome → Type 0
 OutcomeIs words told asked' faults_before faults_after misses misses' outcome = EndIs words told asked' faults_before faults_after misses misses' (end_of outcome)
+
+-- the library was asked for the file of that name, once; or, where memory was wanting, for nothing
+abbrev pub IsAskedBy : List ℕ → List (List ℕ) → List (List ℕ) → Outcome → Type 0
+IsAskedBy name asked asked' outcome = (asked' ≡ asked ++ name ∷ []) ⊎ ((asked' ≡ asked) × (outcome ≡ NoMemory))

@@ -1,5 +1,5 @@
 -- How a run ends: what its status says, and what its sinks have taken.
-use Rattle.std.specs.Prelude.{◌≡◌, ◌≢◌, ℕ, ◌⊎◌, List, Option, Bool, true}
+use Rattle.std.specs.Prelude.{◌≡◌, ◌≢◌, ℕ, ◌⊎◌, List, [], ◌∷◌, ◌++◌, Option, Bool, true}
 use Rattle.file_library.specs.Library.{Files}
 use Rattle.group_tool.specs.Words.{IsLawful}
 use Rattle.group_tool.specs.Answer.{Answer, IsAnswer, status_of, out_of, err_of, usage_line, memory_line}
@@ -123,6 +123,10 @@ pub record IsCutOff (words : List (List ℕ)) (told : Option Files) (asked' : Li
   pub end : End
   pub cause : EndIs words told asked' f f' m m' end
   pub cut : CutBy out err end
+
+-- the library was asked for the file of that name, once; or, where memory was wanting, for nothing
+abbrev pub IsAskedFor : List ℕ → List (List ℕ) → List (List ℕ) → ℕ → Type 0
+IsAskedFor name asked asked' result = (asked' ≡ asked ++ name ∷ []) ⊎ ((asked' ≡ asked) × ((result ≡ 5) ⊎ (result ≡ 7)))
 
 -- the sink of the run's bytes is settled
 abbrev pub IsSettled : ℕ → Bool → Bool → Type 0

@@ -1,9 +1,11 @@
-ghost use Rattle.std.specs.Prelude.{◌≡◌, ◌++◌, IfOk, IfErr};
+ghost use Rattle.std.specs.Prelude.{◌≡◌, ◌++◌, ℕ, List, IfOk, IfErr};
 ghost use Rattle.std.specs.String.{string_bytes};
 ghost use Rattle.group_tool.specs.Answer.{ReportsText};
 ghost use Rattle.group_tool.specs.FileFault.{IsRefused};
 ghost use Rattle.group_tool.specs.Outcome.{TextOutcomeIs};
-ghost use Rattle.group_tool.specs.OutcomeEnd.{OutcomeIs};
+ghost use Rattle.group_tool.specs.OutcomeEnd.{OutcomeIs, IsAskedBy};
+ghost use Rattle.group_tool.specs.Run.{HasNoName};
+ghost use Rattle.group_tool.specs.Words.{IsLawful};
 
 use crate::fault_line::fault_line;
 use crate::file_fault::FileFault;
@@ -67,7 +69,9 @@ fn answer_text(alloc: Global, name: &str, text: &[u8]) -> Outcome
 
 /// What the words come out as over the library, which is asked for the file that they name.
 pub fn answer_words<L: Library>(alloc: Global, words: &[Text], library: &mut L) -> Outcome
-    ensures { OutcomeIs words.now (L.files library.old) (L.asked library.new) (L.faults library.old) (L.faults library.new) (L.misses library.old) (L.misses library.new) result }
+    ensures outcome { OutcomeIs words.now (L.files library.old) (L.asked library.new) (L.faults library.old) (L.faults library.new) (L.misses library.old) (L.misses library.new) result }
+    ensures asked { (name : List ℕ) → IsLawful words.now name → IsAskedBy name (L.asked library.old) (L.asked library.new) result }
+    ensures unasked { HasNoName words.now → L.asked library.new ≡ L.asked library.old }
 {
     let Some(name) = file_name(words) else {
         return Outcome::Usage;

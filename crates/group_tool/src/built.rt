@@ -4,7 +4,8 @@ ghost use Rattle.std.specs.Str.{bytes_eq};
 ghost use Rattle.prolog_terms.specs.Tree.{tree_of};
 ghost use Rattle.module_table.specs.Defined.{clause_tree, see_defined};
 ghost use Rattle.module_table.specs.Facts.{see_facts};
-ghost use Rattle.group_tool.specs.Built.{is_among, calling_names, takes_goals, is_plain_goal, is_plain_body, is_plain_clause, has_plain_clauses, is_plain_file};
+ghost use Rattle.module_table.specs.Heads.{is_among};
+ghost use Rattle.group_tool.specs.Built.{calling_names, takes_goals, is_plain_goal, is_plain_body, is_plain_clause, has_plain_clauses, is_plain_file};
 
 use clause_text::{Clause, sides};
 use module_table::{Defined, FileFacts};

@@ -45,7 +45,7 @@ impl MemorySink {
 
 impl Sink for MemorySink {
     ghost use Rattle.group_tool.specs.Sink.{PutIs, FlushIs};
-    ghost use Rattle.group_tool.specs.MemorySink.{FailsWhenFull};
+    ghost use Rattle.group_tool.specs.MemorySink.{PutsWithin, IsFlushed};
 
     ghost taken = { λ s. Some s.bytes.items };
 
@@ -58,7 +58,7 @@ impl Sink for MemorySink {
         requires most { length bytes.now ≤ 65536 }
         ensures put { PutIs bytes.now (Some self.old.bytes.items) (Some self.new.bytes.items) self.old.faults self.new.faults self.old.settled self.new.settled result }
         ensures faults_kept { self.old.faults ≤ self.new.faults }
-        ensures full { FailsWhenFull self.old self.new result }
+        ensures within { PutsWithin bytes.now self.old self.new result }
     {
         let left = self.room.saturating_sub(self.bytes.len());
         let count = bytes.len().min(left);
@@ -71,7 +71,11 @@ impl Sink for MemorySink {
         Put::Took(count as u32)
     }
 
-    fn flush(&mut self) -> Flushed {
+    fn flush(&mut self) -> Flushed
+        ensures flush { FlushIs (Some self.old.bytes.items) (Some self.new.bytes.items) self.old.faults self.new.faults self.old.settled self.new.settled result }
+        ensures faults_kept { self.old.faults ≤ self.new.faults }
+        ensures done { IsFlushed self.old self.new result }
+    {
         self.settled = true;
         Flushed::Done
     }

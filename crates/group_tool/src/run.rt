@@ -1,9 +1,10 @@
-ghost use Rattle.std.specs.Prelude.{◌≡◌, ◌≢◌, ◌⊎◌, Some};
+ghost use Rattle.std.specs.Prelude.{◌≡◌, ◌≢◌, ◌⊎◌, ℕ, List, Some};
 ghost use Rattle.file_library.specs.Counts.{Rose};
 ghost use Rattle.file_library.specs.Library.{Files};
 ghost use Rattle.group_tool.specs.Answer.{usage_line};
 ghost use Rattle.group_tool.specs.Sink.{more_taken};
-ghost use Rattle.group_tool.specs.Run.{IsRun, IsSettled, SaysAnswer, SaysNoMemory, SaidWith, HasNoName, HasReported, HasFaults, HasUnread, IsCutOff};
+ghost use Rattle.group_tool.specs.Words.{IsLawful};
+ghost use Rattle.group_tool.specs.Run.{IsRun, IsSettled, IsAskedFor, SaysAnswer, SaysNoMemory, SaidWith, HasNoName, HasReported, HasFaults, HasUnread, IsCutOff};
 
 use crate::answer::answer_words;
 use crate::gate::Gate;
@@ -39,10 +40,15 @@ fn run<L: Library, O: Sink, E: Sink>(
     out: &mut O,
     err: &mut E,
 ) -> u8
-    ensures { IsRun words.now (L.files library.old) (L.asked library.new) (L.faults library.old) (L.faults library.new) (L.misses library.old) (L.misses library.new)
+    ensures run { IsRun words.now (L.files library.old) (L.asked library.new) (L.faults library.old) (L.faults library.new) (L.misses library.old) (L.misses library.new)
         (record { taken = O.taken out.old; taken' = O.taken out.new; faults = O.faults out.old; faults' = O.faults out.new; settled' = O.settled out.new })
         (record { taken = E.taken err.old; taken' = E.taken err.new; faults = E.faults err.old; faults' = E.faults err.new; settled' = E.settled err.new })
         result }
+    ensures asked { (name : List ℕ) → IsLawful words.now name → IsAskedFor name (L.asked library.old) (L.asked library.new) result }
+    ensures unasked { HasNoName words.now → L.asked library.new ≡ L.asked library.old }
+    ensures err_left { result ≡ 0 → err.new ≡ err.old }
+    ensures out_left { result ≢ 0 → result ≢ 5 → out.new ≡ out.old }
+    ensures one_left { (out.new ≡ out.old) ⊎ (err.new ≡ err.old) }
 {
     match answer_words(alloc, words, library) {
         Outcome::Usage => say_with(err, USAGE, 2),
@@ -84,6 +90,15 @@ pub fn run_groups<R: Threads + Wait + Sync, L: Library, O: Sink, E: Sink, G: Gat
         (record { taken = E.taken err.old; taken' = E.taken err.new; faults = E.faults err.old; faults' = E.faults err.new; settled' = E.settled err.new }) }
     ensures no_memory { result ≡ 7 → SaysNoMemory (O.taken out.old) (E.taken err.old) (O.taken out.new) (E.taken err.new) result }
     ensures settled { result ≢ 5 → IsSettled result (O.settled out.new) (E.settled err.new) }
+
+    // The library is asked for the file of the words alone, and once; with wrong words for nothing.
+    ensures asked { (name : List ℕ) → IsLawful words.now name → IsAskedFor name (L.asked library.old) (L.asked library.new) result }
+    ensures unasked { HasNoName words.now → L.asked library.new ≡ L.asked library.old }
+
+    // The sink that the run's bytes don't go to is left as it was.
+    ensures err_left { result ≡ 0 → err.new ≡ err.old }
+    ensures out_left { result ≢ 0 → result ≢ 5 → out.new ≡ out.old }
+    ensures one_left { (out.new ≡ out.old) ⊎ (err.new ≡ err.old) }
 {
     run(alloc, words, library, out, err)
 }

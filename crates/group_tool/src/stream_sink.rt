@@ -1,4 +1,7 @@
-ghost use Rattle.std.specs.Prelude.{◌≡◌, true, None};
+ghost use Rattle.std.specs.Prelude.{◌≡◌, ◌≤◌, ◌<◌, true, None, length};
+ghost use Rattle.std.specs.Io.KnownBytes.{Keeps};
+ghost use Rattle.group_tool.specs.Sink.{PutIs, FlushIs};
+ghost use Rattle.group_tool.specs.StreamSink.{WroteIs};
 
 use crate::sink::{Flushed, Put, Sink};
 use std::io::Write;
@@ -15,6 +18,7 @@ pub struct StreamSink<W: Write + Drop> {
 impl<W: Write + Drop> StreamSink<W> {
     /// A sink over the stream, with nothing put yet.
     pub fn new(writer: W) -> StreamSink<W>
+        ensures writer { result.writer ≡ writer }
         ensures faults { result.faults ≡ 0 }
         ensures settled { result.settled ≡ true }
     {
@@ -33,7 +37,13 @@ impl<W: Write + Drop> Sink for StreamSink<W> {
 
     ghost settled = { λ s. s.settled };
 
-    fn put(&mut self, bytes: &[u8]) -> Put {
+    fn put(&mut self, bytes: &[u8]) -> Put
+        requires some { 0 < length bytes.now }
+        requires most { length bytes.now ≤ 65536 }
+        ensures put { PutIs bytes.now None None self.old.faults self.new.faults self.old.settled self.new.settled result }
+        ensures faults_kept { self.old.faults ≤ self.new.faults }
+        ensures wrote { WroteIs bytes.now (W.contents self.old.writer) (W.contents self.new.writer) result }
+    {
         match self.writer.write(bytes) {
             Ok(count) if count > 0 => {
                 self.settled = false;
@@ -46,7 +56,11 @@ impl<W: Write + Drop> Sink for StreamSink<W> {
         }
     }
 
-    fn flush(&mut self) -> Flushed {
+    fn flush(&mut self) -> Flushed
+        ensures flush { FlushIs None None self.old.faults self.new.faults self.old.settled self.new.settled result }
+        ensures faults_kept { self.old.faults ≤ self.new.faults }
+        ensures keeps { Keeps (W.contents self.old.writer) (W.contents self.new.writer) }
+    {
         match self.writer.flush() {
             Ok(()) => {
                 self.settled = true;
@@ -57,5 +71,58 @@ impl<W: Write + Drop> Sink for StreamSink<W> {
                 Flushed::Failed
             }
         }
+    }
+}
+
+#[cfg(test)]
+mod tests {
+    use super::*;
+    use std::io::{self, Error, ErrorKind};
+    use std::test::Fail;
+
+    /// A stream that takes two bytes at a time, and counts its flushes, until it is closed.
+    #[derive(Drop)]
+    struct Narrow {
+        bytes: Vec<u8>,
+        flushes: u32,
+        closed: bool,
+    }
+
+    impl Write for Narrow {
+        fn write(&mut self, bytes: &[u8]) -> io::Result<usize> {
+            if self.closed {
+                return Err(Error::from(ErrorKind::BrokenPipe));
+            }
+            let count = bytes.len().min(2);
+            self.bytes.extend_from_slice(&bytes[..count])?;
+            Ok(count)
+        }
+
+        fn flush(&mut self) -> io::Result<()> {
+            if self.closed {
+                return Err(Error::from(ErrorKind::BrokenPipe));
+            }
+            self.flushes = self.flushes.saturating_add(1);
+            Ok(())
+        }
+    }
+
+    #[test]
+    fn hands_bytes_and_flushes_on(rt: HostRuntime) -> Result<(), Fail> {
+        let mut sink = StreamSink::new(Narrow {
+            bytes: Vec::new(rt.alloc()),
+            flushes: 0,
+            closed: false,
+        });
+        assert_eq!(rt; sink.put(b"abc"), Put::Took(2));
+        assert_eq!(rt; sink.writer.bytes.as_slice(), b"ab".as_slice());
+        assert_eq!(rt; sink.writer.flushes, 0);
+        assert_eq!(rt; sink.flush(), Flushed::Done);
+        assert_eq!(rt; sink.writer.flushes, 1);
+        sink.writer.closed = true;
+        assert_eq!(rt; sink.put(b"c"), Put::Failed);
+        assert_eq!(rt; sink.flush(), Flushed::Failed);
+        assert_eq!(rt; sink.faults, 2);
+        Ok(())
     }
 }

@@ -8,7 +8,7 @@ use Rattle.prolog_terms.specs.declared.term.Span.{Span}
 use Rattle.prolog_terms.specs.declared.term.Form.TheVariants.{Functional}
 use Rattle.prolog_terms.specs.Arity.{HasAritiesWithin}
 use Rattle.prolog_terms.specs.Grammar.{Parse, Opener, square, leaf, bare, group, tailed as with_tail, prefixed, infixed, one, more as more_parts, IsAboveSpine, IsClause, parse_depth}
-use Rattle.prolog_terms.specs.Tree.{Tree, atom, compound, listed, paren, none, more}
+use Rattle.prolog_terms.specs.Tree.{Tree, atom, compound, listed, paren, none, more, depth}
 use Rattle.prolog_terms.specs.Words.{Word, Table, table_of, is_atom, is_prefix, is_functor, is_negative}
 
 abbrev at : ℕ → Span
@@ -119,13 +119,22 @@ operand_too_short above = omega (arith, above.0)
 no_end : IsClause T equation (close_by CloseRound []) → ⊥
 no_end clause = let two : CloseRound ≡ End = clause.ends in cc
 
--- the arguments of trees
+-- depths and arguments of trees
 
 abbrev a : Tree
 a = atom (codes "a") (at 0)
 
 abbrev f : Tree → Tree → Tree
 f left right = compound (codes "f") (more left (more right none)) Functional (at 0)
+
+flat_list : depth (listed (more a (more a (more a none))) (at 0)) ≡ 2
+flat_list = refl
+
+deep_argument : depth (f a (f a a)) ≡ 3
+deep_argument = refl
+
+bracket : depth (paren a (at 0)) ≡ 2
+bracket = refl
 
 two_arguments : HasAritiesWithin 2 (listed (more (f a (f a a)) none) (at 0))
 two_arguments = ((omega arith, (tt, ((omega arith, (tt, (tt, tt))), tt))), tt)

@@ -1,5 +1,5 @@
 -- What a `Term` stands for, as data.
-use Rattle.std.specs.Prelude.{ℕ, suc, List, [], ◌∷◌, Option, Some, None, Bool, Box}
+use Rattle.std.specs.Prelude.{ℕ, suc, max, List, [], ◌∷◌, Option, Some, None, Bool, Box}
 use Rattle.std.specs.declared.alloc.Global.{Global}
 use Rattle.prolog_terms.specs.declared.term.Span.{Span}
 use Rattle.prolog_terms.specs.declared.term.Form.{Form}
@@ -58,3 +58,19 @@ span_of (listed items span) = span
 span_of (tailed items tail span) = span
 span_of (curly inner span) = span
 span_of (paren inner span) = span
+
+-- a variable, a constant and an atom have depth 1; every other form is one deeper than its deepest part
+abbrev mutual
+  pub depth : Tree → ℕ
+  depth (variable span) = 1
+  depth (constant kind minus value span) = 1
+  depth (atom name span) = 1
+  depth (compound name args form span) = suc (deepest args)
+  depth (listed items span) = suc (deepest items)
+  depth (tailed items tail span) = suc (max (deepest items) (depth tail))
+  depth (curly inner span) = suc (depth inner)
+  depth (paren inner span) = suc (depth inner)
+
+  pub deepest : Trees → ℕ
+  deepest none = 0
+  deepest (more t ts) = max (depth t) (deepest ts)
