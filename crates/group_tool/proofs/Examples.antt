@@ -1,6 +1,5 @@
 -- What some words, names, lines and answers of sinks are, and what they aren't.
 use Rattle.std.proofs.Common.{◌≡◌, ◌⊎◌, inl, inr, ℕ, zero, suc, ◌+◌, ◌<◌, ◌≤◌, Bool, true, false, List, [], ◌∷◌, length, Option, Some, None, codes, refl, ap, arith}
-use Rattle.std.proofs.Math.Utf8.{encode}
 use Rattle.std.specs.Fmt.{digits}
 use Rattle.std.specs.Prelude.{IsTrue, slice_index_or}
 use Rattle.std.proofs.lemmas.List.{length-take}
@@ -88,8 +87,8 @@ no_groups : head_line [] [] ≡ codes "predicates 0 groups 0 recursive 0 levels 
 unfolding digits
 no_groups = refl
 
-recursive_line : group_line (codes "m") (named (codes "a") 0 ∷ named (codes "B") 12 ∷ []) (0 ∷ 1 ∷ []) (level 3 true) ≡ codes "3 recursive m:a/0 m:'B'/12\n"
-unfolding spelled_name digits encode
+recursive_line : group_line (codes "m") (named (codes "a") 0 ∷ named (codes "b") 12 ∷ []) (0 ∷ 1 ∷ []) (level 3 true) ≡ codes "3 recursive m:a/0 m:b/12\n"
+unfolding spelled_name digits
 recursive_line = refl
 
 told_with_its_place : fault_line (codes "f.pl") (record { line = 1; column = 8 }) Stuck ≡ codes "f.pl:1:8: no clause goes on with this token\n"
