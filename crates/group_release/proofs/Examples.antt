@@ -71,16 +71,19 @@ abbrev at_height : ℕ → Level
 at_height h = record { height = h; recursive = false }
 
 as_high : AreLevels (Calls chain) groups (at_height 0 ∷ at_height 0 ∷ []) → ⊥
-as_high are = omega (arith, are.heights.above 1 0 (record {
-  caller = 0;
-  callee = 1;
-  caller_within = omega arith;
-  callee_within = omega arith;
-  other = λ is. omega (arith, is);
-  is_caller = first_member 0;
-  is_callee = first_member 1;
-  call = first_member 1;
-}))
+as_high are = omega (
+  arith,
+  are.heights.above 1 0 (record {
+    caller = 0;
+    callee = 1;
+    caller_within = omega arith;
+    callee_within = omega arith;
+    other = λ is. omega (arith, is);
+    is_caller = first_member 0;
+    is_callee = first_member 1;
+    call = first_member 1;
+  }),
+)
 
 no_callee : (p : ℕ) → Contains [] p → ⊥
 no_callee p (k, lt, at) = omega (arith, lt)

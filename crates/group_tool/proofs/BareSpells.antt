@@ -38,7 +38,7 @@ all_classes test text is k lt =
 
 small_is : (class : Class) → is_small class ≡ true → class ≡ Small
 small_is Small is = refl
-small_is other is = absurd cc
+small_is _ is = absurd cc
 
 past_end : (text : List ℕ) → class_at text (length text) ≢ Inner
 past_end text is = let other : class_at text (length text) ≡ Other = class_past text (length text) (omega arith) in cc

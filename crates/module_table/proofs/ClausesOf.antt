@@ -15,7 +15,7 @@ use Rattle.module_table.specs.Kinds.{defined_part, load_part}
 use Rattle.module_table.specs.Directives.{directive_said}
 use Rattle.module_table.specs.Facts.{Facts, AreFacts, clause_head, headed, clause_said, file_said, is_headed, is_clause_of}
 use Rattle.module_table.specs.Paths.{IsFileName}
-use Rattle.module_table.proofs.PathLemmas as of_paths
+use Rattle.module_table.proofs.PathNames as of_paths
 use Rattle.module_table.proofs.DirectiveParts.{AllFit, fit_in_turn, IsOfDirective, OfDirective, directive_of as directive_parts}
 
 module _ (name : List ℕ) (arity : ℕ) where

@@ -9,7 +9,10 @@ pub mod KindLemmas
 pub mod DirectiveShapes
 pub mod FileLemmas
 pub mod OneFacts
-pub mod PathLemmas
+pub mod Segments
+pub mod KeptSegments
+pub mod PathNames
+pub mod OwnNames
 pub mod DirectiveParts
 pub mod ClausesOf
 pub mod RefusalOffsets

@@ -1,4 +1,4 @@
-use Rattle.module_table.proofs.PathLemmas as of_paths
+use Rattle.module_table.proofs.OwnNames as of_paths
 use Rattle.module_table.proofs.laws.names_kept.Goals as goal
 
 pub returns-clause-alone : goal.returns-clause-alone

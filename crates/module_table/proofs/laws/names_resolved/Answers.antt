@@ -1,4 +1,4 @@
-use Rattle.module_table.proofs.PathLemmas as of_paths
+use Rattle.module_table.proofs.PathNames as of_paths
 use Rattle.module_table.proofs.laws.names_resolved.Goals as goal
 
 pub returns : goal.returns

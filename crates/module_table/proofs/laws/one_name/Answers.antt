@@ -1,4 +1,4 @@
-use Rattle.module_table.proofs.PathLemmas as of_paths
+use Rattle.module_table.proofs.OwnNames as of_paths
 use Rattle.module_table.proofs.laws.one_name.Goals as goal
 
 pub returns : goal.returns
