@@ -64,7 +64,9 @@ static NAMES: [&str; 57] = [
     ".",
 ];
 
-/// The table that each text begins with. What it holds is no matter to the proofs of the tests.
+// What tables hold is no matter to the proofs of the tests, so these say nothing of it.
+
+/// The table that each text begins with.
 fn opening(alloc: Global) -> Result<OpTable, AllocError> {
     OpTable::opening(alloc)
 }
@@ -79,15 +81,27 @@ fn set(
     table.set(alloc, name, kind, priority)
 }
 
+fn prefix(table: &OpTable, name: &str) -> Option<Op> {
+    table.prefix(name)
+}
+
+fn infix(table: &OpTable, name: &str) -> Option<Op> {
+    table.infix(name)
+}
+
+fn postfix(table: &OpTable, name: &str) -> Option<Op> {
+    table.postfix(name)
+}
+
 fn expect_prefixes(rt: &impl Abort, table: &OpTable, priority: u32, kind: OpKind, names: &[&str]) {
     for name in names {
-        assert_eq!(rt; table.prefix(name), Some(Op { priority, kind }), "{name}");
+        assert_eq!(rt; prefix(table, name), Some(Op { priority, kind }), "{name}");
     }
 }
 
 fn expect_infixes(rt: &impl Abort, table: &OpTable, priority: u32, kind: OpKind, names: &[&str]) {
     for name in names {
-        assert_eq!(rt; table.infix(name), Some(Op { priority, kind }), "{name}");
+        assert_eq!(rt; infix(table, name), Some(Op { priority, kind }), "{name}");
     }
 }
 
@@ -145,9 +159,9 @@ fn opening_arithmetic_rows(rt: HostRuntime) -> Result<(), Fail> {
 
 /// How many of the names are prefix, infix and postfix operators.
 fn count_at_places(table: &OpTable, names: &[&str]) -> (usize, usize, usize) {
-    let prefixes = names.iter().filter(|name| table.prefix(name).is_some());
-    let infixes = names.iter().filter(|name| table.infix(name).is_some());
-    let postfixes = names.iter().filter(|name| table.postfix(name).is_some());
+    let prefixes = names.iter().filter(|name| prefix(table, name).is_some());
+    let infixes = names.iter().filter(|name| infix(table, name).is_some());
+    let postfixes = names.iter().filter(|name| postfix(table, name).is_some());
     (prefixes.count(), infixes.count(), postfixes.count())
 }
 
@@ -168,23 +182,23 @@ fn sets_each_kind(rt: HostRuntime) -> Result<(), Fail> {
     for kind in [OpKind::Xfx, OpKind::Xfy, OpKind::Yfx] {
         set(alloc, &mut table, "===", kind, 700)?;
         assert_eq!(rt;
-            table.infix("==="),
+            infix(&table, "==="),
             Some(Op {
                 priority: 700,
                 kind
             })
         );
     }
-    assert_eq!(rt; table.prefix("==="), None);
-    assert_eq!(rt; table.postfix("==="), None);
+    assert_eq!(rt; prefix(&table, "==="), None);
+    assert_eq!(rt; postfix(&table, "==="), None);
     for kind in [OpKind::Fy, OpKind::Fx] {
         set(alloc, &mut table, "===", kind, 1)?;
-        assert_eq!(rt; table.prefix("==="), Some(Op { priority: 1, kind }));
+        assert_eq!(rt; prefix(&table, "==="), Some(Op { priority: 1, kind }));
     }
     for kind in [OpKind::Xf, OpKind::Yf] {
         set(alloc, &mut table, "!", kind, 1200)?;
         assert_eq!(rt;
-            table.postfix("!"),
+            postfix(&table, "!"),
             Some(Op {
                 priority: 1200,
                 kind
@@ -192,7 +206,7 @@ fn sets_each_kind(rt: HostRuntime) -> Result<(), Fail> {
         );
     }
     assert_eq!(rt;
-        table.infix("==="),
+        infix(&table, "==="),
         Some(Op {
             priority: 700,
             kind: OpKind::Yfx
@@ -206,16 +220,16 @@ fn priority_0_removes(rt: HostRuntime) -> Result<(), Fail> {
     let alloc = rt.alloc();
     let mut table = opening(alloc)?;
     set(alloc, &mut table, "-", OpKind::Fx, 0)?;
-    assert_eq!(rt; table.prefix("-"), None);
+    assert_eq!(rt; prefix(&table, "-"), None);
     assert_eq!(rt;
-        table.infix("-"),
+        infix(&table, "-"),
         Some(Op {
             priority: 500,
             kind: OpKind::Yfx
         })
     );
     assert_eq!(rt;
-        table.prefix("+"),
+        prefix(&table, "+"),
         Some(Op {
             priority: 200,
             kind: OpKind::Fy
@@ -223,24 +237,24 @@ fn priority_0_removes(rt: HostRuntime) -> Result<(), Fail> {
     );
     set(alloc, &mut table, "is", OpKind::Xf, 0)?;
     assert_eq!(rt;
-        table.infix("is"),
+        infix(&table, "is"),
         Some(Op {
             priority: 700,
             kind: OpKind::Xfx
         })
     );
     set(alloc, &mut table, "is", OpKind::Xfy, 0)?;
-    assert_eq!(rt; table.infix("is"), None);
+    assert_eq!(rt; infix(&table, "is"), None);
     set(alloc, &mut table, "is", OpKind::Xf, 200)?;
     assert_eq!(rt;
-        table.postfix("is"),
+        postfix(&table, "is"),
         Some(Op {
             priority: 200,
             kind: OpKind::Xf
         })
     );
     set(alloc, &mut table, "is", OpKind::Yf, 0)?;
-    assert_eq!(rt; table.postfix("is"), None);
+    assert_eq!(rt; postfix(&table, "is"), None);
     set(alloc, &mut table, "is", OpKind::Yf, 0)?;
     Ok(())
 }
@@ -255,13 +269,18 @@ fn expect_refused(
     priority: u32,
     wanted: OpFault,
 ) {
-    let prefix = table.prefix(name);
-    let infix = table.infix(name);
-    let postfix = table.postfix(name);
+    let before = (
+        prefix(table, name),
+        infix(table, name),
+        postfix(table, name),
+    );
     assert_eq!(rt; table.set(alloc, name, kind, priority), Err(wanted));
-    assert_eq!(rt; table.prefix(name), prefix);
-    assert_eq!(rt; table.infix(name), infix);
-    assert_eq!(rt; table.postfix(name), postfix);
+    let after = (
+        prefix(table, name),
+        infix(table, name),
+        postfix(table, name),
+    );
+    assert!(rt; after == before);
 }
 
 #[test]
