@@ -1,12 +1,16 @@
 -- The name that a path makes, and where both lead.
-use Rattle.std.proofs.Common.{◌≡◌, ◌↔◌, ℕ, Bool, true, false, List, [], ◌∷◌, ◌++◌, Some, None, codes, fold, reverse, refl, sym, ap, subst, ◌∙◌, append_assoc, if◌then◌else◌}
-use Rattle.std.specs.List.{AllByRecursion}
+use Rattle.std.proofs.Common.{◌≡◌, ◌≢◌, ◌↔◌, ◌⊎◌, inl, inr, ℕ, ◌<◌, nat_eq, length, arith, Bool, true, false, List, [], ◌∷◌, ◌++◌, Some, None, codes, fold, reverse, refl, sym, ap, subst, ◌∙◌, append_assoc, if◌then◌else◌}
+use Rattle.std.specs.List.{AllByRecursion, ends_with, join_with_byte}
+use Rattle.std.specs.Cmp.Lexicographic.{pointwise}
+use Rattle.std.proofs.lemmas.Bool.{false≢true}
+use Rattle.std.proofs.lemmas.List.Prefix.{end_rest}
+use Rattle.std.proofs.lemmas.List.Splits.{length-slice_split, join_with_byte-slice_split}
 use Rattle.std.proofs.lemmas.List.{append-nil}
 use Rattle.std.proofs.lemmas.List.Sums.{fold-append}
 use Rattle.std.proofs.lemmas.List.Elements.{All-from_recursion}
-use Rattle.module_table.specs.FileName.{begins_with_slash, segments, all_but_last, folder, whole_path, kept_segments, with_ending, resolved}
-use Rattle.module_table.specs.Paths.{led_on, led, as_prolog, IsPlain, IsFileName}
-use Rattle.module_table.proofs.Segments.{join, turned, HasNoSlash, no_slash, but_last, parts_and_more, IsWord, plain_all, ended, ended_word, ending_slashless, IsPart, part_of_word, root_segments, Tells, tells}
+use Rattle.module_table.specs.FileName.{slash, begins_with_slash, segments, all_but_last, with_slashes, folder, whole_path, kept_segments, with_ending, resolved}
+use Rattle.module_table.specs.Paths.{led_on, led, as_prolog, IsPlain, IsFileName, IsFolder}
+use Rattle.module_table.proofs.Segments.{join, turned, is_slash, joined, HasNoSlash, no_slash, but_last, parts_and_more, IsWord, plain_all, ended, ended_word, ending_slashless, IsPart, part_of_word, root_segments, Tells, tells}
 use Rattle.module_table.proofs.KeptSegments.{kept_of, slashless_kept, parts_kept, stand, led_word, stand_all, stand_in_turn, parts, Found, found, not_found, nowhere}
 
 -- what the name tells
@@ -112,3 +116,45 @@ none_named user spec =
       λ e. stands_there user spec ∙ not_found (begins_with_slash path) (kept_segments path) (kept_of path) e,
       λ e. nowhere (begins_with_slash path) (kept_segments path) (kept_of path) (sym (stands_there user spec) ∙ e),
     )
+
+-- the folder of a name
+
+last_of : (pieces : List (List ℕ)) → 0 < length pieces → (last : List ℕ) × (pieces ≡ all_but_last pieces ++ last ∷ [])
+last_of [] some = absurd (omega arith)
+last_of (piece ∷ []) some = (piece, refl)
+last_of (piece ∷ next ∷ more) some = let later = last_of (next ∷ more) (omega arith) in (later.0, ap (λ xs. piece ∷ xs) later.1)
+
+slash_last : (piece : List ℕ) (more : List (List ℕ)) → (front : List ℕ) × (with_slashes (piece ∷ more) ≡ front ++ codes "/")
+slash_last piece [] = (piece, append-nil (piece ++ codes "/"))
+slash_last piece (next ∷ more) =
+    let later = slash_last next more in
+    ((piece ++ codes "/") ++ later.0, ap (λ x. (piece ++ codes "/") ++ x) later.1 ∙ sym (append_assoc (piece ++ codes "/") later.0 (codes "/")))
+
+ends_so : (pieces : List (List ℕ)) → (with_slashes pieces ≡ []) ⊎ (ends_with nat_eq (with_slashes pieces) (codes "/") ≡ true)
+ends_so [] = inl refl
+ends_so (piece ∷ more) =
+    let cut = slash_last piece more in
+    inr (ap (pointwise nat_eq (codes "/")) (end_rest (with_slashes (piece ∷ more)) (codes "/") cut.0 cut.1))
+
+no_slash_at : (b : ℕ) → is_slash b ≡ false → b ≢ slash
+no_slash_at b e is = false≢true (sym e ∙ ap is_slash is)
+
+slashless_bytes : (bytes : List ℕ) → HasNoSlash bytes → AllByRecursion (λ b. b ≢ slash) bytes
+slashless_bytes [] none = tt
+slashless_bytes (b ∷ bytes) none = (no_slash_at b none.0, slashless_bytes bytes none.1)
+
+behind_all : {A : Type 0} (P : A → Type 0) (xs : List A) (x : A) → AllByRecursion P (xs ++ x ∷ []) → P x
+behind_all P [] x all = all.0
+behind_all P (y ∷ xs) x all = behind_all P xs x all.1
+
+pub folders_cut : (name : List ℕ) → IsFolder name (folder name)
+folders_cut name =
+    let cut = last_of (segments name) (omega (arith, length-slice_split is_slash name)) in
+    record {
+      last = cut.0;
+      is = sym (join_with_byte-slice_split slash name) ∙ ap (join_with_byte slash) cut.1 ∙ joined (all_but_last (segments name)) cut.0;
+      slashless =
+          All-from_recursion (λ b. b ≢ slash) cut.0
+          (slashless_bytes cut.0 (behind_all HasNoSlash (all_but_last (segments name)) cut.0 (subst (AllByRecursion HasNoSlash) cut.1 (no_slash name))));
+      ends = ends_so (all_but_last (segments name));
+    }

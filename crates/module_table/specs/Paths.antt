@@ -1,8 +1,8 @@
 -- Where paths lead, and what names of files look like.
-use Rattle.std.specs.Prelude.{ℕ, ◌≡◌, ◌≢◌, List, [], ◌∷◌, ◌++◌, All, true, ◌||◌, nat_eq, if◌then◌else◌, codes, fold, drop, refl}
+use Rattle.std.specs.Prelude.{ℕ, ◌≡◌, ◌≢◌, ◌⊎◌, List, [], ◌∷◌, ◌++◌, All, true, ◌||◌, nat_eq, if◌then◌else◌, codes, fold, drop, refl}
 use Rattle.std.specs.Str.{bytes_eq}
 use Rattle.std.specs.List.{ends_with}
-use Rattle.module_table.specs.FileName.{begins_with_slash, segments, with_ending}
+use Rattle.module_table.specs.FileName.{slash, begins_with_slash, segments, with_ending}
 
 -- where one more segment leads from a place, whose folders stand the last one first: an empty one and `.` stay there, and `..` leads a level up, where there is one
 abbrev pub led_on : List (List ℕ) → List ℕ → List (List ℕ)
@@ -19,6 +19,13 @@ led place path = fold led_on (if begins_with_slash path then [] else place) (seg
 abbrev pub as_prolog : List (List ℕ) → List (List ℕ)
 as_prolog [] = []
 as_prolog (last ∷ folders) = with_ending last ∷ folders
+
+-- the folder of a name: the name up to its last slash
+pub record IsFolder (name folder : List ℕ) : Type 0 where
+  pub last : List ℕ
+  pub is : name ≡ folder ++ last
+  pub slashless : All (λ b. b ≢ slash) last
+  pub ends : (folder ≡ []) ⊎ (ends_with nat_eq folder (codes "/") ≡ true)
 
 -- a segment that is the name of a file or folder
 pub record IsPlain (segment : List ℕ) : Type 0 where

@@ -6,7 +6,7 @@ ghost use Rattle.prolog_terms.specs.Tree.{Tree};
 ghost use Rattle.clause_text.specs.Items.{directive_of};
 ghost use Rattle.clause_text.specs.Offsets.{HasOffsets};
 ghost use Rattle.module_table.specs.FileName.{begins_with_slash, folder, resolved};
-ghost use Rattle.module_table.specs.Paths.{IsFileName, led, as_prolog};
+ghost use Rattle.module_table.specs.Paths.{IsFolder, IsFileName, led, as_prolog};
 ghost use Rattle.module_table.specs.Defined.{Predicate};
 ghost use Rattle.module_table.specs.Said.{Refusal, Loads};
 ghost use Rattle.module_table.specs.Facts.{Facts, AreFacts, file_said, is_clause_of};
@@ -33,6 +33,11 @@ pub fn clauses_kept()
 /// Each file that is loaded has the name of a file.
 pub fn loads_named()
     ensures { (user : List ℕ) (trees : List Tree) (facts : Facts) → AreFacts user trees facts → All (λ (load : Loads). IsFileName load.file) facts.loads }
+{}
+
+/// The folder of a name is the name up to its last slash.
+pub fn folders_cut()
+    ensures { (name : List ℕ) → IsFolder name (folder name) }
 {}
 
 /// What a specification means is the name of a file.

@@ -31,8 +31,8 @@ pub use file_facts::{FileFacts, facts};
 pub use file_name::resolve_name;
 pub use indicator::Indicator;
 pub use laws::{
-    clauses_kept, loads_named, names_kept, names_lead, names_resolved, none_named, one_facts,
-    one_name, refusals_placed,
+    clauses_kept, folders_cut, loads_named, names_kept, names_lead, names_resolved, none_named,
+    one_facts, one_name, refusals_placed,
 };
 pub use load::{Load, LoadKind};
 pub use said::FactFault;
