@@ -1,0 +1,2 @@
+//! Lists in order: what follows for all of them, over any total order.
+#![tactic(auto)]

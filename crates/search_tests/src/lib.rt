@@ -1,0 +1,2 @@
+//! Tests of the calls that search graphs, and of what they mean.
+#![tactic(auto)]
