@@ -1,5 +1,6 @@
 pub mod Tree
 pub mod Arity
+pub mod Views
 pub mod Clause
 pub mod Words
 pub mod Grammar

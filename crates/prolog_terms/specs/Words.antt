@@ -8,7 +8,7 @@ use Rattle.prolog_ops.specs.declared.op.Op.{Op}
 use Rattle.prolog_ops.specs.declared.op.OpKind.{OpKind}
 use Rattle.prolog_ops.specs.declared.op.OpKind.TheVariants.{Xfx, Xfy, Yfx, Fy, Fx, Xf, Yf}
 pub use Rattle.prolog_terms.specs.declared.word.Word.{Word}
-pub use Rattle.prolog_terms.specs.declared.sides.Sides.{Sides}
+pub use Rattle.prolog_terms.specs.declared.operator_sides.Sides.{Sides}
 
 abbrev pub is_name : Kind → Bool
 is_name Name = true

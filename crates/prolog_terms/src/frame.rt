@@ -1,6 +1,6 @@
 //! What the reader keeps of the words so far.
 
-use crate::sides::Sides;
+use crate::operator_sides::Sides;
 use crate::term::Term;
 use crate::word::Word;
 

@@ -8,21 +8,25 @@
 //! It gives terms no meaning: directives, heads and goals are for the layers above.
 #![tactic(auto)]
 
+mod binary_term;
 mod build;
 mod frame;
 mod laws;
 mod lines;
 mod nodes;
+mod operator_sides;
 mod reader;
 #[cfg(test)]
 mod reader_tests;
-mod sides;
 mod stack;
 mod steps;
 mod term;
+mod views;
 mod word;
 
+pub use binary_term::Binary;
 pub use build::span_at;
 pub use laws::{clause_arities, one_clause};
 pub use reader::{ReadFault, read_clause};
 pub use term::{ConstKind, Form, Span, Term};
+pub use views::{atom_name, binary, inside, name_and_arity, sides, start_of};

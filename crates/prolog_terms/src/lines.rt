@@ -9,7 +9,7 @@ ghost use Rattle.prolog_terms.specs.StackSeen.{see_stack};
 
 use crate::frame::{Bracket, Doubt, Frame, Line, Measure, Mode, Opener, Operator};
 use crate::nodes::{atom, boxed};
-use crate::sides::{Sides, infix_of, prefix_of};
+use crate::operator_sides::{Sides, infix_of, prefix_of};
 use crate::stack::Stack;
 use crate::steps::{Behind, act, infix_behind, reduce, want_name};
 use crate::word::{Word, begins_term, is_name, is_near_number, is_opening};

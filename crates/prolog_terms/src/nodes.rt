@@ -7,7 +7,7 @@ ghost use Rattle.prolog_terms.specs.ReaderSeen.{see_operand, see_operator, see_p
 
 use crate::build::{make_atom, make_compound, make_functional, span_at};
 use crate::frame::{Opener, Operand, Operator, Parts};
-use crate::sides::Sides;
+use crate::operator_sides::Sides;
 use crate::term::{ConstKind, Form, Span, Term};
 use crate::word::Word;
 use prolog_tokens::{Kind, Text};

@@ -8,7 +8,7 @@ ghost use Rattle.prolog_terms.specs.Clause.{ArePart, IsClauseOf, IsReadFault, Is
 
 use crate::frame::{Line, Mode, Operand};
 use crate::lines::{feed, line_floor};
-use crate::sides::table_law;
+use crate::operator_sides::table_law;
 use crate::stack::Stack;
 use crate::term::Term;
 use crate::word::word_of;

@@ -12,7 +12,7 @@ use crate::nodes::{
     atom, boxed, build, first_part, group, leaf, more_parts, negative, one_part, pair, postfixed,
     tailed, wrapped,
 };
-use crate::sides::{Sides, infix_of, postfix_of};
+use crate::operator_sides::{Sides, infix_of, postfix_of};
 use crate::stack::Stack;
 use crate::word::{Word, is_minus};
 use prolog_ops::OpTable;

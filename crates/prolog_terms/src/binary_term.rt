@@ -1,0 +1,9 @@
+use crate::term::Term;
+
+/// A compound of two arguments, in any notation.
+#[derive(Clone, Copy)]
+pub struct Binary<'a> {
+    pub name: &'a str,
+    pub left: &'a Term,
+    pub right: &'a Term,
+}
