@@ -1,15 +1,18 @@
 -- What terms are, with the brackets round them passed through, by their parts.
-use Rattle.std.proofs.Common.{◌≡◌, ◌≢◌, ℕ, ◌+◌, ◌<◌, ◌≤◌, Bool, true, false, not, List, [], ◌∷◌, ◌++◌, Option, Some, None, is_some, Vec, Box, Global, length, get_or, map, codes, refl, arith, if◌then◌else◌, ap, sym, ◌∙◌}
+use Rattle.std.proofs.Common.{◌≡◌, ◌≢◌, ℕ, zero, suc, ◌+◌, ◌<◌, ◌≤◌, Bool, true, false, not, List, [], ◌∷◌, ◌++◌, Option, Some, None, is_some, Vec, Box, Global, length, get_or, map, codes, refl, arith, if◌then◌else◌, ap, sym, ◌∙◌}
 use Rattle.std.specs.Str.{bytes_eq}
+use Rattle.std.specs.List.{sum_by}
 use Rattle.std.proofs.Math.ListN.{get_or-map}
+use Rattle.std.proofs.lemmas.List.Sums.{sum_by-append, sum_by-cons}
 use Rattle.prolog_tokens.specs.declared.text.Text.{Text}
 use Rattle.prolog_terms.specs.declared.term.Span.{Span}
 use Rattle.prolog_terms.specs.declared.term.Form.{Form}
 use Rattle.prolog_terms.specs.declared.term.Term.{Term, fold-roll-Term}
 use Rattle.prolog_terms.specs.declared.term.Term.TheOpen.{Term-F}
 use Rattle.prolog_terms.specs.declared.term.Term.TheVariants as term
-use Rattle.prolog_terms.specs.Tree.{Tree, tree_of, tree_step, variable, constant, atom, compound, listed, tailed, curly, paren, more, none, trees_from, count, depth}
-use Rattle.prolog_terms.specs.Views.{inside, trees_in, Binary, binary_at, sides_at, sides_of, joined}
+use Rattle.prolog_terms.specs.Tree.{Tree, Trees, tree_of, tree_step, variable, constant, atom, compound, listed, tailed, curly, paren, more, none, trees_from, count, depth}
+use Rattle.prolog_terms.specs.Views.{inside, trees_in, Binary, binary_at, sides_at, sides_of, joined, Named, named_at, name_and_arity}
+use Rattle.prolog_terms.specs.Weight.{weight, weights}
 
 -- tests and answers
 
@@ -147,3 +150,84 @@ joined_alone (compound name (more left (more right none)) form span) is =
     of_none (λ a b. joined a ++ joined b) (compound name (more left (more right none)) form span ∷ []) (bytes_eq name (codes ",")) left right is
 joined_alone (paren inner span) is = joined_alone inner is
 joined_alone tree is = refl
+
+-- weights
+
+pub inside_weight : (tree : Tree) → weight (inside tree) ≤ weight tree
+inside_weight (variable span) = omega arith
+inside_weight (constant kind minus value span) = omega arith
+inside_weight (atom name span) = omega arith
+inside_weight (compound name args form span) = omega arith
+inside_weight (listed items span) = omega arith
+inside_weight (tailed items tail span) = omega arith
+inside_weight (curly inner span) = omega arith
+inside_weight (paren inner span) = omega (arith, inside_weight inner)
+
+-- each side weighs less, and both together
+weight_if : (test : Bool) (left right l r : Tree) → pair_if test left right ≡ Some (l, r) → weight l + weight r ≡ weight left + weight right
+weight_if true left right l r is =
+    let both : (left, right) ≡ (l, r) = some_once is in
+    omega (arith, ap (λ (pair : Tree × Tree). weight pair.0) both, ap (λ (pair : Tree × Tree). weight pair.1) both)
+weight_if false left right l r is = absurd (some_none (l, r) (sym is))
+
+pub sides_weight : (operator : List ℕ) (tree l r : Tree) → sides_of operator tree ≡ Some (l, r) → weight l + weight r + 2 ≤ weight tree
+sides_weight operator (compound name (more left (more right none)) form span) l r is = omega (arith, weight_if (bytes_eq name operator) left right l r is)
+sides_weight operator (paren inner span) l r is = omega (arith, sides_weight operator inner l r is)
+sides_weight operator tree l r is = absurd (some_none (l, r) (sym is))
+
+-- the trees of a list, each with one more, weigh what the list does
+pub trees_weight : (trees : List Tree) → sum_by (λ tree. weight tree + 1) trees ≡ weights (trees_from trees)
+trees_weight [] = refl
+trees_weight (tree ∷ trees) = omega (arith, trees_weight trees, sum_by-cons (λ t. weight t + 1) tree trees)
+
+pub items_weight : (trees : Trees) → sum_by (λ tree. weight tree + 1) (trees_in trees) ≡ weights trees
+items_weight none = refl
+items_weight (more tree trees) = omega (arith, items_weight trees, sum_by-cons (λ t. weight t + 1) tree (trees_in trees))
+
+pub items_count : (trees : Trees) → length (trees_in trees) ≤ weights trees
+items_count none = omega arith
+items_count (more tree trees) = omega (arith, items_count trees)
+
+pub count_weight : (trees : Trees) → count trees ≤ weights trees
+count_weight none = omega arith
+count_weight (more tree trees) = omega (arith, count_weight trees)
+
+-- one of them weighs less
+pub part_weight : (trees : List Tree) (at : ℕ) (tree : Tree) → at < length trees → tree ≡ get_or trees at tree → weight tree + 1 ≤ weights (trees_from trees)
+part_weight [] at tree lt is = absurd (omega (arith, lt))
+part_weight (first ∷ trees) zero tree lt is = omega (arith, ap weight is)
+part_weight (first ∷ trees) (suc at) tree lt is = omega (arith, part_weight trees at tree (omega (arith, lt)) is)
+
+-- a predicate that a term names has no more arguments than the term weighs
+arity_at_weight : (tree : Tree) (named : Named) → named_at tree ≡ Some named → named.arity ≤ weight tree
+arity_at_weight (atom name span) named is = let same : record { name = name; arity = 0 } ≡ named = some_once is in omega (arith, ap (λ (n : Named). n.arity) same)
+arity_at_weight (compound name args form span) named is =
+    let same : record { name = name; arity = count args } ≡ named = some_once is in omega (arith, count_weight args, ap (λ (n : Named). n.arity) same)
+arity_at_weight tree named is = absurd (some_none named (sym is))
+
+pub arity_weight : (tree : Tree) (named : Named) → name_and_arity tree ≡ Some named → named.arity ≤ weight tree
+arity_weight tree named is = omega (arith, arity_at_weight (inside tree) named is, inside_weight tree)
+
+-- the terms that commas join, each with one more, weigh no more than the term and one more
+
+one_weight : (tree : Tree) → sum_by (λ t. weight t + 1) (tree ∷ []) ≤ weight tree + 1
+one_weight tree = omega (arith, sum_by-cons (λ t. weight t + 1) tree [])
+
+joined_if : (test : Bool) (tree left right : Tree) → weight left + weight right + 2 ≤ weight tree
+    → sum_by (λ t. weight t + 1) (joined left) ≤ weight left + 1 → sum_by (λ t. weight t + 1) (joined right) ≤ weight right + 1
+    → sum_by (λ t. weight t + 1) (if test then joined left ++ joined right else tree ∷ []) ≤ weight tree + 1
+joined_if true tree left right small first second = omega (arith, small, first, second, sum_by-append (λ t. weight t + 1) (joined left) (joined right))
+joined_if false tree left right small first second = one_weight tree
+
+pub joined_weight : (tree : Tree) → sum_by (λ t. weight t + 1) (joined tree) ≤ weight tree + 1
+joined_weight (compound name (more left (more right none)) form span) =
+    joined_if (bytes_eq name (codes ",")) (compound name (more left (more right none)) form span) left right (omega arith) (joined_weight left) (joined_weight right)
+joined_weight (paren inner span) = omega (arith, joined_weight inner)
+joined_weight tree = one_weight tree
+
+weighs_all : (trees : List Tree) → length trees ≤ sum_by (λ t. weight t + 1) trees
+weighs_all [] = omega arith
+weighs_all (tree ∷ trees) = omega (arith, weighs_all trees, sum_by-cons (λ t. weight t + 1) tree trees)
+
+pub joined_count : (tree : Tree) → length (joined tree) ≤ weight tree + 1
+joined_count tree = omega (arith, weighs_all (joined tree), joined_weight tree)

@@ -1,6 +1,7 @@
 pub mod Tree
 pub mod Arity
 pub mod Views
+pub mod Weight
 pub mod Clause
 pub mod Words
 pub mod Grammar

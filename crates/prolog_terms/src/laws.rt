@@ -1,12 +1,13 @@
 //! What holds of each clause, as laws: functions with nothing to run.
 
-ghost use Rattle.std.specs.Prelude.{◌≡◌, ◌++◌, ◌∷◌, [], ℕ, List, length};
+ghost use Rattle.std.specs.Prelude.{◌≡◌, ◌++◌, ◌∷◌, [], ◌+◌, ◌≤◌, ℕ, List, length};
 ghost use Rattle.prolog_ops.specs.Table.{Ops, IsOps};
-ghost use Rattle.prolog_terms.specs.Tree.{Tree};
+ghost use Rattle.prolog_terms.specs.Tree.{Tree, depth};
 ghost use Rattle.prolog_terms.specs.Words.{Word, Table, table_of};
 ghost use Rattle.prolog_terms.specs.Grammar.{Parse, IsClause, yield};
 ghost use Rattle.prolog_terms.specs.Clause.{IsClauseOf};
 ghost use Rattle.prolog_terms.specs.Arity.{HasAritiesWithin};
+ghost use Rattle.prolog_terms.specs.Weight.{weight};
 
 use prolog_tokens::Token;
 
@@ -18,4 +19,14 @@ pub fn one_clause()
 /// No compound of a clause has more arguments than the clause has tokens.
 pub fn clause_arities()
     ensures { (T : Table) (text : List ℕ) (ts : List Token) (tree : Tree) → IsClauseOf T text ts tree → HasAritiesWithin (length ts) tree }
+{}
+
+/// A clause has at least two tokens more than arguments, items, tails and terms in brackets.
+pub fn clause_weights()
+    ensures { (T : Table) (text : List ℕ) (ts : List Token) (tree : Tree) → IsClauseOf T text ts tree → weight tree + 2 ≤ length ts }
+{}
+
+/// No clause is deeper than 1,000.
+pub fn clause_depths()
+    ensures { (T : Table) (text : List ℕ) (ts : List Token) (tree : Tree) → IsClauseOf T text ts tree → depth tree ≤ 1000 }
 {}
