@@ -10,3 +10,4 @@ pub mod TermShapes
 pub mod SetNames
 pub mod TextLemmas
 pub mod Examples
+pub mod CauseNumbers

@@ -1,4 +1,4 @@
--- The words of each cause.
+-- The words of each cause, and its number.
 use Rattle.std.specs.Prelude.{ℕ, List, codes}
 use Rattle.clause_text.specs.declared.cause.Cause.{Cause}
 use Rattle.clause_text.specs.declared.cause.Cause.TheVariants.{NotUtf8, BadChar, OpenQuote, OpenComment, BadEscape, Stuck, TooDeep, NoEnd, BadPriority, BadKind, BadName, FixedOp, InfixAndPostfix, LateModule, BadIndicator, BadSpec, ControlHead, BadHead, NotInProfile, NoRoot, TwoModules, NoFile, NotModule, NotExported, NotDefined, TwoImports, NotCallable}
@@ -32,3 +32,33 @@ cause_text NotExported = codes "predicate is not exported"
 cause_text NotDefined = codes "exported predicate is not defined"
 cause_text TwoImports = codes "predicate is imported from two modules"
 cause_text NotCallable = codes "goal is not callable"
+
+-- the number of the cause, by which faults at one place are put in order
+abbrev pub number_of : Cause → ℕ
+number_of NotUtf8 = 1
+number_of BadChar = 2
+number_of OpenQuote = 3
+number_of OpenComment = 4
+number_of BadEscape = 5
+number_of Stuck = 6
+number_of TooDeep = 7
+number_of NoEnd = 8
+number_of BadPriority = 9
+number_of BadKind = 10
+number_of BadName = 11
+number_of FixedOp = 12
+number_of InfixAndPostfix = 13
+number_of LateModule = 14
+number_of BadIndicator = 15
+number_of BadSpec = 16
+number_of ControlHead = 17
+number_of BadHead = 18
+number_of NotInProfile = 19
+number_of NoRoot = 20
+number_of TwoModules = 21
+number_of NoFile = 22
+number_of NotModule = 23
+number_of NotExported = 24
+number_of NotDefined = 25
+number_of TwoImports = 26
+number_of NotCallable = 27

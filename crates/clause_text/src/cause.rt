@@ -33,6 +33,45 @@ pub enum Cause {
     NotCallable,
 }
 
+impl Cause {
+    ghost use Rattle.clause_text.specs.Cause.{number_of};
+
+    /// The number of the cause, 1 to 27, by which faults at one place are put in order.
+    pub fn number(self) -> u32
+        ensures { result ≡ number_of self }
+    {
+        match self {
+            Cause::NotUtf8 => 1,
+            Cause::BadChar => 2,
+            Cause::OpenQuote => 3,
+            Cause::OpenComment => 4,
+            Cause::BadEscape => 5,
+            Cause::Stuck => 6,
+            Cause::TooDeep => 7,
+            Cause::NoEnd => 8,
+            Cause::BadPriority => 9,
+            Cause::BadKind => 10,
+            Cause::BadName => 11,
+            Cause::FixedOp => 12,
+            Cause::InfixAndPostfix => 13,
+            Cause::LateModule => 14,
+            Cause::BadIndicator => 15,
+            Cause::BadSpec => 16,
+            Cause::ControlHead => 17,
+            Cause::BadHead => 18,
+            Cause::NotInProfile => 19,
+            Cause::NoRoot => 20,
+            Cause::TwoModules => 21,
+            Cause::NoFile => 22,
+            Cause::NotModule => 23,
+            Cause::NotExported => 24,
+            Cause::NotDefined => 25,
+            Cause::TwoImports => 26,
+            Cause::NotCallable => 27,
+        }
+    }
+}
+
 /// The cause as a line of faults tells it.
 pub fn cause_text(cause: Cause) -> &'static str
     ensures { result.now ≡ cause_text cause }

@@ -2,11 +2,18 @@
 
 ghost use Rattle.std.specs.Prelude.{◌≡◌, ℕ, List, All};
 ghost use Rattle.prolog_terms.specs.Tree.{Tree};
+ghost use Rattle.clause_text.specs.Cause.{number_of};
 ghost use Rattle.clause_text.specs.Clauses.{ReadsAs};
 ghost use Rattle.clause_text.specs.Offsets.{HasOffsets};
 ghost use Rattle.clause_text.specs.TextFault.{HasTextFault};
 
+use crate::cause::Cause;
 use crate::fault::TextFault;
+
+/// No two causes have one number.
+pub fn numbers_differ()
+    ensures { (a b : Cause) → number_of a ≡ number_of b → a ≡ b }
+{}
 
 /// A text reads as one list of clauses at most.
 pub fn one_reading()

@@ -13,13 +13,11 @@ mod items;
 mod laws;
 mod parts;
 mod terms;
-#[cfg(test)]
-mod tests;
 mod text;
 
 pub use cause::{Cause, cause_text};
 pub use fault::TextFault;
-pub use laws::{fault_is_no_reading, one_fault, one_reading, terms_placed};
+pub use laws::{fault_is_no_reading, numbers_differ, one_fault, one_reading, terms_placed};
 use prolog_terms::Term;
 pub use terms::{directive_of, inside, sides};
 pub use text::read_text;
