@@ -1,6 +1,7 @@
 -- Predicate indicators, and lists of them.
 use Rattle.std.specs.Prelude.{ℕ, ◌+◌, List, [], ◌∷◌, ◌++◌, Option, Some, None, Result, Ok, false, nat_le, if◌then◌else◌, codes}
 use Rattle.std.specs.Str.{bytes_eq}
+use Rattle.prolog_terms.specs.declared.term.ConstKind.TheVariants.{Integer}
 use Rattle.prolog_terms.specs.Tree.{Tree, constant, atom, compound, listed, paren, more, none}
 use Rattle.clause_text.specs.Terms.{inside, start_of, trees_in}
 use Rattle.clause_text.specs.declared.cause.Cause.TheVariants.{BadIndicator}
@@ -30,7 +31,7 @@ atom_name tree = name_at (inside tree)
 
 -- the value of an integer without minus, and so many more, where that is an arity
 abbrev pub arity_at : Tree → ℕ → Option ℕ
-arity_at (constant kind false (Some n) span) added = if nat_le (n + added) 4294967295 then Some (n + added) else None
+arity_at (constant Integer false (Some n) span) added = if nat_le (n + added) 4294967295 then Some (n + added) else None
 arity_at tree added = None
 
 abbrev pub arity_of : Tree → ℕ → Option ℕ

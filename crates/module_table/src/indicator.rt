@@ -8,7 +8,7 @@ ghost use Rattle.module_table.specs.Indicators.{arity_of, arguments_added, indic
 use crate::said::{FactFault, refusal};
 use crate::terms::{atom_name, binary_of, commas, list_items, start_of};
 use clause_text::{Cause, inside};
-use prolog_terms::Term;
+use prolog_terms::{ConstKind, Term};
 use prolog_tokens::Text;
 use std::alloc::{AllocError, Global};
 
@@ -24,9 +24,18 @@ pub struct Indicator {
 fn arity_of(term: &Term, added: u32) -> Option<u32>
     ensures { result ≡ arity_of (tree_of term.now) added }
 {
-    let Term::Const { minus, value, .. } = inside(term) else {
+    let Term::Const {
+        kind,
+        minus,
+        value,
+        ..
+    } = inside(term)
+    else {
         return None;
     };
+    if *kind != ConstKind::Integer {
+        return None;
+    }
     if *minus {
         return None;
     }
