@@ -15,5 +15,9 @@ pub mod PathNames
 pub mod OwnNames
 pub mod DirectiveParts
 pub mod ClausesOf
-pub mod RefusalOffsets
+pub mod HandedDown
+pub mod SaidKept
+pub mod FactsKept
+pub mod FactOffsets
+pub mod OneText
 pub mod Examples

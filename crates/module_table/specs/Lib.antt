@@ -9,3 +9,5 @@ pub mod Directives
 pub mod Told
 pub mod Kinds
 pub mod Facts
+pub mod Placed
+pub mod FileText

@@ -10,6 +10,8 @@ ghost use Rattle.module_table.specs.Paths.{IsFolder, IsFileName, led, as_prolog}
 ghost use Rattle.module_table.specs.Defined.{Predicate};
 ghost use Rattle.module_table.specs.Said.{Refusal, Loads};
 ghost use Rattle.module_table.specs.Facts.{Facts, AreFacts, file_said, is_clause_of};
+ghost use Rattle.module_table.specs.Placed.{ArePlacedIn};
+ghost use Rattle.module_table.specs.FileText.{HasFacts, HasFault};
 
 /// The clauses of a file have one record of facts at most.
 pub fn one_facts()
@@ -19,6 +21,19 @@ pub fn one_facts()
 /// A refusal of the facts stands at an offset of the text, where the terms of the clauses do.
 pub fn refusals_placed()
     ensures { (text user : List ℕ) (trees : List Tree) (refusal : Refusal) → All (HasOffsets text) trees → file_said user trees ≡ Err refusal → IsOffset text refusal.offset }
+{}
+
+/// All that the facts of a file keep stands at offsets of the text, where the terms of the clauses
+/// do.
+pub fn facts_placed()
+    ensures { (text user : List ℕ) (trees : List Tree) (facts : Facts) → All (HasOffsets text) trees → AreFacts user trees facts → ArePlacedIn text facts }
+{}
+
+/// A text has one record of facts at most in a file of a name, or one fault, and never both.
+pub fn one_of_text()
+    ensures facts { (name text : List ℕ) (facts other : Facts) → HasFacts name text facts → HasFacts name text other → facts ≡ other }
+    ensures fault { (name text : List ℕ) (fault other : Refusal) → HasFault name text fault → HasFault name text other → fault ≡ other }
+    ensures never_both { (name text : List ℕ) (fault : Refusal) (facts : Facts) → HasFault name text fault → HasFacts name text facts → ⊥ }
 {}
 
 /// The clauses of a predicate are those of the file that are of its name and arity, in order. Each

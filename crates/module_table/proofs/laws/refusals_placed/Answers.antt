@@ -1,4 +1,4 @@
-use Rattle.module_table.proofs.RefusalOffsets as of_files
+use Rattle.module_table.proofs.FactOffsets as of_files
 use Rattle.module_table.proofs.laws.refusals_placed.Goals as goal
 
 pub returns : goal.returns
