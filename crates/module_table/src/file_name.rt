@@ -155,25 +155,3 @@ fn ends_as_prolog(segment: &str) -> bool
 {
     segment.ends_with(".pl")
 }
-
-#[cfg(test)]
-mod tests {
-    use super::*;
-    use std::test::Fail;
-
-    #[test]
-    fn names_files_from_a_folder(rt: HostRuntime) -> Result<(), Fail> {
-        let alloc = rt.alloc();
-        for (using, spec, wanted) in [
-            ("lib/a.pl", "b", Some("lib/b.pl")),
-            ("lib/a.pl", "../x/./b.pl", Some("x/b.pl")),
-            ("lib/a.pl", "/t/../b", Some("/b.pl")),
-            ("lib/a.pl", "..", None),
-            ("", "./a", Some("a.pl")),
-        ] {
-            let name = resolve_name(alloc, using, spec)?;
-            assert_eq!(rt; name.as_ref().map(|name| name.as_str()), wanted);
-        }
-        Ok(())
-    }
-}
