@@ -3,13 +3,13 @@ use Rattle.std.proofs.Common.{◌≡◌, ℕ, ◌<◌, List, length, get_or, sub
 use Rattle.std.specs.Prelude.{Contains}
 use Rattle.graph_law.specs.Graph.{Calls, lists_of}
 use Rattle.graph_law.specs.Classes.{AreClasses, GroupCalls, HasMember, group_at}
-use Rattle.graph_law.specs.CallOrder.{IsCalleesFirst, ArePlaces, MembersLeadTo}
+use Rattle.graph_law.specs.CallOrder.{IsCalleesFirst, AreGroupPlaces, MembersLeadTo}
 use Rattle.graph_law.proofs.ClassLaws.{HasMember-call}
 use Rattle.graph_law.proofs.GraphLaws.{group_read, length-lists_of}
 
 -- to lead to a group is to call it
 pub call_from_lead : {lists : List (List ℕ)} {roots : List ℕ} {classes : List (List ℕ)} {count : ℕ} {places : List ℕ}
-    → AreClasses (Calls lists) roots classes → ArePlaces count classes places → (place : ℕ) → place < length classes
+    → AreClasses (Calls lists) roots classes → AreGroupPlaces count classes places → (place : ℕ) → place < length classes
     → (j : ℕ) → MembersLeadTo lists places place (group_at classes place) j → GroupCalls (Calls lists) classes place j
 call_from_lead {lists} {roots} {classes} {count} {places} are table place lt j led =
     let has : HasMember classes led.leads.callee =
@@ -28,7 +28,7 @@ call_from_lead {lists} {roots} {classes} {count} {places} are table place lt j l
     }
 
 pub lead_from_call : {lists : List (List ℕ)} {classes : List (List ℕ)} {count : ℕ} {places : List ℕ}
-    → ArePlaces count classes places → (place j : ℕ)
+    → AreGroupPlaces count classes places → (place j : ℕ)
     → GroupCalls (Calls lists) classes place j → MembersLeadTo lists places place (group_at classes place) j
 lead_from_call {lists} {classes} {count} {places} table place j led = record {
   member = led.caller;

@@ -11,5 +11,6 @@ mod PlaceSteps
 mod RankLaws
 pub mod ReachLaws
 mod Rows
+mod StampSteps
 pub mod Transport
 pub mod Unique

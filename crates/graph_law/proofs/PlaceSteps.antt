@@ -5,32 +5,14 @@ use Rattle.std.proofs.lemmas.List.{get_or_append_left, get_or_push, length_push,
 use Rattle.std.proofs.lemmas.List.Elements.{Contains-get_or, Contains-append_left, Contains-push, Contains-push_cases}
 use Rattle.std.specs.Prelude.{All, Contains}
 use Rattle.graph_law.specs.Classes.{group_at}
-use Rattle.graph_law.specs.CallOrder.{AreApart, ArePlaces, IsStamped}
-
--- one node more is stamped
-pub stamped_push : (xs : List ℕ) (node place : ℕ) (old new : List ℕ) → node < length old → IsStamped xs place old new
-    → IsStamped (xs ++ node ∷ []) place old (set new node place)
-stamped_push xs node place old new lt is =
-    let within : node < length new = omega (arith, is.each, lt) in
-    record {
-      each = length-set new node place ∙ is.each;
-      stamped = λ p member.
-          elim (cases_eq p node) [
-            | inl same ↦ let P : ℕ → Type 0 = λ k. get_or (set new node place) k 0 ≡ place in subst P (sym same) (get_or-set_same new node place 0 within)
-            | inr ne ↦
-                elim (Contains-push_cases xs node p member)
-                [ inl before ↦ get_or-set_other new node p place 0 ne ∙ is.stamped p before | inr last ↦ absurd (ne (sym last)) ]
-          ];
-      kept = λ p none.
-          let ne : p ≡ node → ⊥ = λ same. none (subst (Contains (xs ++ node ∷ [])) (sym same) (Contains-push xs node)) in
-          get_or-set_other new node p place 0 ne ∙ is.kept p (λ before. none (Contains-append_left xs (node ∷ []) p before));
-    }
+use Rattle.graph_law.specs.CallOrder.{AreApart, AreGroupPlaces}
+use Rattle.graph_law.specs.Stamp.{IsStamped}
 
 -- one group more is stamped
 pub places_push : (count : ℕ) (groups : List (List ℕ)) (group old new : List ℕ) (place : ℕ)
     → place ≡ length groups
     → ((i p : ℕ) → i < length groups → Contains (group_at groups i) p → Contains group p → ⊥)
-    → ArePlaces count groups old → IsStamped group place old new → ArePlaces count (groups ++ group ∷ []) new
+    → AreGroupPlaces count groups old → IsStamped group place old new → AreGroupPlaces count (groups ++ group ∷ []) new
 places_push count groups group old new place last apart are is = record {
   each = is.each ∙ are.each;
   at = λ i p lt member.
@@ -38,10 +20,10 @@ places_push count groups group old new place last apart are is = record {
       elim (cases_lt i (length groups)) [
         | inl before ↦
             let inside : Contains (group_at groups i) p = subst P (get_or_append_left groups (group ∷ []) [] i before) member in
-            is.kept p (apart i p before inside) ∙ are.at i p before inside
+            elim (is.kept p 0) [ inl here ↦ absurd (apart i p before inside here) | inr same ↦ same ∙ are.at i p before inside ]
         | inr from ↦
             let here : i ≡ length groups = omega (arith, from, lt, length_push groups group) in
-            is.stamped p (subst P (get_or_push groups group [] i (sym here)) member) ∙ last ∙ sym here
+            is.stamped p 0 (subst P (get_or_push groups group [] i (sym here)) member) ∙ last ∙ sym here
       ];
 }
 

@@ -24,15 +24,9 @@ pub record IsCalleesFirst (calls : ℕ → ℕ → Type 0) (groups : List (List 
       → GroupCalls calls groups (slice_index order k) (slice_index order m) → m < k
 
 -- for each node, the place of its group
-pub record ArePlaces (count : ℕ) (groups : List (List ℕ)) (places : List ℕ) : Type 0 where
+pub record AreGroupPlaces (count : ℕ) (groups : List (List ℕ)) (places : List ℕ) : Type 0 where
   pub each : length places ≡ count
   pub at : (i p : ℕ) → i < length groups → Contains (group_at groups i) p → slice_index places p ≡ i
-
--- the nodes of the group have this place, and the others have the place that they had
-pub record IsStamped (group : List ℕ) (place : ℕ) (old new : List ℕ) : Type 0 where
-  pub each : length new ≡ length old
-  pub stamped : (p : ℕ) → Contains group p → slice_index new p ≡ place
-  pub kept : (p : ℕ) → (Contains group p → ⊥) → slice_index new p ≡ slice_index old p
 
 -- one of the callees is in the group at j, which is another group
 pub record LeadsTo (places : List ℕ) (place : ℕ) (callees : List ℕ) (j : ℕ) : Type 0 where

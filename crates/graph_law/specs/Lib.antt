@@ -6,3 +6,4 @@ pub mod LegalOrder
 pub mod Ranked
 pub mod Reach
 pub mod Reached
+pub mod Stamp

@@ -6,8 +6,8 @@ ghost use Rattle.graph_law.specs.CallOrder.{IsJustAbove, LeadsTo, MembersLeadTo}
 
 use crate::call_order::callees_first;
 use crate::graph::Graph;
+use crate::group_places::group_places;
 use crate::opener::Opener;
-use crate::places::places_of;
 use std::alloc::{AllocError, Global};
 
 /// The height of each group: 0 where it calls no other group, else one more than the greatest height
@@ -21,7 +21,7 @@ pub fn heights_slow(
     requires { AreClasses (Calls graph.now.lists) graph.now.roots (lists_of groups.now) }
     ensures { IfOk result (λ heights. HaveHeights (Calls graph.now.lists) (lists_of groups.now) heights.items) }
 {
-    let places = places_of(alloc, graph.count() as usize, groups)?;
+    let places = group_places(alloc, graph.count() as usize, groups)?;
     let order = callees_first(alloc, graph, groups)?;
     let mut heights = vec![in alloc; 0u32; groups.len()]?;
     for &place in &order {

@@ -11,7 +11,7 @@ use Rattle.graph_law.specs.LegalOrder.{IsLegalOrder, StandsUpTo}
 use Rattle.group_release.specs.declared.level.Level.{Level}
 use Rattle.group_release.specs.Level.{AreLevels, level_at}
 use Rattle.group_release.specs.Levels.{IsLevelOf, IsRaised, MembersLeadDown}
-use Rattle.group_release.specs.Stamp.{IsStamped}
+use Rattle.graph_law.specs.Stamp.{IsStamped}
 use Rattle.group_release.proofs.FewGroups.{few_groups}
 use Rattle.group_release.proofs.RaisedSteps.{raised_same}
 

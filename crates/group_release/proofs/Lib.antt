@@ -4,6 +4,3 @@ mod LevelSteps
 mod MemberSteps
 mod RaisedSteps
 mod ReleaseSteps
-mod SmallGraph
-mod SmallRelease
-mod StampSteps

@@ -14,7 +14,7 @@ use Rattle.graph_law.specs.Classes.{HasMember, group_at}
 use Rattle.graph_law.specs.CallOrder.{AreApart}
 use Rattle.graph_law.proofs.ClassLaws.{HasMember-push, HasMember-push_cases, HasMember-push_left}
 use Rattle.group_release.specs.Released.{AreReleased, IsNewGroup, ReleasedGroups}
-use Rattle.group_release.specs.Stamp.{IsStamped}
+use Rattle.graph_law.specs.Stamp.{IsStamped}
 use Rattle.group_release.proofs.FewGroups.{few_groups}
 
 -- distinct members ascend once they are sorted

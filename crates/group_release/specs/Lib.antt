@@ -2,4 +2,3 @@ pub mod Level
 pub mod Levels
 pub mod Released
 pub mod ReleasedFields
-pub mod Stamp

@@ -5,8 +5,7 @@ ghost use Rattle.graph_law.specs.LegalOrder.{IsLegalOrder};
 ghost use Rattle.group_release.specs.Level.{AreLevels};
 ghost use Rattle.group_release.specs.Levels.{IsLevelOf, IsRaised, LeadDown};
 
-use crate::stamp::stamp;
-use graph_law::Opener;
+use graph_law::{Opener, stamp};
 use std::alloc::{AllocError, Global};
 
 /// The height of a group, which is 0 where it calls no other group, else one more than the greatest

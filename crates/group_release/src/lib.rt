@@ -9,10 +9,6 @@
 
 mod level;
 mod released;
-mod stamp;
 
 pub use level::{Level, levels};
 pub use released::Released;
-
-#[cfg(test)]
-mod tests;

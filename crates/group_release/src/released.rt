@@ -3,7 +3,7 @@ ghost use Rattle.graph_law.specs.Classes.{HasMember};
 ghost use Rattle.graph_law.specs.Graph.{lists_of};
 ghost use Rattle.group_release.specs.Released.{AreReleased, IsAppended, IsNewGroup};
 
-use crate::stamp::stamp;
+use graph_law::stamp;
 use std::alloc::{AllocError, Global};
 use std::marker::Model;
 

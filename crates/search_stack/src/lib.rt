@@ -18,6 +18,3 @@ pub use frame::Frame;
 pub use opening::Opening;
 pub use plain_search::groups_plain;
 pub use search::Search;
-
-#[cfg(test)]
-mod tests;

@@ -9,8 +9,8 @@ use Rattle.graph_law.proofs.HeightLeads.{call_from_lead, lead_from_call, ordered
 use Rattle.graph_law.proofs.HeightSteps.{just_above_same, heights_more, heights_done}
 use Rattle.graph_law.proofs.heights.heights_slow.Goals as goal
 
-pub places_of-requires : goal.places_of-requires
-places_of-requires c = rw c.count.ensures.count (apart_from_classes c.count.ensures.graph c.requires)
+pub group_places-requires : goal.group_places-requires
+group_places-requires c = rw c.count.ensures.count (apart_from_classes c.count.ensures.graph c.requires)
 
 pub callees_first-requires-clause-apart : goal.callees_first-requires-clause-apart
 callees_first-requires-clause-apart c = apart_from_classes c.count.ensures.graph c.requires

@@ -5,7 +5,7 @@ use Rattle.graph_law.specs.Classes.{group_at}
 use Rattle.graph_law.specs.Graph.{lists_of}
 use Rattle.graph_law.proofs.GraphLaws.{group_read, length-lists_of, within_lists}
 use Rattle.group_release.specs.Levels.{IsLevelOf}
-use Rattle.group_release.specs.Stamp.{IsStamped}
+use Rattle.graph_law.specs.Stamp.{IsStamped}
 use Rattle.group_release.proofs.LevelSteps.{ArePlacesBelow, callee_place, heights_fit, levels_done, levels_more, members_below, places_more}
 use Rattle.group_release.proofs.level.levels.Goals as goal
 

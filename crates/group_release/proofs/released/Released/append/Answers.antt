@@ -6,7 +6,7 @@ use Rattle.graph_law.specs.Graph.{lists_of}
 use Rattle.graph_law.proofs.GraphLaws.{length-lists_of, lists_of-push}
 use Rattle.group_release.specs.Released.{IsNewGroup, ReleasedGroups}
 use Rattle.group_release.specs.ReleasedFields.{value_of}
-use Rattle.group_release.specs.Stamp.{IsStamped}
+use Rattle.graph_law.specs.Stamp.{IsStamped}
 use Rattle.group_release.proofs.ReleaseSteps.{sorted_ascends, new_permuted, released_more, marks_more}
 use Rattle.group_release.proofs.released.Released.append.Goals as goal
 

@@ -1,17 +1,11 @@
-use super::*;
-use graph_law::Graph;
+use crate::graphs::tailed_ring;
+use group_release::{Level, Released, levels};
 use std::test::Fail;
 
 #[test]
 fn finds_levels(rt: HostRuntime) -> Result<(), Fail> {
     let alloc = rt.alloc();
-    let succs = vec![in alloc;
-        vec![in alloc; 1]?,
-        vec![in alloc; 2, 0]?,
-        Vec::new(alloc),
-        vec![in alloc; 0]?,
-    ]?;
-    let graph = Graph::new(succs, vec![in alloc; 3]?).ok_or("refused")?;
+    let graph = tailed_ring(alloc)?;
     let groups = vec![in alloc;
         vec![in alloc; 2]?,
         vec![in alloc; 0, 1]?,

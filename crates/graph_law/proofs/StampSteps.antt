@@ -4,7 +4,7 @@ use Rattle.std.proofs.lemmas.Bool.{cases_eq}
 use Rattle.std.proofs.lemmas.List.{length-set}
 use Rattle.std.proofs.lemmas.List.Elements.{Contains-append_left, Contains-push, Contains-push_cases}
 use Rattle.std.specs.Prelude.{Contains}
-use Rattle.group_release.specs.Stamp.{IsStamped}
+use Rattle.graph_law.specs.Stamp.{IsStamped}
 
 -- no node is stamped yet
 pub stamped_none : {X : Type 0} (value : X) (table : List X) → IsStamped [] value table table

@@ -3,10 +3,10 @@ use Rattle.std.proofs.lemmas.List.{take_at, take_more, get_or-take, length-take-
 use Rattle.std.specs.Prelude.{Contains}
 use Rattle.graph_law.specs.Graph.{lists_of}
 use Rattle.graph_law.specs.Classes.{group_at}
-use Rattle.graph_law.specs.CallOrder.{IsStamped}
+use Rattle.graph_law.specs.Stamp.{IsStamped}
 use Rattle.graph_law.proofs.GraphLaws.{group_read, within_lists}
 use Rattle.graph_law.proofs.PlaceSteps.{places_push, all_below_from_apart}
-use Rattle.graph_law.proofs.places.places_of.Goals as goal
+use Rattle.graph_law.proofs.group_places.group_places.Goals as goal
 
 pub stamp-requires : goal.stamp-requires
 stamp-requires c =
@@ -28,7 +28,7 @@ loop-place-preserved c =
     let is : c.deref.result.now ≡ group_at groups n =
     group_read c.args.groups.now n c.index-groups-place.result c.deref.result.now c.loop-place-test.true c.index-groups-place.is
     c.deref.ensures.value in
-    let new : List ℕ = c.stamp.new.places in
+    let new : List ℕ = c.stamp.new.table in
     let stamped : IsStamped (group_at groups n) n c.loop-place.places.items new = rw (is, c.deref_mut.ensures.value) at c.stamp.ensures in
     let whole : length new ≡ c.loop-place.places.len = stamped.each ∙ sym c.loop-place.places.ok.0 in
     let apart : (i p : ℕ) → i < length before → Contains (group_at before i) p → Contains (group_at groups n) p → ⊥ =

@@ -1,16 +1,11 @@
-use super::*;
+use crate::graphs::tailed_ring;
+use graph_law::{Graph, Opener, classes_slow, heights_slow, is_recursive};
 use std::test::Fail;
 
 #[test]
 fn finds_classes_and_heights(rt: HostRuntime) -> Result<(), Fail> {
     let alloc = rt.alloc();
-    let succs = vec![in alloc;
-        vec![in alloc; 1]?,
-        vec![in alloc; 2, 0]?,
-        Vec::new(alloc),
-        vec![in alloc; 0]?,
-    ]?;
-    let graph = Graph::new(succs, vec![in alloc; 3]?).ok_or("refused")?;
+    let graph = tailed_ring(alloc)?;
     let classes = classes_slow(alloc, &graph)?;
     let heights = heights_slow(alloc, &graph, &classes)?;
     assert_eq!(rt;

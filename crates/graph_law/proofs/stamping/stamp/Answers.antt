@@ -1,7 +1,7 @@
 use Rattle.std.proofs.Common.{take, get_or}
 use Rattle.std.proofs.lemmas.List.{take_more}
-use Rattle.group_release.proofs.StampSteps.{stamped_none, stamped_more}
-use Rattle.group_release.proofs.stamp.stamp.Goals as goal
+use Rattle.graph_law.proofs.StampSteps.{stamped_none, stamped_more}
+use Rattle.graph_law.proofs.stamping.stamp.Goals as goal
 
 pub loop-node-init : goal.loop-node-init
 loop-node-init g c = stamped_none c.args.value c.args.table.now

@@ -1,5 +1,5 @@
-use Rattle.group_release.proofs.SmallRelease.{three_and_one_are_new, zero_is_new}
-use Rattle.group_release.proofs.tests.holds_what_was_appended.Goals as goal
+use Rattle.search_tests.proofs.NewGroups.{three_and_one_are_new, zero_is_new}
+use Rattle.search_tests.proofs.level_tests.holds_what_was_appended.Goals as goal
 
 pub append-requires : goal.append-requires
 append-requires g c = rw (c.in_ok-released.ensures, c.in_ok-vec.ensures.items) three_and_one_are_new

@@ -1,8 +1,8 @@
 ghost use Rattle.std.specs.Prelude.{◌<◌, length, All};
-ghost use Rattle.group_release.specs.Stamp.{IsStamped};
+ghost use Rattle.graph_law.specs.Stamp.{IsStamped};
 
 /// Writes the value at each of the nodes.
-pub(crate) fn stamp<T: Copy>(table: &mut [T], nodes: &[u32], value: T)
+pub fn stamp<T: Copy>(table: &mut [T], nodes: &[u32], value: T)
     requires { All (λ node. node < length table.old) nodes.now }
     ensures { IsStamped nodes.now value table.old table.new }
 {

@@ -1,0 +1,2 @@
+mod NewGroups
+mod RingGroups
