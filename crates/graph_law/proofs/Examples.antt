@@ -1,5 +1,5 @@
 -- What is true of small graphs and of orders of their groups, and what isn't.
-use Rattle.std.proofs.Common.{◌≡◌, ◌⊎◌, inl, inr, ℕ, zero, suc, ◌<◌, ◌≤◌, List, [], ◌∷◌, length, refl, subst, sym, arith}
+use Rattle.std.proofs.Common.{◌≡◌, inl, inr, ℕ, zero, suc, ◌<◌, ◌≤◌, List, [], ◌∷◌, refl, subst, sym, arith}
 use Rattle.std.specs.Prelude.{Contains}
 use Rattle.graph_law.specs.Graph.{Calls, IsClosed, IsGraph}
 use Rattle.graph_law.specs.Reach.{IsWalk, Reaches, IsReached, ReachEachOther}

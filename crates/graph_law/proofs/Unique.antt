@@ -1,59 +1,25 @@
 -- There is one list of classes of a relation, and one list of heights.
-use Rattle.std.proofs.Common.{◌≡◌, ◌⊎◌, inl, inr, ℕ, zero, suc, ◌<◌, ◌≤◌, ◌+◌, List, [], ◌∷◌, length, get_or, map, refl, subst, sym, ap, ◌∙◌, arith}
+use Rattle.std.proofs.Common.{AllPairs, ◌≡◌, inl, inr, ℕ, zero, suc, ◌<◌, ◌≤◌, List, [], length, get_or, map, subst, sym, ap, ◌∙◌, arith}
 use Rattle.std.proofs.lemmas.List.{ext_get_or, get_or_default, get_or-map, length-map}
 use Rattle.std.specs.Prelude.{Contains}
 use Rattle.std.specs.List.Sorted.{IsStrictlyIncreasing}
+use Rattle.order_law.proofs.OneOrder.{same_order}
 use Rattle.graph_law.specs.Classes.{IsClass, AreClasses, HasMember, group_at, least_member}
 use Rattle.graph_law.specs.Heights.{HaveHeights}
 use Rattle.graph_law.proofs.ClassLaws.{least_is_member}
 use Rattle.graph_law.proofs.Increasing.{increasing_far}
 
-rest_increases : (x : ℕ) (xs : List ℕ) → IsStrictlyIncreasing (x ∷ xs) → IsStrictlyIncreasing xs
-rest_increases x xs up k lt =
-    let next : suc k + 1 ≡ suc (k + 1) = omega arith in
-    let step : get_or (x ∷ xs) (suc k) 0 < get_or (x ∷ xs) (suc k + 1) 0 = up (suc k) (omega (arith, lt)) in
-    rw next at step
-
-within_rest : (x : ℕ) (xs : List ℕ) (p : ℕ) → Contains xs p → Contains (x ∷ xs) p
-within_rest x xs p (k, lt, at) = (suc k, omega (arith, lt), at)
-
-first_or_rest : (x : ℕ) (xs : List ℕ) (p : ℕ) → Contains (x ∷ xs) p → (x ≡ p) ⊎ Contains xs p
-first_or_rest x xs p (zero, lt, at) = inl at
-first_or_rest x xs p (suc k, lt, at) = inr (k, omega (arith, lt), at)
-
-above_first : (x : ℕ) (xs : List ℕ) (p : ℕ) → IsStrictlyIncreasing (x ∷ xs) → Contains xs p → x < p
-above_first x xs p up (k, lt, at) =
-    let far : x < get_or xs k 0 = increasing_far (x ∷ xs) up 0 (suc k) (omega arith) (omega (arith, lt)) in
-    omega (arith, far, at, get_or_default xs k p 0 lt)
+-- a list that rises is in the strict order of numbers
+in_order : (xs : List ℕ) → IsStrictlyIncreasing xs → AllPairs (λ a b. a < b) xs
+in_order xs up i j d before lt =
+    let far : get_or xs i 0 < get_or xs j 0 = increasing_far xs up i j before lt in
+    omega (arith, far, get_or_default xs i d 0 (omega (arith, before, lt)), get_or_default xs j d 0 lt)
 
 -- lists that rise and have the same members are one
 pub increasing_unique : (xs ys : List ℕ) → IsStrictlyIncreasing xs → IsStrictlyIncreasing ys
     → ((p : ℕ) → Contains xs p → Contains ys p) → ((p : ℕ) → Contains ys p → Contains xs p) → xs ≡ ys
-increasing_unique [] [] up also to from = refl
-increasing_unique [] (y ∷ ys) up also to from = let none = (from y (0, omega arith, refl)).1 in absurd (omega (arith, none))
-increasing_unique (x ∷ xs) [] up also to from = let none = (to x (0, omega arith, refl)).1 in absurd (omega (arith, none))
-increasing_unique (x ∷ xs) (y ∷ ys) up also to from =
-    let first : x ≡ y =
-    elim (first_or_rest y ys x (to x (0, omega arith, refl))) [
-      | inl same ↦ sym same
-      | inr later ↦
-          elim (first_or_rest x xs y (from y (0, omega arith, refl))) [
-            | inl same ↦ same
-            | inr also_later ↦
-                let low : y < x = above_first y ys x also later in
-                let high : x < y = above_first x xs y up also_later in
-                absurd (omega (arith, low, high))
-          ]
-    ] in
-    let rest : xs ≡ ys =
-    increasing_unique xs ys (rest_increases x xs up) (rest_increases y ys also)
-    (λ p member.
-    elim (first_or_rest y ys p (to p (within_rest x xs p member)))
-    [ inl same ↦ let above : x < p = above_first x xs p up member in absurd (omega (arith, above, first, same)) | inr later ↦ later ])
-    (λ p member.
-    elim (first_or_rest x xs p (from p (within_rest y ys p member)))
-    [ inl same ↦ let above : y < p = above_first y ys p also member in absurd (omega (arith, above, first, same)) | inr later ↦ later ]) in
-    cc (first, rest)
+increasing_unique xs ys up also to from =
+    same_order (λ a b. a < b) (record { one_way = λ a b below above. omega (arith, below, above) }) xs ys (in_order xs up) (in_order ys also) to from
 
 -- classes that share a node are one
 pub class_unique : {calls : ℕ → ℕ → Type 0} {class other : List ℕ} → IsClass calls class → IsClass calls other

@@ -1,9 +1,9 @@
 -- What is true of released groups and of levels, and what isn't.
-use Rattle.std.proofs.Common.{◌≡◌, ◌⊎◌, inl, inr, ℕ, zero, suc, ◌<◌, ◌≤◌, true, false, List, [], ◌∷◌, ◌++◌, length, refl, sym, subst, ap, arith}
-use Rattle.std.specs.Prelude.{All, Contains, IsTrue}
+use Rattle.std.proofs.Common.{◌≡◌, inl, inr, ℕ, zero, suc, true, false, List, [], ◌∷◌, length, refl, sym, subst, ap, arith}
+use Rattle.std.specs.Prelude.{Contains}
 use Rattle.std.specs.List.Sorted.{IsStrictlyIncreasing}
 use Rattle.graph_law.specs.Graph.{Calls}
-use Rattle.graph_law.specs.Classes.{HasMember, IsRecursive, group_at}
+use Rattle.graph_law.specs.Classes.{group_at}
 use Rattle.group_release.specs.declared.level.Level.{Level}
 use Rattle.group_release.specs.Level.{AreLevels}
 use Rattle.group_release.specs.Released.{ReleasedGroups, AreReleased, IsNewGroup, IsAppended}
