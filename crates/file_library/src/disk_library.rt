@@ -1,5 +1,7 @@
 ghost use Rattle.std.specs.Prelude.{◌≡◌, ◌≤◌, ◌⊎◌, ◌+◌, [], None, OnOk, length};
 ghost use Rattle.std.specs.Io.KnownBytes.{Consumes, IsAtEnd};
+ghost use Rattle.file_library.specs.Counts.{CountsAre};
+ghost use Rattle.file_library.specs.Library.{ReadIs, AskedIs};
 
 use crate::library::{Library, Read};
 use prolog_tokens::Text;
@@ -74,7 +76,14 @@ impl<'a, R: Files> Library for DiskLibrary<'a, R> {
 
     ghost misses = { λ l. l.misses };
 
-    fn read(&mut self, name: &str, limit: u32, room: &mut Vec<u8>) -> Read {
+    fn read(&mut self, name: &str, limit: u32, room: &mut Vec<u8>) -> Read
+        requires { room.old.items ≡ [] }
+        ensures answer { ReadIs None name.now limit room.new.items self.old.faults self.new.faults self.old.misses self.new.misses result }
+        ensures asked { AskedIs self.old.asked.items self.new.asked.items name.now result }
+        ensures counts { CountsAre self.old.faults self.new.faults self.old.misses self.new.misses result }
+        ensures faults_kept { self.old.faults ≤ self.new.faults }
+        ensures misses_kept { self.old.misses ≤ self.new.misses }
+    {
         let Ok(asked) = Text::new(self.alloc, name) else {
             return Read::NoMemory;
         };

@@ -13,6 +13,3 @@ mod memory_library;
 pub use disk_library::DiskLibrary;
 pub use library::{Library, Read};
 pub use memory_library::MemoryLibrary;
-
-#[cfg(test)]
-mod tests;
