@@ -1,5 +1,5 @@
 -- The order of predicates, and lists that are in this order.
-use Rattle.std.proofs.Common.{Some, ◌<◌, arith, ◌≡◌, ℕ, List, [], ◌∷◌, ◌++◌, Bool, true, false, ◌&&◌, nat_eq, All, Contains, ◌⊎◌, inl, inr, refl, sym, ap, subst, ◌∙◌}
+use Rattle.std.proofs.Common.{Some, ◌<◌, arith, ◌≡◌, ℕ, List, [], ◌∷◌, ◌++◌, Bool, true, false, ◌&&◌, nat_eq, All, AllPairs, Contains, refl, sym, ap, subst, ◌∙◌}
 use Rattle.std.specs.Ordering.{is_eq, is_lt, ordering_reverse}
 use Rattle.std.specs.declared.cmp.Ordering.{Ordering}
 use Rattle.std.specs.declared.cmp.Ordering.TheVariants.{Less, Equal, Greater}
@@ -11,7 +11,10 @@ use Rattle.std.proofs.lemmas.Cmp.{then_total, on_total, nat_list_cmp_total, nat_
 use Rattle.std.proofs.lemmas.Bool.{and_parts}
 use Rattle.std.proofs.lemmas.Bool.Decides.{Decides-eqb}
 use Rattle.std.proofs.lemmas.Slice.Eq.{bytes_eq-Decides}
-use Rattle.std.proofs.lemmas.List.Elements.{All-cons, All-head, All-tail, All-push, All-contains, All-from_recursion, recursion_from_All, All-nil, All-pop, Contains-push, Contains-push_cases, Contains-append_left, Contains-append_right, Contains-append_cases}
+use Rattle.std.proofs.lemmas.List.Elements.{All-head, All-tail, All-push, All-from_recursion, recursion_from_All, All-pop}
+use Rattle.std.proofs.lemmas.List.Kept.{AllPairs-cons}
+use Rattle.std.proofs.lemmas.Map.Views.{All-before_last}
+use Rattle.order_law.proofs.OneOrder.{less_strict, same_order}
 use Rattle.module_table.specs.Defined.{Predicate, predicate_cmp, key}
 
 pub predicate_cmp_total : IsTotalOrder predicate_cmp
@@ -67,74 +70,18 @@ sorted_front (p ∷ ps) q up = (
     front_of all = (All-pop (λ y. predicate_cmp p y ≡ Less) (ps ++ q ∷ []) ps (Some q) refl all).0
 
 pub sorted_below : (ps : List Predicate) (q : Predicate) → IsStrictlySortedBy predicate_cmp (ps ++ q ∷ []) → All (λ p. predicate_cmp p q ≡ Less) ps
-unfolding IsStrictlySortedBy
-sorted_below [] q up = All-nil (λ p. predicate_cmp p q ≡ Less)
-sorted_below (p ∷ ps) q up =
-    All-cons (λ x. predicate_cmp x q ≡ Less) p ps
-    (All-contains (λ y. predicate_cmp p y ≡ Less) (ps ++ q ∷ []) q (All-from_recursion (λ y. predicate_cmp p y ≡ Less) (ps ++ q ∷ []) up.0) (Contains-push ps q))
-    (sorted_below ps q up.1)
-
-Contains-nil : (x : Predicate) → Contains [] x → ⊥
-Contains-nil x has = let below : has.0 < 0 = has.1 in omega arith
-
-Contains-head : (p : Predicate) (ps : List Predicate) → Contains (p ∷ ps) p
-Contains-head p ps = Contains-append_left (p ∷ []) ps p (Contains-push [] p)
-
-Contains-tail : (p : Predicate) (ps : List Predicate) (x : Predicate) → Contains ps x → Contains (p ∷ ps) x
-Contains-tail p ps x has = Contains-append_right (p ∷ []) ps x has
-
-Contains-cons_cases : (p : Predicate) (ps : List Predicate) (x : Predicate) → Contains (p ∷ ps) x → (p ≡ x) ⊎ Contains ps x
-Contains-cons_cases p ps x has =
-    elim (Contains-append_cases (p ∷ []) ps x has) [
-      | inl first ↦ elim (Contains-push_cases [] p x first) [ inl none ↦ absurd (Contains-nil x none) | inr e ↦ inl e ]
-      | inr later ↦ inr later
-    ]
-
-Less-flips : (p q : Predicate) → predicate_cmp p q ≡ Less → predicate_cmp q p ≡ Less → ⊥
-Less-flips p q e back =
-    let turned : predicate_cmp p q ≡ Greater = predicate_cmp_total.antisymm p q ∙ ap ordering_reverse back in cc
+sorted_below ps q up = All-before_last predicate_cmp ps q up
 
 pub not_itself : (p : Predicate) → predicate_cmp p p ≡ Less → ⊥
 not_itself p e = let tie : predicate_cmp p p ≡ Equal = tied_itself predicate_cmp_total p in cc
 
-one_head : (p q : Predicate) (ps qs : List Predicate) → All (λ y. predicate_cmp p y ≡ Less) ps → All (λ y. predicate_cmp q y ≡ Less) qs
-    → Contains (q ∷ qs) p → Contains (p ∷ ps) q → p ≡ q
-one_head p q ps qs after_p after_q has_p has_q =
-    elim (Contains-cons_cases q qs p has_p) [
-      | inl e ↦ sym e
-      | inr p_later ↦
-          elim (Contains-cons_cases p ps q has_q) [
-            | inl e ↦ e
-            | inr q_later ↦
-                absurd
-                (Less-flips p q
-                (All-contains (λ y. predicate_cmp p y ≡ Less) ps q after_p q_later)
-                (All-contains (λ y. predicate_cmp q y ≡ Less) qs p after_q p_later))
-          ]
-    ]
-
-in_tail : (p q : Predicate) (ps qs : List Predicate) → All (λ y. predicate_cmp p y ≡ Less) ps → q ≡ p
-    → ((x : Predicate) → Contains (p ∷ ps) x → Contains (q ∷ qs) x) → (x : Predicate) → Contains ps x → Contains qs x
-in_tail p q ps qs after e to x has =
-    elim (Contains-cons_cases q qs x (to x (Contains-tail p ps x has))) [
-      | inl first ↦
-          absurd
-          (not_itself p
-          (subst (λ y. predicate_cmp p y ≡ Less) (sym first ∙ e) (All-contains (λ y. predicate_cmp p y ≡ Less) ps x after has)))
-      | inr later ↦ later
-    ]
+in_pairs : (ps : List Predicate) → IsStrictlySortedBy predicate_cmp ps → AllPairs (λ p q. predicate_cmp p q ≡ Less) ps
+unfolding IsStrictlySortedBy
+in_pairs [] up = λ i j p before within. absurd (omega arith)
+in_pairs (p ∷ ps) up = AllPairs-cons (λ p q. predicate_cmp p q ≡ Less) p ps (All-from_recursion (λ q. predicate_cmp p q ≡ Less) ps up.0) (in_pairs ps up.1)
 
 -- two lists in order that have the same members are the same
 pub one_sorted_list : (ps qs : List Predicate) → IsStrictlySortedBy predicate_cmp ps → IsStrictlySortedBy predicate_cmp qs
     → ((x : Predicate) → Contains ps x → Contains qs x) → ((x : Predicate) → Contains qs x → Contains ps x) → ps ≡ qs
-unfolding IsStrictlySortedBy
-one_sorted_list [] [] up vp to from = refl
-one_sorted_list [] (q ∷ qs) up vp to from = absurd (Contains-nil q (from q (Contains-head q qs)))
-one_sorted_list (p ∷ ps) [] up vp to from = absurd (Contains-nil p (to p (Contains-head p ps)))
-one_sorted_list (p ∷ ps) (q ∷ qs) up vp to from =
-    let after_p = All-from_recursion (λ y. predicate_cmp p y ≡ Less) ps up.0 in
-    let after_q = All-from_recursion (λ y. predicate_cmp q y ≡ Less) qs vp.0 in
-    let first = one_head p q ps qs after_p after_q (to p (Contains-head p ps)) (from q (Contains-head q qs)) in
-    let later =
-    one_sorted_list ps qs up.1 vp.1 (in_tail p q ps qs after_p (sym first) to) (in_tail q p qs ps after_q first from) in
-    λ i. first i ∷ later i
+one_sorted_list ps qs up vp to from =
+    same_order (λ p q. predicate_cmp p q ≡ Less) (less_strict predicate_cmp predicate_cmp_total) ps qs (in_pairs ps up) (in_pairs qs vp) to from
