@@ -1,14 +1,15 @@
 -- What some words are by those that follow them, and what some trees are.
-use Rattle.std.proofs.Common.{◌≡◌, ◌⊎◌, inl, inr, ℕ, ◌+◌, ◌<◌, ◌≤◌, Bool, true, false, List, [], ◌∷◌, Option, Some, None, refl, codes, arith}
-use Rattle.std.specs.Prelude.{⊤}
+use Rattle.std.proofs.Common.{◌≡◌, ℕ, ◌+◌, true, false, List, [], ◌∷◌, Some, None, refl, codes, arith}
 use Rattle.prolog_tokens.specs.declared.token.Kind.{Kind}
 use Rattle.prolog_tokens.specs.declared.token.Kind.TheVariants.{Name, Quoted, Integer, OpenRound, CloseRound, OpenSquare, CloseSquare, Comma, Bar, End}
 use Rattle.prolog_ops.specs.Table.{opening}
 use Rattle.prolog_terms.specs.declared.term.Span.{Span}
-use Rattle.prolog_terms.specs.declared.term.Form.TheVariants.{Functional}
+use Rattle.prolog_terms.specs.declared.term.Form.TheVariants.{Functional, Infix}
 use Rattle.prolog_terms.specs.Arity.{HasAritiesWithin}
-use Rattle.prolog_terms.specs.Grammar.{Parse, Opener, square, leaf, bare, group, tailed as with_tail, prefixed, infixed, one, more as more_parts, IsAboveSpine, IsClause, parse_depth}
-use Rattle.prolog_terms.specs.Tree.{Tree, atom, compound, listed, paren, none, more, depth}
+use Rattle.prolog_terms.specs.Grammar.{Parse, GroupStart, square, leaf, bare, group, tailed as with_tail, prefixed, infixed, one, more as more_parts, IsAboveSpine, IsClause, parse_depth}
+use Rattle.prolog_terms.specs.Tree.{Tree, atom, compound, listed, tailed, paren, none, more, depth}
+use Rattle.prolog_terms.specs.Views.{start_of, sides_of, joined, name_and_arity, atom_name}
+use Rattle.prolog_terms.specs.Weight.{weight}
 use Rattle.prolog_terms.specs.Words.{Word, Table, table_of, is_atom, is_prefix, is_functor, is_negative}
 
 abbrev at : ℕ → Span
@@ -88,7 +89,7 @@ leaf_depth : parse_depth (leaf (apart Integer [])) ≡ 1
 leaf_depth = refl
 
 -- `[a, a]` is no deeper than `[a]`, and a tail counts
-abbrev opening_square : Opener
+abbrev opening_square : GroupStart
 opening_square = square (apart OpenSquare [])
 
 abbrev a_word : Parse
@@ -141,3 +142,42 @@ two_arguments = ((omega arith, (tt, ((omega arith, (tt, (tt, tt))), tt))), tt)
 
 more_than_one : HasAritiesWithin 1 (paren (f a a) (at 0)) → ⊥
 more_than_one within = omega (arith, within.0)
+
+-- brackets are passed through
+
+abbrev b : Tree
+b = atom (codes "b") (at 2)
+
+abbrev joins : Tree → Tree → Tree
+joins left right = compound (codes ",") (more left (more right none)) Infix (at 0)
+
+starts_inside : start_of (paren b (at 0)) ≡ 2
+starts_inside = refl
+
+bracketed_sides : sides_of (codes ",") (paren (paren (joins a b) (at 0)) (at 0)) ≡ Some (a, b)
+bracketed_sides = refl
+
+another_name : sides_of (codes ";") (joins a b) ≡ None
+another_name = refl
+
+bracketed_on_the_left : joined (joins (paren (joins a b) (at 0)) (f a b)) ≡ a ∷ b ∷ f a b ∷ []
+bracketed_on_the_left = refl
+
+atom_named : name_and_arity (paren a (at 0)) ≡ Some (record { name = codes "a"; arity = 0 })
+atom_named = refl
+
+compound_named : name_and_arity (f a b) ≡ Some (record { name = codes "f"; arity = 2 })
+compound_named = refl
+
+list_without_name : name_and_arity (listed (more a none) (at 0)) ≡ None
+list_without_name = refl
+
+no_atom : atom_name (f a b) ≡ None
+no_atom = refl
+
+-- `f(a, [a, a|a])` weighs 5: two arguments, two items and a tail
+weight_with_a_tail : weight (f a (tailed (more a (more a none)) a (at 0))) ≡ 5
+weight_with_a_tail = refl
+
+weight_of_brackets : weight (paren a (at 0)) ≡ 1
+weight_of_brackets = refl

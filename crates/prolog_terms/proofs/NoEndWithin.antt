@@ -3,7 +3,7 @@ use Rattle.std.proofs.Common.{◌≡◌, ◌≢◌, ℕ, zero, suc, Bool, true, 
 use Rattle.prolog_tokens.specs.declared.token.Kind.{Kind}
 use Rattle.prolog_tokens.specs.declared.token.Kind.TheVariants.{OpenRound, CloseRound, OpenSquare, CloseSquare, OpenCurly, CloseCurly, Comma, Bar, End}
 use Rattle.prolog_terms.specs.Words.{Word, Table, is_name, is_unquoted, is_number, is_leaf, is_open_round, is_minus, is_negative, opens, atom_rule, number_next}
-use Rattle.prolog_terms.specs.Grammar.{Parse, Parts, Opener, call, square, leaf, negative, bare, pair, group, tailed, wrapped, prefixed, infixed, postfixed, one, more, yield, parts_yield, opener_yield, IsKept, AreKept, Opens, Closes, IsPair, IsWrap}
+use Rattle.prolog_terms.specs.Grammar.{Parse, Parts, GroupStart, call, square, leaf, negative, bare, pair, group, tailed, wrapped, prefixed, infixed, postfixed, one, more, yield, parts_yield, start_yield, IsKept, AreKept, Opens, Closes, IsPair, IsWrap}
 use Rattle.std.specs.Prelude.{codes}
 use Rattle.std.specs.Str.{bytes_eq}
 use Rattle.prolog_terms.proofs.ReaderTables.{IsTable, can_be_infix}
@@ -36,14 +36,14 @@ wrap_none o c h = elim h [
   | inr s ↦ (other o.kind OpenCurly s.0 (λ e. cc), other c.kind CloseCurly s.1 (λ e. cc))
 ]
 
-opener_none : (g : Opener) (after : List Word) → Opens g after → HaveNoEnd (opener_yield g)
-opener_none (call f o) after h = (
+start_none : (g : GroupStart) (after : List Word) → Opens g after → HaveNoEnd (start_yield g)
+start_none (call f o) after h = (
   passes is_name f.kind refl (and_left (is_name f.kind) (opens (o ∷ after)) h),
   (passes is_open_round o.kind refl (and_left (is_open_round o.kind) (not o.after_layout) (and_right (is_name f.kind) (opens (o ∷ after)) h)), tt),
 )
-opener_none (square o) after h = (other o.kind OpenSquare h (λ e. cc), tt)
+start_none (square o) after h = (other o.kind OpenSquare h (λ e. cc), tt)
 
-closer_none : (g : Opener) (c : Word) → Closes g c → c.kind ≢ End
+closer_none : (g : GroupStart) (c : Word) → Closes g c → c.kind ≢ End
 closer_none (call f o) c h = other c.kind CloseRound h (λ e. cc)
 closer_none (square o) c h = other c.kind CloseSquare h (λ e. cc)
 
@@ -70,7 +70,7 @@ module _ (T : Table) (ok : IsTable T) where
         (passes is_name w.kind refl (first_of_four (is_name w.kind) (not (opens after)) (not (is_negative w after)) (not (is_some (T.prefix w)) || atom_rule T after) h), tt)
     kept_none (pair o c) after h = pair_none o c h
     kept_none (group g xs c) after h =
-        none_append (opener_yield g) (parts_yield xs ++ c ∷ []) (opener_none g (parts_yield xs ++ c ∷ after) h.0)
+        none_append (start_yield g) (parts_yield xs ++ c ∷ []) (start_none g (parts_yield xs ++ c ∷ after) h.0)
         (none_append (parts_yield xs) (c ∷ []) (are_none xs (c ∷ after) h.1) (closer_none g c h.2, tt))
     kept_none (tailed o xs b t c) after h = (
       other o.kind OpenSquare h.0 (λ e. cc),

@@ -13,9 +13,9 @@ use Rattle.prolog_terms.specs.Tree.{Tree}
 use Rattle.prolog_terms.specs.Clause.{IsWordOf, AreWords, tree_from, IsClauseOf, StandsAt, IsReadFault}
 use Rattle.prolog_terms.specs.StuckPlace.{IsRefusedAt, IsStuckAt, IsTooDeepAt, HasNoEnd}
 use Rattle.prolog_terms.specs.ReaderSteps.{infix_open, Stack, Mode, want, minus, functor, have, done, State, at, goes, bound, reduced, infix_on, with_tree, want_step, act, next, run}
-use Rattle.prolog_terms.specs.ReaderLines.{Line, ready, named, doubt, feed}
-use Rattle.prolog_terms.specs.ReaderDepth.{line_floor}
-use Rattle.prolog_terms.specs.ReaderSeen.{LineSeen, ready_seen, wants, finished, OperandSeen, StackSeen, feed_seen, line_floor_seen, is_finished}
+use Rattle.prolog_terms.specs.ReaderWaiting.{Waiting, ready, named, doubt, feed}
+use Rattle.prolog_terms.specs.ReaderDepth.{waiting_floor}
+use Rattle.prolog_terms.specs.ReaderSeen.{WaitingSeen, ready_seen, wants, finished, OperandSeen, StackSeen, feed_seen, waiting_floor_seen, is_finished}
 use Rattle.prolog_terms.proofs.Parts.{IsToken}
 use Rattle.prolog_terms.proofs.WordsOf.{have_words, are_append, are_take, are_length, are_last}
 use Rattle.prolog_terms.proofs.NoEndWithin.{kept_none, before_none, none_at}
@@ -23,9 +23,9 @@ use Rattle.prolog_terms.proofs.ReaderTables.{IsTable}
 use Rattle.prolog_terms.proofs.ReaderComplete.{bare_step, name_kind_goes, reads_clause, one_clause}
 use Rattle.prolog_terms.proofs.ReaderSound.{read_sound}
 use Rattle.prolog_terms.proofs.ReaderPlaces.{from_start, Fits, Goes, feed_goes, fits_none, refused, step_doubt}
-use Rattle.prolog_terms.proofs.ReaderEnds.{line_ends, line_low}
+use Rattle.prolog_terms.proofs.ReaderEnds.{waiting_ends, waiting_low}
 use Rattle.prolog_terms.proofs.ReaderJoin.{parse_seen}
-use Rattle.prolog_terms.proofs.ReaderJoinLines.{line_seen, fed_seen, fits_waiting, feed_is, line_floor_is, infix_some, infix_name_step}
+use Rattle.prolog_terms.proofs.ReaderJoinWaiting.{waiting_seen, fed_seen, fits_names, feed_is, waiting_floor_is, infix_some, infix_name_step}
 
 below_cap : (m n : ℕ) → 1000 < m → min n m ≤ 1000 → n ≤ 1000
 below_cap m n big low = omega (arith, big, low)
@@ -64,15 +64,15 @@ take_take (suc j) zero ws low = absurd (omega (arith, low))
 take_take (suc j) (suc k) [] low = refl
 take_take (suc j) (suc k) (w ∷ ws) low = ap (λ xs. w ∷ xs) (take_take j k ws (omega (arith, low)))
 
--- the tokens have been read as words, and the line stands behind them
-pub record HasRead (T : Table) (text : List ℕ) (ts : List Token) (seen : LineSeen) : Type 0 where
+-- the tokens have been read as words, and this waits behind them
+pub record HasRead (T : Table) (text : List ℕ) (ts : List Token) (seen : WaitingSeen) : Type 0 where
   pub words : List Word
   pub are : AreWords text ts words
   pub only : (others : List Word) → AreWords text ts others → others ≡ words
-  pub line : Line
-  pub fits : Fits T words line
-  pub seen_is : seen ≡ line_seen T line
-  pub low : line_floor T line ≤ 1000
+  pub waiting : Waiting
+  pub fits : Fits T words waiting
+  pub seen_is : seen ≡ waiting_seen T waiting
+  pub low : waiting_floor T waiting ≤ 1000
 
 no_others : (text : List ℕ) (others : List Word) → AreWords text [] others → others ≡ []
 no_others text [] h = refl
@@ -83,7 +83,7 @@ read_nothing T text S empty = record {
   words = [];
   are = tt;
   only = no_others text;
-  line = ready [] want;
+  waiting = ready [] want;
   fits = fits_none T;
   seen_is = ap (λ s. ready_seen s wants) empty;
   low = omega arith;
@@ -91,18 +91,18 @@ read_nothing T text S empty = record {
 
 -- one word more is fed
 
-record Fed (T : Table) (o : Option Line) (seen : LineSeen) : Type 0 where
-  line : Line
-  is : o ≡ Some line
-  seen_is : seen ≡ line_seen T line
+record Fed (T : Table) (o : Option Waiting) (seen : WaitingSeen) : Type 0 where
+  waiting : Waiting
+  is : o ≡ Some waiting
+  seen_is : seen ≡ waiting_seen T waiting
 
-fed_some : (T : Table) (o : Option Line) (seen : LineSeen) → Some seen ≡ fed_seen T o → Fed T o seen
+fed_some : (T : Table) (o : Option Waiting) (seen : WaitingSeen) → Some seen ≡ fed_seen T o → Fed T o seen
 fed_some T None seen e = cc
-fed_some T (Some line) seen e = record { line = line; is = refl; seen_is = let same : seen ≡ line_seen T line = cc in same }
+fed_some T (Some waiting) seen e = record { waiting = waiting; is = refl; seen_is = let same : seen ≡ waiting_seen T waiting = cc in same }
 
-fed_none : (T : Table) (o : Option Line) → None ≡ fed_seen T o → o ≡ None
+fed_none : (T : Table) (o : Option Waiting) → None ≡ fed_seen T o → o ≡ None
 fed_none T None e = refl
-fed_none T (Some line) e = cc
+fed_none T (Some waiting) e = cc
 
 -- the word of the next token, and no other
 pub record NextWord (text : List ℕ) (t : Token) (w : Word) : Type 0 where
@@ -119,23 +119,23 @@ are_more : (text : List ℕ) (ts : List Token) (t : Token) (words : List Word) (
 are_more text ts t words w are is = are_append text ts (t ∷ []) words (w ∷ []) are (is, tt)
 
 module _ (T : Table) (ok : IsTable T) (text : List ℕ) where
-  fed_line : (ts : List Token) (seen : LineSeen) (read : HasRead T text ts seen) (w : Word) → feed_seen T seen w ≡ fed_seen T (feed T read.line w)
-  fed_line ts seen read w =
-      ap (λ s. feed_seen T s w) read.seen_is ∙ feed_is T read.line w (fits_waiting T read.words read.line read.fits)
+  fed_waiting : (ts : List Token) (seen : WaitingSeen) (read : HasRead T text ts seen) (w : Word) → feed_seen T seen w ≡ fed_seen T (feed T read.waiting w)
+  fed_waiting ts seen read w =
+      ap (λ s. feed_seen T s w) read.seen_is ∙ feed_is T read.waiting w (fits_names T read.words read.waiting read.fits)
 
-  pub read_more : (ts : List Token) (t : Token) (seen next : LineSeen) (w : Word) → HasRead T text ts seen → NextWord text t w → Some next ≡ feed_seen T seen w
-      → line_floor_seen next ≤ 1000 → HasRead T text (ts ++ t ∷ []) next
+  pub read_more : (ts : List Token) (t : Token) (seen next : WaitingSeen) (w : Word) → HasRead T text ts seen → NextWord text t w → Some next ≡ feed_seen T seen w
+      → waiting_floor_seen next ≤ 1000 → HasRead T text (ts ++ t ∷ []) next
   read_more ts t seen later w read word step low =
-      let fed = fed_some T (feed T read.line w) later (step ∙ fed_line ts seen read w) in
+      let fed = fed_some T (feed T read.waiting w) later (step ∙ fed_waiting ts seen read w) in
       record {
         words = read.words ++ w ∷ [];
         are = are_more text ts t read.words w read.are word.is;
         only = only_more text ts t read.words w read.only word;
-        line = fed.line;
-        fits = subst (Goes T (read.words ++ w ∷ [])) fed.is (feed_goes T read.words read.line w read.fits);
+        waiting = fed.waiting;
+        fits = subst (Goes T (read.words ++ w ∷ [])) fed.is (feed_goes T read.words read.waiting w read.fits);
         seen_is = fed.seen_is;
-        low = below_cap (2 ^ 64 - 1) (line_floor T fed.line) (omega arith)
-            (subst (λ n. n ≤ 1000) (ap line_floor_seen fed.seen_is ∙ line_floor_is T fed.line) low);
+        low = below_cap (2 ^ 64 - 1) (waiting_floor T fed.waiting) (omega arith)
+            (subst (λ n. n ≤ 1000) (ap waiting_floor_seen fed.seen_is ∙ waiting_floor_is T fed.waiting) low);
       }
 
   -- the reader stops at a token
@@ -153,12 +153,12 @@ module _ (T : Table) (ok : IsTable T) (text : List ℕ) where
   front_is tokens k t stands =
       take_more tokens k t (slice_get_within tokens k t stands) ∙ ap (λ x. take k tokens ++ x ∷ []) (get_or_from_slice_get tokens k t t stands)
 
-  begun : (ts : List Token) (seen : LineSeen) (read : HasRead T text ts seen) → BeginsWithin T 1000 read.words
+  begun : (ts : List Token) (seen : WaitingSeen) (read : HasRead T text ts seen) → BeginsWithin T 1000 read.words
   begun ts seen read =
-      let ends = line_ends T read.words read.line read.fits in
+      let ends = waiting_ends T read.words read.waiting read.fits in
       record { begins = ends.begins; shallow = omega (arith, ends.shallow, read.low) }
 
-  stops : (tokens : List Token) (k : ℕ) (t : Token) (seen : LineSeen) (w : Word) → slice_get tokens k ≡ Some t → (read : HasRead T text (take k tokens) seen)
+  stops : (tokens : List Token) (k : ℕ) (t : Token) (seen : WaitingSeen) (w : Word) → slice_get tokens k ≡ Some t → (read : HasRead T text (take k tokens) seen)
       → NextWord text t w → (BeginsWithin T 1000 (read.words ++ w ∷ []) → ⊥) → Stops tokens k t
   stops tokens k t seen w stands read word refuses = record {
     words = read.words;
@@ -263,26 +263,26 @@ module _ (T : Table) (ok : IsTable T) (text : List ℕ) where
     pub only : (other : ReadFault) → IsReadFault T text tokens other → other ≡ fault
     pub none : (other : Tree) → IsClauseOf T text tokens other → ⊥
 
-  pub stuck : (tokens : List Token) (k : ℕ) (t : Token) (seen : LineSeen) (w : Word) → ((j : ℕ) (u : Token) → slice_get tokens j ≡ Some u → IsToken text u)
+  pub stuck : (tokens : List Token) (k : ℕ) (t : Token) (seen : WaitingSeen) (w : Word) → ((j : ℕ) (u : Token) → slice_get tokens j ≡ Some u → IsToken text u)
       → slice_get tokens k ≡ Some t → HasRead T text (take k tokens) seen → NextWord text t w → None ≡ feed_seen T seen w → IsFault tokens (Stuck t.start)
   unfolding stops
   stuck tokens k t seen w spelled stands read word step =
-      let nothing = fed_none T (feed T read.line w) (step ∙ fed_line (take k tokens) seen read w) in
-      let none : Begins T (read.words ++ w ∷ []) → ⊥ = refused T ok read.words read.line w read.fits nothing in
+      let nothing = fed_none T (feed T read.waiting w) (step ∙ fed_waiting (take k tokens) seen read w) in
+      let none : Begins T (read.words ++ w ∷ []) → ⊥ = refused T ok read.words read.waiting w read.fits nothing in
       let stop = stops tokens k t seen w stands read word (λ h. none h.begins) in
       record { is = stuck_here tokens k t stop none spelled; only = stuck_only tokens k t stop none; none = no_clause tokens k t stop }
 
-  pub deep : (tokens : List Token) (k : ℕ) (t : Token) (seen next : LineSeen) (w : Word) → ((j : ℕ) (u : Token) → slice_get tokens j ≡ Some u → IsToken text u)
-      → slice_get tokens k ≡ Some t → HasRead T text (take k tokens) seen → NextWord text t w → Some next ≡ feed_seen T seen w → 1000 < line_floor_seen next
+  pub deep : (tokens : List Token) (k : ℕ) (t : Token) (seen next : WaitingSeen) (w : Word) → ((j : ℕ) (u : Token) → slice_get tokens j ≡ Some u → IsToken text u)
+      → slice_get tokens k ≡ Some t → HasRead T text (take k tokens) seen → NextWord text t w → Some next ≡ feed_seen T seen w → 1000 < waiting_floor_seen next
       → IsFault tokens (TooDeep t.start)
   unfolding stops
   deep tokens k t seen later w spelled stands read word step over =
-      let fed = fed_some T (feed T read.line w) later (step ∙ fed_line (take k tokens) seen read w) in
-      let fits : Fits T (read.words ++ w ∷ []) fed.line = subst (Goes T (read.words ++ w ∷ [])) fed.is (feed_goes T read.words read.line w read.fits) in
-      let floor : 1000 < line_floor T fed.line =
-      over_cap (2 ^ 64 - 1) (line_floor T fed.line) (subst (λ n. 1000 < n) (ap line_floor_seen fed.seen_is ∙ line_floor_is T fed.line) over) in
-      let stop = stops tokens k t seen w stands read word (λ h. absurd (omega (arith, floor, line_low T ok (read.words ++ w ∷ []) fed.line 1000 fits h))) in
-      let deeper : Begins T (read.words ++ w ∷ []) = (line_ends T (read.words ++ w ∷ []) fed.line fits).begins in
+      let fed = fed_some T (feed T read.waiting w) later (step ∙ fed_waiting (take k tokens) seen read w) in
+      let fits : Fits T (read.words ++ w ∷ []) fed.waiting = subst (Goes T (read.words ++ w ∷ [])) fed.is (feed_goes T read.words read.waiting w read.fits) in
+      let floor : 1000 < waiting_floor T fed.waiting =
+      over_cap (2 ^ 64 - 1) (waiting_floor T fed.waiting) (subst (λ n. 1000 < n) (ap waiting_floor_seen fed.seen_is ∙ waiting_floor_is T fed.waiting) over) in
+      let stop = stops tokens k t seen w stands read word (λ h. absurd (omega (arith, floor, waiting_low T ok (read.words ++ w ∷ []) fed.waiting 1000 fits h))) in
+      let deeper : Begins T (read.words ++ w ∷ []) = (waiting_ends T (read.words ++ w ∷ []) fed.waiting fits).begins in
       record { is = deep_here tokens k t stop deeper spelled; only = deep_only tokens k t stop deeper; none = no_clause tokens k t stop }
 
   -- all tokens are read
@@ -311,18 +311,18 @@ module _ (T : Table) (ok : IsTable T) (text : List ℕ) where
   run_all words S m fits = ap (from_start T) (sym (append-nil words)) ∙ fits []
 
   pub finish : (ts : List Token) (S : StackSeen) (operand : OperandSeen) → HasRead T text ts (ready_seen S (finished operand)) → IsRead ts operand.tree
-  finish ts S operand read = by_line read.line read.fits read.seen_is read.low
+  finish ts S operand read = by_waiting read.waiting read.fits read.seen_is read.low
     where
-      by_line : (line : Line) → Fits T read.words line → ready_seen S (finished operand) ≡ line_seen T line → line_floor T line ≤ 1000 → IsRead ts operand.tree
-      by_line (ready S' (done t)) fits e low =
+      by_waiting : (waiting : Waiting) → Fits T read.words waiting → ready_seen S (finished operand) ≡ waiting_seen T waiting → waiting_floor T waiting ≤ 1000 → IsRead ts operand.tree
+      by_waiting (ready S' (done t)) fits e low =
           let same : tree_from t ≡ operand.tree = (let o : operand ≡ parse_seen T t = cc in ap (λ x. x.tree) (sym o)) in
           subst (IsRead ts) same (clause_read ts read.words S' t read.are read.only (run_all read.words S' (done t) fits) low)
-      by_line (ready S' want) fits e low = cc
-      by_line (ready S' (minus d)) fits e low = cc
-      by_line (ready S' (functor n)) fits e low = cc
-      by_line (ready S' (have t)) fits e low = cc
-      by_line (named S' w) fits e low = cc
-      by_line (doubt S' p n) fits e low = cc
+      by_waiting (ready S' want) fits e low = cc
+      by_waiting (ready S' (minus d)) fits e low = cc
+      by_waiting (ready S' (functor n)) fits e low = cc
+      by_waiting (ready S' (have t)) fits e low = cc
+      by_waiting (named S' w) fits e low = cc
+      by_waiting (doubt S' p n) fits e low = cc
 
   atom_last : (name m prefix : Bool) → name ≡ true → (name && not false && not (m && false) && (not prefix || true)) ≡ true
   atom_last true true true h = refl
@@ -348,7 +348,7 @@ module _ (T : Table) (ok : IsTable T) (text : List ℕ) where
       by_mode S (have u) h = infix_not_done (nat_le (sides_of (T.infix_ n)).priority (bound T S) && nat_le (priority T u) (sides_of (T.infix_ n)).left) S S' u t n h
       by_mode S (done u) h = cc
 
-  not_done : (words : List Word) (line : Line) → Fits T words line → is_finished (line_seen T line) ≡ false → (S' : Stack) (t : Parse) → from_start T words ≡ Some (at S' (done t)) → ⊥
+  not_done : (words : List Word) (waiting : Waiting) → Fits T words waiting → is_finished (waiting_seen T waiting) ≡ false → (S' : Stack) (t : Parse) → from_start T words ≡ Some (at S' (done t)) → ⊥
   not_done words (ready S want) fits open_ S' t h = let both : want ≡ done t = mode_is S S' (want) t (sym (run_all words S want fits) ∙ h) in cc
   not_done words (ready S (minus d)) fits open_ S' t h = let both : minus d ≡ done t = mode_is S S' (minus d) t (sym (run_all words S (minus d) fits) ∙ h) in cc
   not_done words (ready S (functor n)) fits open_ S' t h = let both : functor n ≡ done t = mode_is S S' (functor n) t (sym (run_all words S (functor n) fits) ∙ h) in cc
@@ -384,7 +384,7 @@ module _ (T : Table) (ok : IsTable T) (text : List ℕ) where
       by_more (v ∷ vs) e ends =
           none_at words (length words - 1) w (before_none (yield b.tree) words v vs b.end (kept_none T ok b.tree (b.end ∷ []) b.clause.kept) e) stands ends
 
-  pub unfinished : (ts : List Token) (seen : LineSeen) → HasRead T text ts seen → is_finished seen ≡ false → IsFault ts (NoEnd (length text))
+  pub unfinished : (ts : List Token) (seen : WaitingSeen) → HasRead T text ts seen → is_finished seen ≡ false → IsFault ts (NoEnd (length text))
   unfinished ts seen read open_ = record {
     is = (refl, (read.words, read.are, no_end));
     only = only_no_end;
@@ -398,13 +398,13 @@ module _ (T : Table) (ok : IsTable T) (text : List ℕ) where
       only_words = read.only
 
       never : (S : Stack) (t : Parse) → from_start T read.words ≡ Some (at S (done t)) → ⊥
-      never = not_done read.words read.line read.fits (ap is_finished (sym read.seen_is) ∙ open_)
+      never = not_done read.words read.waiting read.fits (ap is_finished (sym read.seen_is) ∙ open_)
 
       begins_all : BeginsWithin T 1000 read.words
       begins_all = begun ts seen read
 
       no_end : HasNoEnd T read.words
-      no_end = record { begins = begun ts seen read; open_ended = last_no_end read.words (begun ts seen read).begins (not_done read.words read.line read.fits (ap is_finished (sym read.seen_is) ∙ open_)) }
+      no_end = record { begins = begun ts seen read; open_ended = last_no_end read.words (begun ts seen read).begins (not_done read.words read.waiting read.fits (ap is_finished (sym read.seen_is) ∙ open_)) }
 
       not_refused : (others : List Word) → AreWords text ts others → (place : ℕ) → IsRefusedAt T others place → ⊥
       not_refused others are place there =
@@ -424,14 +424,14 @@ module _ (T : Table) (ok : IsTable T) (text : List ℕ) where
   take_over zero (t ∷ ts) low = absurd (omega (arith, low))
   take_over (suc i) (t ∷ ts) low = ap (λ us. t ∷ us) (take_over i ts (omega (arith, low)))
 
-  pub at_end : (tokens : List Token) (i : ℕ) (seen : LineSeen) → length tokens ≤ i → HasRead T text (take i tokens) seen → HasRead T text tokens seen
+  pub at_end : (tokens : List Token) (i : ℕ) (seen : WaitingSeen) → length tokens ≤ i → HasRead T text (take i tokens) seen → HasRead T text tokens seen
   at_end tokens i seen low read = subst (λ ts. HasRead T text ts seen) (take_over i tokens low) read
 
-  pub finished_read : (tokens : List Token) (i : ℕ) (seen : LineSeen) (S : StackSeen) (operand : OperandSeen) (tree : Tree) → length tokens ≤ i
+  pub finished_read : (tokens : List Token) (i : ℕ) (seen : WaitingSeen) (S : StackSeen) (operand : OperandSeen) (tree : Tree) → length tokens ≤ i
       → HasRead T text (take i tokens) seen → seen ≡ ready_seen S (finished operand) → operand.tree ≡ tree → IsRead tokens tree
   finished_read tokens i seen S operand tree low read is tree_is =
       subst (IsRead tokens) tree_is (finish tokens S operand (subst (HasRead T text tokens) is (at_end tokens i seen low read)))
 
-  pub unfinished_read : (tokens : List Token) (i : ℕ) (seen : LineSeen) (fault : ReadFault) → length tokens ≤ i
+  pub unfinished_read : (tokens : List Token) (i : ℕ) (seen : WaitingSeen) (fault : ReadFault) → length tokens ≤ i
       → HasRead T text (take i tokens) seen → is_finished seen ≡ false → fault ≡ NoEnd (length text) → IsFault tokens fault
   unfinished_read tokens i seen fault low read open_ is = subst (IsFault tokens) (sym is) (unfinished tokens seen (at_end tokens i seen low read) open_)

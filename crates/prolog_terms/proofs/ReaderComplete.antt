@@ -6,7 +6,7 @@ use Rattle.std.proofs.lemmas.Bool.Decides.{nat_tests}
 use Rattle.prolog_tokens.specs.declared.token.Kind.{Kind}
 use Rattle.prolog_tokens.specs.declared.token.Kind.TheVariants.{Name, Quoted, Variable, Integer, Float, Str, BackStr, OpenRound, CloseRound, OpenSquare, CloseSquare, OpenCurly, CloseCurly, Comma, Bar, End}
 use Rattle.prolog_terms.specs.Words.{Word, Table, sides_of, is_name, is_unquoted, is_leaf, is_number, is_open_round, is_minus, opens, number_next, atom_rule, is_functor, is_negative, is_atom, is_prefix}
-use Rattle.prolog_terms.specs.Grammar.{Parse, Parts, Opener, call, square, leaf, negative, bare, pair, group, tailed, wrapped, prefixed, infixed, postfixed, one, more, yield, parts_yield, priority, IsAboveSpine, Closes, IsKept, AreKept, IsClause}
+use Rattle.prolog_terms.specs.Grammar.{Parse, Parts, GroupStart, call, square, leaf, negative, bare, pair, group, tailed, wrapped, prefixed, infixed, postfixed, one, more, yield, parts_yield, priority, IsAboveSpine, Closes, IsKept, AreKept, IsClause}
 use Rattle.prolog_terms.specs.ReaderSteps.{prefix_open, infix_open, first_open, next_open, tail_open, wrap_open, Stack, Mode, want, minus, functor, have, done, State, at, goes, bound, reduced, closed, is_curly, want_other, want_step, infix_on, postfix_on, with_tree, infix_step, name_step, comma_on, bar_on, round_on, square_on, curly_on, end_on, have_step, act, next, run}
 use Rattle.prolog_terms.proofs.ReaderTables.{IsTable, can_be_infix}
 
@@ -375,7 +375,7 @@ module _ (T : Table) where
   name_kind_goes S t w End h = cc
 
   -- the bracket of these parts, open for the last of them
-  abbrev pub parts_open : Opener → Parts → Stack → Stack
+  abbrev pub parts_open : GroupStart → Parts → Stack → Stack
   parts_open g (one t) S = first_open g ∷ S
   parts_open g (more xs w t) S = next_open g xs w ∷ S
 
@@ -385,7 +385,7 @@ module _ (T : Table) where
 
   -- the word behind the last part
   module _ (S : Stack) (w : Word) where
-    comma_goes : (g : Opener) (xs : Parts) → w.kind ≡ Comma
+    comma_goes : (g : GroupStart) (xs : Parts) → w.kind ≡ Comma
         → have_step T (onto (last_part xs) (parts_open g xs S)) (last (last_part xs)) w w.kind ≡ goes (next_open g xs w ∷ S) want
     comma_goes g (one t) e =
         let S1 : Stack = onto t (first_open g ∷ S) in
@@ -403,7 +403,7 @@ module _ (T : Table) where
         let S1 : Stack = onto t (next_open (square o) xs c ∷ S) in
         ap (λ k. have_step T S1 (last t) w k) e ∙ ap (λ st. with_tree st (bar_on T S1 (last t) w)) (closed_onto t (next_open (square o) xs c ∷ S))
 
-    group_goes : (g : Opener) (xs : Parts) → Closes g w
+    group_goes : (g : GroupStart) (xs : Parts) → Closes g w
         → have_step T (onto (last_part xs) (parts_open g xs S)) (last (last_part xs)) w w.kind ≡ goes S (have (group g xs w))
     group_goes (call n b) (one t) e =
         let S1 : Stack = onto t (first_open (call n b) ∷ S) in
@@ -503,7 +503,7 @@ module _ (T : Table) where
           ∙ step w f (onto l S) (have (last l)) S (have (postfixed l w))
           (name_kind_goes (onto l S) (last l) w w.kind (ok.postfix_name w kept.0) ∙ postfix_goes l S w (ok.one_place w kept.0) kept.0 kept.3 low kept.2)
 
-      pub reads_parts : (xs : Parts) (g : Opener) (S : Stack) (f : List Word) → AreKept T xs f
+      pub reads_parts : (xs : Parts) (g : GroupStart) (S : Stack) (f : List Word) → AreKept T xs f
           → run T (parts_yield xs ++ f) (at (first_open g ∷ S) want) ≡ run T f (at (onto (last_part xs) (parts_open g xs S)) (have (last (last_part xs))))
       reads_parts (one t) g S f kept = reads t (first_open g ∷ S) f kept.0 kept.1 tt
       reads_parts (more xs w t) g S f kept =

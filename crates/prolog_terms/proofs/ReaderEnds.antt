@@ -5,10 +5,10 @@ use Rattle.std.proofs.lemmas.Bool.Decides.{nat_tests}
 use Rattle.prolog_tokens.specs.declared.token.Kind.{Kind}
 use Rattle.prolog_tokens.specs.declared.token.Kind.TheVariants.{Name, Quoted, Variable, Integer, Float, Str, BackStr, OpenRound, CloseRound, OpenSquare, CloseSquare, OpenCurly, CloseCurly, Comma, Bar, End}
 use Rattle.prolog_terms.specs.Words.{Word, Table, sides_of, is_name, is_minus, opens, number_next, term_next, infix_next, is_functor, is_negative, is_atom, is_prefix}
-use Rattle.prolog_terms.specs.Grammar.{Parse, Opener, call, square, leaf, negative, bare, pair, group, tailed, wrapped, prefixed, infixed, one, more, priority, parse_depth, BeginsWithin}
-use Rattle.prolog_terms.specs.ReaderSteps.{Frame, prefix_open, infix_open, first_open, next_open, tail_open, wrap_open, Stack, Mode, want, minus, functor, have, done, State, at, goes, bound, closed, is_curly, want_other, want_step, reduced, infix_on, postfix_on, with_tree, name_step, round_on, square_on, curly_on, end_on, have_step, act, next, run}
-use Rattle.prolog_terms.specs.ReaderLines.{Line, ready, named, doubt, is_infix_only, leaves_doubt}
-use Rattle.prolog_terms.specs.ReaderDepth.{floor_of, want_floor, floor, least_floor, line_floor}
+use Rattle.prolog_terms.specs.Grammar.{Parse, GroupStart, call, square, leaf, negative, bare, pair, group, tailed, wrapped, prefixed, infixed, one, more, priority, parse_depth, BeginsWithin}
+use Rattle.prolog_terms.specs.ReaderSteps.{Pending, prefix_open, infix_open, first_open, next_open, tail_open, wrap_open, Stack, Mode, want, minus, functor, have, done, State, at, goes, bound, closed, is_curly, want_other, want_step, reduced, infix_on, postfix_on, with_tree, name_step, round_on, square_on, curly_on, end_on, have_step, act, next, run}
+use Rattle.prolog_terms.specs.ReaderWaiting.{Waiting, ready, named, doubt, is_infix_only, leaves_doubt}
+use Rattle.prolog_terms.specs.ReaderDepth.{floor_of, want_floor, floor, least_floor, waiting_floor}
 use Rattle.prolog_terms.proofs.ReaderTables.{IsTable}
 use Rattle.prolog_terms.proofs.ReaderComplete.{and_left, and_right, and_both, step, kind_step, bare_step, functor_step, name_kind_goes, reads_clause}
 use Rattle.prolog_terms.proofs.ReaderSound.{IsReadAs, read_sound, OnState, OnTree, with_tree_on, five_cases, guarded}
@@ -19,7 +19,7 @@ use Rattle.prolog_terms.proofs.ReaderFloors.{AtLeast, run_floor}
 abbrev filler : Kind → Word
 filler kind = record { kind = kind; text = []; value = None; after_layout = true; span = record { from = 0; to = 0 } }
 
-abbrev closing : Opener → Word
+abbrev closing : GroupStart → Word
 closing (call f o) = filler CloseRound
 closing (square o) = filler CloseSquare
 
@@ -114,12 +114,12 @@ module _ (T : Table) where
         (kind_step T S (filler Integer) (closers S) Integer refl refl) (closers_end S (leaf (filler Integer)) S (leaf (filler Integer)) refl);
   }
 
-  pair_leads : (S : Stack) (frame : Frame) (o c : Word) → opens (c ∷ closers S) ≡ false → want_step T (frame ∷ S) c (closers S) ≡ goes S (have (pair o c))
-      → Leads (at (frame ∷ S) want) (floor_of S 1)
-  pair_leads S frame o c apart e = record {
+  pair_leads : (S : Stack) (pending : Pending) (o c : Word) → opens (c ∷ closers S) ≡ false → want_step T (pending ∷ S) c (closers S) ≡ goes S (have (pair o c))
+      → Leads (at (pending ∷ S) want) (floor_of S 1)
+  pair_leads S pending o c apart e = record {
     words = c ∷ closers S;
     apart = apart;
-    ends = ends_step c (closers S) (frame ∷ S) want S (have (pair o c)) (floor_of S 1) e (closers_end S (pair o c) S (pair o c) refl);
+    ends = ends_step c (closers S) (pending ∷ S) want S (have (pair o c)) (floor_of S 1) e (closers_end S (pair o c) S (pair o c) refl);
   }
 
   wrap_leads : (o : Word) (S : Stack) (b : Bool) → is_curly o.kind ≡ b → Leads (at (wrap_open o ∷ S) want) (cond b (floor_of S 1) (floor_of (wrap_open o ∷ S) 1))
@@ -288,23 +288,23 @@ module _ (T : Table) where
             (functor_ends S p n fits.0 fits.1 (within_from (sides_of (T.prefix p)).priority (bound T S) allowed_is)))
       ]
 
-  pub line_ends : (u : List Word) (line : Line) → Fits T u line → BeginsWithin T (line_floor T line) u
-  line_ends u (ready S want) fits = ends_within u (want_leads S).words (want_leads S).words (at S want) (want_floor S) (fits (want_leads S).words) (want_leads S).ends
-  line_ends u (ready S (minus d)) fits =
+  pub waiting_ends : (u : List Word) (waiting : Waiting) → Fits T u waiting → BeginsWithin T (waiting_floor T waiting) u
+  waiting_ends u (ready S want) fits = ends_within u (want_leads S).words (want_leads S).words (at S want) (want_floor S) (fits (want_leads S).words) (want_leads S).ends
+  waiting_ends u (ready S (minus d)) fits =
       let all : Parse = negative d (filler Integer) in
       ends_within u (filler Integer ∷ closers S) (filler Integer ∷ closers S) (at S (minus d)) (floor_of S 1) (fits (filler Integer ∷ closers S))
       (ends_step (filler Integer) (closers S) S (minus d) S (have all) (floor_of S 1) refl (closers_end S all S all refl))
-  line_ends u (ready S (functor n)) fits =
+  waiting_ends u (ready S (functor n)) fits =
       let S1 : Stack = first_open (call n bracket) ∷ S in
       let t : Parse = leaf (filler Integer) in
       ends_within u (bracket ∷ filler Integer ∷ closers S1) (bracket ∷ filler Integer ∷ closers S1) (at S (functor n)) (floor_of S 2) (fits (bracket ∷ filler Integer ∷ closers S1))
       (ends_step bracket (filler Integer ∷ closers S1) S (functor n) S1 want (floor_of S 2) refl
       (ends_step (filler Integer) (closers S1) S1 want S1 (have t) (floor_of S 2) (kind_step T S1 (filler Integer) (closers S1) Integer refl refl)
       (ends_same (at S1 (have t)) (floor_of S1 1) (floor_of S 2) (closers S1) (omega arith) (closers_end S1 t S1 t refl))))
-  line_ends u (ready S (have t)) fits = ends_within u (closers S) (closers S) (at S (have t)) (floor_of S (parse_depth t)) (fits (closers S)) (closers_end S t S t refl)
-  line_ends u (ready S (done t)) fits = within_of u [] (parse_depth t) S t (fits []) (omega arith)
-  line_ends u (named S w) fits = ends_within u (closers S) (w ∷ closers S) (at S want) (floor_of S 1) (fits.1 (closers S)) (named_ends S w fits.0)
-  line_ends u (doubt S p n) fits =
+  waiting_ends u (ready S (have t)) fits = ends_within u (closers S) (closers S) (at S (have t)) (floor_of S (parse_depth t)) (fits (closers S)) (closers_end S t S t refl)
+  waiting_ends u (ready S (done t)) fits = within_of u [] (parse_depth t) S t (fits []) (omega arith)
+  waiting_ends u (named S w) fits = ends_within u (closers S) (w ∷ closers S) (at S want) (floor_of S 1) (fits.1 (closers S)) (named_ends S w fits.0)
+  waiting_ends u (doubt S p n) fits =
       doubt_ends u S p n fits (name_step T S (bare p) n) (nat_le (sides_of (T.prefix p)).priority (bound T S)) refl refl
 
   -- and no clause that begins so is less deep
@@ -368,14 +368,14 @@ module _ (T : Table) where
       least_of_atom st allowed n (parse_depth t) (subst (λ o. AtLeast T (floor st.stack st.mode) o) is (run_floor T f st))
 
   doubt_low : (S : Stack) (p n : Word) (f : List Word) (t : Parse) → is_name p.kind ≡ true → leaves_doubt T p n ≡ true
-      → run T (p ∷ n ∷ f) (at S want) ≡ Some (at [] (done t)) → line_floor T (doubt S p n) ≤ parse_depth t
+      → run T (p ∷ n ∷ f) (at S want) ≡ Some (at [] (done t)) → waiting_floor T (doubt S p n) ≤ parse_depth t
   doubt_low S p n f t name h is = by_next (opens f) refl
     where
       first : next (cond (opens f) (cond (nat_le (sides_of (T.prefix p)).priority (bound T S)) (goes (prefix_open p ∷ S) want) None) (goes S (have (bare p))))
           (λ st. run T (n ∷ f) st) ≡ Some (at [] (done t))
       first = ap (λ o. next o (λ st. run T (n ∷ f) st)) (sym (step_doubt T S p n f name h)) ∙ is
 
-      by_next : (b : Bool) → opens f ≡ b → line_floor T (doubt S p n) ≤ parse_depth t
+      by_next : (b : Bool) → opens f ≡ b → waiting_floor T (doubt S p n) ≤ parse_depth t
       by_next true opened =
           let both : (nat_le (sides_of (T.prefix p)).priority (bound T S) ≡ true) × (floor_of S 3 ≤ parse_depth t) =
           functor_low S p n f t (infix_name p n h) opened (nat_le (sides_of (T.prefix p)).priority (bound T S))
@@ -388,9 +388,9 @@ module _ (T : Table) where
           ∙ subst (λ b. next (cond b (cond (nat_le (sides_of (T.prefix p)).priority (bound T S)) (goes (prefix_open p ∷ S) want) None) (goes S (have (bare p)))) (λ st. run T (n ∷ f) st)
           ≡ Some (at [] (done t))) shut first)
 
-  -- a clause that begins with the words of a line is at least as deep as the line says
-  pub line_low : IsTable T → (u : List Word) (line : Line) (n : ℕ) → Fits T u line → BeginsWithin T n u → line_floor T line ≤ n
-  line_low ok u line n fits within = omega (arith, by_line line fits, within.shallow)
+  -- a clause that begins with these words is at least as deep as what waits behind them says
+  pub waiting_low : IsTable T → (u : List Word) (waiting : Waiting) (n : ℕ) → Fits T u waiting → BeginsWithin T n u → waiting_floor T waiting ≤ n
+  waiting_low ok u waiting n fits within = omega (arith, by_waiting waiting fits, within.shallow)
     where
       tree : Parse
       tree = within.begins.tree
@@ -398,11 +398,11 @@ module _ (T : Table) where
       read : from_start T (u ++ within.begins.more) ≡ Some (at [] (done within.begins.tree))
       read = ap (from_start T) (sym within.begins.is) ∙ reads_clause T ok within.begins.tree within.begins.end within.begins.clause
 
-      by_line : (line : Line) → Fits T u line → line_floor T line ≤ parse_depth within.begins.tree
-      by_line (ready S m) fits =
+      by_waiting : (waiting : Waiting) → Fits T u waiting → waiting_floor T waiting ≤ parse_depth within.begins.tree
+      by_waiting (ready S m) fits =
           subst (λ o. AtLeast T (floor S m) o) (sym (fits within.begins.more) ∙ read) (run_floor T within.begins.more (at S m))
-      by_line (named S w) fits =
+      by_waiting (named S w) fits =
           run_low (want_step T S w within.begins.more) within.begins.more (floor_of S 1) within.begins.tree (name_want_floor S w within.begins.more fits.0)
           (sym (fits.1 within.begins.more) ∙ read)
-      by_line (doubt S p n) fits =
+      by_waiting (doubt S p n) fits =
           doubt_low S p n within.begins.more within.begins.tree fits.0 fits.1 (sym (fits.3 within.begins.more) ∙ read)

@@ -198,7 +198,7 @@ module _ (T : Table) where
 
   end_floor : (S : Stack) (t : Parse) → AtLeast (floor_of S (parse_depth t)) (end_on S t)
   end_floor [] t = omega arith
-  end_floor (frame ∷ S) t = tt
+  end_floor (pending ∷ S) t = tt
 
   have_floor : (S : Stack) (t : Parse) (w : Word) (k : Kind) → AtLeast (floor_of S (parse_depth t)) (have_step T S t w k)
   have_floor S t w Name = name_floor S t w

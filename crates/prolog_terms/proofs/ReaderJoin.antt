@@ -4,16 +4,16 @@ use Rattle.prolog_tokens.specs.declared.token.Kind.{Kind}
 use Rattle.prolog_tokens.specs.declared.token.Kind.TheVariants as kind
 use Rattle.prolog_terms.specs.declared.term.Span.{Span}
 use Rattle.prolog_terms.specs.declared.term.Form.TheVariants.{Prefix, Infix, Postfix}
-use Rattle.prolog_terms.specs.declared.frame.Opener.{Opener as OpenerSeen}
-use Rattle.prolog_terms.specs.declared.frame.Opener.TheVariants.{Call, Square}
+use Rattle.prolog_terms.specs.declared.pending.Opened.{Opened}
+use Rattle.prolog_terms.specs.declared.pending.Opened.TheVariants.{Call, Square}
 use Rattle.prolog_terms.specs.Words.{Word, Table, Sides, sides_of}
-use Rattle.prolog_terms.specs.Grammar.{Parse, Parts, Opener, call, square, leaf, negative, bare, pair, group, tailed, wrapped, prefixed, infixed, postfixed, one, more, priority, parse_depth, parts_depth}
+use Rattle.prolog_terms.specs.Grammar.{Parse, Parts, GroupStart, call, square, leaf, negative, bare, pair, group, tailed, wrapped, prefixed, infixed, postfixed, one, more, priority, parse_depth, parts_depth}
 use Rattle.prolog_terms.specs.Tree.{Tree, compound, none, more as with_more, span_of}
 use Rattle.prolog_terms.specs.Clause.{tree_from, trees_of, trees_more, span_between, from_of, to_of, joined_span, leaf_tree, negative_tree, wrapped_tree, infix_text}
-use Rattle.prolog_terms.specs.ReaderSteps.{Frame, prefix_open, infix_open, first_open, next_open, tail_open, wrap_open, Stack, Mode, want, minus, functor, have, done, State, at, goes, bound, reduced, closed, is_curly, square_pair, curly_pair, want_other, infix_on, postfix_on, with_tree, infix_step, name_step, comma_on, bar_on, round_on, square_on, curly_on, end_on, have_step, act}
-use Rattle.prolog_terms.specs.ReaderDepth.{frame_depth, reach}
+use Rattle.prolog_terms.specs.ReaderSteps.{Pending, prefix_open, infix_open, first_open, next_open, tail_open, wrap_open, Stack, Mode, want, minus, functor, have, done, State, at, goes, bound, reduced, closed, is_curly, square_pair, curly_pair, want_other, infix_on, postfix_on, with_tree, infix_step, name_step, comma_on, bar_on, round_on, square_on, curly_on, end_on, have_step, act}
+use Rattle.prolog_terms.specs.ReaderDepth.{pending_depth, reach}
 use Rattle.prolog_terms.specs.ReaderSeen as seen
-use Rattle.prolog_terms.specs.ReaderSeen.{plus, OperandSeen, PartsSeen, operand, parts, built, FrameSeen, operator_frame, bracket_frame, first_in, next_in, tail_in, wrap_in, entry, StackSeen, ModeSeen, wants, minus_of, functor_of, has, finished, StateSeen, Held, held, goes_seen, pushed, reach_seen, separates_seen, bound_seen, inner_depth, frame_has_parts, reduced_seen, closed_seen, with_held, infix_held, postfix_held, infix_step_seen, name_step_seen, separator_seen, comma_in, bar_in, round_in, square_in, curly_in, end_in, have_step_seen, want_other_seen, square_pair_seen, curly_pair_seen, act_seen, postfixed_operand, parts_one, parts_more, group_operand, tailed_operand, wrapped_operand}
+use Rattle.prolog_terms.specs.ReaderSeen.{plus, OperandSeen, PartsSeen, operand, parts, built, PendingSeen, pending_operator, pending_bracket, first_in, next_in, tail_in, wrap_in, entry, StackSeen, ModeSeen, wants, minus_of, functor_of, has, finished, StateSeen, Held, held, goes_seen, pushed, reach_seen, separates_seen, bound_seen, inner_depth, pending_has_parts, reduced_seen, closed_seen, with_held, infix_held, postfix_held, infix_step_seen, name_step_seen, separator_seen, comma_in, bar_in, round_in, square_in, curly_in, end_in, have_step_seen, want_other_seen, square_pair_seen, curly_pair_seen, act_seen, postfixed_operand, parts_one, parts_more, group_operand, tailed_operand, wrapped_operand}
 
 -- depths are told apart up to the greatest number
 abbrev pub cap : ℕ → ℕ
@@ -109,12 +109,12 @@ span_is (prefixed w r) = refl
 span_is (infixed l w r) = refl
 span_is (postfixed l w) = refl
 
-abbrev pub opener_seen : Opener → OpenerSeen
-opener_seen (call f o) = Call f
-opener_seen (square o) = Square o
+abbrev pub start_seen : GroupStart → Opened
+start_seen (call f o) = Call f
+start_seen (square o) = Square o
 
 -- an entry of equal parts
-entry_is : (f : FrameSeen) (r r' : ℕ) (b b' : Bool) (S : StackSeen) → r ≡ r' → b ≡ b' → entry f r b ∷ S ≡ entry f r' b' ∷ S
+entry_is : (f : PendingSeen) (r r' : ℕ) (b b' : Bool) (S : StackSeen) → r ≡ r' → b ≡ b' → entry f r b ∷ S ≡ entry f r' b' ∷ S
 entry_is f r r' b b' S r_is b_is = ap (λ x. entry f x b ∷ S) r_is ∙ ap (λ x. entry f r' x ∷ S) b_is
 
 -- the innermost bracket has parts
@@ -134,17 +134,17 @@ module _ (T : Table) where
   abbrev pub parts_seen : Parts → PartsSeen
   parts_seen xs = parts (trees_of xs) (cap (parts_depth xs))
 
-  abbrev pub frame_seen : Frame → FrameSeen
-  frame_seen (prefix_open w) = operator_frame (seen.prefix_on w (sides_of (T.prefix w)))
-  frame_seen (infix_open l w) = operator_frame (seen.infix_on (parse_seen l) w (sides_of (T.infix_ w)))
-  frame_seen (first_open g) = bracket_frame (first_in (opener_seen g))
-  frame_seen (next_open g xs c) = bracket_frame (next_in (opener_seen g) (parts_seen xs))
-  frame_seen (tail_open o xs b) = bracket_frame (tail_in o (parts_seen xs))
-  frame_seen (wrap_open o) = bracket_frame (wrap_in o)
+  abbrev pub pending_seen : Pending → PendingSeen
+  pending_seen (prefix_open w) = pending_operator (seen.prefix_on w (sides_of (T.prefix w)))
+  pending_seen (infix_open l w) = pending_operator (seen.infix_on (parse_seen l) w (sides_of (T.infix_ w)))
+  pending_seen (first_open g) = pending_bracket (first_in (start_seen g))
+  pending_seen (next_open g xs c) = pending_bracket (next_in (start_seen g) (parts_seen xs))
+  pending_seen (tail_open o xs b) = pending_bracket (tail_in o (parts_seen xs))
+  pending_seen (wrap_open o) = pending_bracket (wrap_in o)
 
   abbrev pub stack_seen : Stack → StackSeen
   stack_seen [] = []
-  stack_seen (f ∷ S) = entry (frame_seen f) (cap (reach (f ∷ S))) (parted (f ∷ S)) ∷ stack_seen S
+  stack_seen (f ∷ S) = entry (pending_seen f) (cap (reach (f ∷ S))) (parted (f ∷ S)) ∷ stack_seen S
 
   abbrev pub mode_seen : Mode → ModeSeen
   mode_seen want = wants
@@ -183,7 +183,7 @@ module _ (T : Table) where
   parts_more_is : (xs : Parts) (w : Word) (t : Parse) → parts_more (parts_seen xs) (parse_seen t) ≡ parts_seen (more xs w t)
   parts_more_is xs w t = ap (parts (trees_more (trees_of xs) (tree_from t))) (cap_max (parts_depth xs) (parse_depth t))
 
-  group_is : (g : Opener) (xs : Parts) (w : Word) → group_operand (opener_seen g) (parts_seen xs) w ≡ parse_seen (group g xs w)
+  group_is : (g : GroupStart) (xs : Parts) (w : Word) → group_operand (start_seen g) (parts_seen xs) w ≡ parse_seen (group g xs w)
   group_is (call f o) xs w = ap (operand (tree_from (group (call f o) xs w)) 0) (cap_suc (parts_depth xs))
   group_is (square o) xs w = ap (operand (tree_from (group (square o) xs w)) 0) (cap_suc (parts_depth xs))
 
@@ -216,7 +216,7 @@ module _ (T : Table) where
   separates_is [] = refl
   separates_is (f ∷ S) = refl
 
-  inner_is : (f : Frame) → inner_depth (frame_seen f) ≡ cap (frame_depth f)
+  inner_is : (f : Pending) → inner_depth (pending_seen f) ≡ cap (pending_depth f)
   inner_is (prefix_open w) = refl
   inner_is (infix_open l w) = refl
   inner_is (first_open g) = refl
@@ -224,7 +224,7 @@ module _ (T : Table) where
   inner_is (tail_open o xs b) = refl
   inner_is (wrap_open o) = refl
 
-  parted_is : (f : Frame) (S : Stack) → frame_has_parts (frame_seen f) (separates_seen (stack_seen S)) ≡ parted (f ∷ S)
+  parted_is : (f : Pending) (S : Stack) → pending_has_parts (pending_seen f) (separates_seen (stack_seen S)) ≡ parted (f ∷ S)
   parted_is (prefix_open w) S = separates_is S
   parted_is (infix_open l w) S = separates_is S
   parted_is (first_open g) S = refl
@@ -232,19 +232,19 @@ module _ (T : Table) where
   parted_is (tail_open o xs b) S = refl
   parted_is (wrap_open o) S = refl
 
-  pub pushed_is : (f : Frame) (S : Stack) → pushed (stack_seen S) (frame_seen f) ≡ stack_seen (f ∷ S)
+  pub pushed_is : (f : Pending) (S : Stack) → pushed (stack_seen S) (pending_seen f) ≡ stack_seen (f ∷ S)
   pushed_is f S =
-      entry_is (frame_seen f) (max (reach_seen (stack_seen S)) (plus (plus (inner_depth (frame_seen f)) (length (stack_seen S))) 1)) (cap (reach (f ∷ S)))
-      (frame_has_parts (frame_seen f) (separates_seen (stack_seen S))) (parted (f ∷ S)) (stack_seen S)
-      (ap (λ r. max r (plus (plus (inner_depth (frame_seen f)) (length (stack_seen S))) 1)) (reach_is S)
+      entry_is (pending_seen f) (max (reach_seen (stack_seen S)) (plus (plus (inner_depth (pending_seen f)) (length (stack_seen S))) 1)) (cap (reach (f ∷ S)))
+      (pending_has_parts (pending_seen f) (separates_seen (stack_seen S))) (parted (f ∷ S)) (stack_seen S)
+      (ap (λ r. max r (plus (plus (inner_depth (pending_seen f)) (length (stack_seen S))) 1)) (reach_is S)
       ∙ (ap (λ d. max (cap (reach S)) (plus (plus d (length (stack_seen S))) 1)) (inner_is f)
-      ∙ (ap (λ n. max (cap (reach S)) (plus (plus (cap (frame_depth f)) n) 1)) (length_is S)
-      ∙ cap_reach (reach S) (frame_depth f) (length S))))
+      ∙ (ap (λ n. max (cap (reach S)) (plus (plus (cap (pending_depth f)) n) 1)) (length_is S)
+      ∙ cap_reach (reach S) (pending_depth f) (length S))))
       (parted_is f S)
 
-  -- a frame more
-  pub opened : (f : Frame) (S : Stack) → goes_seen (pushed (stack_seen S) (frame_seen f)) wants ≡ result_seen (goes (f ∷ S) want)
-  opened f S = ap (λ s. goes_seen s wants) (pushed_is f S)
+  -- an operator or bracket more
+  pub pushed_goes : (f : Pending) (S : Stack) → goes_seen (pushed (stack_seen S) (pending_seen f)) wants ≡ result_seen (goes (f ∷ S) want)
+  pushed_goes f S = ap (λ s. goes_seen s wants) (pushed_is f S)
 
   got : (S : Stack) (h : OperandSeen) (t : Parse) → h ≡ parse_seen t → goes_seen (stack_seen S) (has h) ≡ result_seen (goes S (have t))
   got S h t e = ap (λ x. goes_seen (stack_seen S) (has x)) e
@@ -297,9 +297,9 @@ module _ (T : Table) where
   infix_on_is : (w : Word) (S : Stack) (t : Parse) → infix_held (held (stack_seen S) (parse_seen t)) w (sides_of (T.infix_ w)) ≡ result_seen (infix_on T S t w)
   infix_on_is w S t =
       ap (λ n. cond (nat_le (sides_of (T.infix_ w)).priority n && nat_le (priority T t) (sides_of (T.infix_ w)).left)
-      (goes_seen (pushed (stack_seen S) (frame_seen (infix_open t w))) wants) None) (bound_is S)
+      (goes_seen (pushed (stack_seen S) (pending_seen (infix_open t w))) wants) None) (bound_is S)
       ∙ allowed (nat_le (sides_of (T.infix_ w)).priority (bound T S) && nat_le (priority T t) (sides_of (T.infix_ w)).left)
-      (goes_seen (pushed (stack_seen S) (frame_seen (infix_open t w))) wants) (goes (infix_open t w ∷ S) want) (opened (infix_open t w) S)
+      (goes_seen (pushed (stack_seen S) (pending_seen (infix_open t w))) wants) (goes (infix_open t w ∷ S) want) (pushed_goes (infix_open t w) S)
 
   postfix_on_is : (w : Word) (S : Stack) (t : Parse) → postfix_held (held (stack_seen S) (parse_seen t)) w (sides_of (T.postfix w)) ≡ result_seen (postfix_on T S t w)
   postfix_on_is w S t =
@@ -360,9 +360,9 @@ module _ (T : Table) where
     comma_with (infix_open l v ∷ S) t =
         ap (λ x. cond (parted S) (with_held (closed_seen (stack_seen S) x) comma_in) (infix_step_seen (stack_seen S0) (parse_seen t0) w (T.infix_ w))) (infixed_is l v t)
         ∙ comma_with S (infixed l v t)
-    comma_with (first_open g ∷ S) t = opened (next_open g (one t) w) S
+    comma_with (first_open g ∷ S) t = pushed_goes (next_open g (one t) w) S
     comma_with (next_open g xs c ∷ S) t =
-        ap (λ x. goes_seen (pushed (stack_seen S) (bracket_frame (next_in (opener_seen g) x))) wants) (parts_more_is xs c t) ∙ opened (next_open g (more xs c t) w) S
+        ap (λ x. goes_seen (pushed (stack_seen S) (pending_bracket (next_in (start_seen g) x))) wants) (parts_more_is xs c t) ∙ pushed_goes (next_open g (more xs c t) w) S
     comma_with (tail_open o xs b ∷ S) t = refl
     comma_with (wrap_open o ∷ S) t = infix_step_is S0 t0 w
 
@@ -375,9 +375,9 @@ module _ (T : Table) where
     bar_with (infix_open l v ∷ S) t =
         ap (λ x. cond (parted S) (with_held (closed_seen (stack_seen S) x) bar_in) (infix_step_seen (stack_seen S0) (parse_seen t0) w (T.infix_ w))) (infixed_is l v t)
         ∙ bar_with S (infixed l v t)
-    bar_with (first_open (square o) ∷ S) t = opened (tail_open o (one t) w) S
+    bar_with (first_open (square o) ∷ S) t = pushed_goes (tail_open o (one t) w) S
     bar_with (next_open (square o) xs c ∷ S) t =
-        ap (λ x. goes_seen (pushed (stack_seen S) (bracket_frame (tail_in o x))) wants) (parts_more_is xs c t) ∙ opened (tail_open o (more xs c t) w) S
+        ap (λ x. goes_seen (pushed (stack_seen S) (pending_bracket (tail_in o x))) wants) (parts_more_is xs c t) ∙ pushed_goes (tail_open o (more xs c t) w) S
     bar_with (first_open (call f o) ∷ S) t = refl
     bar_with (next_open (call f o) xs c ∷ S) t = refl
     bar_with (tail_open o xs b ∷ S) t = refl
@@ -485,9 +485,9 @@ module _ (T : Table) where
   want_other_is S w kind.Float = refl
   want_other_is S w kind.Str = refl
   want_other_is S w kind.BackStr = refl
-  want_other_is S w kind.OpenRound = opened (wrap_open w) S
-  want_other_is S w kind.OpenCurly = opened (wrap_open w) S
-  want_other_is S w kind.OpenSquare = opened (first_open (square w)) S
+  want_other_is S w kind.OpenRound = pushed_goes (wrap_open w) S
+  want_other_is S w kind.OpenCurly = pushed_goes (wrap_open w) S
+  want_other_is S w kind.OpenSquare = pushed_goes (first_open (square w)) S
   want_other_is S w kind.CloseSquare = square_pair_is S w
   want_other_is S w kind.CloseCurly = curly_pair_is S w
   want_other_is S w kind.Name = refl

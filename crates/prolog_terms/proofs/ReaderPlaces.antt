@@ -6,7 +6,7 @@ use Rattle.prolog_tokens.specs.declared.token.Kind.TheVariants.{Name, Quoted, Va
 use Rattle.prolog_terms.specs.Words.{Word, Table, sides_of, is_name, is_number, is_open_round, begins_term, is_minus, opens, number_next, term_next, infix_next}
 use Rattle.prolog_terms.specs.Grammar.{bare, Begins}
 use Rattle.prolog_terms.specs.ReaderSteps.{prefix_open, Stack, Mode, want, minus, functor, have, done, State, at, goes, bound, want_other, name_step, act, next, run}
-use Rattle.prolog_terms.specs.ReaderLines.{Line, ready, named, doubt, settled, is_want, enter, then_enter, then_second, is_infix_only, leaves_doubt, can_go_on, feed}
+use Rattle.prolog_terms.specs.ReaderWaiting.{Waiting, ready, named, doubt, settled, is_want, enter, then_enter, then_second, is_infix_only, leaves_doubt, can_go_on, feed}
 use Rattle.prolog_terms.proofs.ReaderTables.{IsTable}
 use Rattle.prolog_terms.proofs.ReaderComplete.{and_left, and_right, other_step, name_kind_goes, reads_clause}
 
@@ -114,17 +114,17 @@ module _ (T : Table) where
   abbrev pub from_start : List Word → Option State
   from_start ws = run T ws (at [] want)
 
-  -- after these words the reader goes on from the line, whatever follows
-  abbrev pub Fits : List Word → Line → Type 0
+  -- after these words the reader goes on from what waits, whatever follows
+  abbrev pub Fits : List Word → Waiting → Type 0
   Fits u (ready S m) = (f : List Word) → from_start (u ++ f) ≡ run T f (at S m)
   Fits u (named S w) = (is_name w.kind ≡ true) × ((f : List Word) → from_start (u ++ f) ≡ run T (w ∷ f) (at S want))
   Fits u (doubt S p n) =
       (is_name p.kind ≡ true) × (leaves_doubt T p n ≡ true) × (can_go_on T S p n ≡ true) × ((f : List Word) → from_start (u ++ f) ≡ run T (p ∷ n ∷ f) (at S want))
 
   -- and where it is refused, no words lead on
-  abbrev pub Goes : List Word → Option Line → Type 0
+  abbrev pub Goes : List Word → Option Waiting → Type 0
   Goes u None = (f : List Word) → from_start (u ++ f) ≡ None
-  Goes u (Some line) = Fits u line
+  Goes u (Some waiting) = Fits u waiting
 
   settled_goes : (u : List Word) (o : Option State) → ((f : List Word) → from_start (u ++ f) ≡ next o (λ st. run T f st)) → Goes u (settled o)
   settled_goes u None h = h
@@ -203,8 +203,8 @@ module _ (T : Table) where
             ])
       ]
 
-  -- one word more keeps the line, and where it is refused no words lead on
-  pub feed_goes : (u : List Word) (line : Line) (x : Word) → Fits u line → Goes (u ++ x ∷ []) (feed T line x)
+  -- one word more keeps that, and where it is refused no words lead on
+  pub feed_goes : (u : List Word) (waiting : Waiting) (x : Word) → Fits u waiting → Goes (u ++ x ∷ []) (feed T waiting x)
   feed_goes u (ready S m) x fits = enter_goes u (at S m) x (λ f. fits (x ∷ f))
   feed_goes u (named S w) x fits = named_goes u S w x fits
   feed_goes u (doubt S p n) x fits =
@@ -225,5 +225,5 @@ module _ (T : Table) where
       cc
 
   -- a word that is refused begins no clause with the words before it
-  pub refused : IsTable T → (u : List Word) (line : Line) (x : Word) → Fits u line → feed T line x ≡ None → Begins T (u ++ x ∷ []) → ⊥
-  refused ok u line x fits is = not_begun ok (u ++ x ∷ []) (subst (Goes (u ++ x ∷ [])) is (feed_goes u line x fits))
+  pub refused : IsTable T → (u : List Word) (waiting : Waiting) (x : Word) → Fits u waiting → feed T waiting x ≡ None → Begins T (u ++ x ∷ []) → ⊥
+  refused ok u waiting x fits is = not_begun ok (u ++ x ∷ []) (subst (Goes (u ++ x ∷ [])) is (feed_goes u waiting x fits))

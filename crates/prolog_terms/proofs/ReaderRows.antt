@@ -6,7 +6,7 @@ use Rattle.prolog_ops.specs.Table.{opening}
 use Rattle.prolog_terms.specs.Words.{Word, Table, table_of}
 use Rattle.prolog_terms.specs.Grammar.{Parse, call, leaf, negative, bare, group, tailed, wrapped, prefixed, infixed, one, more}
 use Rattle.prolog_terms.specs.ReaderSteps.{want, done, at, run}
-use Rattle.prolog_terms.specs.ReaderLines.{Line, ready, feed}
+use Rattle.prolog_terms.specs.ReaderWaiting.{Waiting, ready, feed}
 
 abbrev table : Table
 table = table_of opening
@@ -52,10 +52,10 @@ abbrev Reads : List Word → Parse → Type 0
 Reads words tree = run table words (at [] want) ≡ Some (at [] (done tree))
 
 -- the words are taken one by one
-abbrev fed : List Word → Option Line → Option Line
-fed [] line = line
+abbrev fed : List Word → Option Waiting → Option Waiting
+fed [] waiting = waiting
 fed (w ∷ ws) None = None
-fed (w ∷ ws) (Some line) = fed ws (feed table line w)
+fed (w ∷ ws) (Some waiting) = fed ws (feed table waiting w)
 
 -- the first of these words that is refused stands last
 abbrev IsStuckAtLast : List Word → Word → Type 0

@@ -4,7 +4,7 @@ use Rattle.std.proofs.lemmas.Bool.Decides.{nat_tests}
 use Rattle.prolog_tokens.specs.declared.token.Kind.{Kind}
 use Rattle.prolog_tokens.specs.declared.token.Kind.TheVariants.{Name, Quoted, Variable, Integer, Float, Str, BackStr, OpenRound, CloseRound, OpenSquare, CloseSquare, OpenCurly, CloseCurly, Comma, Bar, End}
 use Rattle.prolog_terms.specs.Words.{Word, Table, sides_of, is_leaf, is_functor, is_negative, is_atom, is_prefix}
-use Rattle.prolog_terms.specs.Grammar.{Parse, Parts, Opener, call, square, leaf, bare, pair, group, wrapped, prefixed, infixed, postfixed, one, more, opener_yield, yield, parts_yield, priority, IsAboveSpine, Opens, IsKept, AreKept, IsClause}
+use Rattle.prolog_terms.specs.Grammar.{Parse, Parts, GroupStart, call, square, leaf, bare, pair, group, wrapped, prefixed, infixed, postfixed, one, more, start_yield, yield, parts_yield, priority, IsAboveSpine, Opens, IsKept, AreKept, IsClause}
 use Rattle.prolog_terms.specs.ReaderSteps.{prefix_open, infix_open, first_open, next_open, tail_open, wrap_open, Stack, Mode, want, minus, functor, have, done, State, at, goes, bound, reduced, closed, is_curly, square_pair, curly_pair, want_other, want_step, infix_on, postfix_on, with_tree, infix_step, name_step, comma_on, bar_on, round_on, square_on, curly_on, end_on, have_step, act, next, run}
 use Rattle.prolog_terms.proofs.ReaderComplete.{and_left, and_right}
 
@@ -56,16 +56,16 @@ either_way P true x y yes_way no_way = yes_way refl
 either_way P false x y yes_way no_way = no_way
 
 module _ (T : Table) (ws : List Word) where
-  -- the words ws are those of the stack and then these, and each frame is lawful where the words after it follow
+  -- the words ws are those of the stack and then these, and each operator or bracket is lawful where the words after it follow
   abbrev pub Before : Stack → List Word → Type 0
   Before [] r = ws ≡ r
   Before (prefix_open w ∷ S) r = (is_prefix T w r ≡ true) × ((sides_of (T.prefix w)).priority ≤ bound T S) × Before S (w ∷ r)
   Before (infix_open l w ∷ S) r =
       (is_some (T.infix_ w) ≡ true) × IsKept T l (w ∷ r) × (priority T l ≤ (sides_of (T.infix_ w)).left)
       × IsAboveSpine T (sides_of (T.infix_ w)).priority l × ((sides_of (T.infix_ w)).priority ≤ bound T S) × Before S (yield l ++ w ∷ r)
-  Before (first_open g ∷ S) r = Opens g r × Before S (opener_yield g ++ r)
+  Before (first_open g ∷ S) r = Opens g r × Before S (start_yield g ++ r)
   Before (next_open g xs c ∷ S) r =
-      Opens g (parts_yield xs ++ c ∷ r) × AreKept T xs (c ∷ r) × (c.kind ≡ Comma) × Before S (opener_yield g ++ (parts_yield xs ++ c ∷ r))
+      Opens g (parts_yield xs ++ c ∷ r) × AreKept T xs (c ∷ r) × (c.kind ≡ Comma) × Before S (start_yield g ++ (parts_yield xs ++ c ∷ r))
   Before (tail_open o xs b ∷ S) r =
       (o.kind ≡ OpenSquare) × AreKept T xs (b ∷ r) × (b.kind ≡ Bar) × Before S (o ∷ (parts_yield xs ++ b ∷ r))
   Before (wrap_open o ∷ S) r = ((o.kind ≡ OpenRound) ⊎ (o.kind ≡ OpenCurly)) × Before S (o ∷ r)
@@ -256,7 +256,7 @@ module _ (T : Table) (ws : List Word) where
       subst (Opens g) (more_words xs c t (w ∷ f)) h.before.0,
       (h.before.1, h.before.2, h.kept, h.low),
       e,
-      subst (λ ws. Before S (opener_yield g ++ ws)) (more_words xs c t (w ∷ f)) h.before.3,
+      subst (λ ws. Before S (start_yield g ++ ws)) (more_words xs c t (w ∷ f)) h.before.3,
     )
     comma_sound e (tail_open o xs b ∷ S) t h = tt
     comma_sound e (wrap_open o ∷ S) t h = infix_sound S0 t0 w f h0
@@ -280,10 +280,10 @@ module _ (T : Table) (ws : List Word) where
   group_words : (ws1 ws2 : List Word) (w : Word) (f : List Word) → ws1 ++ (ws2 ++ w ∷ f) ≡ (ws1 ++ (ws2 ++ w ∷ [])) ++ f
   group_words ws1 ws2 w f = ap (λ x. ws1 ++ x) (sym (append_assoc ws2 (w ∷ []) f)) ∙ sym (append_assoc ws1 (ws2 ++ w ∷ []) f)
 
-  group_stands : (S : Stack) (g : Opener) (xs : Parts) (w : Word) (f : List Word) → Opens g (parts_yield xs ++ w ∷ f) → AreKept T xs (w ∷ f)
-      → Before S (opener_yield g ++ (parts_yield xs ++ w ∷ f)) → IsKept T (group g xs w) f → Holds f S (have (group g xs w))
+  group_stands : (S : Stack) (g : GroupStart) (xs : Parts) (w : Word) (f : List Word) → Opens g (parts_yield xs ++ w ∷ f) → AreKept T xs (w ∷ f)
+      → Before S (start_yield g ++ (parts_yield xs ++ w ∷ f)) → IsKept T (group g xs w) f → Holds f S (have (group g xs w))
   group_stands S g xs w f opens_so kept before all =
-      (record { before = subst (Before S) (group_words (opener_yield g) (parts_yield xs) w f) before; kept = all; low = omega arith }, λ p. tt)
+      (record { before = subst (Before S) (group_words (start_yield g) (parts_yield xs) w f) before; kept = all; low = omega arith }, λ p. tt)
 
   round_sound : (w : Word) (f : List Word) → w.kind ≡ CloseRound → (S : Stack) (t : Parse) → Stands S t (w ∷ f) → OnState (round_on w S t) (Holds f)
   round_sound w f e (first_open (call n b) ∷ S) t h =
@@ -352,7 +352,7 @@ module _ (T : Table) (ws : List Word) where
 
   end_sound : (w : Word) (f : List Word) → w.kind ≡ End → (S : Stack) (t : Parse) → Stands S t (w ∷ f) → OnState (end_on S t) (Holds f)
   end_sound w f e [] t h = (w, e, h.kept, h.low, h.before)
-  end_sound w f e (frame ∷ S) t h = tt
+  end_sound w f e (pending ∷ S) t h = tt
 
   have_sound : (S : Stack) (t : Parse) (w : Word) (f : List Word) (k : Kind) → w.kind ≡ k → Holds (w ∷ f) S (have t) → OnState (have_step T S t w k) (Holds f)
   have_sound S t w f Name e h = name_sound S t w f h

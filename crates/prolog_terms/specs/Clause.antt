@@ -12,7 +12,7 @@ use Rattle.prolog_terms.specs.Tree.{Tree, Trees, variable, constant, atom, compo
 use Rattle.prolog_terms.specs.declared.reader.ReadFault.{ReadFault}
 use Rattle.prolog_terms.specs.declared.reader.ReadFault.TheVariants.{Stuck, TooDeep, NoEnd, NoMemory}
 use Rattle.prolog_terms.specs.Words.{Word, Table, is_name}
-use Rattle.prolog_terms.specs.Grammar.{Parse, Parts, Opener, call, square, leaf, negative, bare, pair, group, tailed, wrapped, prefixed, infixed, postfixed, one, more, yield, parse_depth, IsClause}
+use Rattle.prolog_terms.specs.Grammar.{Parse, Parts, GroupStart, call, square, leaf, negative, bare, pair, group, tailed, wrapped, prefixed, infixed, postfixed, one, more, yield, parse_depth, IsClause}
 use Rattle.prolog_terms.specs.StuckPlace.{IsStuckAt, IsTooDeepAt, HasNoEnd}
 
 -- the word is the token of the text as terms see it
@@ -65,7 +65,7 @@ wrapped_tree OpenCurly inner span = curly inner span
 wrapped_tree _ inner span = paren inner span
 
 -- a functional term or a list
-abbrev pub group_tree : Opener → Trees → Span → Tree
+abbrev pub group_tree : GroupStart → Trees → Span → Tree
 group_tree (call f o) parts close = compound f.text parts Functional (joined_span f.span close)
 group_tree (square o) parts close = listed parts (joined_span o.span close)
 

@@ -4,9 +4,9 @@ use Rattle.prolog_tokens.specs.declared.token.Kind.TheVariants.{OpenRound, Close
 use Rattle.prolog_terms.specs.Words.{Word, Table, sides_of, is_leaf, is_functor, is_negative, is_atom, is_prefix}
 
 -- what comes before the arguments of a bracket: a functor and its `(`, or a `[`
-pub data Opener : Type 0 where
-  call : Word → Word → Opener
-  square : Word → Opener
+pub data GroupStart : Type 0 where
+  call : Word → Word → GroupStart
+  square : Word → GroupStart
 
 mutual
   -- a tree with its words
@@ -20,7 +20,7 @@ mutual
     -- `[]` or `{}`
     pair : Word → Word → Parse
     -- a functional term, or a list with no tail
-    group : Opener → Parts → Word → Parse
+    group : GroupStart → Parts → Word → Parse
     -- a list: `[`, the items, the bar, the tail, `]`
     tailed : Word → Parts → Word → Parse → Word → Parse
     -- a term in round or curly brackets
@@ -34,9 +34,9 @@ mutual
     one : Parse → Parts
     more : Parts → Word → Parse → Parts
 
-abbrev pub opener_yield : Opener → List Word
-opener_yield (call functor bracket) = functor ∷ bracket ∷ []
-opener_yield (square bracket) = bracket ∷ []
+abbrev pub start_yield : GroupStart → List Word
+start_yield (call functor bracket) = functor ∷ bracket ∷ []
+start_yield (square bracket) = bracket ∷ []
 
 -- the words of a tree, in order
 abbrev mutual
@@ -45,7 +45,7 @@ abbrev mutual
   yield (negative w n) = w ∷ n ∷ []
   yield (bare w) = w ∷ []
   yield (pair o c) = o ∷ c ∷ []
-  yield (group g xs c) = opener_yield g ++ (parts_yield xs ++ c ∷ [])
+  yield (group g xs c) = start_yield g ++ (parts_yield xs ++ c ∷ [])
   yield (tailed o xs b t c) = o ∷ (parts_yield xs ++ b ∷ (yield t ++ c ∷ []))
   yield (wrapped o t c) = o ∷ (yield t ++ c ∷ [])
   yield (prefixed w r) = w ∷ yield r
@@ -88,11 +88,11 @@ IsAboveSpine T p (infixed l w r) = ((sides_of (T.infix_ w)).right < p) × IsAbov
 IsAboveSpine T p _ = Unit {0}
 
 -- before these words it opens arguments
-abbrev pub Opens : Opener → List Word → Type 0
+abbrev pub Opens : GroupStart → List Word → Type 0
 Opens (call functor bracket) after = is_functor functor (bracket ∷ after) ≡ true
 Opens (square bracket) after = bracket.kind ≡ OpenSquare
 
-abbrev pub Closes : Opener → Word → Type 0
+abbrev pub Closes : GroupStart → Word → Type 0
 Closes (call functor bracket) c = c.kind ≡ CloseRound
 Closes (square bracket) c = c.kind ≡ CloseSquare
 

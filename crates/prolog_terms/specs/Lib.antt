@@ -6,7 +6,7 @@ pub mod Clause
 pub mod Words
 pub mod Grammar
 pub mod ReaderSteps
-pub mod ReaderLines
+pub mod ReaderWaiting
 pub mod ReaderDepth
 pub mod StuckPlace
 pub mod ReaderSeen

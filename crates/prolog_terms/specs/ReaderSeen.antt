@@ -3,26 +3,26 @@ use Rattle.std.specs.Prelude.{ℕ, ◌+◌, ◌-◌, ◌^◌, max, min, Bool, tr
 use Rattle.prolog_tokens.specs.declared.token.Kind.{Kind}
 use Rattle.prolog_tokens.specs.declared.token.Kind.TheVariants as kind
 use Rattle.prolog_terms.specs.declared.term.Form.TheVariants.{Prefix, Infix, Postfix, Functional}
-use Rattle.prolog_terms.specs.declared.frame.Operand.{Operand}
-use Rattle.prolog_terms.specs.declared.frame.Parts.{Parts}
-use Rattle.prolog_terms.specs.declared.frame.Operator.{Operator}
-use Rattle.prolog_terms.specs.declared.frame.Operator.TheVariants as operator
-use Rattle.prolog_terms.specs.declared.frame.Opener.{Opener}
-use Rattle.prolog_terms.specs.declared.frame.Opener.TheVariants.{Call, Square}
-use Rattle.prolog_terms.specs.declared.frame.Bracket.{Bracket}
-use Rattle.prolog_terms.specs.declared.frame.Bracket.TheVariants as bracket
-use Rattle.prolog_terms.specs.declared.frame.Frame.{Frame}
-use Rattle.prolog_terms.specs.declared.frame.Frame.TheVariants as frame
-use Rattle.prolog_terms.specs.declared.frame.Mode.{Mode}
-use Rattle.prolog_terms.specs.declared.frame.Mode.TheVariants as mode
-use Rattle.prolog_terms.specs.declared.frame.Line.{Line}
-pub use Rattle.prolog_terms.specs.declared.frame.Measure.{Measure}
-use Rattle.prolog_terms.specs.declared.frame.Line.TheVariants as line
+use Rattle.prolog_terms.specs.declared.operand.Operand.{Operand}
+use Rattle.prolog_terms.specs.declared.operand.Parts.{Parts}
+use Rattle.prolog_terms.specs.declared.pending.Operator.{Operator}
+use Rattle.prolog_terms.specs.declared.pending.Operator.TheVariants as operator
+use Rattle.prolog_terms.specs.declared.pending.Opened.{Opened}
+use Rattle.prolog_terms.specs.declared.pending.Opened.TheVariants.{Call, Square}
+use Rattle.prolog_terms.specs.declared.pending.Bracket.{Bracket}
+use Rattle.prolog_terms.specs.declared.pending.Bracket.TheVariants as bracket
+use Rattle.prolog_terms.specs.declared.pending.Pending.{Pending}
+use Rattle.prolog_terms.specs.declared.pending.Pending.TheVariants as pending
+use Rattle.prolog_terms.specs.declared.waiting.Mode.{Mode}
+use Rattle.prolog_terms.specs.declared.waiting.Mode.TheVariants as mode
+use Rattle.prolog_terms.specs.declared.waiting.Waiting.{Waiting}
+pub use Rattle.prolog_terms.specs.declared.measure.Measure.{Measure}
+use Rattle.prolog_terms.specs.declared.waiting.Waiting.TheVariants as waiting
 use Rattle.prolog_terms.specs.Tree.{Tree, Trees, atom, compound, listed, tailed as with_tail, none, more as with_more, tree_of, trees_from, span_of}
 use Rattle.prolog_terms.specs.Words.{Word, Table, Sides, sides_of, is_name, is_minus, begins_term, opens, number_next}
 use Rattle.prolog_terms.specs.Clause.{joined_span, infix_text, pair_text, leaf_tree, negative_tree, wrapped_tree, trees_more}
 use Rattle.prolog_terms.specs.ReaderSteps.{is_curly}
-use Rattle.prolog_terms.specs.ReaderLines.{is_infix_only}
+use Rattle.prolog_terms.specs.ReaderWaiting.{is_infix_only}
 
 -- depths are told apart up to the greatest number
 abbrev pub plus : ℕ → ℕ → ℕ
@@ -65,7 +65,7 @@ atom_operand w = operand (atom w.text w.span) 0 1
 abbrev pub pair_operand : Word → Word → OperandSeen
 pair_operand o c = operand (atom (pair_text o.kind) (joined_span o.span c.span)) 0 1
 
-abbrev pub group_operand : Opener → PartsSeen → Word → OperandSeen
+abbrev pub group_operand : Opened → PartsSeen → Word → OperandSeen
 group_operand (Call f) xs c = operand (compound f.text xs.trees Functional (joined_span f.span c.span)) 0 (plus xs.depth 1)
 group_operand (Square o) xs c = operand (listed xs.trees (joined_span o.span c.span)) 0 (plus xs.depth 1)
 
@@ -95,18 +95,18 @@ pub data OperatorSeen : Type 0 where
   infix_on : OperandSeen → Word → Sides → OperatorSeen
 
 pub data BracketSeen : Type 0 where
-  first_in : Opener → BracketSeen
-  next_in : Opener → PartsSeen → BracketSeen
+  first_in : Opened → BracketSeen
+  next_in : Opened → PartsSeen → BracketSeen
   tail_in : Word → PartsSeen → BracketSeen
   wrap_in : Word → BracketSeen
 
-pub data FrameSeen : Type 0 where
-  operator_frame : OperatorSeen → FrameSeen
-  bracket_frame : BracketSeen → FrameSeen
+pub data PendingSeen : Type 0 where
+  pending_operator : OperatorSeen → PendingSeen
+  pending_bracket : BracketSeen → PendingSeen
 
--- a frame, the least depth that the parts in it and below it give their clause, and whether the innermost bracket of it and those below has parts
+-- an operator or bracket, the least depth that the parts in it and below it give their clause, and whether the innermost bracket of it and those below has parts
 pub data EntrySeen : Type 0 where
-  entry : FrameSeen → ℕ → Bool → EntrySeen
+  entry : PendingSeen → ℕ → Bool → EntrySeen
 
 -- the innermost first
 abbrev pub StackSeen : Type 0
@@ -125,26 +125,26 @@ abbrev pub bracket_bound : BracketSeen → ℕ
 bracket_bound (wrap_in o) = 1200
 bracket_bound _ = 999
 
-abbrev pub frame_bound : FrameSeen → ℕ
-frame_bound (operator_frame o) = right_of o
-frame_bound (bracket_frame k) = bracket_bound k
+abbrev pub pending_bound : PendingSeen → ℕ
+pending_bound (pending_operator o) = right_of o
+pending_bound (pending_bracket k) = bracket_bound k
 
 -- the greatest priority of what stands on the stack
 abbrev pub bound_seen : StackSeen → ℕ
 bound_seen [] = 1200
-bound_seen (entry f r b ∷ S) = frame_bound f
+bound_seen (entry f r b ∷ S) = pending_bound f
 
 abbrev pub is_operator_top : StackSeen → Bool
-is_operator_top (entry (operator_frame o) r b ∷ S) = true
+is_operator_top (entry (pending_operator o) r b ∷ S) = true
 is_operator_top _ = false
 
 abbrev pub is_bracket_top : StackSeen → Bool
-is_bracket_top (entry (bracket_frame k) r b ∷ S) = true
+is_bracket_top (entry (pending_bracket k) r b ∷ S) = true
 is_bracket_top _ = false
 
 -- the top is an operator whose right bound is below the priority
 abbrev pub is_operator_below : ℕ → StackSeen → Bool
-is_operator_below p (entry (operator_frame o) r b ∷ S) = nat_lt (right_of o) p
+is_operator_below p (entry (pending_operator o) r b ∷ S) = nat_lt (right_of o) p
 is_operator_below p _ = false
 
 abbrev pub reach_seen : StackSeen → ℕ
@@ -159,25 +159,25 @@ abbrev pub has_parts : BracketSeen → Bool
 has_parts (wrap_in o) = false
 has_parts _ = true
 
-abbrev pub frame_has_parts : FrameSeen → Bool → Bool
-frame_has_parts (operator_frame o) below = below
-frame_has_parts (bracket_frame k) below = has_parts k
+abbrev pub pending_has_parts : PendingSeen → Bool → Bool
+pending_has_parts (pending_operator o) below = below
+pending_has_parts (pending_bracket k) below = has_parts k
 
--- the depth of the deepest part that stands in a frame
-abbrev pub inner_depth : FrameSeen → ℕ
-inner_depth (operator_frame (prefix_on w s)) = 0
-inner_depth (operator_frame (infix_on l w s)) = l.depth
-inner_depth (bracket_frame (first_in g)) = 0
-inner_depth (bracket_frame (next_in g xs)) = xs.depth
-inner_depth (bracket_frame (tail_in o xs)) = xs.depth
-inner_depth (bracket_frame (wrap_in o)) = 0
+-- the depth of the deepest part that stands in an operator or bracket
+abbrev pub inner_depth : PendingSeen → ℕ
+inner_depth (pending_operator (prefix_on w s)) = 0
+inner_depth (pending_operator (infix_on l w s)) = l.depth
+inner_depth (pending_bracket (first_in g)) = 0
+inner_depth (pending_bracket (next_in g xs)) = xs.depth
+inner_depth (pending_bracket (tail_in o xs)) = xs.depth
+inner_depth (pending_bracket (wrap_in o)) = 0
 
 -- the depth of the clause where an operand of this depth stands on the stack, at least
 abbrev pub floor_seen : StackSeen → ℕ → ℕ
 floor_seen S d = max (reach_seen S) (plus d (length S))
 
-abbrev pub pushed : StackSeen → FrameSeen → StackSeen
-pushed S f = entry f (max (reach_seen S) (plus (plus (inner_depth f) (length S)) 1)) (frame_has_parts f (separates_seen S)) ∷ S
+abbrev pub pushed : StackSeen → PendingSeen → StackSeen
+pushed S f = entry f (max (reach_seen S) (plus (plus (inner_depth f) (length S)) 1)) (pending_has_parts f (separates_seen S)) ∷ S
 
 pub data ModeSeen : Type 0 where
   wants : ModeSeen
@@ -203,23 +203,23 @@ held stack operand = record { stack = stack; operand = operand }
 
 -- closes the open operators whose right bound is below the priority
 abbrev pub reduced_seen : ℕ → StackSeen → OperandSeen → Held
-reduced_seen p (entry (operator_frame o) r b ∷ S) t =
-    cond (nat_lt (right_of o) p) (reduced_seen p S (built o t)) (held (entry (operator_frame o) r b ∷ S) t)
+reduced_seen p (entry (pending_operator o) r b ∷ S) t =
+    cond (nat_lt (right_of o) p) (reduced_seen p S (built o t)) (held (entry (pending_operator o) r b ∷ S) t)
 reduced_seen p S t = held S t
 
 -- closes all open operators down to the innermost bracket
 abbrev pub closed_seen : StackSeen → OperandSeen → Held
-closed_seen (entry (operator_frame o) r b ∷ S) t = closed_seen S (built o t)
+closed_seen (entry (pending_operator o) r b ∷ S) t = closed_seen S (built o t)
 closed_seen S t = held S t
 
 -- where an operand is wanted
 
 abbrev pub square_pair_seen : StackSeen → Word → Option StateSeen
-square_pair_seen (entry (bracket_frame (first_in (Square o))) r b ∷ S) c = goes_seen S (has (pair_operand o c))
+square_pair_seen (entry (pending_bracket (first_in (Square o))) r b ∷ S) c = goes_seen S (has (pair_operand o c))
 square_pair_seen _ c = None
 
 abbrev pub curly_pair_seen : StackSeen → Word → Option StateSeen
-curly_pair_seen (entry (bracket_frame (wrap_in o)) r b ∷ S) c = cond (is_curly o.kind) (goes_seen S (has (pair_operand o c))) None
+curly_pair_seen (entry (pending_bracket (wrap_in o)) r b ∷ S) c = cond (is_curly o.kind) (goes_seen S (has (pair_operand o c))) None
 curly_pair_seen _ c = None
 
 abbrev pub want_other_seen : StackSeen → Word → Kind → Option StateSeen
@@ -228,15 +228,15 @@ want_other_seen S w kind.Integer = goes_seen S (has (leaf_operand w))
 want_other_seen S w kind.Float = goes_seen S (has (leaf_operand w))
 want_other_seen S w kind.Str = goes_seen S (has (leaf_operand w))
 want_other_seen S w kind.BackStr = goes_seen S (has (leaf_operand w))
-want_other_seen S w kind.OpenRound = goes_seen (pushed S (bracket_frame (wrap_in w))) wants
-want_other_seen S w kind.OpenCurly = goes_seen (pushed S (bracket_frame (wrap_in w))) wants
-want_other_seen S w kind.OpenSquare = goes_seen (pushed S (bracket_frame (first_in (Square w)))) wants
+want_other_seen S w kind.OpenRound = goes_seen (pushed S (pending_bracket (wrap_in w))) wants
+want_other_seen S w kind.OpenCurly = goes_seen (pushed S (pending_bracket (wrap_in w))) wants
+want_other_seen S w kind.OpenSquare = goes_seen (pushed S (pending_bracket (first_in (Square w)))) wants
 want_other_seen S w kind.CloseSquare = square_pair_seen S w
 want_other_seen S w kind.CloseCurly = curly_pair_seen S w
 want_other_seen S w _ = None
 
 abbrev pub prefix_step_seen : StackSeen → Word → Sides → Option StateSeen
-prefix_step_seen S w s = cond (nat_le s.priority (bound_seen S)) (goes_seen (pushed S (operator_frame (prefix_on w s))) wants) None
+prefix_step_seen S w s = cond (nat_le s.priority (bound_seen S)) (goes_seen (pushed S (pending_operator (prefix_on w s))) wants) None
 
 -- a name before `(`, before a number, or before a word that is neither, which ends the name's term or not
 abbrev pub want_name_seen : StackSeen → Word → Option Sides → Bool → Bool → Bool → Option StateSeen
@@ -251,7 +251,7 @@ want_name_seen S w prefix bracket number ends =
 abbrev pub infix_held : Held → Word → Sides → Option StateSeen
 infix_held h w s =
     cond (nat_le s.priority (bound_seen h.stack) && nat_le h.operand.priority s.left)
-    (goes_seen (pushed h.stack (operator_frame (infix_on h.operand w s))) wants) None
+    (goes_seen (pushed h.stack (pending_operator (infix_on h.operand w s))) wants) None
 
 abbrev pub postfix_held : Held → Word → Sides → Option StateSeen
 postfix_held h w s =
@@ -271,29 +271,29 @@ name_step_seen S t w None postfix = postfix_step_seen S t w postfix
 name_step_seen S t w (Some s) postfix = infix_held (reduced_seen s.priority S t) w s
 
 abbrev pub comma_in : StackSeen → OperandSeen → Option StateSeen
-comma_in (entry (bracket_frame (first_in g)) r b ∷ S) t = goes_seen (pushed S (bracket_frame (next_in g (parts_one t)))) wants
-comma_in (entry (bracket_frame (next_in g xs)) r b ∷ S) t = goes_seen (pushed S (bracket_frame (next_in g (parts_more xs t)))) wants
+comma_in (entry (pending_bracket (first_in g)) r b ∷ S) t = goes_seen (pushed S (pending_bracket (next_in g (parts_one t)))) wants
+comma_in (entry (pending_bracket (next_in g xs)) r b ∷ S) t = goes_seen (pushed S (pending_bracket (next_in g (parts_more xs t)))) wants
 comma_in _ t = None
 
 abbrev pub bar_in : StackSeen → OperandSeen → Option StateSeen
-bar_in (entry (bracket_frame (first_in (Square o))) r b ∷ S) t = goes_seen (pushed S (bracket_frame (tail_in o (parts_one t)))) wants
-bar_in (entry (bracket_frame (next_in (Square o) xs)) r b ∷ S) t = goes_seen (pushed S (bracket_frame (tail_in o (parts_more xs t)))) wants
+bar_in (entry (pending_bracket (first_in (Square o))) r b ∷ S) t = goes_seen (pushed S (pending_bracket (tail_in o (parts_one t)))) wants
+bar_in (entry (pending_bracket (next_in (Square o) xs)) r b ∷ S) t = goes_seen (pushed S (pending_bracket (tail_in o (parts_more xs t)))) wants
 bar_in _ t = None
 
 abbrev pub round_in : Word → StackSeen → OperandSeen → Option StateSeen
-round_in w (entry (bracket_frame (first_in (Call f))) r b ∷ S) t = goes_seen S (has (group_operand (Call f) (parts_one t) w))
-round_in w (entry (bracket_frame (next_in (Call f) xs)) r b ∷ S) t = goes_seen S (has (group_operand (Call f) (parts_more xs t) w))
-round_in w (entry (bracket_frame (wrap_in o)) r b ∷ S) t = cond (is_curly o.kind) None (goes_seen S (has (wrapped_operand o t w)))
+round_in w (entry (pending_bracket (first_in (Call f))) r b ∷ S) t = goes_seen S (has (group_operand (Call f) (parts_one t) w))
+round_in w (entry (pending_bracket (next_in (Call f) xs)) r b ∷ S) t = goes_seen S (has (group_operand (Call f) (parts_more xs t) w))
+round_in w (entry (pending_bracket (wrap_in o)) r b ∷ S) t = cond (is_curly o.kind) None (goes_seen S (has (wrapped_operand o t w)))
 round_in w _ t = None
 
 abbrev pub square_in : Word → StackSeen → OperandSeen → Option StateSeen
-square_in w (entry (bracket_frame (first_in (Square o))) r b ∷ S) t = goes_seen S (has (group_operand (Square o) (parts_one t) w))
-square_in w (entry (bracket_frame (next_in (Square o) xs)) r b ∷ S) t = goes_seen S (has (group_operand (Square o) (parts_more xs t) w))
-square_in w (entry (bracket_frame (tail_in o xs)) r b ∷ S) t = goes_seen S (has (tailed_operand o xs t w))
+square_in w (entry (pending_bracket (first_in (Square o))) r b ∷ S) t = goes_seen S (has (group_operand (Square o) (parts_one t) w))
+square_in w (entry (pending_bracket (next_in (Square o) xs)) r b ∷ S) t = goes_seen S (has (group_operand (Square o) (parts_more xs t) w))
+square_in w (entry (pending_bracket (tail_in o xs)) r b ∷ S) t = goes_seen S (has (tailed_operand o xs t w))
 square_in w _ t = None
 
 abbrev pub curly_in : Word → StackSeen → OperandSeen → Option StateSeen
-curly_in w (entry (bracket_frame (wrap_in o)) r b ∷ S) t = cond (is_curly o.kind) (goes_seen S (has (wrapped_operand o t w))) None
+curly_in w (entry (pending_bracket (wrap_in o)) r b ∷ S) t = cond (is_curly o.kind) (goes_seen S (has (wrapped_operand o t w))) None
 curly_in w _ t = None
 
 abbrev pub end_in : StackSeen → OperandSeen → Option StateSeen
@@ -322,22 +322,22 @@ have_step_seen T S t w _ = None
 abbrev pub act_seen : Table → StackSeen → ModeSeen → Word → Option StateSeen
 act_seen T S wants w = want_other_seen S w w.kind
 act_seen T S (minus_of d) w = goes_seen S (has (negative_operand d w))
-act_seen T S (functor_of n) w = goes_seen (pushed S (bracket_frame (first_in (Call n)))) wants
+act_seen T S (functor_of n) w = goes_seen (pushed S (pending_bracket (first_in (Call n)))) wants
 act_seen T S (has t) w = have_step_seen T S t w w.kind
 act_seen T S (finished t) w = None
 
-pub data LineSeen : Type 0 where
-  ready_seen : StackSeen → ModeSeen → LineSeen
-  named_seen : StackSeen → Word → Option Sides → LineSeen
+pub data WaitingSeen : Type 0 where
+  ready_seen : StackSeen → ModeSeen → WaitingSeen
+  named_seen : StackSeen → Word → Option Sides → WaitingSeen
   -- the two words with their sides, and the least depth of the clause
-  doubt_seen : StackSeen → Word → Sides → Word → Sides → ℕ → LineSeen
+  doubt_seen : StackSeen → Word → Sides → Word → Sides → ℕ → WaitingSeen
 
 -- the clause and its End are read
-abbrev pub is_finished : LineSeen → Bool
+abbrev pub is_finished : WaitingSeen → Bool
 is_finished (ready_seen S (finished t)) = true
 is_finished _ = false
 
-abbrev pub settled_seen : Option StateSeen → Option LineSeen
+abbrev pub settled_seen : Option StateSeen → Option WaitingSeen
 settled_seen None = None
 settled_seen (Some st) = Some (ready_seen st.stack st.mode)
 
@@ -345,10 +345,10 @@ abbrev pub wants_seen : ModeSeen → Bool
 wants_seen wants = true
 wants_seen _ = false
 
-abbrev pub enter_seen : Table → StackSeen → ModeSeen → Word → Option LineSeen
+abbrev pub enter_seen : Table → StackSeen → ModeSeen → Word → Option WaitingSeen
 enter_seen T S m w = cond (wants_seen m && is_name w.kind) (Some (named_seen S w (T.prefix w))) (settled_seen (act_seen T S m w))
 
-abbrev pub then_enter_seen : Table → Option StateSeen → Word → Option LineSeen
+abbrev pub then_enter_seen : Table → Option StateSeen → Word → Option WaitingSeen
 then_enter_seen T None w = None
 then_enter_seen T (Some st) w = enter_seen T st.stack st.mode w
 
@@ -362,9 +362,9 @@ priority_of (infix_on l w s) = s.priority
 
 -- the measure once the operators whose right bound is below the priority are closed
 abbrev pub reduced_measure : ℕ → StackSeen → ℕ → ℕ → Measure
-reduced_measure p (entry (operator_frame o) r b ∷ S) priority depth =
-    cond (nat_lt (right_of o) p) (reduced_measure p S (priority_of o) (plus (max (inner_depth (operator_frame o)) depth) 1))
-    (measure (entry (operator_frame o) r b ∷ S) priority depth)
+reduced_measure p (entry (pending_operator o) r b ∷ S) priority depth =
+    cond (nat_lt (right_of o) p) (reduced_measure p S (priority_of o) (plus (max (inner_depth (pending_operator o)) depth) 1))
+    (measure (entry (pending_operator o) r b ∷ S) priority depth)
 reduced_measure p S priority depth = measure S priority depth
 
 abbrev pub infix_fits : Measure → Sides → Bool
@@ -375,37 +375,37 @@ abbrev pub infix_floor : Measure → ℕ
 infix_floor m = max m.reach (plus (plus (max m.depth 1) m.height) 1)
 
 -- two words in doubt: an atom and its infix operator, or a prefix operator and a functor
-abbrev pub doubt_step : StackSeen → Word → Sides → Word → Sides → Measure → Option LineSeen
+abbrev pub doubt_step : StackSeen → Word → Sides → Word → Sides → Measure → Option WaitingSeen
 doubt_step S p s n i m =
     cond (infix_fits m i)
     (Some (doubt_seen S p s n i (cond (nat_le s.priority (bound_seen S)) (min (infix_floor m) (floor_seen S 3)) (infix_floor m))))
     (cond (nat_le s.priority (bound_seen S)) (Some (doubt_seen S p s n i (floor_seen S 3))) None)
 
 -- a prefix operator and a functor with its `(`
-abbrev pub call_step : StackSeen → Word → Sides → Word → Option LineSeen
+abbrev pub call_step : StackSeen → Word → Sides → Word → Option WaitingSeen
 call_step S p s n =
     cond (nat_le s.priority (bound_seen S))
-    (Some (ready_seen (pushed (pushed S (operator_frame (prefix_on p s))) (bracket_frame (first_in (Call n)))) wants)) None
+    (Some (ready_seen (pushed (pushed S (pending_operator (prefix_on p s))) (pending_bracket (first_in (Call n)))) wants)) None
 
-abbrev pub feed_named_seen : Table → StackSeen → Word → Option Sides → Word → Option LineSeen
+abbrev pub feed_named_seen : Table → StackSeen → Word → Option Sides → Word → Option WaitingSeen
 feed_named_seen T S n prefix w =
     cond (is_some prefix && is_infix_only T w)
     (doubt_step S n (sides_of prefix) w (sides_of (T.infix_ w)) (reduced_measure (sides_of (T.infix_ w)).priority S 0 1))
     (then_enter_seen T (want_name_seen S n prefix (opens (w ∷ [])) (number_next (w ∷ [])) (not (begins_term w.kind))) w)
 
-abbrev pub feed_doubt_seen : Table → StackSeen → Word → Sides → Word → Sides → Word → Option LineSeen
+abbrev pub feed_doubt_seen : Table → StackSeen → Word → Sides → Word → Sides → Word → Option WaitingSeen
 feed_doubt_seen T S p s n i w =
     cond (opens (w ∷ [])) (call_step S p s n) (then_enter_seen T (infix_held (reduced_seen i.priority S (atom_operand p)) n i) w)
 
-abbrev pub feed_seen : Table → LineSeen → Word → Option LineSeen
+abbrev pub feed_seen : Table → WaitingSeen → Word → Option WaitingSeen
 feed_seen T (ready_seen S m) w = enter_seen T S m w
 feed_seen T (named_seen S n prefix) w = feed_named_seen T S n prefix w
 feed_seen T (doubt_seen S p s n i floor) w = feed_doubt_seen T S p s n i w
 
 -- directly behind `[` and `{` a closing bracket may follow
 abbrev pub want_floor_seen : StackSeen → ℕ
-want_floor_seen (entry (bracket_frame (first_in (Square o))) r b ∷ S) = r
-want_floor_seen (entry (bracket_frame (wrap_in o)) r b ∷ S) = cond (is_curly o.kind) r (floor_seen (entry (bracket_frame (wrap_in o)) r b ∷ S) 1)
+want_floor_seen (entry (pending_bracket (first_in (Square o))) r b ∷ S) = r
+want_floor_seen (entry (pending_bracket (wrap_in o)) r b ∷ S) = cond (is_curly o.kind) r (floor_seen (entry (pending_bracket (wrap_in o)) r b ∷ S) 1)
 want_floor_seen S = floor_seen S 1
 
 abbrev pub mode_floor_seen : StackSeen → ModeSeen → ℕ
@@ -416,10 +416,10 @@ mode_floor_seen S (has t) = floor_seen S t.depth
 mode_floor_seen S (finished t) = t.depth
 
 -- the least depth of the clause
-abbrev pub line_floor_seen : LineSeen → ℕ
-line_floor_seen (ready_seen S m) = mode_floor_seen S m
-line_floor_seen (named_seen S w prefix) = floor_seen S 1
-line_floor_seen (doubt_seen S p s n i floor) = floor
+abbrev pub waiting_floor_seen : WaitingSeen → ℕ
+waiting_floor_seen (ready_seen S m) = mode_floor_seen S m
+waiting_floor_seen (named_seen S w prefix) = floor_seen S 1
+waiting_floor_seen (doubt_seen S p s n i floor) = floor
 
 -- what the reader keeps, seen
 
@@ -434,14 +434,14 @@ see_operator (operator.Prefix word sides) = prefix_on word sides
 see_operator (operator.Infix left word sides) = infix_on (see_operand left.value) word sides
 
 abbrev pub see_bracket : Bracket → BracketSeen
-see_bracket (bracket.First opener) = first_in opener
-see_bracket (bracket.Next opener xs) = next_in opener (see_parts xs)
+see_bracket (bracket.First opened) = first_in opened
+see_bracket (bracket.Next opened xs) = next_in opened (see_parts xs)
 see_bracket (bracket.Tail square xs) = tail_in square (see_parts xs)
 see_bracket (bracket.Wrap word) = wrap_in word
 
-abbrev pub see_frame : Frame → FrameSeen
-see_frame (frame.Operator o) = operator_frame (see_operator o)
-see_frame (frame.Bracket k) = bracket_frame (see_bracket k)
+abbrev pub see_pending : Pending → PendingSeen
+see_pending (pending.Operator o) = pending_operator (see_operator o)
+see_pending (pending.Bracket k) = pending_bracket (see_bracket k)
 
 abbrev pub see_mode : Mode → ModeSeen
 see_mode mode.Want = wants
@@ -450,16 +450,16 @@ see_mode (mode.Functor word) = functor_of word.value
 see_mode (mode.Have t) = has (see_operand t.value)
 see_mode (mode.Done t) = finished (see_operand t.value)
 
-abbrev pub see_line : StackSeen → Line → LineSeen
-see_line S (line.Ready m) = ready_seen S (see_mode m)
-see_line S (line.Named word prefix) = named_seen S word.value prefix
-see_line S (line.Doubt d) = doubt_seen S d.value.first d.value.prefix d.value.second d.value.between d.value.floor
+abbrev pub see_waiting : StackSeen → Waiting → WaitingSeen
+see_waiting S (waiting.Ready m) = ready_seen S (see_mode m)
+see_waiting S (waiting.Named word prefix) = named_seen S word.value prefix
+see_waiting S (waiting.Doubt d) = doubt_seen S d.value.first d.value.prefix d.value.second d.value.between d.value.floor
 
 -- a step that may be refused, with the stack behind it
 abbrev pub see_step : StackSeen → Option Mode → Option StateSeen
 see_step S None = None
 see_step S (Some m) = goes_seen S (see_mode m)
 
-abbrev pub see_fed : StackSeen → Option Line → Option LineSeen
+abbrev pub see_fed : StackSeen → Option Waiting → Option WaitingSeen
 see_fed S None = None
-see_fed S (Some l) = Some (see_line S l)
+see_fed S (Some l) = Some (see_waiting S l)

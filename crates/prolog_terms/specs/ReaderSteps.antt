@@ -3,26 +3,26 @@ use Rattle.std.specs.Prelude.{ℕ, Bool, true, false, cond, List, [], ◌∷◌,
 use Rattle.prolog_tokens.specs.declared.token.Kind.{Kind}
 use Rattle.prolog_tokens.specs.declared.token.Kind.TheVariants.{Name, Quoted, Variable, Integer, Float, Str, BackStr, OpenRound, CloseRound, OpenSquare, CloseSquare, OpenCurly, CloseCurly, Comma, Bar, End}
 use Rattle.prolog_terms.specs.Words.{Word, Table, sides_of, is_functor, is_negative, is_atom, is_prefix}
-use Rattle.prolog_terms.specs.Grammar.{Parse, Parts, Opener, call, square, leaf, negative, bare, pair, group, tailed, wrapped, prefixed, infixed, postfixed, one, more, priority}
+use Rattle.prolog_terms.specs.Grammar.{Parse, Parts, GroupStart, call, square, leaf, negative, bare, pair, group, tailed, wrapped, prefixed, infixed, postfixed, one, more, priority}
 
 -- what is open: an operator or a bracket, with what stands before it
-pub data Frame : Type 0 where
+pub data Pending : Type 0 where
   -- a prefix operator that wants its operand
-  prefix_open : Word → Frame
+  prefix_open : Word → Pending
   -- an infix operator that wants its right side
-  infix_open : Parse → Word → Frame
+  infix_open : Parse → Word → Pending
   -- a bracket that wants its first part
-  first_open : Opener → Frame
+  first_open : GroupStart → Pending
   -- the same, after a comma
-  next_open : Opener → Parts → Word → Frame
+  next_open : GroupStart → Parts → Word → Pending
   -- a list after its bar
-  tail_open : Word → Parts → Word → Frame
+  tail_open : Word → Parts → Word → Pending
   -- a bracket round one term
-  wrap_open : Word → Frame
+  wrap_open : Word → Pending
 
 -- the innermost first
 abbrev pub Stack : Type 0
-Stack = List Frame
+Stack = List Pending
 
 pub data Mode : Type 0 where
   -- an operand is wanted

@@ -1,6 +1,7 @@
 ghost use Rattle.std.specs.Prelude.{◌≡◌, map, IfOk};
 ghost use Rattle.prolog_terms.specs.declared.term.Form.TheVariants.{Functional};
 ghost use Rattle.prolog_terms.specs.Tree.{tree_of, trees_from, variable, atom, compound, span_of};
+ghost use Rattle.prolog_terms.specs.Clause.{joined_span};
 
 use crate::term::{Form, Span, Term};
 use prolog_tokens::Text;
@@ -48,5 +49,15 @@ pub fn span_at(term: &Term) -> Span
         Term::List { span, .. } => *span,
         Term::Curly { span, .. } => *span,
         Term::Paren { span, .. } => *span,
+    }
+}
+
+/// From the beginning of one span to the end of another.
+pub fn joined(first: Span, last: Span) -> Span
+    ensures { result ≡ joined_span first last }
+{
+    Span {
+        from: first.from,
+        to: last.to,
     }
 }

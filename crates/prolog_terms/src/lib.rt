@@ -9,19 +9,23 @@
 #![tactic(auto)]
 
 mod binary_term;
+mod brackets;
 mod build;
-mod frame;
+mod feed;
+mod groups;
 mod laws;
-mod lines;
+mod measure;
 mod nodes;
+mod operand;
 mod operator_sides;
+mod operators;
+mod pending;
 mod reader;
-#[cfg(test)]
-mod reader_tests;
 mod stack;
 mod steps;
 mod term;
 mod views;
+mod waiting;
 mod word;
 
 pub use binary_term::Binary;

@@ -1,28 +1,20 @@
-//! The operands that words and operands make.
+//! The operands that words and operators make.
 
 ghost use Rattle.std.specs.Prelude.{◌≡◌, ◌∷◌, [], map, IfOk};
 ghost use Rattle.prolog_terms.specs.Tree.{tree_of, trees_from, listed, tailed as with_tail};
 ghost use Rattle.prolog_terms.specs.Clause.{leaf_tree, negative_tree, pair_text, infix_text, wrapped_tree, joined_span};
 ghost use Rattle.prolog_terms.specs.ReaderSeen.{see_operand, see_operator, see_parts, parts_one, parts_more, leaf_operand, negative_operand, atom_operand, pair_operand, group_operand, tailed_operand, wrapped_operand, prefixed_operand, infixed_operand, postfixed_operand, built};
 
-use crate::build::{make_atom, make_compound, make_functional, span_at};
-use crate::frame::{Opener, Operand, Operator, Parts};
+use crate::build::{joined, make_atom, make_compound, span_at};
+use crate::operand::Operand;
 use crate::operator_sides::Sides;
+use crate::pending::Operator;
 use crate::term::{ConstKind, Form, Span, Term};
 use crate::word::Word;
 use prolog_tokens::{Kind, Text};
 use std::alloc::{AllocError, Global};
 
-/// From the beginning of one span to the end of another.
-fn joined(first: Span, last: Span) -> Span
-    ensures { result ≡ joined_span first last }
-{
-    Span {
-        from: first.from,
-        to: last.to,
-    }
-}
-
+/// The term of a word that stands for itself and is no name.
 fn leaf_term(word: &Word) -> Term
     ensures { tree_of result ≡ leaf_tree word.now.kind word.now.value word.now.span }
 {
@@ -56,7 +48,7 @@ fn leaf_term(word: &Word) -> Term
     }
 }
 
-/// A variable, a number or a text.
+/// A variable (ISO/IEC 13211-1, 6.3.2), a number without minus (6.3.1.1) or a text in quotes (6.3.7).
 pub fn leaf(word: &Word) -> Operand
     ensures { see_operand result ≡ leaf_operand word.now }
 {
@@ -67,6 +59,7 @@ pub fn leaf(word: &Word) -> Operand
     }
 }
 
+/// The term of a number behind its minus.
 fn negative_term(number: &Word, span: Span) -> Term
     ensures { tree_of result ≡ negative_tree number.now.kind number.now.value span }
 {
@@ -86,7 +79,7 @@ fn negative_term(number: &Word, span: Span) -> Term
     }
 }
 
-/// A minus and its number.
+/// A minus and the number directly behind it (ISO/IEC 13211-1, 6.3.1.2).
 pub fn negative(minus: &Word, number: &Word) -> Operand
     ensures { see_operand result ≡ negative_operand minus.now number.now }
 {
@@ -97,7 +90,7 @@ pub fn negative(minus: &Word, number: &Word) -> Operand
     }
 }
 
-/// A name that stands for itself.
+/// A name that stands for itself, an atom (ISO/IEC 13211-1, 6.3.1.3).
 pub fn atom(word: Word) -> Operand
     ensures { see_operand result ≡ atom_operand word }
 {
@@ -109,6 +102,7 @@ pub fn atom(word: Word) -> Operand
     }
 }
 
+/// The name of an empty pair of brackets.
 fn pair_name(alloc: Global, kind: Kind) -> Result<Text, AllocError>
     ensures { IfOk result (λ name. name ≡ pair_text kind) }
 {
@@ -118,7 +112,7 @@ fn pair_name(alloc: Global, kind: Kind) -> Result<Text, AllocError>
     }
 }
 
-/// `[]` or `{}`.
+/// `[]` or `{}`, an atom of two words (ISO/IEC 13211-1, 6.3.1.3).
 pub fn pair(alloc: Global, first: &Word, last: &Word) -> Result<Operand, AllocError>
     ensures { IfOk result (λ made. see_operand made ≡ pair_operand first.now last.now) }
 {
@@ -130,127 +124,7 @@ pub fn pair(alloc: Global, first: &Word, last: &Word) -> Result<Operand, AllocEr
     })
 }
 
-/// One part.
-pub fn one_part(alloc: Global, operand: Operand) -> Result<Parts, AllocError>
-    ensures { IfOk result (λ made. see_parts made ≡ parts_one (see_operand operand)) }
-{
-    let depth = operand.depth;
-    let terms = vec![in alloc; operand.term]?;
-    Ok(Parts { terms, depth })
-}
-
-/// One part, with room for more.
-pub fn first_part(alloc: Global, operand: Operand) -> Result<Parts, AllocError>
-    ensures { IfOk result (λ made. see_parts made ≡ parts_one (see_operand operand)) }
-{
-    let depth = operand.depth;
-    let mut terms = Vec::new(alloc);
-    terms.push(operand.term)?;
-    Ok(Parts { terms, depth })
-}
-
-/// The parts and one more.
-pub fn more_parts(parts: Parts, operand: Operand) -> Result<Parts, AllocError>
-    ensures { IfOk result (λ made. see_parts made ≡ parts_more (see_parts parts) (see_operand operand)) }
-{
-    let depth = parts.depth.max(operand.depth);
-    let mut terms = parts.terms;
-    terms.push(operand.term)?;
-    Ok(Parts { terms, depth })
-}
-
-fn list_term(items: Vec<Term>, span: Span) -> Term
-    ensures { tree_of result ≡ listed (trees_from (map tree_of items.items)) span }
-{
-    Term::List {
-        items,
-        tail: None,
-        span,
-    }
-}
-
-/// A functional term, or a list without a tail.
-pub fn group(opener: Opener, parts: Parts, last: &Word) -> Operand
-    ensures { see_operand result ≡ group_operand opener (see_parts parts) last.now }
-{
-    let depth = parts.depth.saturating_add(1);
-    match opener {
-        Opener::Call(functor) => {
-            let span = joined(functor.span, last.span);
-            Operand {
-                term: make_functional(functor.text, parts.terms, span),
-                priority: 0,
-                depth,
-            }
-        }
-        Opener::Square(square) => Operand {
-            term: list_term(parts.terms, joined(square.span, last.span)),
-            priority: 0,
-            depth,
-        },
-    }
-}
-
-fn tailed_term(alloc: Global, items: Vec<Term>, tail: Term, span: Span) -> Result<Term, AllocError>
-    ensures { IfOk result (λ term. tree_of term ≡ with_tail (trees_from (map tree_of items.items)) (tree_of tail) span) }
-{
-    let tail = Box::new(alloc, tail)?;
-    Ok(Term::List {
-        items,
-        tail: Some(tail),
-        span,
-    })
-}
-
-/// A list with a tail.
-pub fn tailed(
-    alloc: Global,
-    square: &Word,
-    parts: Parts,
-    tail: Operand,
-    last: &Word,
-) -> Result<Operand, AllocError>
-    ensures { IfOk result (λ made. see_operand made ≡ tailed_operand square.now (see_parts parts) (see_operand tail) last.now) }
-{
-    let depth = parts.depth.max(tail.depth).saturating_add(1);
-    let span = joined(square.span, last.span);
-    let term = tailed_term(alloc, parts.terms, tail.term, span)?;
-    Ok(Operand {
-        term,
-        priority: 0,
-        depth,
-    })
-}
-
-fn wrapped_term(alloc: Global, kind: Kind, inner: Term, span: Span) -> Result<Term, AllocError>
-    ensures { IfOk result (λ term. tree_of term ≡ wrapped_tree kind (tree_of inner) span) }
-{
-    let inner = Box::new(alloc, inner)?;
-    match kind {
-        Kind::OpenCurly => Ok(Term::Curly { inner, span }),
-        _ => Ok(Term::Paren { inner, span }),
-    }
-}
-
-/// A term in brackets.
-pub fn wrapped(
-    alloc: Global,
-    first: &Word,
-    inner: Operand,
-    last: &Word,
-) -> Result<Operand, AllocError>
-    ensures { IfOk result (λ made. see_operand made ≡ wrapped_operand first.now (see_operand inner) last.now) }
-{
-    let depth = inner.depth.saturating_add(1);
-    let span = joined(first.span, last.span);
-    let term = wrapped_term(alloc, first.kind, inner.term, span)?;
-    Ok(Operand {
-        term,
-        priority: 0,
-        depth,
-    })
-}
-
+/// An operator before its operand (ISO/IEC 13211-1, 6.3.4.2).
 fn prefixed(alloc: Global, word: Word, sides: Sides, right: Operand) -> Result<Operand, AllocError>
     ensures { IfOk result (λ made. see_operand made ≡ prefixed_operand word sides (see_operand right)) }
 {
@@ -264,7 +138,7 @@ fn prefixed(alloc: Global, word: Word, sides: Sides, right: Operand) -> Result<O
     })
 }
 
-/// The name of an infix operator.
+/// The name of an infix operator, which a Comma and a Bar may be (ISO/IEC 13211-1, 6.3.4.3).
 fn infix_name(alloc: Global, kind: Kind, text: Text) -> Result<Text, AllocError>
     ensures { IfOk result (λ name. name ≡ infix_text kind text) }
 {
@@ -275,6 +149,7 @@ fn infix_name(alloc: Global, kind: Kind, text: Text) -> Result<Text, AllocError>
     }
 }
 
+/// An operator between its operands (ISO/IEC 13211-1, 6.3.4.2).
 fn infixed(
     alloc: Global,
     left: Operand,
@@ -295,7 +170,7 @@ fn infixed(
     })
 }
 
-/// An operator behind its operand.
+/// An operator behind its operand (ISO/IEC 13211-1, 6.3.4.2).
 pub fn postfixed(
     alloc: Global,
     left: Operand,
@@ -321,7 +196,7 @@ pub fn boxed(alloc: Global, operand: Operand) -> Result<Box<Operand>, AllocError
     Ok(Box::new(alloc, operand)?)
 }
 
-/// The operator with its right side.
+/// The prefix or infix operator with its right side (ISO/IEC 13211-1, 6.3.4.2).
 pub fn build(
     alloc: Global,
     operator: Operator,

@@ -1,16 +1,17 @@
 ghost use Rattle.std.specs.Prelude.{◌≡◌, ◌≢◌, ◌≤◌, false, length, IfOk, IfErr, MatchOption};
 ghost use Rattle.prolog_ops.specs.Table.{ops_of};
 ghost use Rattle.prolog_terms.specs.declared.reader.ReadFault.TheVariants.{NoMemory};
-ghost use Rattle.prolog_terms.specs.ReaderSeen.{StackSeen, OperandSeen, see_operand, see_line, ready_seen, finished, is_finished};
+ghost use Rattle.prolog_terms.specs.ReaderSeen.{StackSeen, OperandSeen, see_operand, see_waiting, ready_seen, finished, is_finished};
 ghost use Rattle.prolog_terms.specs.Tree.{Tree, tree_of};
 ghost use Rattle.prolog_terms.specs.Words.{table_of};
 ghost use Rattle.prolog_terms.specs.Clause.{ArePart, IsClauseOf, IsReadFault, IsOneClause};
 
-use crate::frame::{Line, Mode, Operand};
-use crate::lines::{feed, line_floor};
+use crate::feed::{feed, waiting_floor};
+use crate::operand::Operand;
 use crate::operator_sides::table_law;
 use crate::stack::Stack;
 use crate::term::Term;
+use crate::waiting::{Mode, Waiting};
 use crate::word::word_of;
 use prolog_ops::OpTable;
 use prolog_tokens::Token;
@@ -59,19 +60,19 @@ fn term_alone(operand: Box<Operand>) -> Term
 }
 
 /// The clause, once it and its End are read.
-fn finished(line: Line) -> Option<Term>
-    ensures { MatchOption result ((S : StackSeen) → is_finished (see_line S line) ≡ false) (λ term. (S : StackSeen) → (operand : OperandSeen) × (see_line S line ≡ ready_seen S (finished operand)) × (operand.tree ≡ tree_of term)) }
+fn finished(waiting: Waiting) -> Option<Term>
+    ensures { MatchOption result ((S : StackSeen) → is_finished (see_waiting S waiting) ≡ false) (λ term. (S : StackSeen) → (operand : OperandSeen) × (see_waiting S waiting ≡ ready_seen S (finished operand)) × (operand.tree ≡ tree_of term)) }
 {
-    match line {
-        Line::Ready(mode) => match mode {
+    match waiting {
+        Waiting::Ready(mode) => match mode {
             Mode::Done(clause) => Some(term_alone(clause)),
             Mode::Want => None,
             Mode::Minus(_) => None,
             Mode::Functor(_) => None,
             Mode::Have(_) => None,
         },
-        Line::Named { .. } => None,
-        Line::Doubt(_) => None,
+        Waiting::Named { .. } => None,
+        Waiting::Doubt(_) => None,
     }
 }
 
@@ -94,18 +95,18 @@ pub fn read_clause(
 {
     table_law(table);
     let mut stack = Stack::new(alloc);
-    let mut line = Line::Ready(Mode::Want);
+    let mut waiting = Waiting::Ready(Mode::Want);
     for token in tokens {
         let word = word_of(alloc, text, *token)?;
-        let Some(next) = feed(alloc, table, &mut stack, line, word)? else {
+        let Some(next) = feed(alloc, table, &mut stack, waiting, word)? else {
             return Err(ReadFault::Stuck(token.start));
         };
-        if line_floor(&stack, &next) > DEEPEST {
+        if waiting_floor(&stack, &next) > DEEPEST {
             return Err(ReadFault::TooDeep(token.start));
         }
-        line = next;
+        waiting = next;
     }
-    match finished(line) {
+    match finished(waiting) {
         Some(clause) => Ok(clause),
         None => Err(no_end(text)),
     }

@@ -1,18 +1,22 @@
 //! The operators and brackets that are open.
 
 ghost use Rattle.std.specs.Prelude.{◌≡◌, ◌∷◌, ℕ, Bool, [], OnOk, MatchOption, true, false, length, take, ◌≤◌, nat_lt};
-ghost use Rattle.prolog_terms.specs.ReaderSeen.{StackSeen, see_frame, see_operator, see_bracket, operator_frame, bracket_frame, entry, bound_seen, separates_seen, floor_seen, want_floor_seen, pushed, frame_has_parts, inner_depth, frame_bound, right_of, reach_seen, is_operator_top, is_bracket_top, is_operator_below, measure, reduced_measure, priority_of};
+ghost use Rattle.prolog_terms.specs.ReaderSeen.{StackSeen, see_pending, see_operator, see_bracket, pending_operator, pending_bracket, entry, bound_seen, separates_seen, floor_seen, want_floor_seen, pushed, pending_has_parts, inner_depth, pending_bound, right_of, reach_seen, is_operator_top, is_bracket_top, is_operator_below, measure, reduced_measure, priority_of};
 ghost use Rattle.prolog_terms.specs.StackSeen.{see_stack, see_entries};
 
-use crate::frame::{Bracket, Frame, Measure, Opener, Operator};
+use crate::measure::Measure;
+use crate::pending::{
+    Bracket, Opened, Operator, Pending, has_parts, inner_depth, pending_bound, priority_of,
+    right_bound,
+};
 use prolog_tokens::Kind;
 use std::alloc::{AllocError, Global};
 
-/// A frame, the least depth that what stands in it and below it gives the clause, and whether the
-/// innermost bracket of it and those below has parts.
+/// An operator or bracket, the least depth that what stands in it and below it gives the clause, and
+/// whether the innermost bracket of it and those below has parts.
 #[derive(Drop)]
 pub struct Entry {
-    pub frame: Frame,
+    pub pending: Pending,
     pub reach: usize,
     pub separates: bool,
 }
@@ -23,66 +27,7 @@ pub struct Stack {
     pub entries: Vec<Entry>,
 }
 
-/// The depth of the deepest part that stands in the frame.
-fn inner_depth(frame: &Frame) -> usize
-    ensures { result ≡ inner_depth (see_frame frame.now) }
-{
-    match frame {
-        Frame::Operator(Operator::Prefix { .. }) => 0,
-        Frame::Operator(Operator::Infix { left, .. }) => left.depth,
-        Frame::Bracket(Bracket::First(_)) => 0,
-        Frame::Bracket(Bracket::Next { parts, .. }) => parts.depth,
-        Frame::Bracket(Bracket::Tail { parts, .. }) => parts.depth,
-        Frame::Bracket(Bracket::Wrap(_)) => 0,
-    }
-}
-
-/// Whether the innermost bracket has parts, with the frame on those below.
-fn has_parts(frame: &Frame, below: bool) -> bool
-    ensures { result ≡ frame_has_parts (see_frame frame.now) below }
-{
-    match frame {
-        Frame::Operator(_) => below,
-        Frame::Bracket(Bracket::First(_)) => true,
-        Frame::Bracket(Bracket::Next { .. }) => true,
-        Frame::Bracket(Bracket::Tail { .. }) => true,
-        Frame::Bracket(Bracket::Wrap(_)) => false,
-    }
-}
-
-/// The greatest priority of the right side of the operator.
-pub fn right_bound(operator: &Operator) -> u32
-    ensures { result ≡ right_of (see_operator operator.now) }
-{
-    match operator {
-        Operator::Prefix { sides, .. } => sides.right,
-        Operator::Infix { sides, .. } => sides.right,
-    }
-}
-
-fn priority_of(operator: &Operator) -> u32
-    ensures { result ≡ priority_of (see_operator operator.now) }
-{
-    match operator {
-        Operator::Prefix { sides, .. } => sides.priority,
-        Operator::Infix { sides, .. } => sides.priority,
-    }
-}
-
-/// The greatest priority of what stands in the frame.
-pub fn frame_bound(frame: &Frame) -> u32
-    ensures { result ≡ frame_bound (see_frame frame.now) }
-{
-    match frame {
-        Frame::Operator(operator) => right_bound(operator),
-        Frame::Bracket(Bracket::First(_)) => 999,
-        Frame::Bracket(Bracket::Next { .. }) => 999,
-        Frame::Bracket(Bracket::Tail { .. }) => 999,
-        Frame::Bracket(Bracket::Wrap(_)) => 1200,
-    }
-}
-
-/// The measure of the lowest frames with an operand on them.
+/// The measure of so many of the lowest entries with an operand on them.
 fn measure_at(entries: &[Entry], height: usize, priority: u32, depth: usize) -> Measure
     requires { height ≤ length entries.now }
     ensures { result ≡ measure (see_entries (take height entries.now)) priority depth }
@@ -99,7 +44,7 @@ fn measure_at(entries: &[Entry], height: usize, priority: u32, depth: usize) -> 
     let top = &entries[height - 1];
     Measure {
         height,
-        bound: frame_bound(&top.frame),
+        bound: pending_bound(&top.pending),
         reach: top.reach,
         priority,
         depth,
@@ -116,7 +61,7 @@ impl Stack {
     }
 
     fn top(&self) -> Option<&Entry>
-        ensures { MatchOption result (see_stack self.now ≡ []) (λ top. (below : StackSeen) × (see_stack self.now ≡ entry (see_frame top.now.frame) top.now.reach top.now.separates ∷ below)) }
+        ensures { MatchOption result (see_stack self.now ≡ []) (λ top. (below : StackSeen) × (see_stack self.now ≡ entry (see_pending top.now.pending) top.now.reach top.now.separates ∷ below)) }
     {
         self.entries.last()
     }
@@ -132,7 +77,7 @@ impl Stack {
         ensures { result ≡ bound_seen (see_stack self.now) }
     {
         match self.top() {
-            Some(top) => frame_bound(&top.frame),
+            Some(top) => pending_bound(&top.pending),
             None => 1200,
         }
     }
@@ -171,14 +116,14 @@ impl Stack {
         match self.top() {
             Some(
                 Entry {
-                    frame: Frame::Bracket(Bracket::First(Opener::Square(_))),
+                    pending: Pending::Bracket(Bracket::First(Opened::Square(_))),
                     reach,
                     ..
                 },
             ) => *reach,
             Some(
                 Entry {
-                    frame: Frame::Bracket(Bracket::Wrap(word)),
+                    pending: Pending::Bracket(Bracket::Wrap(word)),
                     reach,
                     ..
                 },
@@ -192,28 +137,28 @@ impl Stack {
         }
     }
 
-    pub fn push(&mut self, frame: Frame) -> Result<(), AllocError>
-        ensures { OnOk result (see_stack self.new ≡ pushed (see_stack self.old) (see_frame frame)) }
+    pub fn push(&mut self, pending: Pending) -> Result<(), AllocError>
+        ensures { OnOk result (see_stack self.new ≡ pushed (see_stack self.old) (see_pending pending)) }
     {
-        let inner = inner_depth(&frame)
+        let inner = inner_depth(&pending)
             .saturating_add(self.height())
             .saturating_add(1);
         let reach = self.reach().max(inner);
-        let separates = has_parts(&frame, self.separates());
+        let separates = has_parts(&pending, self.separates());
         self.entries.reserve(1)?;
         self.entries.push_reserved(Entry {
-            frame,
+            pending,
             reach,
             separates,
         });
         Ok(())
     }
 
-    fn pop(&mut self) -> Option<Frame>
-        ensures { MatchOption result ((see_stack self.old ≡ []) × (see_stack self.new ≡ [])) (λ frame. (reach : ℕ) × (separates : Bool) × (see_stack self.old ≡ entry (see_frame frame) reach separates ∷ see_stack self.new)) }
+    fn pop(&mut self) -> Option<Pending>
+        ensures { MatchOption result ((see_stack self.old ≡ []) × (see_stack self.new ≡ [])) (λ pending. (reach : ℕ) × (separates : Bool) × (see_stack self.old ≡ entry (see_pending pending) reach separates ∷ see_stack self.new)) }
     {
         let top = self.entries.pop()?;
-        Some(top.frame)
+        Some(top.pending)
     }
 
     fn is_operator_on_top(&self) -> bool
@@ -222,7 +167,7 @@ impl Stack {
         match self.top() {
             Some(
                 Entry {
-                    frame: Frame::Operator(_),
+                    pending: Pending::Operator(_),
                     ..
                 },
             ) => true,
@@ -236,7 +181,7 @@ impl Stack {
         match self.top() {
             Some(
                 Entry {
-                    frame: Frame::Operator(operator),
+                    pending: Pending::Operator(operator),
                     ..
                 },
             ) => right_bound(operator) < priority,
@@ -246,13 +191,13 @@ impl Stack {
 
     /// The innermost operator, where no bracket is open inside it.
     pub fn pop_operator(&mut self) -> Option<Operator>
-        ensures { MatchOption result ((see_stack self.new ≡ see_stack self.old) × (is_operator_top (see_stack self.old) ≡ false)) (λ found. (reach : ℕ) × (separates : Bool) × (see_stack self.old ≡ entry (operator_frame (see_operator found)) reach separates ∷ see_stack self.new)) }
+        ensures { MatchOption result ((see_stack self.new ≡ see_stack self.old) × (is_operator_top (see_stack self.old) ≡ false)) (λ found. (reach : ℕ) × (separates : Bool) × (see_stack self.old ≡ entry (pending_operator (see_operator found)) reach separates ∷ see_stack self.new)) }
     {
         if !self.is_operator_on_top() {
             return None;
         }
         match self.pop() {
-            Some(Frame::Operator(found)) => Some(found),
+            Some(Pending::Operator(found)) => Some(found),
             _ => None,
         }
     }
@@ -260,24 +205,24 @@ impl Stack {
     /// The innermost operator, where no bracket is open inside it and its right bound is below the
     /// priority.
     pub fn pop_operator_below(&mut self, priority: u32) -> Option<Operator>
-        ensures { MatchOption result ((see_stack self.new ≡ see_stack self.old) × (is_operator_below priority (see_stack self.old) ≡ false)) (λ found. (reach : ℕ) × (separates : Bool) × (see_stack self.old ≡ entry (operator_frame (see_operator found)) reach separates ∷ see_stack self.new) × (nat_lt (right_of (see_operator found)) priority ≡ true)) }
+        ensures { MatchOption result ((see_stack self.new ≡ see_stack self.old) × (is_operator_below priority (see_stack self.old) ≡ false)) (λ found. (reach : ℕ) × (separates : Bool) × (see_stack self.old ≡ entry (pending_operator (see_operator found)) reach separates ∷ see_stack self.new) × (nat_lt (right_of (see_operator found)) priority ≡ true)) }
     {
         if !self.is_operator_below(priority) {
             return None;
         }
         match self.pop() {
-            Some(Frame::Operator(found)) => Some(found),
+            Some(Pending::Operator(found)) => Some(found),
             _ => None,
         }
     }
 
     /// The innermost bracket, where no operator is open inside it.
     pub fn pop_bracket(&mut self) -> Option<Bracket>
-        ensures { MatchOption result (is_bracket_top (see_stack self.old) ≡ false) (λ found. (reach : ℕ) × (separates : Bool) × (see_stack self.old ≡ entry (bracket_frame (see_bracket found)) reach separates ∷ see_stack self.new)) }
+        ensures { MatchOption result (is_bracket_top (see_stack self.old) ≡ false) (λ found. (reach : ℕ) × (separates : Bool) × (see_stack self.old ≡ entry (pending_bracket (see_bracket found)) reach separates ∷ see_stack self.new)) }
     {
         match self.pop() {
-            Some(Frame::Bracket(found)) => Some(found),
-            Some(Frame::Operator(_)) => None,
+            Some(Pending::Bracket(found)) => Some(found),
+            Some(Pending::Operator(_)) => None,
             None => None,
         }
     }
@@ -292,13 +237,13 @@ impl Stack {
         let mut depth: usize = 1;
         while height > 0 {
             let entry = &self.entries[height - 1];
-            let Frame::Operator(operator) = &entry.frame else {
+            let Pending::Operator(operator) = &entry.pending else {
                 return measure_at(&self.entries, height, above, depth);
             };
             if right_bound(operator) >= priority {
                 return measure_at(&self.entries, height, above, depth);
             }
-            depth = inner_depth(&entry.frame).max(depth).saturating_add(1);
+            depth = inner_depth(&entry.pending).max(depth).saturating_add(1);
             above = priority_of(operator);
             height -= 1;
         }

@@ -5,7 +5,7 @@ use Rattle.prolog_tokens.specs.declared.token.Token.{Token}
 use Rattle.prolog_tokens.specs.declared.token.Kind.TheVariants.{Name}
 use Rattle.prolog_terms.specs.Words.{table_of}
 use Rattle.prolog_terms.specs.Tree.{tree_of}
-use Rattle.prolog_terms.specs.ReaderSeen.{see_line, see_fed}
+use Rattle.prolog_terms.specs.ReaderSeen.{see_waiting, see_fed}
 use Rattle.prolog_terms.specs.StackSeen.{see_stack}
 use Rattle.prolog_terms.proofs.Parts.{part_spelled}
 use Rattle.prolog_terms.proofs.ReaderTables.{table_is}
@@ -29,18 +29,18 @@ loop-token-preserved c =
     let i = c.loop-token.token-index in
     let t = get_or c.args.tokens.now i blank in
     let T = table_of (ops_of c.args.table.now) in
-    let later = see_line (see_stack c.feed.new.stack) c.in-Some.next in
+    let later = see_waiting (see_stack c.feed.new.stack) c.in-Some.next in
     let stands = slice_get-get_or c.args.tokens.now i blank c.loop-token-test.true in
     subst (λ ts. HasRead T c.args.text.now ts later) (sym (front_is T (table_is (ops_of c.args.table.now) c.table_law.ensures) c.args.text.now c.args.tokens.now i t stands))
-    (read_more T (table_is (ops_of c.args.table.now) c.table_law.ensures) c.args.text.now (take i c.args.tokens.now) t (see_line (see_stack c.loop-token.stack) c.loop-token.line) later c.in_ok-word.word
+    (read_more T (table_is (ops_of c.args.table.now) c.table_law.ensures) c.args.text.now (take i c.args.tokens.now) t (see_waiting (see_stack c.loop-token.stack) c.loop-token.waiting) later c.in_ok-word.word
     c.loop-token.invariant (record { is = c.in_ok-word.ensures.is; only = c.in_ok-word.ensures.only })
     (sym (ap (see_fed (see_stack c.feed.new.stack)) c.in-Some.is) ∙ c.in_ok-next.ensures)
-    (omega (arith, c.line_floor.ensures, c.if-line_floor-gt-DEEPEST.false)))
+    (omega (arith, c.waiting_floor.ensures, c.if-waiting_floor-gt-DEEPEST.false)))
 
 pub returns-in_default-clause-none : goal.returns-in_default-clause-none
 returns-in_default-clause-none c = λ some.
     (stuck (table_of (ops_of c.args.table.now)) (table_is (ops_of c.args.table.now) c.table_law.ensures) c.args.text.now c.args.tokens.now c.loop-token.token-index
-    (get_or c.args.tokens.now c.loop-token.token-index blank) (see_line (see_stack c.loop-token.stack) c.loop-token.line) c.in_ok-word.word
+    (get_or c.args.tokens.now c.loop-token.token-index blank) (see_waiting (see_stack c.loop-token.stack) c.loop-token.waiting) c.in_ok-word.word
     (part_spelled c.args.text.now c.args.tokens.now c.requires.part)
     (slice_get-get_or c.args.tokens.now c.loop-token.token-index blank c.loop-token-test.true) c.loop-token.invariant
     (record { is = c.in_ok-word.ensures.is; only = c.in_ok-word.ensures.only })
@@ -49,7 +49,7 @@ returns-in_default-clause-none c = λ some.
 pub returns-in_default-clause-only_fault : goal.returns-in_default-clause-only_fault
 returns-in_default-clause-only_fault c = λ some.
     (stuck (table_of (ops_of c.args.table.now)) (table_is (ops_of c.args.table.now) c.table_law.ensures) c.args.text.now c.args.tokens.now c.loop-token.token-index
-    (get_or c.args.tokens.now c.loop-token.token-index blank) (see_line (see_stack c.loop-token.stack) c.loop-token.line) c.in_ok-word.word
+    (get_or c.args.tokens.now c.loop-token.token-index blank) (see_waiting (see_stack c.loop-token.stack) c.loop-token.waiting) c.in_ok-word.word
     (part_spelled c.args.text.now c.args.tokens.now c.requires.part)
     (slice_get-get_or c.args.tokens.now c.loop-token.token-index blank c.loop-token-test.true) c.loop-token.invariant
     (record { is = c.in_ok-word.ensures.is; only = c.in_ok-word.ensures.only })
@@ -58,73 +58,73 @@ returns-in_default-clause-only_fault c = λ some.
 pub returns-in_default-clause-fault : goal.returns-in_default-clause-fault
 returns-in_default-clause-fault c = λ some.
     (stuck (table_of (ops_of c.args.table.now)) (table_is (ops_of c.args.table.now) c.table_law.ensures) c.args.text.now c.args.tokens.now c.loop-token.token-index
-    (get_or c.args.tokens.now c.loop-token.token-index blank) (see_line (see_stack c.loop-token.stack) c.loop-token.line) c.in_ok-word.word
+    (get_or c.args.tokens.now c.loop-token.token-index blank) (see_waiting (see_stack c.loop-token.stack) c.loop-token.waiting) c.in_ok-word.word
     (part_spelled c.args.text.now c.args.tokens.now c.requires.part)
     (slice_get-get_or c.args.tokens.now c.loop-token.token-index blank c.loop-token-test.true) c.loop-token.invariant
     (record { is = c.in_ok-word.ensures.is; only = c.in_ok-word.ensures.only })
     (sym (ap (see_fed (see_stack c.feed.new.stack)) c.in_default.is) ∙ c.in_ok-next.ensures)).is
 
-pub returns-then-line_floor-gt-DEEPEST-clause-none : goal.returns-then-line_floor-gt-DEEPEST-clause-none
-returns-then-line_floor-gt-DEEPEST-clause-none c = λ some.
+pub returns-then-waiting_floor-gt-DEEPEST-clause-none : goal.returns-then-waiting_floor-gt-DEEPEST-clause-none
+returns-then-waiting_floor-gt-DEEPEST-clause-none c = λ some.
     (deep (table_of (ops_of c.args.table.now)) (table_is (ops_of c.args.table.now) c.table_law.ensures) c.args.text.now c.args.tokens.now c.loop-token.token-index
-    (get_or c.args.tokens.now c.loop-token.token-index blank) (see_line (see_stack c.loop-token.stack) c.loop-token.line)
-    (see_line (see_stack c.feed.new.stack) c.in-Some.next) c.in_ok-word.word
+    (get_or c.args.tokens.now c.loop-token.token-index blank) (see_waiting (see_stack c.loop-token.stack) c.loop-token.waiting)
+    (see_waiting (see_stack c.feed.new.stack) c.in-Some.next) c.in_ok-word.word
     (part_spelled c.args.text.now c.args.tokens.now c.requires.part)
     (slice_get-get_or c.args.tokens.now c.loop-token.token-index blank c.loop-token-test.true) c.loop-token.invariant
     (record { is = c.in_ok-word.ensures.is; only = c.in_ok-word.ensures.only })
     (sym (ap (see_fed (see_stack c.feed.new.stack)) c.in-Some.is) ∙ c.in_ok-next.ensures)
-    (omega (arith, c.line_floor.ensures, c.if-line_floor-gt-DEEPEST.true))).none
+    (omega (arith, c.waiting_floor.ensures, c.if-waiting_floor-gt-DEEPEST.true))).none
 
-pub returns-then-line_floor-gt-DEEPEST-clause-only_fault : goal.returns-then-line_floor-gt-DEEPEST-clause-only_fault
-returns-then-line_floor-gt-DEEPEST-clause-only_fault c = λ some.
+pub returns-then-waiting_floor-gt-DEEPEST-clause-only_fault : goal.returns-then-waiting_floor-gt-DEEPEST-clause-only_fault
+returns-then-waiting_floor-gt-DEEPEST-clause-only_fault c = λ some.
     (deep (table_of (ops_of c.args.table.now)) (table_is (ops_of c.args.table.now) c.table_law.ensures) c.args.text.now c.args.tokens.now c.loop-token.token-index
-    (get_or c.args.tokens.now c.loop-token.token-index blank) (see_line (see_stack c.loop-token.stack) c.loop-token.line)
-    (see_line (see_stack c.feed.new.stack) c.in-Some.next) c.in_ok-word.word
+    (get_or c.args.tokens.now c.loop-token.token-index blank) (see_waiting (see_stack c.loop-token.stack) c.loop-token.waiting)
+    (see_waiting (see_stack c.feed.new.stack) c.in-Some.next) c.in_ok-word.word
     (part_spelled c.args.text.now c.args.tokens.now c.requires.part)
     (slice_get-get_or c.args.tokens.now c.loop-token.token-index blank c.loop-token-test.true) c.loop-token.invariant
     (record { is = c.in_ok-word.ensures.is; only = c.in_ok-word.ensures.only })
     (sym (ap (see_fed (see_stack c.feed.new.stack)) c.in-Some.is) ∙ c.in_ok-next.ensures)
-    (omega (arith, c.line_floor.ensures, c.if-line_floor-gt-DEEPEST.true))).only
+    (omega (arith, c.waiting_floor.ensures, c.if-waiting_floor-gt-DEEPEST.true))).only
 
-pub returns-then-line_floor-gt-DEEPEST-clause-fault : goal.returns-then-line_floor-gt-DEEPEST-clause-fault
-returns-then-line_floor-gt-DEEPEST-clause-fault c = λ some.
+pub returns-then-waiting_floor-gt-DEEPEST-clause-fault : goal.returns-then-waiting_floor-gt-DEEPEST-clause-fault
+returns-then-waiting_floor-gt-DEEPEST-clause-fault c = λ some.
     (deep (table_of (ops_of c.args.table.now)) (table_is (ops_of c.args.table.now) c.table_law.ensures) c.args.text.now c.args.tokens.now c.loop-token.token-index
-    (get_or c.args.tokens.now c.loop-token.token-index blank) (see_line (see_stack c.loop-token.stack) c.loop-token.line)
-    (see_line (see_stack c.feed.new.stack) c.in-Some.next) c.in_ok-word.word
+    (get_or c.args.tokens.now c.loop-token.token-index blank) (see_waiting (see_stack c.loop-token.stack) c.loop-token.waiting)
+    (see_waiting (see_stack c.feed.new.stack) c.in-Some.next) c.in_ok-word.word
     (part_spelled c.args.text.now c.args.tokens.now c.requires.part)
     (slice_get-get_or c.args.tokens.now c.loop-token.token-index blank c.loop-token-test.true) c.loop-token.invariant
     (record { is = c.in_ok-word.ensures.is; only = c.in_ok-word.ensures.only })
     (sym (ap (see_fed (see_stack c.feed.new.stack)) c.in-Some.is) ∙ c.in_ok-next.ensures)
-    (omega (arith, c.line_floor.ensures, c.if-line_floor-gt-DEEPEST.true))).is
+    (omega (arith, c.waiting_floor.ensures, c.if-waiting_floor-gt-DEEPEST.true))).is
 
 pub returns-in-Some-finished-clause-ok : goal.returns-in-Some-finished-clause-ok
 returns-in-Some-finished-clause-ok c =
     (finished_read (table_of (ops_of c.args.table.now)) (table_is (ops_of c.args.table.now) c.table_law.ensures) c.args.text.now c.args.tokens.now c.loop-token.token-index
-    (see_line (see_stack c.loop-token.stack) c.loop-token.line) (see_stack c.loop-token.stack) (c.in-Some-finished.ensures (see_stack c.loop-token.stack)).0
+    (see_waiting (see_stack c.loop-token.stack) c.loop-token.waiting) (see_stack c.loop-token.stack) (c.in-Some-finished.ensures (see_stack c.loop-token.stack)).0
     (tree_of c.in-Some-finished.clause) c.loop-token-test.false c.loop-token.invariant
     (c.in-Some-finished.ensures (see_stack c.loop-token.stack)).1 (c.in-Some-finished.ensures (see_stack c.loop-token.stack)).2).is
 
 pub returns-in-Some-finished-clause-only : goal.returns-in-Some-finished-clause-only
 returns-in-Some-finished-clause-only c =
     (finished_read (table_of (ops_of c.args.table.now)) (table_is (ops_of c.args.table.now) c.table_law.ensures) c.args.text.now c.args.tokens.now c.loop-token.token-index
-    (see_line (see_stack c.loop-token.stack) c.loop-token.line) (see_stack c.loop-token.stack) (c.in-Some-finished.ensures (see_stack c.loop-token.stack)).0
+    (see_waiting (see_stack c.loop-token.stack) c.loop-token.waiting) (see_stack c.loop-token.stack) (c.in-Some-finished.ensures (see_stack c.loop-token.stack)).0
     (tree_of c.in-Some-finished.clause) c.loop-token-test.false c.loop-token.invariant
     (c.in-Some-finished.ensures (see_stack c.loop-token.stack)).1 (c.in-Some-finished.ensures (see_stack c.loop-token.stack)).2).only
 
 pub returns-clause-none : goal.returns-clause-none
 returns-clause-none c = λ some.
     (unfinished_read (table_of (ops_of c.args.table.now)) (table_is (ops_of c.args.table.now) c.table_law.ensures) c.args.text.now c.args.tokens.now c.loop-token.token-index
-    (see_line (see_stack c.loop-token.stack) c.loop-token.line) c.no_end.result c.loop-token-test.false c.loop-token.invariant
+    (see_waiting (see_stack c.loop-token.stack) c.loop-token.waiting) c.no_end.result c.loop-token-test.false c.loop-token.invariant
     (c.in-None.ensures (see_stack c.loop-token.stack)) c.no_end.ensures).none
 
 pub returns-clause-only_fault : goal.returns-clause-only_fault
 returns-clause-only_fault c = λ some.
     (unfinished_read (table_of (ops_of c.args.table.now)) (table_is (ops_of c.args.table.now) c.table_law.ensures) c.args.text.now c.args.tokens.now c.loop-token.token-index
-    (see_line (see_stack c.loop-token.stack) c.loop-token.line) c.no_end.result c.loop-token-test.false c.loop-token.invariant
+    (see_waiting (see_stack c.loop-token.stack) c.loop-token.waiting) c.no_end.result c.loop-token-test.false c.loop-token.invariant
     (c.in-None.ensures (see_stack c.loop-token.stack)) c.no_end.ensures).only
 
 pub returns-clause-fault : goal.returns-clause-fault
 returns-clause-fault c = λ some.
     (unfinished_read (table_of (ops_of c.args.table.now)) (table_is (ops_of c.args.table.now) c.table_law.ensures) c.args.text.now c.args.tokens.now c.loop-token.token-index
-    (see_line (see_stack c.loop-token.stack) c.loop-token.line) c.no_end.result c.loop-token-test.false c.loop-token.invariant
+    (see_waiting (see_stack c.loop-token.stack) c.loop-token.waiting) c.no_end.result c.loop-token-test.false c.loop-token.invariant
     (c.in-None.ensures (see_stack c.loop-token.stack)) c.no_end.ensures).is

@@ -1,15 +1,15 @@
--- The lines of the reader over what it keeps go as those over trees with all their words.
+-- What waits in the reader over what it keeps goes as what waits over trees with all their words.
 use Rattle.std.proofs.Common.{ℕ, ◌≡◌, ◌≤◌, ◌+◌, ◌^◌, ◌-◌, max, min, suc, Bool, true, false, cond, not, ◌&&◌, ◌||◌, List, [], ◌∷◌, Option, Some, None, is_some, nat_lt, nat_le, length, arith, refl, ap, sym, ◌∙◌}
-use Rattle.prolog_terms.specs.declared.frame.Opener.TheVariants.{Call}
+use Rattle.prolog_terms.specs.declared.pending.Opened.TheVariants.{Call}
 use Rattle.prolog_terms.specs.Words.{Word, Table, sides_of, is_name, begins_term, opens, number_next, atom_rule, is_negative}
 use Rattle.prolog_terms.specs.Grammar.{Parse, call, square, bare, prefixed, infixed, priority, parse_depth}
 use Rattle.prolog_terms.specs.ReaderSteps.{prefix_open, infix_open, first_open, next_open, tail_open, wrap_open, Stack, Mode, want, minus, functor, have, done, State, at, goes, bound, reduced, is_curly, want_other, want_step, infix_on, postfix_on, with_tree, infix_step, name_step, act}
-use Rattle.prolog_terms.specs.ReaderLines.{Line, ready, named, doubt, settled, enter, then_enter, then_second, is_infix_only, leaves_doubt, can_go_on, feed}
-use Rattle.prolog_terms.specs.ReaderDepth.{reach, floor_of, want_floor, floor, least_floor, line_floor}
-use Rattle.prolog_terms.specs.ReaderSeen.{plus, bracket_frame, first_in, wants, functor_of, minus_of, has, StateSeen, Measure, goes_seen, pushed, reduced_measure, measure, prefix_step_seen, want_name_seen, want_other_seen, act_seen, settled_seen, LineSeen, ready_seen, named_seen, doubt_seen, enter_seen, then_enter_seen, infix_fits, infix_floor, doubt_step, call_step, feed_named_seen, feed_doubt_seen, feed_seen, floor_seen, want_floor_seen, line_floor_seen, atom_operand, reduced_seen, infix_held}
+use Rattle.prolog_terms.specs.ReaderWaiting.{Waiting, ready, named, doubt, settled, enter, then_enter, then_second, is_infix_only, leaves_doubt, can_go_on, feed}
+use Rattle.prolog_terms.specs.ReaderDepth.{reach, floor_of, want_floor, floor, least_floor, waiting_floor}
+use Rattle.prolog_terms.specs.ReaderSeen.{plus, pending_bracket, first_in, wants, functor_of, minus_of, has, StateSeen, Measure, goes_seen, pushed, reduced_measure, measure, prefix_step_seen, want_name_seen, want_other_seen, act_seen, settled_seen, WaitingSeen, ready_seen, named_seen, doubt_seen, enter_seen, then_enter_seen, infix_fits, infix_floor, doubt_step, call_step, feed_named_seen, feed_doubt_seen, feed_seen, floor_seen, want_floor_seen, waiting_floor_seen, atom_operand, reduced_seen, infix_held}
 use Rattle.prolog_terms.proofs.ReaderComplete.{and_left, and_right, and_both, other_step, functor_step, name_kind_goes}
 use Rattle.prolog_terms.proofs.ReaderPlaces.{step_doubt, Fits}
-use Rattle.prolog_terms.proofs.ReaderJoin.{cap, cap_max_suc, parse_seen, stack_seen, mode_seen, result_seen, frame_seen, length_is, bound_is, reach_is, pushed_is, opened, allowed, want_other_is, have_is, infix_reduced}
+use Rattle.prolog_terms.proofs.ReaderJoin.{cap, cap_max_suc, parse_seen, stack_seen, mode_seen, result_seen, pending_seen, length_is, bound_is, reach_is, pushed_is, pushed_goes, allowed, want_other_is, have_is, infix_reduced}
 
 below_floor : (m r d n : ℕ) → max (min r m) (min (min d m + n) m) ≡ min (max r (d + n)) m
 below_floor m r d n = omega arith
@@ -46,32 +46,32 @@ or_nothing false true h = cc
 or_nothing false false h = refl
 
 module _ (T : Table) where
-  abbrev pub line_seen : Line → LineSeen
-  line_seen (ready S m) = ready_seen (stack_seen T S) (mode_seen T m)
-  line_seen (named S w) = named_seen (stack_seen T S) w (T.prefix w)
-  line_seen (doubt S p n) = doubt_seen (stack_seen T S) p (sides_of (T.prefix p)) n (sides_of (T.infix_ n)) (cap (line_floor T (doubt S p n)))
+  abbrev pub waiting_seen : Waiting → WaitingSeen
+  waiting_seen (ready S m) = ready_seen (stack_seen T S) (mode_seen T m)
+  waiting_seen (named S w) = named_seen (stack_seen T S) w (T.prefix w)
+  waiting_seen (doubt S p n) = doubt_seen (stack_seen T S) p (sides_of (T.prefix p)) n (sides_of (T.infix_ n)) (cap (waiting_floor T (doubt S p n)))
 
-  abbrev pub fed_seen : Option Line → Option LineSeen
+  abbrev pub fed_seen : Option Waiting → Option WaitingSeen
   fed_seen None = None
-  fed_seen (Some line) = Some (line_seen line)
+  fed_seen (Some waiting) = Some (waiting_seen waiting)
 
-  -- what the words of a line are
-  abbrev pub IsWaiting : Line → Type 0
-  IsWaiting (ready S m) = Unit {0}
-  IsWaiting (named S w) = is_name w.kind ≡ true
-  IsWaiting (doubt S p n) = (is_name p.kind ≡ true) × (leaves_doubt T p n ≡ true)
+  -- the words that wait are names, and two of them are in doubt
+  abbrev pub HoldsNames : Waiting → Type 0
+  HoldsNames (ready S m) = Unit {0}
+  HoldsNames (named S w) = is_name w.kind ≡ true
+  HoldsNames (doubt S p n) = (is_name p.kind ≡ true) × (leaves_doubt T p n ≡ true)
 
-  pub fits_waiting : (u : List Word) (line : Line) → Fits T u line → IsWaiting line
-  fits_waiting u (ready S m) fits = tt
-  fits_waiting u (named S w) fits = fits.0
-  fits_waiting u (doubt S p n) fits = (fits.0, fits.1)
+  pub fits_names : (u : List Word) (waiting : Waiting) → Fits T u waiting → HoldsNames waiting
+  fits_names u (ready S m) fits = tt
+  fits_names u (named S w) fits = fits.0
+  fits_names u (doubt S p n) fits = (fits.0, fits.1)
 
   prefix_step_is : (S : Stack) (w : Word) → prefix_step_seen (stack_seen T S) w (sides_of (T.prefix w))
       ≡ result_seen T (cond (nat_le (sides_of (T.prefix w)).priority (bound T S)) (goes (prefix_open w ∷ S) want) None)
   prefix_step_is S w =
-      ap (λ n. cond (nat_le (sides_of (T.prefix w)).priority n) (goes_seen (pushed (stack_seen T S) (frame_seen T (prefix_open w))) wants) None) (bound_is T S)
-      ∙ allowed T (nat_le (sides_of (T.prefix w)).priority (bound T S)) (goes_seen (pushed (stack_seen T S) (frame_seen T (prefix_open w))) wants)
-      (goes (prefix_open w ∷ S) want) (opened T (prefix_open w) S)
+      ap (λ n. cond (nat_le (sides_of (T.prefix w)).priority n) (goes_seen (pushed (stack_seen T S) (pending_seen T (prefix_open w))) wants) None) (bound_is T S)
+      ∙ allowed T (nat_le (sides_of (T.prefix w)).priority (bound T S)) (goes_seen (pushed (stack_seen T S) (pending_seen T (prefix_open w))) wants)
+      (goes (prefix_open w ∷ S) want) (pushed_goes T (prefix_open w) S)
 
   want_name_is : (S : Stack) (w : Word) (after : List Word) (ends : Bool) → is_name w.kind ≡ true → (is_some (T.prefix w) ≡ true → ends ≡ atom_rule T after)
       → want_name_seen (stack_seen T S) w (T.prefix w) (opens after) (number_next after) ends ≡ result_seen T (want_step T S w after)
@@ -100,7 +100,7 @@ module _ (T : Table) where
   pub enter_is : (S : Stack) (m : Mode) (w : Word) → enter_seen T (stack_seen T S) (mode_seen T m) w ≡ fed_seen (enter T (at S m) w)
   enter_is S want w = enter_want S w (is_name w.kind) refl
   enter_is S (minus d) w = refl
-  enter_is S (functor n) w = settled_is (goes (first_open (call n w) ∷ S) want) (goes_seen (pushed (stack_seen T S) (bracket_frame (first_in (Call n)))) wants) (opened T (first_open (call n w)) S)
+  enter_is S (functor n) w = settled_is (goes (first_open (call n w) ∷ S) want) (goes_seen (pushed (stack_seen T S) (pending_bracket (first_in (Call n)))) wants) (pushed_goes T (first_open (call n w)) S)
   enter_is S (have t) w = settled_is (act T S (have t) w []) (act_seen T (stack_seen T S) (has (parse_seen T t)) w) (have_is T S t w)
   enter_is S (done t) w = refl
 
@@ -162,22 +162,22 @@ module _ (T : Table) where
       by_kind true = below_open (2 ^ 64 - 1) (reach S) (length S)
       by_kind false = floor_is (wrap_open o ∷ S) 1
 
-  pub line_floor_is : (line : Line) → line_floor_seen (line_seen line) ≡ cap (line_floor T line)
-  line_floor_is (ready S want) = want_floor_is S
-  line_floor_is (ready S (minus d)) = floor_is S 1
-  line_floor_is (ready S (functor n)) = floor_is S 2
-  line_floor_is (ready S (have t)) = floor_is S (parse_depth t)
-  line_floor_is (ready S (done t)) = refl
-  line_floor_is (named S w) = floor_is S 1
-  line_floor_is (doubt S p n) = refl
+  pub waiting_floor_is : (waiting : Waiting) → waiting_floor_seen (waiting_seen waiting) ≡ cap (waiting_floor T waiting)
+  waiting_floor_is (ready S want) = want_floor_is S
+  waiting_floor_is (ready S (minus d)) = floor_is S 1
+  waiting_floor_is (ready S (functor n)) = floor_is S 2
+  waiting_floor_is (ready S (have t)) = floor_is S (parse_depth t)
+  waiting_floor_is (ready S (done t)) = refl
+  waiting_floor_is (named S w) = floor_is S 1
+  waiting_floor_is (doubt S p n) = refl
 
   -- two words in doubt
 
-  abbrev doubt_at : Stack → Word → Word → ℕ → LineSeen
+  abbrev doubt_at : Stack → Word → Word → ℕ → WaitingSeen
   doubt_at S p n d = doubt_seen (stack_seen T S) p (sides_of (T.prefix p)) n (sides_of (T.infix_ n)) d
 
   -- the step, with the test of the prefix operator and the least depth of a functor given
-  abbrev stepped : Stack → Word → Word → Bool → ℕ → Measure → Option LineSeen
+  abbrev stepped : Stack → Word → Word → Bool → ℕ → Measure → Option WaitingSeen
   stepped S p n calls called m =
       cond (infix_fits m (sides_of (T.infix_ n))) (Some (doubt_at S p n (cond calls (min (infix_floor m) called) (infix_floor m))))
       (cond calls (Some (doubt_at S p n called)) None)
@@ -215,7 +215,7 @@ module _ (T : Table) where
       calls : Bool
       calls = nat_le (sides_of (T.prefix p)).priority (bound T S)
 
-      rest : Option State → Option LineSeen
+      rest : Option State → Option WaitingSeen
       rest o =
           cond (is_some o || nat_le (sides_of (T.prefix p)).priority (bound T S))
           (Some (doubt_at S p n (cap (least_floor o (nat_le (sides_of (T.prefix p)).priority (bound T S)) (floor_of S 3))))) None
@@ -238,7 +238,7 @@ module _ (T : Table) where
           (infix_floor (measure (stack_seen T S') (priority T t') (cap (parse_depth t')))) (infix_floor_is S' t' n))
           (sides_of (T.infix_ n)).priority S (bare p) 1 refl
 
-      back : (b : Bool) → cond b (Some (doubt_at S p n (cap (line_floor T (doubt S p n))))) None ≡ fed_seen (cond b (Some (doubt S p n)) None)
+      back : (b : Bool) → cond b (Some (doubt_at S p n (cap (waiting_floor T (doubt S p n))))) None ≡ fed_seen (cond b (Some (doubt S p n)) None)
       back true = refl
       back false = refl
 
@@ -266,11 +266,11 @@ module _ (T : Table) where
       by_next (opens (x ∷ [])) refl ∙ ap (λ o. fed_seen (then_second T o n x)) (sym (step_doubt T S p n (x ∷ []) name h))
     where
       called : (b : Bool) → opens (x ∷ []) ≡ true
-          → cond b (Some (ready_seen (pushed (pushed (stack_seen T S) (frame_seen T (prefix_open p))) (bracket_frame (first_in (Call n)))) wants)) None
+          → cond b (Some (ready_seen (pushed (pushed (stack_seen T S) (pending_seen T (prefix_open p))) (pending_bracket (first_in (Call n)))) wants)) None
           ≡ fed_seen (then_second T (cond b (goes (prefix_open p ∷ S) want) None) n x)
       called false opening = refl
       called true opening =
-          ap (λ s. Some (ready_seen (pushed s (bracket_frame (first_in (Call n)))) wants)) (pushed_is T (prefix_open p) S)
+          ap (λ s. Some (ready_seen (pushed s (pending_bracket (first_in (Call n)))) wants)) (pushed_is T (prefix_open p) S)
           ∙ (ap (λ s. Some (ready_seen s wants)) (pushed_is T (first_open (call n x)) (prefix_open p ∷ S))
           ∙ ap (λ o. fed_seen (then_enter T o x))
           (sym (functor_step T (prefix_open p ∷ S) n (x ∷ []) (and_both (is_name n.kind) (opens (x ∷ [])) (infix_some p n h).0 opening))))
@@ -281,7 +281,7 @@ module _ (T : Table) where
           ≡ fed_seen (then_second T (cond b (cond (nat_le (sides_of (T.prefix p)).priority (bound T S)) (goes (prefix_open p ∷ S) want) None) (goes S (have (bare p)))) n x)
       by_next true opening =
           ap (λ k. cond (nat_le (sides_of (T.prefix p)).priority k)
-          (Some (ready_seen (pushed (pushed (stack_seen T S) (frame_seen T (prefix_open p))) (bracket_frame (first_in (Call n)))) wants)) None) (bound_is T S)
+          (Some (ready_seen (pushed (pushed (stack_seen T S) (pending_seen T (prefix_open p))) (pending_bracket (first_in (Call n)))) wants)) None) (bound_is T S)
           ∙ called (nat_le (sides_of (T.prefix p)).priority (bound T S)) opening
       by_next false opening =
           then_enter_is (act T S (have (bare p)) n (x ∷ []))
@@ -289,7 +289,7 @@ module _ (T : Table) where
           (infix_reduced T S (bare p) n
           ∙ ap (result_seen T) (sym (name_kind_goes T S (bare p) n n.kind (infix_some p n h).0 ∙ infix_name_step S (bare p) n (infix_some p n h).1)))
 
-  pub feed_is : (line : Line) (x : Word) → IsWaiting line → feed_seen T (line_seen line) x ≡ fed_seen (feed T line x)
+  pub feed_is : (waiting : Waiting) (x : Word) → HoldsNames waiting → feed_seen T (waiting_seen waiting) x ≡ fed_seen (feed T waiting x)
   feed_is (ready S m) x h = enter_is S m x
   feed_is (named S w) x h = feed_named_is S w x h
   feed_is (doubt S p n) x h = feed_doubt_is S p n x h.0 h.1

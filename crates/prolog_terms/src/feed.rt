@@ -3,15 +3,18 @@
 ghost use Rattle.std.specs.Prelude.{◌≡◌, ◌∷◌, [], ◌&&◌, not, is_some, min, IfOk, None, Some, true, false, MatchOption};
 ghost use Rattle.prolog_ops.specs.Table.{ops_of};
 ghost use Rattle.prolog_terms.specs.Words.{table_of};
-ghost use Rattle.prolog_terms.specs.ReaderLines.{is_infix_only};
-ghost use Rattle.prolog_terms.specs.ReaderSeen.{StackSeen, doubt_seen, see_mode, see_step, see_line, see_fed, settled_seen, enter_seen, then_enter_seen, infix_fits, infix_floor, doubt_step, call_step, feed_named_seen, feed_doubt_seen, feed_seen, mode_floor_seen, line_floor_seen, reduced_measure, infix_held, reduced_seen, atom_operand};
+ghost use Rattle.prolog_terms.specs.ReaderWaiting.{is_infix_only};
+ghost use Rattle.prolog_terms.specs.ReaderSeen.{StackSeen, doubt_seen, see_mode, see_step, see_waiting, see_fed, settled_seen, enter_seen, then_enter_seen, infix_fits, infix_floor, doubt_step, call_step, feed_named_seen, feed_doubt_seen, feed_seen, mode_floor_seen, waiting_floor_seen, reduced_measure, infix_held, reduced_seen, atom_operand};
 ghost use Rattle.prolog_terms.specs.StackSeen.{see_stack};
 
-use crate::frame::{Bracket, Doubt, Frame, Line, Measure, Mode, Opener, Operator};
+use crate::measure::Measure;
 use crate::nodes::{atom, boxed};
 use crate::operator_sides::{Sides, infix_of, prefix_of};
+use crate::operators::{infix_behind, reduce};
+use crate::pending::{Bracket, Opened, Operator, Pending};
 use crate::stack::Stack;
-use crate::steps::{Behind, act, infix_behind, reduce, want_name};
+use crate::steps::{Behind, act, want_name};
+use crate::waiting::{Doubt, Mode, Waiting};
 use crate::word::{Word, begins_term, is_name, is_near_number, is_opening};
 use prolog_ops::OpTable;
 use std::alloc::{AllocError, Global};
@@ -23,19 +26,19 @@ fn enter(
     stack: &mut Stack,
     mode: Mode,
     word: Word,
-) -> Result<Option<Line>, AllocError>
+) -> Result<Option<Waiting>, AllocError>
     ensures { IfOk result (λ next. see_fed (see_stack stack.new) next ≡ enter_seen (table_of (ops_of table.now)) (see_stack stack.old) (see_mode mode) word) }
 {
     if let Mode::Want = mode {
         if is_name(word.kind) {
             let prefix = prefix_of(table, &word);
             let word = Box::new(alloc, word)?;
-            return Ok(Some(Line::Named { word, prefix }));
+            return Ok(Some(Waiting::Named { word, prefix }));
         }
     }
     match act(alloc, table, stack, mode, word)? {
         None => Ok(None),
-        Some(next) => Ok(Some(Line::Ready(next))),
+        Some(next) => Ok(Some(Waiting::Ready(next))),
     }
 }
 
@@ -46,7 +49,7 @@ fn then_enter(
     stack: &mut Stack,
     step: Option<Mode>,
     word: Word,
-) -> Result<Option<Line>, AllocError>
+) -> Result<Option<Waiting>, AllocError>
     ensures { IfOk result (λ next. see_fed (see_stack stack.new) next ≡ then_enter_seen (table_of (ops_of table.now)) (see_step (see_stack stack.old) step) word) }
 {
     match step {
@@ -95,7 +98,7 @@ fn in_doubt(
     second: Word,
     between: Sides,
     floor: usize,
-) -> Result<Option<Line>, AllocError>
+) -> Result<Option<Waiting>, AllocError>
     ensures { IfOk result (λ next. (S : StackSeen) → see_fed S next ≡ Some (doubt_seen S first prefix second between floor)) }
 {
     let doubt = Box::new(
@@ -108,7 +111,7 @@ fn in_doubt(
             floor,
         },
     )?;
-    Ok(Some(Line::Doubt(doubt)))
+    Ok(Some(Waiting::Doubt(doubt)))
 }
 
 /// Two words that one more has to decide: an atom and its infix operator, or a prefix operator and
@@ -120,7 +123,7 @@ fn doubt(
     prefix: Sides,
     second: Word,
     between: Sides,
-) -> Result<Option<Line>, AllocError>
+) -> Result<Option<Waiting>, AllocError>
     ensures { IfOk result (λ next. see_fed (see_stack stack.now) next ≡ doubt_step (see_stack stack.now) first prefix second between (reduced_measure between.priority (see_stack stack.now) 0 1)) }
 {
     let measure = stack.reduced_measure(between.priority);
@@ -146,18 +149,18 @@ fn call(
     first: Word,
     prefix: Sides,
     second: Word,
-) -> Result<Option<Line>, AllocError>
+) -> Result<Option<Waiting>, AllocError>
     ensures { IfOk result (λ next. see_fed (see_stack stack.new) next ≡ call_step (see_stack stack.old) first prefix second) }
 {
     if prefix.priority > stack.bound() {
         return Ok(None);
     }
-    stack.push(Frame::Operator(Operator::Prefix {
+    stack.push(Pending::Operator(Operator::Prefix {
         word: first,
         sides: prefix,
     }))?;
-    stack.push(Frame::Bracket(Bracket::First(Opener::Call(second))))?;
-    Ok(Some(Line::Ready(Mode::Want)))
+    stack.push(Pending::Bracket(Bracket::First(Opened::Call(second))))?;
+    Ok(Some(Waiting::Ready(Mode::Want)))
 }
 
 /// A word behind a name that waited for it.
@@ -168,7 +171,7 @@ fn feed_named(
     name: Box<Word>,
     prefix: Option<Sides>,
     word: Word,
-) -> Result<Option<Line>, AllocError>
+) -> Result<Option<Waiting>, AllocError>
     ensures { IfOk result (λ next. see_fed (see_stack stack.new) next ≡ feed_named_seen (table_of (ops_of table.now)) (see_stack stack.old) name.value prefix word) }
 {
     if let Some(sides) = prefix {
@@ -195,7 +198,7 @@ fn feed_doubt(
     second: Word,
     between: Sides,
     word: Word,
-) -> Result<Option<Line>, AllocError>
+) -> Result<Option<Waiting>, AllocError>
     ensures { IfOk result (λ next. see_fed (see_stack stack.new) next ≡ feed_doubt_seen (table_of (ops_of table.now)) (see_stack stack.old) first prefix second between word) }
 {
     if is_opening(&word) {
@@ -212,17 +215,17 @@ pub fn feed(
     alloc: Global,
     table: &OpTable,
     stack: &mut Stack,
-    line: Line,
+    waiting: Waiting,
     word: Word,
-) -> Result<Option<Line>, AllocError>
-    ensures { IfOk result (λ next. see_fed (see_stack stack.new) next ≡ feed_seen (table_of (ops_of table.now)) (see_line (see_stack stack.old) line) word) }
+) -> Result<Option<Waiting>, AllocError>
+    ensures { IfOk result (λ next. see_fed (see_stack stack.new) next ≡ feed_seen (table_of (ops_of table.now)) (see_waiting (see_stack stack.old) waiting) word) }
 {
-    match line {
-        Line::Ready(mode) => enter(alloc, table, stack, mode, word),
-        Line::Named { word: name, prefix } => {
+    match waiting {
+        Waiting::Ready(mode) => enter(alloc, table, stack, mode, word),
+        Waiting::Named { word: name, prefix } => {
             feed_named(alloc, table, stack, name, prefix, word)
         }
-        Line::Doubt(doubt) => {
+        Waiting::Doubt(doubt) => {
             let Doubt {
                 first,
                 prefix,
@@ -248,12 +251,12 @@ fn mode_floor(stack: &Stack, mode: &Mode) -> usize
 }
 
 /// The least depth of the clauses that go on from here.
-pub fn line_floor(stack: &Stack, line: &Line) -> usize
-    ensures { result ≡ line_floor_seen (see_line (see_stack stack.now) line.now) }
+pub fn waiting_floor(stack: &Stack, waiting: &Waiting) -> usize
+    ensures { result ≡ waiting_floor_seen (see_waiting (see_stack stack.now) waiting.now) }
 {
-    match line {
-        Line::Ready(mode) => mode_floor(stack, mode),
-        Line::Named { .. } => stack.floor(1),
-        Line::Doubt(doubt) => doubt.floor,
+    match waiting {
+        Waiting::Ready(mode) => mode_floor(stack, mode),
+        Waiting::Named { .. } => stack.floor(1),
+        Waiting::Doubt(doubt) => doubt.floor,
     }
 }

@@ -2,7 +2,7 @@ use Rattle.std.proofs.Common.{◌≡◌, length, ap, sym, ◌∙◌, arith}
 use Rattle.prolog_terms.specs.ReaderSeen.{see_operand, see_operator, held, reduced_seen}
 use Rattle.prolog_terms.specs.StackSeen.{see_stack}
 use Rattle.prolog_terms.proofs.ReaderLoops.{reduced_step, reduced_stop}
-use Rattle.prolog_terms.proofs.steps.reduce.Goals as goal
+use Rattle.prolog_terms.proofs.operators.reduce.Goals as goal
 
 pub loop-operator-preserved : goal.loop-operator-preserved
 loop-operator-preserved c =

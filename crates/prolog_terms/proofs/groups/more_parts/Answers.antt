@@ -1,5 +1,5 @@
 use Rattle.prolog_terms.proofs.ReaderKept.{parts_pushed}
-use Rattle.prolog_terms.proofs.nodes.more_parts.Goals as goal
+use Rattle.prolog_terms.proofs.groups.more_parts.Goals as goal
 
 pub returns : goal.returns
 returns c =

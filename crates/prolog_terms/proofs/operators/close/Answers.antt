@@ -2,7 +2,7 @@ use Rattle.std.proofs.Common.{◌≡◌, length, ap, sym, ◌∙◌, arith}
 use Rattle.prolog_terms.specs.ReaderSeen.{see_operand, see_operator, held, closed_seen}
 use Rattle.prolog_terms.specs.StackSeen.{see_stack}
 use Rattle.prolog_terms.proofs.ReaderLoops.{closed_step, closed_stop}
-use Rattle.prolog_terms.proofs.steps.close.Goals as goal
+use Rattle.prolog_terms.proofs.operators.close.Goals as goal
 
 pub loop-operator-preserved : goal.loop-operator-preserved
 loop-operator-preserved c =

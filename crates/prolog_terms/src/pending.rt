@@ -1,0 +1,109 @@
+//! What is open: operators and brackets that wait for what stands right of them.
+
+ghost use Rattle.std.specs.Prelude.{◌≡◌};
+ghost use Rattle.prolog_terms.specs.ReaderSeen.{see_pending, see_operator, pending_has_parts, inner_depth, pending_bound, right_of, priority_of};
+
+use crate::operand::{Operand, Parts};
+use crate::operator_sides::Sides;
+use crate::word::Word;
+
+/// An operator that wants its right side.
+#[derive(Drop)]
+pub enum Operator {
+    Prefix {
+        word: Word,
+        sides: Sides,
+    },
+    Infix {
+        left: Box<Operand>,
+        word: Word,
+        sides: Sides,
+    },
+}
+
+/// What stands before arguments or items: a functor and its bracket, or a `[`.
+#[derive(Drop)]
+pub enum Opened {
+    Call(Word),
+    Square(Word),
+}
+
+/// A bracket that isn't closed.
+#[derive(Drop)]
+pub enum Bracket {
+    /// It wants its first part.
+    First(Opened),
+    /// It wants one more part.
+    Next { opened: Opened, parts: Parts },
+    /// A list that wants its tail.
+    Tail { square: Word, parts: Parts },
+    /// It holds one term.
+    Wrap(Word),
+}
+
+/// An operator or a bracket that waits for what stands right of it.
+#[derive(Drop)]
+pub enum Pending {
+    Operator(Operator),
+    Bracket(Bracket),
+}
+
+/// The depth of the deepest part that stands in it.
+pub fn inner_depth(pending: &Pending) -> usize
+    ensures { result ≡ inner_depth (see_pending pending.now) }
+{
+    match pending {
+        Pending::Operator(Operator::Prefix { .. }) => 0,
+        Pending::Operator(Operator::Infix { left, .. }) => left.depth,
+        Pending::Bracket(Bracket::First(_)) => 0,
+        Pending::Bracket(Bracket::Next { parts, .. }) => parts.depth,
+        Pending::Bracket(Bracket::Tail { parts, .. }) => parts.depth,
+        Pending::Bracket(Bracket::Wrap(_)) => 0,
+    }
+}
+
+/// Whether the innermost bracket has parts, with this one on those below.
+pub fn has_parts(pending: &Pending, below: bool) -> bool
+    ensures { result ≡ pending_has_parts (see_pending pending.now) below }
+{
+    match pending {
+        Pending::Operator(_) => below,
+        Pending::Bracket(Bracket::First(_)) => true,
+        Pending::Bracket(Bracket::Next { .. }) => true,
+        Pending::Bracket(Bracket::Tail { .. }) => true,
+        Pending::Bracket(Bracket::Wrap(_)) => false,
+    }
+}
+
+/// The greatest priority of the right side of the operator.
+pub fn right_bound(operator: &Operator) -> u32
+    ensures { result ≡ right_of (see_operator operator.now) }
+{
+    match operator {
+        Operator::Prefix { sides, .. } => sides.right,
+        Operator::Infix { sides, .. } => sides.right,
+    }
+}
+
+/// The priority of the operator's term.
+pub fn priority_of(operator: &Operator) -> u32
+    ensures { result ≡ priority_of (see_operator operator.now) }
+{
+    match operator {
+        Operator::Prefix { sides, .. } => sides.priority,
+        Operator::Infix { sides, .. } => sides.priority,
+    }
+}
+
+/// The greatest priority of what stands right of it.
+pub fn pending_bound(pending: &Pending) -> u32
+    ensures { result ≡ pending_bound (see_pending pending.now) }
+{
+    match pending {
+        Pending::Operator(operator) => right_bound(operator),
+        Pending::Bracket(Bracket::First(_)) => 999,
+        Pending::Bracket(Bracket::Next { .. }) => 999,
+        Pending::Bracket(Bracket::Tail { .. }) => 999,
+        Pending::Bracket(Bracket::Wrap(_)) => 1200,
+    }
+}
