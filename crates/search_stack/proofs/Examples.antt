@@ -1,12 +1,12 @@
 -- What is true of small stacks, and what isn't.
-use Rattle.std.proofs.Common.{◌≡◌, ◌⊎◌, inl, inr, ℕ, zero, suc, ◌+◌, ◌<◌, ◌≤◌, Bool, true, false, List, [], ◌∷◌, Some, None, length, refl, ap, subst, arith}
+use Rattle.std.proofs.Common.{◌≡◌, inl, inr, ℕ, zero, suc, ◌+◌, ◌<◌, ◌≤◌, false, List, [], ◌∷◌, Some, None, length, refl, ap, subst, arith}
 use Rattle.std.specs.Prelude.{Contains, slice_index_or}
 use Rattle.graph_law.specs.Graph.{Calls}
 use Rattle.graph_law.specs.Reach.{Reaches, IsReached, ReachEachOther}
 use Rattle.graph_law.proofs.ReachLaws.{reaches_self, each_other_self}
 use Rattle.search_stack.specs.declared.frame.Frame.{Frame}
 use Rattle.search_stack.specs.Stack.{Entry, Stack, IsShaped, size, height, node, succs, begun, target, position, low}
-use Rattle.search_stack.specs.GoodSearch.{IsGood, LeadsUp, StandsIn, IsInward, IsSettled}
+use Rattle.search_stack.specs.GoodSearch.{IsGood, LeadsUp, IsInward, IsSettled}
 use Rattle.search_stack.specs.Search.{empty_stack, pushed, next_successor, one_more_begun, lowered, retreated, IsRipe, IsReleasable}
 
 abbrev entry : ℕ → List ℕ → ℕ → Entry

@@ -9,6 +9,7 @@ pub mod Retreat
 pub mod Taken
 pub mod Steps
 pub mod FieldLaws
+pub mod FieldSteps
 pub mod UnderWay
 pub mod Released
 pub mod Driving

@@ -1,12 +1,12 @@
-use Rattle.std.proofs.Common.{◌≡◌, ◌<◌, ◌-◌, ◌∙◌, length, refl, sym, ap, subst, arith, inl, inr, length-set, true≢false}
+use Rattle.std.proofs.Common.{◌≡◌, ◌-◌, ◌∙◌, refl, sym, ap, subst, arith, inl, inr, length-set, true≢false}
 use Rattle.std.specs.Prelude.{false}
-use Rattle.search_stack.specs.Fields.{stack_of}
 use Rattle.search_stack.specs.Search.{IsLastBegun, lowered}
 use Rattle.search_stack.specs.Stack.{Stack, IsShaped}
 use Rattle.search_stack.specs.GoodSearch.{IsGood}
 use Rattle.search_stack.proofs.Back.{good_back}
 use Rattle.search_stack.proofs.Edges.{good_finished}
-use Rattle.search_stack.proofs.FieldLaws.{height_is, found_place, missing, distinct, tops_at, lowered_is}
+use Rattle.search_stack.proofs.FieldLaws.{height_is, found_place, missing, distinct}
+use Rattle.search_stack.proofs.FieldSteps.{held, lowered_top}
 use Rattle.search_stack.proofs.Shapes.{shaped_back}
 use Rattle.search_stack.proofs.Steps.{lowers}
 use Rattle.search_stack.proofs.search.Search.back.Goals as goal
@@ -31,16 +31,9 @@ index_mut-frame-requires c =
 pub invariant_of-self : goal.invariant_of-self
 invariant_of-self c =
     let height = rw (← c.self.view_is) at c.requires.last.some in
-    let some : 0 < length c.self.inside.frames.items = omega (arith, height, height_is c.self.inside.opened.entries c.self.inside.frames.items) in
-    let last : c.len-top.result - 1 ≡ length c.self.inside.frames.items - 1 = omega (arith, c.len-top.ensures, c.self.inside.frames.ok.0) in
-    let tops =
-    tops_at c.self.inside.opened.entries c.self.inside.frames.items (c.len-top.result - 1) c.index_mut-frame.result.now
-    c.index_mut-frame.result.now c.self.invariant.shaped some last c.index_mut-frame.ensures.value in
-    let is =
-    lowered_is c.self.inside.opened.entries c.self.inside.frames.items (c.len-top.result - 1) c.in-Some.place c.min-frame.result
-    c.index_mut-frame.result.now tops last c.min-frame.ensures in
+    let is = lowered_top c.in-Some.place c.self.invariant height c.len-top.ensures c.index_mut-frame.ensures.value c.min-frame.ensures in
     record {
-      shaped = subst IsShaped (sym is) (shaped_back c.self.invariant.shaped (lowers (stack_of c.self.inside.opened.entries c.self.inside.frames.items) c.in-Some.place height));
+      shaped = subst IsShaped (sym is) (shaped_back c.self.invariant.shaped (lowers (held c.self.inside) c.in-Some.place height));
       entry_room = c.self.invariant.entry_room;
       frame_room =
           omega (
@@ -60,40 +53,26 @@ returns-clause-on c =
 pub returns-clause-lowered : goal.returns-clause-lowered
 returns-clause-lowered c =
     let height = rw (← c.self.view_is) at c.requires.last.some in
-    let some : 0 < length c.self.inside.frames.items = omega (arith, height, height_is c.self.inside.opened.entries c.self.inside.frames.items) in
-    let last : c.len-top.result - 1 ≡ length c.self.inside.frames.items - 1 = omega (arith, c.len-top.ensures, c.self.inside.frames.ok.0) in
-    let tops =
-    tops_at c.self.inside.opened.entries c.self.inside.frames.items (c.len-top.result - 1) c.index_mut-frame.result.now
-    c.index_mut-frame.result.now c.self.invariant.shaped some last c.index_mut-frame.ensures.value in
-    let is =
-    lowered_is c.self.inside.opened.entries c.self.inside.frames.items (c.len-top.result - 1) c.in-Some.place c.min-frame.result
-    c.index_mut-frame.result.now tops last c.min-frame.ensures in
+    let is = lowered_top c.in-Some.place c.self.invariant height c.len-top.ensures c.index_mut-frame.ensures.value c.min-frame.ensures in
     let found = found_place c.self.inside.opened.entries c.self.inside.frames.items c.args.node c.in-Some.place (sym c.in-Some.ensures.index) in
     rw (← c.self.view_is)
     (λ yes place lt at.
     let same : c.in-Some.place ≡ place =
     distinct c.self.inside.opened.entries c.self.inside.frames.items c.get_index_of.ensures.unique c.in-Some.place place found.0 lt (found.1 ∙ sym at) in
     ap (λ (stack : Stack). record { stack = stack; wanted = c.self.inside.wanted; spare = c.self.inside.spare })
-    (is ∙ ap (lowered (stack_of c.self.inside.opened.entries c.self.inside.frames.items)) same))
+    (is ∙ ap (lowered (held c.self.inside)) same))
 
 pub returns-clause-good : goal.returns-clause-good
 returns-clause-good c =
     let height = rw (← c.self.view_is) at c.requires.last.some in
-    let some : 0 < length c.self.inside.frames.items = omega (arith, height, height_is c.self.inside.opened.entries c.self.inside.frames.items) in
-    let last : c.len-top.result - 1 ≡ length c.self.inside.frames.items - 1 = omega (arith, c.len-top.ensures, c.self.inside.frames.ok.0) in
-    let tops =
-    tops_at c.self.inside.opened.entries c.self.inside.frames.items (c.len-top.result - 1) c.index_mut-frame.result.now
-    c.index_mut-frame.result.now c.self.invariant.shaped some last c.index_mut-frame.ensures.value in
-    let is =
-    lowered_is c.self.inside.opened.entries c.self.inside.frames.items (c.len-top.result - 1) c.in-Some.place c.min-frame.result
-    c.index_mut-frame.result.now tops last c.min-frame.ensures in
+    let is = lowered_top c.in-Some.place c.self.invariant height c.len-top.ensures c.index_mut-frame.ensures.value c.min-frame.ensures in
     let found = found_place c.self.inside.opened.entries c.self.inside.frames.items c.args.node c.in-Some.place (sym c.in-Some.ensures.index) in
     let begun = rw (← c.self.view_is) at c.requires.last in
-    let edge = subst (IsLastBegun (stack_of c.self.inside.opened.entries c.self.inside.frames.items)) (sym found.1) begun in
+    let edge = subst (IsLastBegun (held c.self.inside)) (sym found.1) begun in
     rw (← c.self.view_is)
     (λ lists roots done opened good either.
     subst (IsGood lists roots done false) (sym is)
-    (good_back good (lowers (stack_of c.self.inside.opened.entries c.self.inside.frames.items) c.in-Some.place height) found.0 edge))
+    (good_back good (lowers (held c.self.inside) c.in-Some.place height) found.0 edge))
 
 pub returns-in_default-clause-good : goal.returns-in_default-clause-good
 returns-in_default-clause-good c = λ lists roots done opened good either.

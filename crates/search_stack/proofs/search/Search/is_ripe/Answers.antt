@@ -1,6 +1,7 @@
 use Rattle.std.proofs.Common.{◌<◌, ◌∙◌, length, vec_len, sym, arith, true≢false, eqb-true}
 use Rattle.std.proofs.lemmas.Bool.{eqb-false, eq-eqb}
-use Rattle.search_stack.proofs.FieldLaws.{size_is, height_is, value_read, tops_of_slice, top_holds, done_read, all_from_done}
+use Rattle.search_stack.proofs.FieldLaws.{size_is, height_is, done_read, all_from_done}
+use Rattle.search_stack.proofs.FieldSteps.{some_top_read, entry_read}
 use Rattle.search_stack.proofs.search.Search.is_ripe.Goals as goal
 
 pub returns-then-is_empty-clause-ripe : goal.returns-then-is_empty-clause-ripe
@@ -18,21 +19,15 @@ pub index-opened-requires : goal.index-opened-requires
 index-opened-requires c =
     let some : 0 < length c.self.inside.frames.items =
     omega (arith, eqb-false (vec_len c.self.inside.frames) 0 (sym c.if-is_empty.ensures), c.self.inside.frames.ok.0) in
-    let tops =
-    tops_of_slice c.self.inside.opened.entries c.self.inside.frames.items c.deref.result.now c.top_frame-frame.result (record { position = 0; low = 0 })
-    c.self.invariant.shaped some c.deref.ensures.value c.top_frame-frame.ensures in
+    let tops = some_top_read c.self.invariant some c.deref.ensures.value c.top_frame-frame.ensures in
     omega (arith, tops.within, size_is c.self.inside.opened.entries c.self.inside.frames.items)
 
 pub returns-then-opened-len-clause-ripe : goal.returns-then-opened-len-clause-ripe
 returns-then-opened-len-clause-ripe c =
     let some : 0 < length c.self.inside.frames.items =
     omega (arith, eqb-false (vec_len c.self.inside.frames) 0 (sym c.if-is_empty.ensures), c.self.inside.frames.ok.0) in
-    let tops =
-    tops_of_slice c.self.inside.opened.entries c.self.inside.frames.items c.deref.result.now c.top_frame-frame.result (record { position = 0; low = 0 })
-    c.self.invariant.shaped some c.deref.ensures.value c.top_frame-frame.ensures in
-    let read =
-    top_holds tops
-    (value_read c.self.inside.opened.entries c.self.inside.frames.items c.top_frame-frame.result.position c.index-opened.result.now c.index-opened.ensures) in
+    let tops = some_top_read c.self.invariant some c.deref.ensures.value c.top_frame-frame.ensures in
+    let read = entry_read c.self.invariant tops c.index-opened.ensures in
     rw (← c.self.view_is) (
       λ yes. absurd (true≢false (sym yes)),
       λ ripe.
@@ -45,12 +40,8 @@ pub returns-clause-ripe : goal.returns-clause-ripe
 returns-clause-ripe c =
     let some : 0 < length c.self.inside.frames.items =
     omega (arith, eqb-false (vec_len c.self.inside.frames) 0 (sym c.if-is_empty.ensures), c.self.inside.frames.ok.0) in
-    let tops =
-    tops_of_slice c.self.inside.opened.entries c.self.inside.frames.items c.deref.result.now c.top_frame-frame.result (record { position = 0; low = 0 })
-    c.self.invariant.shaped some c.deref.ensures.value c.top_frame-frame.ensures in
-    let read =
-    top_holds tops
-    (value_read c.self.inside.opened.entries c.self.inside.frames.items c.top_frame-frame.result.position c.index-opened.result.now c.index-opened.ensures) in
+    let tops = some_top_read c.self.invariant some c.deref.ensures.value c.top_frame-frame.ensures in
+    let read = entry_read c.self.invariant tops c.index-opened.ensures in
     rw (← c.self.view_is) (
       λ yes.
           record {

@@ -1,13 +1,12 @@
-use Rattle.std.proofs.Common.{◌≡◌, ◌⊎◌, inl, inr, ◌∙◌, length, refl, ap, sym, subst, arith}
+use Rattle.std.proofs.Common.{length, refl, ap, sym, subst, arith}
 use Rattle.std.specs.Prelude.{false}
 use Rattle.std.proofs.lemmas.List.{length_push}
-use Rattle.search_stack.specs.Fields.{stack_of}
 use Rattle.search_stack.specs.GoodSearch.{IsGood}
-use Rattle.search_stack.specs.Search.{IsLastBegun}
-use Rattle.search_stack.specs.Stack.{IsShaped, size, height}
-use Rattle.search_stack.proofs.FieldLaws.{size_is, pushed_is}
+use Rattle.search_stack.specs.Stack.{IsShaped, size}
+use Rattle.search_stack.proofs.FieldLaws.{size_is}
+use Rattle.search_stack.proofs.FieldSteps.{held, pushed_top, led_to}
 use Rattle.search_stack.proofs.Push.{good_push}
-use Rattle.search_stack.proofs.Shapes.{shaped_push, no_frames, no_entries}
+use Rattle.search_stack.proofs.Shapes.{shaped_push, no_entries}
 use Rattle.search_stack.proofs.Steps.{pushes}
 use Rattle.search_stack.proofs.search.Search.push.Goals as goal
 
@@ -16,14 +15,9 @@ invariant_of-self c =
     let entries = rw c.unwrap.ensures at c.insert.ensures.entries in
     let frames = rw c.unwrap-2.ensures at c.push.ensures.items in
     let fresh = rw (← c.self.view_is) at c.requires.fresh in
-    let is =
-    (λ k. stack_of (entries k) (frames k))
-    ∙ pushed_is c.self.inside.opened.entries c.self.inside.frames.items c.args.opening.node c.len-position.result
-    (record { succs = c.args.opening.succs; begun = 0 }) refl c.len-position.ensures.len fresh in
-    let new = pushes (stack_of c.self.inside.opened.entries c.self.inside.frames.items) c.args.opening.node c.args.opening.succs.items in
-    let led : (height (stack_of c.self.inside.opened.entries c.self.inside.frames.items) ≡ 0) ⊎ IsLastBegun (stack_of c.self.inside.opened.entries c.self.inside.frames.items) c.args.opening.node =
-    elim (rw (← c.self.view_is) at c.requires.led) as (λ _. (height (stack_of c.self.inside.opened.entries c.self.inside.frames.items) ≡ 0) ⊎ IsLastBegun (stack_of c.self.inside.opened.entries c.self.inside.frames.items) c.args.opening.node)
-    [ inl none ↦ inl (no_frames c.self.invariant.shaped none) | inr last ↦ inr last ] in
+    let is = pushed_top c.args.opening.node (record { succs = c.args.opening.succs; begun = 0 }) c.self.invariant fresh c.len-position.ensures.len entries frames refl in
+    let new = pushes (held c.self.inside) c.args.opening.node c.args.opening.succs.items in
+    let led = led_to c.args.opening.node c.self.invariant (rw (← c.self.view_is) at c.requires.led) in
     let room = rw (← c.self.view_is) at c.requires.room in
     record {
       shaped = subst IsShaped (sym is) (shaped_push c.self.invariant.shaped new led);
@@ -54,11 +48,8 @@ returns-clause-pushed c =
     let entries = rw c.unwrap.ensures at c.insert.ensures.entries in
     let frames = rw c.unwrap-2.ensures at c.push.ensures.items in
     let fresh = rw (← c.self.view_is) at c.requires.fresh in
-    let is =
-    (λ k. stack_of (entries k) (frames k))
-    ∙ pushed_is c.self.inside.opened.entries c.self.inside.frames.items c.args.opening.node c.len-position.result
-    (record { succs = c.args.opening.succs; begun = 0 }) refl c.len-position.ensures.len fresh in
-    let new = pushes (stack_of c.self.inside.opened.entries c.self.inside.frames.items) c.args.opening.node c.args.opening.succs.items in
+    let is = pushed_top c.args.opening.node (record { succs = c.args.opening.succs; begun = 0 }) c.self.invariant fresh c.len-position.ensures.len entries frames refl in
+    let new = pushes (held c.self.inside) c.args.opening.node c.args.opening.succs.items in
     rw (← c.self.view_is) is
 
 pub returns-clause-good : goal.returns-clause-good
@@ -66,14 +57,9 @@ returns-clause-good c =
     let entries = rw c.unwrap.ensures at c.insert.ensures.entries in
     let frames = rw c.unwrap-2.ensures at c.push.ensures.items in
     let fresh = rw (← c.self.view_is) at c.requires.fresh in
-    let is =
-    (λ k. stack_of (entries k) (frames k))
-    ∙ pushed_is c.self.inside.opened.entries c.self.inside.frames.items c.args.opening.node c.len-position.result
-    (record { succs = c.args.opening.succs; begun = 0 }) refl c.len-position.ensures.len fresh in
-    let new = pushes (stack_of c.self.inside.opened.entries c.self.inside.frames.items) c.args.opening.node c.args.opening.succs.items in
-    let led : (height (stack_of c.self.inside.opened.entries c.self.inside.frames.items) ≡ 0) ⊎ IsLastBegun (stack_of c.self.inside.opened.entries c.self.inside.frames.items) c.args.opening.node =
-    elim (rw (← c.self.view_is) at c.requires.led) as (λ _. (height (stack_of c.self.inside.opened.entries c.self.inside.frames.items) ≡ 0) ⊎ IsLastBegun (stack_of c.self.inside.opened.entries c.self.inside.frames.items) c.args.opening.node)
-    [ inl none ↦ inl (no_frames c.self.invariant.shaped none) | inr last ↦ inr last ] in
+    let is = pushed_top c.args.opening.node (record { succs = c.args.opening.succs; begun = 0 }) c.self.invariant fresh c.len-position.ensures.len entries frames refl in
+    let new = pushes (held c.self.inside) c.args.opening.node c.args.opening.succs.items in
+    let led = led_to c.args.opening.node c.self.invariant (rw (← c.self.view_is) at c.requires.led) in
     rw (← c.self.view_is)
     (λ lists roots done good true_list root.
     subst (IsGood lists roots done false) (sym is)

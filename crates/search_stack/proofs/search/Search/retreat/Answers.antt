@@ -1,9 +1,9 @@
-use Rattle.std.proofs.Common.{◌≡◌, ◌≤◌, ◌-◌, ◌∙◌, length, get_or, set, ap, sym, subst, arith, length-set}
+use Rattle.std.proofs.Common.{◌≤◌, ◌-◌, length, ap, sym, subst, arith, length-set}
 use Rattle.std.specs.Prelude.{false}
-use Rattle.search_stack.specs.Fields.{stack_of}
 use Rattle.search_stack.specs.GoodSearch.{IsGood}
 use Rattle.search_stack.specs.Stack.{Stack, IsShaped}
-use Rattle.search_stack.proofs.FieldLaws.{height_is, retreated_is}
+use Rattle.search_stack.proofs.FieldLaws.{height_is}
+use Rattle.search_stack.proofs.FieldSteps.{held, retreated_top}
 use Rattle.search_stack.proofs.Retreat.{good_second}
 use Rattle.search_stack.proofs.Shapes.{shaped_retreat}
 use Rattle.search_stack.proofs.Steps.{retreats}
@@ -13,45 +13,33 @@ pub overflow_sub-top : goal.overflow_sub-top
 overflow_sub-top c =
     let two = rw (← c.self.view_is) at c.requires.two in
     let tall : 2 ≤ length c.self.inside.frames.items = omega (arith, two, height_is c.self.inside.opened.entries c.self.inside.frames.items) in
-    let last : c.len-top.result - 1 ≡ length c.self.inside.frames.items - 1 = omega (arith, c.len-top.ensures, c.self.inside.frames.ok.0) in
     omega (arith, tall, c.len-top.ensures, c.self.inside.frames.ok.0)
 
 pub index-joined-requires : goal.index-joined-requires
 index-joined-requires c =
     let two = rw (← c.self.view_is) at c.requires.two in
     let tall : 2 ≤ length c.self.inside.frames.items = omega (arith, two, height_is c.self.inside.opened.entries c.self.inside.frames.items) in
-    let last : c.len-top.result - 1 ≡ length c.self.inside.frames.items - 1 = omega (arith, c.len-top.ensures, c.self.inside.frames.ok.0) in
     omega (arith, tall, c.len-top.ensures, c.self.inside.frames.ok.0)
 
 pub overflow_sub-top-2 : goal.overflow_sub-top-2
 overflow_sub-top-2 c =
     let two = rw (← c.self.view_is) at c.requires.two in
     let tall : 2 ≤ length c.self.inside.frames.items = omega (arith, two, height_is c.self.inside.opened.entries c.self.inside.frames.items) in
-    let last : c.len-top.result - 1 ≡ length c.self.inside.frames.items - 1 = omega (arith, c.len-top.ensures, c.self.inside.frames.ok.0) in
     omega (arith, tall, c.len-top.ensures, c.self.inside.frames.ok.0)
 
 pub index_mut-frame-requires : goal.index_mut-frame-requires
 index_mut-frame-requires c =
     let two = rw (← c.self.view_is) at c.requires.two in
     let tall : 2 ≤ length c.self.inside.frames.items = omega (arith, two, height_is c.self.inside.opened.entries c.self.inside.frames.items) in
-    let last : c.len-top.result - 1 ≡ length c.self.inside.frames.items - 1 = omega (arith, c.len-top.ensures, c.self.inside.frames.ok.0) in
     omega (arith, tall, c.len-top.ensures, c.self.inside.frames.ok.0, c.truncate.ensures.len)
 
 pub invariant_of-self : goal.invariant_of-self
 invariant_of-self c =
     let two = rw (← c.self.view_is) at c.requires.two in
-    let tall : 2 ≤ length c.self.inside.frames.items = omega (arith, two, height_is c.self.inside.opened.entries c.self.inside.frames.items) in
-    let last : c.len-top.result - 1 ≡ length c.self.inside.frames.items - 1 = omega (arith, c.len-top.ensures, c.self.inside.frames.ok.0) in
-    let below =
-    c.index_mut-frame.ensures.value ∙ ap (λ frames. get_or frames (c.len-top.result - 1 - 1) c.index_mut-frame.result.now) c.truncate.ensures.items in
     let is =
-    (λ k. stack_of c.self.inside.opened.entries
-    (set (c.truncate.ensures.items k) (c.len-top.result - 1 - 1)
-    (record { position = c.index_mut-frame.result.now.position; low = c.min-frame.result })))
-    ∙ retreated_is c.self.inside.opened.entries c.self.inside.frames.items (c.len-top.result - 1) c.min-frame.result c.index-joined.result.now c.index_mut-frame.result.now
-    c.index-joined.result.now c.index_mut-frame.result.now tall last c.index-joined.ensures below c.min-frame.ensures in
+    retreated_top c.self.invariant two c.len-top.ensures c.index-joined.ensures c.truncate.ensures.items c.index_mut-frame.ensures.value c.min-frame.ensures in
     record {
-      shaped = subst IsShaped (sym is) (shaped_retreat c.self.invariant.shaped (retreats (stack_of c.self.inside.opened.entries c.self.inside.frames.items) two));
+      shaped = subst IsShaped (sym is) (shaped_retreat c.self.invariant.shaped (retreats (held c.self.inside) two));
       entry_room = c.self.invariant.entry_room;
       frame_room =
           omega (
@@ -70,34 +58,18 @@ invariant_of-self c =
 pub returns-clause-retreated : goal.returns-clause-retreated
 returns-clause-retreated c =
     let two = rw (← c.self.view_is) at c.requires.two in
-    let tall : 2 ≤ length c.self.inside.frames.items = omega (arith, two, height_is c.self.inside.opened.entries c.self.inside.frames.items) in
-    let last : c.len-top.result - 1 ≡ length c.self.inside.frames.items - 1 = omega (arith, c.len-top.ensures, c.self.inside.frames.ok.0) in
-    let below =
-    c.index_mut-frame.ensures.value ∙ ap (λ frames. get_or frames (c.len-top.result - 1 - 1) c.index_mut-frame.result.now) c.truncate.ensures.items in
     let is =
-    (λ k. stack_of c.self.inside.opened.entries
-    (set (c.truncate.ensures.items k) (c.len-top.result - 1 - 1)
-    (record { position = c.index_mut-frame.result.now.position; low = c.min-frame.result })))
-    ∙ retreated_is c.self.inside.opened.entries c.self.inside.frames.items (c.len-top.result - 1) c.min-frame.result c.index-joined.result.now c.index_mut-frame.result.now
-    c.index-joined.result.now c.index_mut-frame.result.now tall last c.index-joined.ensures below c.min-frame.ensures in
+    retreated_top c.self.invariant two c.len-top.ensures c.index-joined.ensures c.truncate.ensures.items c.index_mut-frame.ensures.value c.min-frame.ensures in
     rw (← c.self.view_is)
     (ap (λ (stack : Stack). record { stack = stack; wanted = c.self.inside.wanted; spare = c.self.inside.spare }) is)
 
 pub returns-clause-good : goal.returns-clause-good
 returns-clause-good c =
     let two = rw (← c.self.view_is) at c.requires.two in
-    let tall : 2 ≤ length c.self.inside.frames.items = omega (arith, two, height_is c.self.inside.opened.entries c.self.inside.frames.items) in
-    let last : c.len-top.result - 1 ≡ length c.self.inside.frames.items - 1 = omega (arith, c.len-top.ensures, c.self.inside.frames.ok.0) in
-    let below =
-    c.index_mut-frame.ensures.value ∙ ap (λ frames. get_or frames (c.len-top.result - 1 - 1) c.index_mut-frame.result.now) c.truncate.ensures.items in
     let is =
-    (λ k. stack_of c.self.inside.opened.entries
-    (set (c.truncate.ensures.items k) (c.len-top.result - 1 - 1)
-    (record { position = c.index_mut-frame.result.now.position; low = c.min-frame.result })))
-    ∙ retreated_is c.self.inside.opened.entries c.self.inside.frames.items (c.len-top.result - 1) c.min-frame.result c.index-joined.result.now c.index_mut-frame.result.now
-    c.index-joined.result.now c.index_mut-frame.result.now tall last c.index-joined.ensures below c.min-frame.ensures in
+    retreated_top c.self.invariant two c.len-top.ensures c.index-joined.ensures c.truncate.ensures.items c.index_mut-frame.ensures.value c.min-frame.ensures in
     let all = rw (← c.self.view_is) at c.requires.done.all in
     let low_below = rw (← c.self.view_is) at c.requires.low in
     rw (← c.self.view_is)
     (λ lists roots done good.
-    subst (IsGood lists roots done false) (sym is) (good_second good (retreats (stack_of c.self.inside.opened.entries c.self.inside.frames.items) two) two all low_below))
+    subst (IsGood lists roots done false) (sym is) (good_second good (retreats (held c.self.inside) two) two all low_below))
