@@ -1,16 +1,16 @@
 -- The loops that gather what rules call.
-use Rattle.std.proofs.Common.{◌≡◌, ℕ, ◌+◌, ◌<◌, ◌≤◌, ◌⊎◌, List, [], ◌∷◌, ◌++◌, length, take, get_or, set, replicate, All, Contains, Some, slice_get, sym, subst, ◌∙◌, ap, inl, inr, arith}
+use Rattle.std.proofs.Common.{◌≡◌, ℕ, ◌+◌, ◌<◌, ◌^◌, ◌⊎◌, List, [], ◌∷◌, ◌++◌, length, take, get_or, set, replicate, All, Contains, Some, slice_get, sym, subst, ◌∙◌, ap, inl, inr, arith}
 use Rattle.std.proofs.lemmas.Bool.{cases_eq, cases_lt}
 use Rattle.std.proofs.lemmas.Cmp.{tied_itself}
 use Rattle.std.proofs.lemmas.List.{take_more, get_or-map, get_or-set_same, get_or-set_other, length-set, length-map, length-replicate, get_or-replicate, get_or_past}
 use Rattle.std.proofs.lemmas.List.Elements.{Contains-push, Contains-push_cases, Contains-append_left}
 use Rattle.std.proofs.lemmas.Option.{slice_get_within, get_or_from_slice_get}
-use Rattle.graph_law.specs.Graph.{CallGraph, IsGraph}
-use Rattle.group_tool.specs.declared.indicator.Indicator.{Indicator}
+use Rattle.group_tool.specs.declared.pred_name.PredName.{PredName}
 use Rattle.group_tool.specs.Rule.{HeadAndGoals}
 use Rattle.group_tool.specs.Numbering.{IsRising, IsNumbering}
-use Rattle.group_tool.specs.CallGraph.{NodeCalls, AreCalleeLists, IsCallGraph, HasGoalAt, AddsCallees}
-use Rattle.group_tool.proofs.IndicatorOrder.{indicator_cmp_total}
+use Rattle.group_tool.specs.CallGraph.{NodeCalls, AreCalleeLists, HasGoalAt, AddsCallees}
+use Rattle.group_tool.specs.CallLists.{AreCallLists}
+use Rattle.group_tool.proofs.PredNameOrder.{pred_name_cmp_total}
 
 -- an element of one item more
 more_cases : {X : Type 0} (xs : List X) (i : ℕ) (x y : X) → i < length xs → x ≡ get_or xs i x → Contains (take (i + 1) xs) y
@@ -34,16 +34,16 @@ stands : {X : Type 0} (xs : List X) (i : ℕ) (x : X) → slice_get xs i ≡ Som
 stands xs i x is = (i, slice_get_within xs i x is, get_or_from_slice_get xs i x x is)
 
 -- a predicate has one place
-not_before : (xs : List Indicator) (x : Indicator) (p q : ℕ) → IsRising xs → slice_get xs p ≡ Some x → slice_get xs q ≡ Some x → p < q → ⊥
+not_before : (xs : List PredName) (x : PredName) (p q : ℕ) → IsRising xs → slice_get xs p ≡ Some x → slice_get xs q ≡ Some x → p < q → ⊥
 not_before xs x p q up at_p at_q lt =
     let less = up p q x lt (slice_get_within xs q x at_q) in
     let one = get_or_from_slice_get xs p x x at_p in
     let two = get_or_from_slice_get xs q x x at_q in
-    let tie = tied_itself indicator_cmp_total x in
+    let tie = tied_itself pred_name_cmp_total x in
     cc
 
 -- so it stands once
-pub one_place : (xs : List Indicator) (x : Indicator) (p q : ℕ) → IsRising xs → slice_get xs p ≡ Some x → slice_get xs q ≡ Some x → p ≡ q
+pub one_place : (xs : List PredName) (x : PredName) (p q : ℕ) → IsRising xs → slice_get xs p ≡ Some x → slice_get xs q ≡ Some x → p ≡ q
 one_place xs x p q up at_p at_q =
     elim (cases_lt p q) [
       | inl lt ↦ absurd (not_before xs x p q up at_p at_q lt)
@@ -55,7 +55,7 @@ one_place xs x p q up at_p at_q =
     ]
 
 -- one more goal, which is a predicate
-pub goals_more : (predicates goals : List Indicator) (old new : List ℕ) (i callee : ℕ) (goal : Indicator) → IsRising predicates
+pub goals_more : (predicates goals : List PredName) (old new : List ℕ) (i callee : ℕ) (goal : PredName) → IsRising predicates
     → i < length goals → goal ≡ get_or goals i goal → slice_get predicates callee ≡ Some goal
     → AddsCallees predicates (take i goals) old new → AddsCallees predicates (take (i + 1) goals) old (new ++ callee ∷ [])
 goals_more predicates goals old new i callee goal up lt is at adds q = (
@@ -85,7 +85,7 @@ goals_more predicates goals old new i callee goal up lt is at adds q = (
 )
 
 -- one more goal, which no rule defines
-pub goals_skip : (predicates goals : List Indicator) (old new : List ℕ) (i : ℕ) (goal : Indicator) → i < length goals → goal ≡ get_or goals i goal
+pub goals_skip : (predicates goals : List PredName) (old new : List ℕ) (i : ℕ) (goal : PredName) → i < length goals → goal ≡ get_or goals i goal
     → (Contains predicates goal → ⊥) → AddsCallees predicates (take i goals) old new → AddsCallees predicates (take (i + 1) goals) old new
 goals_skip predicates goals old new i goal lt is none adds q = (
   (λ has.
@@ -105,7 +105,7 @@ goals_skip predicates goals old new i goal lt is none adds q = (
 )
 
 -- what one rule more adds
-lift_call : (rules : List HeadAndGoals) (predicates : List Indicator) (i p q : ℕ) (rule : HeadAndGoals) → i < length rules
+lift_call : (rules : List HeadAndGoals) (predicates : List PredName) (i p q : ℕ) (rule : HeadAndGoals) → i < length rules
     → NodeCalls (take i rules) predicates p q → NodeCalls (take (i + 1) rules) predicates p q
 lift_call rules predicates i p q rule lt call = record {
   rule = call.rule;
@@ -117,7 +117,7 @@ lift_call rules predicates i p q rule lt call = record {
 }
 
 -- a call by the rules so far, or by the next one
-call_cases : (rules : List HeadAndGoals) (predicates : List Indicator) (i p q : ℕ) (rule : HeadAndGoals) → i < length rules → rule ≡ get_or rules i rule
+call_cases : (rules : List HeadAndGoals) (predicates : List PredName) (i p q : ℕ) (rule : HeadAndGoals) → i < length rules → rule ≡ get_or rules i rule
     → NodeCalls (take (i + 1) rules) predicates p q
     → NodeCalls (take i rules) predicates p q ⊎ ((slice_get predicates p ≡ Some rule.head) × HasGoalAt predicates rule.goals q)
 call_cases rules predicates i p q rule lt is call =
@@ -132,12 +132,12 @@ call_cases rules predicates i p q rule lt is call =
           )
     ]
 
-new_call : (rules : List HeadAndGoals) (predicates : List Indicator) (i p q : ℕ) (rule : HeadAndGoals) → i < length rules → rule ≡ get_or rules i rule
+new_call : (rules : List HeadAndGoals) (predicates : List PredName) (i p q : ℕ) (rule : HeadAndGoals) → i < length rules → rule ≡ get_or rules i rule
     → slice_get predicates p ≡ Some rule.head → HasGoalAt predicates rule.goals q → NodeCalls (take (i + 1) rules) predicates p q
 new_call rules predicates i p q rule lt is caller h =
     record { rule = rule; of_program = more_new rules i rule lt is; caller = caller; goal = h.goal; of_body = h.of_body; callee = h.callee }
 
-pub rules_more : (rules : List HeadAndGoals) (predicates : List Indicator) (lists : List (List ℕ)) (new : List ℕ) (i caller : ℕ) (rule : HeadAndGoals)
+pub rules_more : (rules : List HeadAndGoals) (predicates : List PredName) (lists : List (List ℕ)) (new : List ℕ) (i caller : ℕ) (rule : HeadAndGoals)
     → IsRising predicates → i < length rules → rule ≡ get_or rules i rule → slice_get predicates caller ≡ Some rule.head
     → AddsCallees predicates rule.goals (get_or lists caller []) new → AreCalleeLists (take i rules) predicates lists
     → AreCalleeLists (take (i + 1) rules) predicates (set lists caller new)
@@ -190,7 +190,7 @@ get_or-replicate_nil n p =
     ]
 
 -- before the first rule nothing calls
-pub rules_start : (rules : List HeadAndGoals) (predicates : List Indicator) (lists : List (List ℕ)) → lists ≡ replicate (length predicates) []
+pub rules_start : (rules : List HeadAndGoals) (predicates : List PredName) (lists : List (List ℕ)) → lists ≡ replicate (length predicates) []
     → AreCalleeLists (take 0 rules) predicates lists
 rules_start rules predicates lists empty = record {
   one_each = ap length empty ∙ length-replicate {A = List ℕ} (length predicates) [];
@@ -201,28 +201,20 @@ rules_start rules predicates lists empty = record {
 }
 
 -- the head of each rule is a predicate
-pub head_stands : (rules : List HeadAndGoals) (predicates : List Indicator) (i : ℕ) (rule : HeadAndGoals) → IsNumbering rules predicates → i < length rules
+pub head_stands : (rules : List HeadAndGoals) (predicates : List PredName) (i : ℕ) (rule : HeadAndGoals) → IsNumbering rules predicates → i < length rules
     → rule ≡ get_or rules i rule → Contains predicates rule.head
 head_stands rules predicates i rule numbering lt is =
     let head = λ (r : HeadAndGoals). r.head in
-    let P : Indicator → Type 0 = λ p. Contains predicates p in
+    let P : PredName → Type 0 = λ p. Contains predicates p in
     subst P (get_or-map head rules i rule rule.head lt ∙ ap head (sym is))
     (numbering.each_head i rule.head (omega (arith, length-map rules head)))
 
--- callee lists and some nodes as roots are a graph
-pub is_graph : (rules : List HeadAndGoals) (predicates : List Indicator) (roots : List ℕ) (graph : CallGraph) → AreCalleeLists rules predicates graph.lists
-    → graph.roots ≡ roots → All (λ root. root < length predicates) roots → length predicates ≤ 1048576 → IsGraph graph
-is_graph rules predicates roots graph callees same rooted few = record {
+-- callee lists of numbered predicates are lists of calls
+pub are_call_lists : (rules : List HeadAndGoals) (predicates : List PredName) (lists : List (List ℕ)) → AreCalleeLists rules predicates lists
+    → length predicates < 2 ^ 32 → AreCallLists lists
+are_call_lists rules predicates lists callees few = record {
   closed = λ p q call.
       let c = (callees.calls p q).0 call in
       omega (arith, slice_get_within predicates q c.goal c.callee, callees.one_each);
-  rooted =
-      subst (λ n. All (λ root. root < n) graph.roots) (sym callees.one_each)
-      (subst (All (λ root. root < length predicates)) (sym same) rooted);
-  small = omega (arith, callees.one_each);
+  few = omega (arith, callees.one_each, few);
 }
-
--- and that graph is the call graph
-pub is_call_graph : (rules : List HeadAndGoals) (predicates : List Indicator) (roots : List ℕ) (graph : CallGraph) → AreCalleeLists rules predicates graph.lists
-    → graph.roots ≡ roots → IsCallGraph rules predicates roots graph
-is_call_graph rules predicates roots graph callees same = record { callees = callees; rooted = same }

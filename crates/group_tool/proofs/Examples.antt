@@ -9,7 +9,7 @@ use Rattle.prolog_terms.specs.declared.term.Form.TheVariants.{Functional, Infix}
 use Rattle.prolog_terms.specs.Tree.{Tree, variable, atom, compound, listed, curly, paren, none, more}
 use Rattle.clause_text.specs.declared.cause.Cause.TheVariants.{Stuck}
 use Rattle.group_release.specs.declared.level.Level.{Level}
-use Rattle.group_tool.specs.declared.indicator.Indicator.{Indicator}
+use Rattle.group_tool.specs.declared.pred_name.PredName.{PredName}
 use Rattle.group_tool.specs.declared.sink.Put.TheVariants.{Took, Failed}
 use Rattle.group_tool.specs.declared.sink.Flushed.TheVariants.{Done, Failed as failed_flush}
 use Rattle.group_tool.specs.Built.{is_plain_clause}
@@ -50,7 +50,7 @@ two name left right = compound name (more left (more right none)) Infix at
 abbrev rule : Tree → Tree
 rule body = two (codes ":-") (word (codes "p")) body
 
-abbrev named : List ℕ → ℕ → Indicator
+abbrev named : List ℕ → ℕ → PredName
 named name arity = record { name = name; arity = arity }
 
 -- `p :- q, (X, r(a)).`

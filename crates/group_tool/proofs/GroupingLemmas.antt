@@ -3,23 +3,17 @@ use Rattle.std.proofs.Common.{◌≡◌, ℕ, List, length, sym, ◌∙◌, subs
 use Rattle.std.proofs.lemmas.List.{length-map}
 use Rattle.graph_law.specs.Reach.{Agree, IsReached}
 use Rattle.graph_law.specs.Classes.{HasMember, group_at}
-use Rattle.graph_law.specs.Graph.{CallGraph, Calls}
+use Rattle.graph_law.specs.Graph.{Calls}
 use Rattle.graph_law.specs.LegalOrder.{IsLegalOrder, IsComplete}
 use Rattle.graph_law.proofs.ReachLaws.{is_reached_along}
 use Rattle.graph_law.proofs.Transport.{Agree-sym, IsLegalOrder-agree, HaveHeights-agree, IsRecursive-agree}
 use Rattle.group_release.specs.declared.level.Level.{Level}
 use Rattle.group_release.specs.Level.{AreLevels}
-use Rattle.group_tool.specs.declared.indicator.Indicator.{Indicator}
+use Rattle.group_tool.specs.declared.pred_name.PredName.{PredName}
 use Rattle.group_tool.specs.Rule.{HeadAndGoals}
-use Rattle.group_tool.specs.CallGraph.{NodeCalls, IsCallGraph}
+use Rattle.group_tool.specs.CallGraph.{NodeCalls, AreCalleeLists}
 use Rattle.group_tool.specs.Grouping.{AreGroups, Reports}
 use Rattle.group_tool.specs.Report.{IsReport}
-
--- what a search from the roots finds
-pub groups_found : {calls : ℕ → ℕ → Type 0} {starts roots : List ℕ} {groups : List (List ℕ)} → roots ≡ starts → IsLegalOrder calls groups → IsComplete roots groups
-    → ((p : ℕ) → HasMember groups p → IsReached calls roots p) → AreGroups calls starts groups
-groups_found {calls} {starts} {roots} {groups} same legal complete reached =
-    subst (λ nodes. AreGroups calls nodes groups) same (record { legal = legal; complete = complete; reached = reached })
 
 pub AreGroups-agree : {c d : ℕ → ℕ → Type 0} {starts : List ℕ} {groups : List (List ℕ)} → Agree c d → AreGroups c starts groups → AreGroups d starts groups
 AreGroups-agree {c} {d} {starts} {groups} agree are = record {
@@ -38,14 +32,14 @@ AreLevels-agree {c} {d} {groups} {levels} agree are = record {
 }
 
 -- what the rules say and what the graph holds are the same calls
-pub reports_of : {own : List ℕ} {rules : List HeadAndGoals} {predicates : List Indicator} {roots : List ℕ} {graph : CallGraph} {groups : List (List ℕ)} {levels : List Level} {bytes : List ℕ}
-    → IsCallGraph rules predicates roots graph → AreGroups (Calls graph.lists) graph.roots groups
-    → AreLevels (Calls graph.lists) groups levels → IsReport own predicates groups levels bytes → Reports own rules predicates roots bytes
-reports_of {own} {rules} {predicates} {roots} {graph} {groups} {levels} {bytes} is are levels_are report =
-    let agree : Agree (Calls graph.lists) (NodeCalls rules predicates) = record { to = λ p q. (is.callees.calls p q).0; from = λ p q. (is.callees.calls p q).1 } in
+pub reports_of : {own : List ℕ} {rules : List HeadAndGoals} {predicates : List PredName} {roots : List ℕ} {lists : List (List ℕ)} {groups : List (List ℕ)} {levels : List Level} {bytes : List ℕ}
+    → AreCalleeLists rules predicates lists → AreGroups (Calls lists) roots groups
+    → AreLevels (Calls lists) groups levels → IsReport own predicates groups levels bytes → Reports own rules predicates roots bytes
+reports_of {own} {rules} {predicates} {roots} {lists} {groups} {levels} {bytes} callees are levels_are report =
+    let agree : Agree (Calls lists) (NodeCalls rules predicates) = record { to = λ p q. (callees.calls p q).0; from = λ p q. (callees.calls p q).1 } in
     record {
       groups = groups;
-      are_groups = subst (λ starts. AreGroups (NodeCalls rules predicates) starts groups) is.rooted (AreGroups-agree agree are);
+      are_groups = AreGroups-agree agree are;
       levels = levels;
       are_levels = AreLevels-agree agree levels_are;
       report = report;

@@ -8,14 +8,13 @@ mod QuotedNames
 mod BareSpells
 mod ReadBack
 pub mod GroupingLemmas
-pub mod IndicatorOrder
+pub mod PredNameOrder
 pub mod NumberingLemmas
 pub mod DefinedClauses
 pub mod PlaceLemmas
 pub mod Printable
 pub mod ReadingLemmas
 mod OneAnswer
-mod OneOrder
 mod OneLine
 mod OneReport
 pub mod ReportLemmas

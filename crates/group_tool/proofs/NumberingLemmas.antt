@@ -9,27 +9,27 @@ use Rattle.std.proofs.lemmas.Cmp.{tied_itself}
 use Rattle.std.proofs.lemmas.List.Elements.{Contains-get_or}
 use Rattle.std.proofs.lemmas.List.Sorted.{searchable_from_sorted}
 use Rattle.std.proofs.lemmas.Option.{slice_get-get_or}
-use Rattle.group_tool.specs.declared.indicator.Indicator.{Indicator}
-use Rattle.group_tool.specs.Indicator.{indicator_cmp}
+use Rattle.group_tool.specs.declared.pred_name.PredName.{PredName}
+use Rattle.group_tool.specs.PredName.{pred_name_cmp}
 use Rattle.group_tool.specs.Rule.{HeadAndGoals, heads}
 use Rattle.group_tool.specs.Numbering.{IsRising, IsNumbering}
-use Rattle.group_tool.proofs.IndicatorOrder.{indicator_cmp_total, same_from_Equal}
+use Rattle.group_tool.proofs.PredNameOrder.{pred_name_cmp_total, same_from_Equal}
 
-pub found : (xs : List Indicator) (wanted : Indicator) (place : ℕ) → place < length xs
-    → HoldsAt (λ y. indicator_cmp y wanted ≡ Equal) xs place → slice_get xs place ≡ Some wanted
+pub found : (xs : List PredName) (wanted : PredName) (place : ℕ) → place < length xs
+    → HoldsAt (λ y. pred_name_cmp y wanted ≡ Equal) xs place → slice_get xs place ≡ Some wanted
 found xs wanted place within tie =
     slice_get-get_or xs place wanted within ∙ ap (λ x. Some x) (same_from_Equal (get_or xs place wanted) wanted (tie wanted))
 
-sorted_from_rising : (xs : List Indicator) → IsRising xs → IsSortedBy (λ a b. is_lt (indicator_cmp a b)) xs
+sorted_from_rising : (xs : List PredName) → IsRising xs → IsSortedBy (λ a b. is_lt (pred_name_cmp a b)) xs
 sorted_from_rising xs up k d low within =
-    ap is_lt (indicator_cmp_total.antisymm (get_or xs (k + 1) d) (get_or xs k d) ∙ ap (λ o. ordering_reverse o) (up k (k + 1) d (omega arith) within))
+    ap is_lt (pred_name_cmp_total.antisymm (get_or xs (k + 1) d) (get_or xs k d) ∙ ap (λ o. ordering_reverse o) (up k (k + 1) d (omega arith) within))
 
-pub absent : (xs : List Indicator) (wanted : Indicator) (place : ℕ) → IsRising xs
-    → (IsNonDecreasingBy (λ y. ordering_index (indicator_cmp y wanted)) xs → IsPartitionPoint (λ y. indicator_cmp y wanted ≡ Less) (λ y. indicator_cmp y wanted ≡ Greater) xs place)
+pub absent : (xs : List PredName) (wanted : PredName) (place : ℕ) → IsRising xs
+    → (IsNonDecreasingBy (λ y. ordering_index (pred_name_cmp y wanted)) xs → IsPartitionPoint (λ y. pred_name_cmp y wanted ≡ Less) (λ y. pred_name_cmp y wanted ≡ Greater) xs place)
     → Contains xs wanted → ⊥
 absent xs wanted place up split has =
-    let parts = split (searchable_from_sorted indicator_cmp_total (λ (x : Indicator). x) xs wanted (sorted_from_rising xs up)) in
-    let tie = ap (λ (x : Indicator). indicator_cmp x wanted) has.2 ∙ tied_itself indicator_cmp_total wanted in
+    let parts = split (searchable_from_sorted pred_name_cmp_total (λ (x : PredName). x) xs wanted (sorted_from_rising xs up)) in
+    let tie = ap (λ (x : PredName). pred_name_cmp x wanted) has.2 ∙ tied_itself pred_name_cmp_total wanted in
     elim (cases_lt has.0 place) [
       | inl below ↦ let less = parts.0 has.0 wanted (omega arith) below in cc
       | inr above ↦ let greater = parts.1 has.0 wanted above has.1 in cc

@@ -11,7 +11,7 @@ use Rattle.group_release.specs.declared.level.Level.{Level}
 use Rattle.group_release.specs.Level.{AreLevels, level_at}
 use Rattle.group_tool.specs.Grouping.{AreGroups}
 use Rattle.group_tool.specs.Report.{IsLineOrder}
-use Rattle.group_tool.proofs.OneOrder.{IsStrict, same_order, holds_of, order_has, order_below}
+use Rattle.order_law.proofs.OneOrder.{IsStrict, same_order, holds_of, order_has, order_below}
 
 -- groups of a graph, with their levels
 pub record AreLeveled (calls : ℕ → ℕ → Type 0) (starts : List ℕ) (groups : List (List ℕ)) (levels : List Level) : Type 0 where

@@ -2,8 +2,7 @@
 use Rattle.std.proofs.Common.{◌≡◌, ℕ, ◌+◌, ◌<◌, ◌≤◌, false, cond, List, [], ◌∷◌, ◌++◌, Some, slice_get, refl, length, map, sum_by, count_by, codes, get_or, Contains, IsPermutation, sym, subst, ◌∙◌, ap, arith}
 use Rattle.std.specs.Fmt.{decimal}
 use Rattle.std.specs.List.{flat_map, range_with_len}
-use Rattle.std.specs.Ordering.{ordering_reverse}
-use Rattle.std.specs.declared.cmp.Ordering.TheVariants.{Less, Greater}
+use Rattle.std.specs.declared.cmp.Ordering.TheVariants.{Less}
 use Rattle.std.proofs.lemmas.List.{get_or-map, length-map}
 use Rattle.std.proofs.lemmas.List.FromFn.{length-range_with_len}
 use Rattle.std.proofs.lemmas.List.Folds.{flat_map-map}
@@ -11,34 +10,28 @@ use Rattle.std.proofs.lemmas.List.Sorted.{length_permutation}
 use Rattle.module_table.specs.Facts.{Facts}
 use Rattle.group_release.specs.declared.level.Level.{Level}
 use Rattle.group_release.specs.Level.{level_at}
-use Rattle.group_tool.specs.declared.indicator.Indicator.{Indicator}
-use Rattle.group_tool.specs.Indicator.{indicator_cmp}
+use Rattle.group_tool.specs.declared.pred_name.PredName.{PredName}
+use Rattle.group_tool.specs.PredName.{pred_name_cmp}
 use Rattle.group_tool.specs.Rule.{HeadAndGoals, heads}
 use Rattle.group_tool.specs.RuleOf.{rules_of, roots_of}
 use Rattle.group_tool.specs.Numbering.{IsRising, IsNumbering, AreNumbers}
 use Rattle.group_tool.specs.Grouping.{Reports, IsReportOf}
 use Rattle.group_tool.proofs.CallGraphLemmas.{one_place}
 use Rattle.group_tool.specs.Report.{IsReport, IsLineOrder, group_line, place_line, head_line, height_count}
-use Rattle.group_tool.proofs.IndicatorOrder.{indicator_cmp_total}
-use Rattle.group_tool.proofs.OneOrder.{IsStrict, same_order, holds_of, sum_by-map, sum_by_places, most_upto, most_each}
+use Rattle.group_tool.proofs.PredNameOrder.{pred_name_cmp_total}
+use Rattle.order_law.proofs.OneOrder.{less_strict, same_order, holds_of, sum_by-map, sum_by_places, most_upto, most_each}
 use Rattle.group_tool.proofs.OneLine.{AreLeveled, place_of, one_each, one_level, line_at, lines, same_lines}
 
 -- the predicates
 
-less_strict : IsStrict (λ (a b : Indicator). indicator_cmp a b ≡ Less)
-less_strict = record {
-  one_way = λ a b there back.
-      let both : Less ≡ Greater = sym there ∙ (indicator_cmp_total.antisymm a b ∙ ap ordering_reverse back) in cc;
-}
-
-numbered_too : (rules : List HeadAndGoals) (predicates others : List Indicator) → IsNumbering rules predicates → IsNumbering rules others
-    → (z : Indicator) → Contains predicates z → Contains others z
+numbered_too : (rules : List HeadAndGoals) (predicates others : List PredName) → IsNumbering rules predicates → IsNumbering rules others
+    → (z : PredName) → Contains predicates z → Contains others z
 numbered_too rules predicates others is also z has =
     holds_of (Contains others) (heads rules) z also.each_head (holds_of (Contains (heads rules)) predicates z is.only_heads has)
 
-pub one_numbering : (rules : List HeadAndGoals) (predicates others : List Indicator) → IsNumbering rules predicates → IsNumbering rules others → predicates ≡ others
+pub one_numbering : (rules : List HeadAndGoals) (predicates others : List PredName) → IsNumbering rules predicates → IsNumbering rules others → predicates ≡ others
 one_numbering rules predicates others is also =
-    same_order (λ a b. indicator_cmp a b ≡ Less) less_strict predicates others is.rising also.rising
+    same_order (λ a b. pred_name_cmp a b ≡ Less) (less_strict pred_name_cmp pred_name_cmp_total) predicates others is.rising also.rising
     (numbered_too rules predicates others is also) (numbered_too rules others predicates also is)
 
 -- the numbers of the head line, by the lines
@@ -86,10 +79,10 @@ head_of predicates groups recursive levels =
     ++ (codes " recursive " ++ decimal recursive)
     ++ (codes " levels " ++ decimal levels) ++ codes "\n"
 
-abbrev line_text : List ℕ → List Indicator → List ℕ × Level → List ℕ
+abbrev line_text : List ℕ → List PredName → List ℕ × Level → List ℕ
 line_text own predicates line = group_line own predicates line.0 line.1
 
-same_bytes : {calls : ℕ → ℕ → Type 0} {starts : List ℕ} {groups others : List (List ℕ)} {levels marks : List Level} (own : List ℕ) (predicates : List Indicator) (bytes other : List ℕ)
+same_bytes : {calls : ℕ → ℕ → Type 0} {starts : List ℕ} {groups others : List (List ℕ)} {levels marks : List Level} (own : List ℕ) (predicates : List PredName) (bytes other : List ℕ)
     → AreLeveled calls starts groups levels → AreLeveled calls starts others marks → IsReport own predicates groups levels bytes → IsReport own predicates others marks other
     → bytes ≡ other
 same_bytes {calls} {starts} {groups} {others} {levels} {marks} own predicates bytes other a b first second =
@@ -110,7 +103,7 @@ same_bytes {calls} {starts} {groups} {others} {levels} {marks} own predicates by
     first.is ∙ ((λ i. head i ++ rest i) ∙ sym second.is)
 
 -- a list of numbers by its predicates
-one_numbers : (predicates wanted : List Indicator) (numbers others : List ℕ) → IsRising predicates → AreNumbers predicates wanted numbers → AreNumbers predicates wanted others → numbers ≡ others
+one_numbers : (predicates wanted : List PredName) (numbers others : List ℕ) → IsRising predicates → AreNumbers predicates wanted numbers → AreNumbers predicates wanted others → numbers ≡ others
 one_numbers predicates [] [] [] up are also = refl
 one_numbers predicates [] [] (n ∷ others) up are also = absurd (cc)
 one_numbers predicates [] (n ∷ numbers) others up are also = absurd (cc)
@@ -125,7 +118,7 @@ one_numbers predicates (p ∷ wanted) (n ∷ numbers) (m ∷ others) up are also
     let rest : numbers ≡ others = one_numbers predicates wanted numbers others up behind behind_too in
     λ i. first i ∷ rest i
 
-one_made : (own : List ℕ) (rules : List HeadAndGoals) (predicates : List Indicator) (roots bytes other : List ℕ) → Reports own rules predicates roots bytes
+one_made : (own : List ℕ) (rules : List HeadAndGoals) (predicates : List PredName) (roots bytes other : List ℕ) → Reports own rules predicates roots bytes
     → Reports own rules predicates roots other → bytes ≡ other
 one_made own rules predicates roots bytes other a b =
     same_bytes own predicates bytes other (record { are = a.are_groups; leveled = a.are_levels }) (record { are = b.are_groups; leveled = b.are_levels }) a.report b.report

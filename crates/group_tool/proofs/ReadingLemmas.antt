@@ -19,12 +19,12 @@ use Rattle.module_table.specs.Defined.{Predicate, predicate_cmp, key}
 use Rattle.module_table.specs.Said.{IsWhy}
 use Rattle.module_table.specs.Facts.{Facts, AreFacts, file_said}
 use Rattle.module_table.proofs.RefusalOffsets.{refusals_placed}
-use Rattle.group_tool.specs.declared.indicator.Indicator.{Indicator}
-use Rattle.group_tool.specs.Indicator.{indicator_cmp}
+use Rattle.group_tool.specs.declared.pred_name.PredName.{PredName}
+use Rattle.group_tool.specs.PredName.{pred_name_cmp}
 use Rattle.group_tool.specs.Rule.{HeadAndGoals, heads}
 use Rattle.group_tool.specs.RuleOf.{rule_of, predicates_of, HasSmallArities, HasSmallClauses}
 use Rattle.group_tool.specs.Numbering.{IsRising}
-use Rattle.group_tool.specs.FileFault.{IsRefused, fault_of_text, fault_of_facts, fault_from, most_bytes}
+use Rattle.group_tool.specs.FileFault.{FileFaultIs, fault_of_text, fault_of_facts, fault_from, most_bytes}
 use Rattle.group_tool.proofs.DefinedClauses.{defined_clauses_small}
 
 -- what holds of an error
@@ -33,12 +33,12 @@ on_err (Ok x) P Q is then = tt
 on_err (Err e) P Q is then = then e is
 
 pub text_refused : (name text : List ℕ) (fault : TextFault) → length text ≤ most_bytes → (fault ≢ of_text.NoMemory → HasTextFault text fault)
-    → IfSome (offset_of fault) (λ at. IsOffset text at) → IsRefused name text (fault_of_text fault)
+    → IfSome (offset_of fault) (λ at. IsOffset text at) → FileFaultIs name text (fault_of_text fault)
 text_refused name text (of_text.At cause at) small has offset = (record { small = small; caused = inl (has (λ e. cc)) }, offset)
 text_refused name text of_text.NoMemory small has offset = tt
 
 pub facts_refused : (name text : List ℕ) (trees : List Tree) (fault : FactFault) → length text ≤ most_bytes → ReadsAs text trees → IsWhy (file_said name trees) fault
-    → IsRefused name text (fault_of_facts fault)
+    → FileFaultIs name text (fault_of_facts fault)
 facts_refused name text trees (of_facts.At cause at) small reads why = (
   record { small = small; caused = inr (record { trees = trees; reads = reads; said = why }) },
   refusals_placed text name trees (fault_from cause at) (reading_placed text trees reads) why,
@@ -49,7 +49,7 @@ pub small_defined : (name : List ℕ) (trees : List Tree) (facts : Facts) → Ar
 small_defined name trees facts are small k d lt =
     defined_clauses_small 8388608 name trees facts are small (get_or facts.defined k d) (Contains-get_or facts.defined k d lt)
 
-abbrev head_of : HeadAndGoals → Indicator
+abbrev head_of : HeadAndGoals → PredName
 head_of rule = rule.head
 
 -- the predicates rise as they are defined
@@ -65,8 +65,8 @@ rising ps up i j d lt within =
     λ k inside.
     get_or-map head_of (map rule_of ps) k (rule_of none) d (omega (arith, inner, inside))
     ∙ ap head_of (get_or-map rule_of ps k none (rule_of none) inside) in
-    let one = subst (λ p. indicator_cmp p (head_of (rule_of (get_or ps j none))) ≡ Less) (sym (read i above)) less in
-    subst (λ p. indicator_cmp (get_or (heads (map rule_of ps)) i d) p ≡ Less) (sym (read j below)) one
+    let one = subst (λ p. pred_name_cmp p (head_of (rule_of (get_or ps j none))) ≡ Less) (sym (read i above)) less in
+    subst (λ p. pred_name_cmp (get_or (heads (map rule_of ps)) i d) p ≡ Less) (sym (read j below)) one
 
 pub rising_predicates : (name : List ℕ) (trees : List Tree) (facts : Facts) → AreFacts name trees facts → IsRising (predicates_of facts)
 rising_predicates name trees facts are = rising facts.defined are.are.defined.in_order

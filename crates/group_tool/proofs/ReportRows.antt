@@ -2,12 +2,12 @@
 use Rattle.std.proofs.Common.{◌≡◌, ℕ, true, false, List, [], ◌∷◌, ◌++◌, refl, codes}
 use Rattle.std.specs.List.{flat_map}
 use Rattle.std.specs.Fmt.{digits}
-use Rattle.group_tool.specs.declared.indicator.Indicator.{Indicator}
+use Rattle.group_tool.specs.declared.pred_name.PredName.{PredName}
 use Rattle.group_release.specs.declared.level.Level.{Level}
 use Rattle.group_tool.specs.Report.{head_line, place_line}
 use Rattle.group_tool.specs.Spelled.{spelled_name}
 
-abbrev three : List Indicator
+abbrev three : List PredName
 three = record { name = codes "a"; arity = 0 } ∷ record { name = codes "b"; arity = 0 } ∷ record { name = codes "c"; arity = 0 } ∷ []
 
 abbrev two_groups : List (List ℕ)

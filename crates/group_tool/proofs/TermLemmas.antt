@@ -10,8 +10,8 @@ use Rattle.prolog_terms.specs.Tree.{Tree, variable, constant, atom, compound, li
 use Rattle.prolog_terms.specs.Arity.{HasAritiesWithin}
 use Rattle.clause_text.specs.Terms.{inside, sides_of, goals_in}
 use Rattle.clause_text.proofs.TermShapes.{comma_sides, goals_alone, inside_once}
-use Rattle.group_tool.specs.declared.indicator.Indicator.{Indicator}
-use Rattle.group_tool.specs.Terms.{indicator_at, indicator_of}
+use Rattle.group_tool.specs.declared.pred_name.PredName.{PredName}
+use Rattle.group_tool.specs.Terms.{pred_name_at, pred_name_of}
 use Rattle.group_tool.specs.RuleOf.{goals_of}
 use Rattle.group_tool.specs.Built.{is_plain_goal, is_plain_body}
 
@@ -66,16 +66,16 @@ count_trees (tree ∷ trees) = omega (arith, count_trees trees)
 -- what the goals of a body name
 pub goals_joined : (tree left right : Tree) → sides_of (codes ",") tree ≡ Some (left, right) → goals_of tree ≡ goals_of left ++ goals_of right
 goals_joined tree left right is =
-    ap (filter_map indicator_of) (comma_sides tree left right is).goals ∙ filter_map-append indicator_of (goals_in left) (goals_in right)
+    ap (filter_map pred_name_of) (comma_sides tree left right is).goals ∙ filter_map-append pred_name_of (goals_in left) (goals_in right)
 
-one_named : (tree : Tree) (named : Option Indicator) → indicator_of tree ≡ named → filter_map indicator_of (tree ∷ []) ≡ option_to_list named
+one_named : (tree : Tree) (named : Option PredName) → pred_name_of tree ≡ named → filter_map pred_name_of (tree ∷ []) ≡ option_to_list named
 one_named tree None is = rw is refl
 one_named tree (Some named) is = rw is refl
 
-pub goals_one : (tree : Tree) → sides_of (codes ",") tree ≡ None → goals_of tree ≡ option_to_list (indicator_of tree)
+pub goals_one : (tree : Tree) → sides_of (codes ",") tree ≡ None → goals_of tree ≡ option_to_list (pred_name_of tree)
 goals_one tree is =
-    ap (filter_map indicator_of) (goals_alone tree is)
-    ∙ one_named (inside tree) (indicator_of tree) (ap indicator_at (inside_once tree))
+    ap (filter_map pred_name_of) (goals_alone tree is)
+    ∙ one_named (inside tree) (pred_name_of tree) (ap pred_name_at (inside_once tree))
 
 -- and whether they are plain
 all_joined : (test : Tree → Bool) (trees others : List Tree) → list_all test (trees ++ others) ≡ (list_all test trees && list_all test others)
@@ -98,13 +98,13 @@ pub plain_one : (tree : Tree) → sides_of (codes ",") tree ≡ None → is_plai
 plain_one tree is = ap (list_all is_plain_goal) (goals_alone tree is) ∙ (and_true (is_plain_goal (inside tree)) ∙ plain_inside tree)
 
 -- a predicate that a term names has no more arguments than its compounds
-at_small : (n : ℕ) (tree : Tree) (named : Indicator) → HasAritiesWithin n tree → indicator_at tree ≡ Some named → named.arity ≤ n
-at_small n (atom name span) named small is = let same : record { name = name; arity = 0 } ≡ named = some_once is in omega (arith, ap (λ (p : Indicator). p.arity) same)
+at_small : (n : ℕ) (tree : Tree) (named : PredName) → HasAritiesWithin n tree → pred_name_at tree ≡ Some named → named.arity ≤ n
+at_small n (atom name span) named small is = let same : record { name = name; arity = 0 } ≡ named = some_once is in omega (arith, ap (λ (p : PredName). p.arity) same)
 at_small n (compound name args form span) named small is =
-    let same : record { name = name; arity = count args } ≡ named = some_once is in omega (arith, small.0, ap (λ (p : Indicator). p.arity) same)
+    let same : record { name = name; arity = count args } ≡ named = some_once is in omega (arith, small.0, ap (λ (p : PredName). p.arity) same)
 at_small n tree named small is = let both : None ≡ Some named = is in absurd (cc)
 
-pub named_small : (n : ℕ) (tree : Tree) (named : Indicator) → HasAritiesWithin n tree → indicator_of tree ≡ Some named → named.arity ≤ n
+pub named_small : (n : ℕ) (tree : Tree) (named : PredName) → HasAritiesWithin n tree → pred_name_of tree ≡ Some named → named.arity ≤ n
 named_small n tree named small is = at_small n (inside tree) named (inside_arities n tree small) is
 
 -- what holds of each as it is seen holds of one

@@ -7,7 +7,7 @@ use Rattle.clause_text.specs.Terms.{sides_of, goals_in}
 use Rattle.module_table.specs.Defined.{Predicate}
 use Rattle.module_table.specs.Heads.{is_among}
 use Rattle.module_table.specs.Facts.{Facts}
-use Rattle.group_tool.specs.declared.indicator.Indicator.{Indicator}
+use Rattle.group_tool.specs.declared.pred_name.PredName.{PredName}
 use Rattle.group_tool.specs.RuleOf.{predicates_of, roots_of}
 
 -- the names of so many arguments, some of which are goals
@@ -64,7 +64,7 @@ is_plain_file facts =
     (length facts.loads == 0) && (length facts.goals == 0) && nat_le (length facts.defined) most_predicates && list_all has_plain_clauses facts.defined
 
 -- the predicate is one of these
-abbrev pub is_one_of : List Indicator → Indicator → Bool
+abbrev pub is_one_of : List PredName → PredName → Bool
 is_one_of predicates p = list_any (λ q. bytes_eq q.name p.name && nat_eq q.arity p.arity) predicates
 
 -- a plain file, which defines its roots

@@ -63,10 +63,10 @@ abbrev pub fault_from : Cause → ℕ → Refusal
 fault_from cause offset = record { cause = cause; offset = offset }
 
 -- why a file has no facts, or isn't built; want of memory says nothing of it
-abbrev pub IsRefused : List ℕ → List ℕ → FileFault → Type 0
-IsRefused name text (At cause offset) = HasFileFault name text (fault_from cause offset) × IsOffset text offset
-IsRefused name text NotBuilt = IsOutsideForm name text
-IsRefused name text NoMemory = ⊤
+abbrev pub FileFaultIs : List ℕ → List ℕ → FileFault → Type 0
+FileFaultIs name text (At cause offset) = HasFileFault name text (fault_from cause offset) × IsOffset text offset
+FileFaultIs name text NotBuilt = IsOutsideForm name text
+FileFaultIs name text NoMemory = ⊤
 
 -- the line of a fault of a file: `FILE:LINE:COLUMN: TEXT`
 abbrev pub fault_line : List ℕ → Place → Cause → List ℕ

@@ -6,7 +6,7 @@ use Rattle.graph_law.specs.Classes.{HasMember}
 use Rattle.graph_law.specs.LegalOrder.{IsLegalOrder, IsComplete}
 use Rattle.group_release.specs.declared.level.Level.{Level}
 use Rattle.group_release.specs.Level.{AreLevels}
-use Rattle.group_tool.specs.declared.indicator.Indicator.{Indicator}
+use Rattle.group_tool.specs.declared.pred_name.PredName.{PredName}
 use Rattle.group_tool.specs.Rule.{HeadAndGoals}
 use Rattle.group_tool.specs.RuleOf.{rules_of, roots_of}
 use Rattle.group_tool.specs.Numbering.{IsNumbering, AreNumbers}
@@ -20,7 +20,7 @@ pub record AreGroups (calls : ℕ → ℕ → Type 0) (starts : List ℕ) (group
   pub reached : (p : ℕ) → HasMember groups p → IsReached calls starts p
 
 -- the bytes are the report of the groups that the roots reach
-pub record Reports (own : List ℕ) (rules : List HeadAndGoals) (predicates : List Indicator) (roots bytes : List ℕ) : Type 0 where
+pub record Reports (own : List ℕ) (rules : List HeadAndGoals) (predicates : List PredName) (roots bytes : List ℕ) : Type 0 where
   pub groups : List (List ℕ)
   pub are_groups : AreGroups (NodeCalls rules predicates) roots groups
   pub levels : List Level
@@ -29,7 +29,7 @@ pub record Reports (own : List ℕ) (rules : List HeadAndGoals) (predicates : Li
 
 -- the bytes are the report of a file, whose predicates are numbered, and whose roots have these numbers
 pub record IsReportOf (facts : Facts) (bytes : List ℕ) : Type 0 where
-  pub predicates : List Indicator
+  pub predicates : List PredName
   pub numbering : IsNumbering (rules_of facts) predicates
   pub roots : List ℕ
   pub are_roots : AreNumbers predicates (roots_of facts) roots

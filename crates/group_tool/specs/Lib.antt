@@ -1,5 +1,6 @@
 pub mod CallGraph
-pub mod Indicator
+pub mod CallLists
+pub mod PredName
 pub mod MemorySink
 pub mod Numbering
 pub mod Report

@@ -4,21 +4,21 @@ use Rattle.std.specs.Fmt.{decimal}
 use Rattle.std.specs.List.{flat_map, range_with_len}
 use Rattle.std.specs.List.Sorted.{IsStrictlyIncreasing}
 use Rattle.graph_law.specs.Classes.{group_at, least_member}
-use Rattle.group_tool.specs.declared.indicator.Indicator.{Indicator}
+use Rattle.group_tool.specs.declared.pred_name.PredName.{PredName}
 use Rattle.group_release.specs.declared.level.Level.{Level}
 use Rattle.group_release.specs.Level.{level_at}
 use Rattle.group_tool.specs.Spelled.{spelled_name}
 
 -- how the report names a predicate of a module: `MODULE:NAME/ARITY`, where both names are spelled
-abbrev pub predicate_name : List ℕ → Indicator → List ℕ
+abbrev pub predicate_name : List ℕ → PredName → List ℕ
 predicate_name own predicate = spelled_name own ++ (codes ":" ++ (spelled_name predicate.name ++ (codes "/" ++ decimal predicate.arity)))
 
 -- the predicate at a place
-abbrev pub predicate_at : List Indicator → ℕ → Indicator
+abbrev pub predicate_at : List PredName → ℕ → PredName
 predicate_at predicates place = slice_index_or predicates place (record { name = []; arity = 0 })
 
 -- a group's member as its line has it
-abbrev pub member_name : List ℕ → List Indicator → ℕ → List ℕ
+abbrev pub member_name : List ℕ → List PredName → ℕ → List ℕ
 member_name own predicates member = codes " " ++ predicate_name own (predicate_at predicates member)
 
 -- `recursive` or `plain`
@@ -26,7 +26,7 @@ abbrev pub kind_of : Bool → List ℕ
 kind_of recursive = if recursive then codes " recursive" else codes " plain"
 
 -- the line of a group: `HEIGHT KIND NAME NAME ..`
-abbrev pub group_line : List ℕ → List Indicator → List ℕ → Level → List ℕ
+abbrev pub group_line : List ℕ → List PredName → List ℕ → Level → List ℕ
 group_line own predicates members level = decimal level.height ++ kind_of level.recursive ++ flat_map (member_name own predicates) members ++ codes "\n"
 
 -- one more than the greatest height, or 0 where there is no level
@@ -56,11 +56,11 @@ pub record IsLineOrder (groups : List (List ℕ)) (levels : List Level) (order :
   pub rising : AllPairs (ComesBefore groups levels) order
 
 -- the line of the group at a place
-abbrev pub place_line : List ℕ → List Indicator → List (List ℕ) → List Level → ℕ → List ℕ
+abbrev pub place_line : List ℕ → List PredName → List (List ℕ) → List Level → ℕ → List ℕ
 place_line own predicates groups levels place = group_line own predicates (group_at groups place) (level_at levels place)
 
 -- the bytes are the head line, and then the line of each group in order
-pub record IsReport (own : List ℕ) (predicates : List Indicator) (groups : List (List ℕ)) (levels : List Level) (bytes : List ℕ) : Type 0 where
+pub record IsReport (own : List ℕ) (predicates : List PredName) (groups : List (List ℕ)) (levels : List Level) (bytes : List ℕ) : Type 0 where
   pub order : List ℕ
   pub in_order : IsLineOrder groups levels order
   pub is : bytes ≡ head_line groups levels ++ flat_map (place_line own predicates groups levels) order
@@ -70,7 +70,7 @@ abbrev pub LeastDiffer : List (List ℕ) → Type 0
 LeastDiffer groups = AllPairs (λ a b. a ≢ b) (map least_member groups)
 
 -- what a report is made of: each group has a level and some members, which ascend and are places of predicates
-pub record ArePrintable (predicates : List Indicator) (groups : List (List ℕ)) (levels : List Level) : Type 0 where
+pub record ArePrintable (predicates : List PredName) (groups : List (List ℕ)) (levels : List Level) : Type 0 where
   pub few : length predicates < 2 ^ 32
   pub one_level_each : length levels ≡ length groups
   pub inhabited : All (λ members. 0 < length members) groups

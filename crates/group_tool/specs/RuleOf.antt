@@ -6,21 +6,21 @@ use Rattle.prolog_terms.specs.Arity.{HasAritiesWithin}
 use Rattle.clause_text.specs.Terms.{sides_of, goals_in}
 use Rattle.module_table.specs.Defined.{Predicate}
 use Rattle.module_table.specs.Facts.{Facts}
-use Rattle.module_table.specs.declared.indicator.Indicator.{Indicator as Export}
-use Rattle.group_tool.specs.declared.indicator.Indicator.{Indicator}
+use Rattle.module_table.specs.declared.indicator.Indicator.{Indicator}
+use Rattle.group_tool.specs.declared.pred_name.PredName.{PredName}
 use Rattle.group_tool.specs.Rule.{HeadAndGoals, heads}
-use Rattle.group_tool.specs.Terms.{indicator_of}
+use Rattle.group_tool.specs.Terms.{pred_name_of}
 
 -- the predicates that the goals of a body name; a variable names none
-abbrev pub goals_of : Tree → List Indicator
-goals_of body = filter_map indicator_of (goals_in body)
+abbrev pub goals_of : Tree → List PredName
+goals_of body = filter_map pred_name_of (goals_in body)
 
 -- a rule names what its body does, a fact nothing
-abbrev pub goals_by : Option (Tree × Tree) → List Indicator
+abbrev pub goals_by : Option (Tree × Tree) → List PredName
 goals_by (Some sides) = goals_of sides.1
 goals_by None = []
 
-abbrev pub clause_goals : Tree → List Indicator
+abbrev pub clause_goals : Tree → List PredName
 clause_goals clause = goals_by (sides_of (codes ":-") clause)
 
 -- a predicate with the goals of all its clauses
@@ -31,14 +31,14 @@ abbrev pub rules_of : Facts → List HeadAndGoals
 rules_of facts = map rule_of facts.defined
 
 -- the predicates of a file, in order
-abbrev pub predicates_of : Facts → List Indicator
+abbrev pub predicates_of : Facts → List PredName
 predicates_of facts = heads (rules_of facts)
 
-abbrev pub exported : Export → Indicator
+abbrev pub exported : Indicator → PredName
 exported export = record { name = export.name; arity = export.arity }
 
 -- the roots: what a module file exports, all predicates of another file
-abbrev pub roots_of : Facts → List Indicator
+abbrev pub roots_of : Facts → List PredName
 roots_of facts = if facts.is_module then map exported facts.exports else predicates_of facts
 
 -- no compound within the term has more arguments than a text has bytes

@@ -62,12 +62,12 @@ EndsBy result out err (report bytes) = IsWritten bytes 0 result out err
 EndsBy result out err end = IsWritten (end_bytes end) (end_status end) result err out
 
 -- one sink took a part of the bytes, the other nothing
-abbrev pub IsCut : List ℕ → Taking → Taking → Type 0
-IsCut bytes sink other = TookPart bytes sink.taken sink.taken' sink.faults sink.faults' × (other.taken' ≡ other.taken)
+abbrev pub IsCutShort : List ℕ → Taking → Taking → Type 0
+IsCutShort bytes sink other = TookPart bytes sink.taken sink.taken' sink.faults sink.faults' × (other.taken' ≡ other.taken)
 
 abbrev pub CutBy : Taking → Taking → End → Type 0
-CutBy out err (report bytes) = IsCut bytes out err
-CutBy out err end = IsCut (end_bytes end) err out
+CutBy out err (report bytes) = IsCutShort bytes out err
+CutBy out err end = IsCutShort (end_bytes end) err out
 
 -- the run ends in one of these ways
 pub record IsRun (words : List (List ℕ)) (told : Option Files) (asked' : List (List ℕ)) (faults faults' misses misses' : ℕ) (out err : Taking) (result : ℕ) : Type 0 where

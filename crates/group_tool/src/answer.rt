@@ -1,7 +1,7 @@
 ghost use Rattle.std.specs.Prelude.{◌≡◌, ◌++◌, ℕ, List, IfOk, IfErr};
 ghost use Rattle.std.specs.String.{string_bytes};
 ghost use Rattle.group_tool.specs.Answer.{ReportsText};
-ghost use Rattle.group_tool.specs.FileFault.{IsRefused};
+ghost use Rattle.group_tool.specs.FileFault.{FileFaultIs};
 ghost use Rattle.group_tool.specs.Outcome.{TextOutcomeIs};
 ghost use Rattle.group_tool.specs.OutcomeEnd.{OutcomeIs, IsAskedBy};
 ghost use Rattle.group_tool.specs.Run.{HasNoName};
@@ -29,7 +29,7 @@ fn line(alloc: Global, before: &str, name: &str, behind: &str) -> Result<String,
 
 /// What a file without facts comes out as.
 fn refused_file(alloc: Global, name: &str, text: &[u8], fault: FileFault) -> Outcome
-    requires { IsRefused name.now text.now fault }
+    requires { FileFaultIs name.now text.now fault }
     ensures { TextOutcomeIs name.now text.now result }
 {
     match fault {
@@ -48,7 +48,7 @@ fn refused_file(alloc: Global, name: &str, text: &[u8], fault: FileFault) -> Out
 /// The report of the file of that name with the text.
 fn report_text(alloc: Global, name: &str, text: &[u8]) -> Result<String, FileFault>
     ensures ok { IfOk result (λ report. ReportsText name.now text.now (string_bytes report)) }
-    ensures refused { IfErr result (λ fault. IsRefused name.now text.now fault) }
+    ensures refused { IfErr result (λ fault. FileFaultIs name.now text.now fault) }
 {
     let facts = read_facts(alloc, name, text)?;
     match group_file(alloc, &facts)? {

@@ -1,12 +1,12 @@
-ghost use Rattle.std.specs.Prelude.{◌≡◌, ◌<◌, ◌≤◌, [], All, IfOk, OnOk, length, replicate};
+ghost use Rattle.std.specs.Prelude.{◌≡◌, ◌<◌, ◌^◌, [], IfOk, OnOk, length, replicate};
 ghost use Rattle.graph_law.specs.Graph.{lists_of};
-ghost use Rattle.group_tool.specs.CallGraph.{AddsCallees, AreCalleeLists, IsCallGraph};
+ghost use Rattle.group_tool.specs.CallGraph.{AddsCallees, AreCalleeLists};
 ghost use Rattle.group_tool.specs.Numbering.{IsNumbering, IsRising};
 
-use crate::indicator::Indicator;
+use crate::call_lists::CallLists;
 use crate::numbering::find;
+use crate::pred_name::PredName;
 use crate::rule::Rule;
-use graph_law::Graph;
 use std::alloc::{AllocError, Global};
 
 /// The graph in which each predicate calls the predicates that are goals of its rules. A goal
@@ -14,29 +14,24 @@ use std::alloc::{AllocError, Global};
 pub fn call_graph(
     alloc: Global,
     rules: &[Rule],
-    predicates: &[Indicator],
-    roots: Vec<u32>,
-) -> Result<Graph, AllocError>
+    predicates: &[PredName],
+) -> Result<CallLists, AllocError>
     requires numbering { IsNumbering rules.now predicates.now }
-    requires few { length predicates.now ≤ 1048576 }
-    requires rooted { All (λ root. root < length predicates.now) roots.items }
-    ensures { IfOk result (λ graph. IsCallGraph rules.now predicates.now roots.items graph) }
+    requires few { length predicates.now < 2 ^ 32 }
+    ensures { IfOk result (AreCalleeLists rules.now predicates.now) }
 {
     let lists = callee_lists(alloc, rules, predicates)?;
-    match Graph::new(lists, roots) {
-        Some(graph) => Ok(graph),
-        None => unreachable!(),
-    }
+    Ok(CallLists::new(lists))
 }
 
 /// For each predicate the places of the goals of its rules, in order.
 fn callee_lists(
     alloc: Global,
     rules: &[Rule],
-    predicates: &[Indicator],
+    predicates: &[PredName],
 ) -> Result<Vec<Vec<u32>>, AllocError>
     requires numbering { IsNumbering rules.now predicates.now }
-    requires few { length predicates.now ≤ 1048576 }
+    requires few { length predicates.now < 2 ^ 32 }
     ensures { IfOk result (λ lists. AreCalleeLists rules.now predicates.now (lists_of lists.items)) }
 {
     let mut lists = empty_lists(alloc, predicates.len())?;
@@ -62,11 +57,11 @@ fn empty_lists(alloc: Global, count: usize) -> Result<Vec<Vec<u32>>, AllocError>
 /// Puts the places of those `goals` that are predicates at the end of `callees`.
 fn push_callees(
     callees: &mut Vec<u32>,
-    predicates: &[Indicator],
-    goals: &[Indicator],
+    predicates: &[PredName],
+    goals: &[PredName],
 ) -> Result<(), AllocError>
     requires rising { IsRising predicates.now }
-    requires few { length predicates.now ≤ 1048576 }
+    requires few { length predicates.now < 2 ^ 32 }
     ensures { OnOk result
         (AddsCallees predicates.now goals.now callees.old.items callees.new.items) }
 {

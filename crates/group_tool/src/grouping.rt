@@ -1,4 +1,4 @@
-ghost use Rattle.std.specs.Prelude.{◌≡◌, ◌<◌, ◌≤◌, All, IfOk, MatchOption, false, length, map, true};
+ghost use Rattle.std.specs.Prelude.{◌≡◌, ◌<◌, ◌^◌, All, IfOk, MatchOption, false, length, map, true};
 ghost use Rattle.std.specs.List.{list_all};
 ghost use Rattle.std.specs.String.{string_bytes};
 ghost use Rattle.module_table.specs.Defined.{see_defined};
@@ -10,24 +10,24 @@ ghost use Rattle.group_tool.specs.Grouping.{IsReportOf, Reports};
 
 use crate::built::is_plain_file;
 use crate::call_graph::call_graph;
-use crate::indicator::Indicator;
 use crate::numbering::{heads, places};
+use crate::pred_name::PredName;
 use crate::report::report;
 use crate::rule::Rule;
 use crate::rules::rules;
 use group_release::levels;
-use module_table::{FileFacts, Indicator as Export};
+use module_table::{FileFacts, Indicator};
 use prolog_tokens::Text;
 use search_stack::groups_plain;
 use std::alloc::{AllocError, Global};
 
 /// The predicates that the indicators of a list are.
-fn exported(alloc: Global, exports: &[Export]) -> Result<Vec<Indicator>, AllocError>
+fn exported(alloc: Global, exports: &[Indicator]) -> Result<Vec<PredName>, AllocError>
     ensures { IfOk result (λ found. found.items ≡ map exported exports.now) }
 {
     let mut found = Vec::new(alloc);
     for export in exports {
-        found.push(Indicator {
+        found.push(PredName {
             name: Text::new(alloc, export.name.as_str())?,
             arity: export.arity,
         })?;
@@ -40,11 +40,11 @@ fn exported(alloc: Global, exports: &[Export]) -> Result<Vec<Indicator>, AllocEr
 fn roots(
     alloc: Global,
     facts: &FileFacts,
-    predicates: &[Indicator],
+    predicates: &[PredName],
 ) -> Result<Option<Vec<u32>>, AllocError>
     requires predicates { predicates.now ≡ predicates_of (see_facts facts.now) }
     requires rising { IsRising predicates.now }
-    requires few { length predicates.now ≤ 1048576 }
+    requires few { length predicates.now < 2 ^ 32 }
     ensures { IfOk result (λ found. MatchOption found
         (list_all (is_one_of predicates.now) (roots_of (see_facts facts.now)) ≡ false)
         (λ roots. (list_all (is_one_of predicates.now) (roots_of (see_facts facts.now)) ≡ true) × AreNumbers predicates.now (roots_of (see_facts facts.now)) roots.items)) }
@@ -61,17 +61,17 @@ fn group(
     alloc: Global,
     module_name: &str,
     rules: &[Rule],
-    predicates: &[Indicator],
-    roots: Vec<u32>,
+    predicates: &[PredName],
+    roots: &[u32],
 ) -> Result<String, AllocError>
     requires numbering { IsNumbering rules.now predicates.now }
-    requires few { length predicates.now ≤ 1048576 }
-    requires rooted { All (λ root. root < length predicates.now) roots.items }
-    ensures { IfOk result (λ text. Reports module_name.now rules.now predicates.now roots.items (string_bytes text)) }
+    requires few { length predicates.now < 2 ^ 32 }
+    requires rooted { All (λ root. root < length predicates.now) roots.now }
+    ensures { IfOk result (λ text. Reports module_name.now rules.now predicates.now roots.now (string_bytes text)) }
 {
-    let graph = call_graph(alloc, rules, predicates, roots)?;
-    let groups = groups_plain(alloc, &graph, graph.roots())?;
-    let levels = levels(alloc, &graph, &groups)?;
+    let calls = call_graph(alloc, rules, predicates)?;
+    let groups = groups_plain(alloc, &calls, roots)?;
+    let levels = levels(alloc, &calls, &groups)?;
     let text = report(alloc, module_name, predicates, &groups, &levels)?;
     Ok(text)
 }
@@ -92,6 +92,6 @@ pub fn group_file(alloc: Global, facts: &FileFacts) -> Result<Option<String>, Al
     let Some(roots) = roots(alloc, facts, &predicates)? else {
         return Ok(None);
     };
-    let text = group(alloc, facts.module.as_str(), &rules, &predicates, roots)?;
+    let text = group(alloc, facts.module.as_str(), &rules, &predicates, &roots)?;
     Ok(Some(text))
 }

@@ -4,12 +4,12 @@ ghost use Rattle.group_tool.specs.Rule.{heads};
 ghost use Rattle.group_tool.specs.Built.{is_one_of};
 ghost use Rattle.group_tool.specs.Numbering.{AreNumbers, IsRising};
 
-use crate::indicator::Indicator;
+use crate::pred_name::PredName;
 use crate::rule::Rule;
 use std::alloc::{AllocError, Global};
 
 /// The predicates of the rules, in order.
-pub fn heads(alloc: Global, rules: &[Rule]) -> Result<Vec<Indicator>, AllocError>
+pub fn heads(alloc: Global, rules: &[Rule]) -> Result<Vec<PredName>, AllocError>
     ensures { IfOk result (λ predicates. predicates.items ≡ heads rules.now) }
 {
     let mut predicates = Vec::new(alloc);
@@ -20,7 +20,7 @@ pub fn heads(alloc: Global, rules: &[Rule]) -> Result<Vec<Indicator>, AllocError
 }
 
 /// The place of `wanted` among `predicates`, or `None` where it isn't there.
-pub fn find(predicates: &[Indicator], wanted: &Indicator) -> Option<u32>
+pub fn find(predicates: &[PredName], wanted: &PredName) -> Option<u32>
     requires rising { IsRising predicates.now }
     requires fits { length predicates.now < 2 ^ 32 }
     ensures { MatchOption result
@@ -36,8 +36,8 @@ pub fn find(predicates: &[Indicator], wanted: &Indicator) -> Option<u32>
 /// The places of the wanted predicates, in their order, or `None` where one isn't there.
 pub fn places(
     alloc: Global,
-    predicates: &[Indicator],
-    wanted: &[Indicator],
+    predicates: &[PredName],
+    wanted: &[PredName],
 ) -> Result<Option<Vec<u32>>, AllocError>
     requires rising { IsRising predicates.now }
     requires fits { length predicates.now < 2 ^ 32 }
@@ -53,34 +53,4 @@ pub fn places(
         places.push(place)?;
     }
     Ok(Some(places))
-}
-
-#[cfg(test)]
-mod tests {
-    use super::*;
-    use prolog_tokens::Text;
-    use std::test::Fail;
-
-    fn indicator(alloc: Global, name: &str) -> Result<Indicator, AllocError> {
-        Ok(Indicator {
-            name: Text::new(alloc, name)?,
-            arity: 0,
-        })
-    }
-
-    #[test]
-    fn finds_places(rt: HostRuntime) -> Result<(), Fail> {
-        let alloc = rt.alloc();
-        let mut rules = Vec::new(alloc);
-        rules.push(Rule {
-            head: indicator(alloc, "a")?,
-            goals: Vec::new(alloc),
-        })?;
-        let predicates = heads(alloc, &rules)?;
-        assert_eq!(rt; predicates.len(), 1);
-        assert_eq!(rt; predicates[0].name.as_str(), "a");
-        assert_eq!(rt; find(&predicates, &indicator(alloc, "a")?), Some(0));
-        assert_eq!(rt; find(&predicates, &indicator(alloc, "c")?), None);
-        Ok(())
-    }
 }

@@ -4,7 +4,7 @@ ghost use Rattle.module_table.specs.Defined.{see_defined};
 ghost use Rattle.group_tool.specs.RuleOf.{HasSmallClauses};
 ghost use Rattle.group_tool.specs.Numbering.{IsRising};
 ghost use Rattle.group_tool.specs.RuleOf.{predicates_of};
-ghost use Rattle.group_tool.specs.FileFault.{HasFacts, IsRefused};
+ghost use Rattle.group_tool.specs.FileFault.{HasFacts, FileFaultIs};
 
 use crate::file_fault::FileFault;
 use clause_text::read_text;
@@ -20,7 +20,7 @@ pub fn read_facts(alloc: Global, name: &str, text: &[u8]) -> Result<FileFacts, F
     ensures ok { IfOk result (λ found. HasFacts name.now text.now (see_facts found)) }
     ensures arities { IfOk result (λ found. All HasSmallClauses (map see_defined found.defined.items)) }
     ensures rising { IfOk result (λ found. IsRising (predicates_of (see_facts found))) }
-    ensures refused { IfErr result (λ fault. IsRefused name.now text.now fault) }
+    ensures refused { IfErr result (λ fault. FileFaultIs name.now text.now fault) }
 {
     if text.len() > MOST_BYTES as usize {
         return Err(FileFault::NotBuilt);

@@ -1,12 +1,12 @@
-use crate::indicator::Indicator;
+use crate::pred_name::PredName;
 use std::marker::Model;
 
 /// What the clauses of a predicate say for the call graph: the predicate, and the goals of its
 /// clauses in order.
 #[derive(Debug, Drop)]
 pub struct Rule {
-    pub head: Indicator,
-    pub goals: Vec<Indicator>,
+    pub head: PredName,
+    pub goals: Vec<PredName>,
 }
 
 impl Model for Rule {
@@ -20,13 +20,13 @@ impl Model for Rule {
 impl Rule {
     ghost use Rattle.std.specs.Prelude.{◌≡◌};
 
-    pub fn head(&self) -> &Indicator
+    pub fn head(&self) -> &PredName
         ensures { result.now ≡ self.now.head }
     {
         &self.head
     }
 
-    pub fn goals(&self) -> &[Indicator]
+    pub fn goals(&self) -> &[PredName]
         ensures { result.now ≡ self.now.goals }
     {
         &self.goals

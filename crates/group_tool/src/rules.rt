@@ -1,10 +1,10 @@
 ghost use Rattle.std.specs.Prelude.{◌≡◌, ◌≤◌, ◌++◌, All, map, length, IfOk, OnOk};
 ghost use Rattle.prolog_terms.specs.Tree.{tree_of};
 ghost use Rattle.module_table.specs.Defined.{see_defined};
-ghost use Rattle.group_tool.specs.Terms.{indicator_of};
+ghost use Rattle.group_tool.specs.Terms.{pred_name_of};
 ghost use Rattle.group_tool.specs.RuleOf.{goals_of, clause_goals, rule_of, HasSmallArities, HasSmallClauses};
 
-use crate::indicator::Indicator;
+use crate::pred_name::PredName;
 use crate::rule::Rule;
 use crate::terms::named;
 use clause_text::sides;
@@ -14,21 +14,21 @@ use prolog_tokens::Text;
 use std::alloc::{AllocError, Global};
 
 /// The predicate that a goal names.
-fn indicator(alloc: Global, term: &Term) -> Result<Option<Indicator>, AllocError>
+fn pred_name(alloc: Global, term: &Term) -> Result<Option<PredName>, AllocError>
     requires { HasSmallArities (tree_of term.now) }
-    ensures { IfOk result (λ named. named ≡ indicator_of (tree_of term.now)) }
+    ensures { IfOk result (λ named. named ≡ pred_name_of (tree_of term.now)) }
 {
     let Some((name, arity)) = named(term) else {
         return Ok(None);
     };
-    Ok(Some(Indicator {
+    Ok(Some(PredName {
         name: Text::new(alloc, name)?,
         arity: arity as u32,
     }))
 }
 
 /// Adds what the goals of the body name.
-fn push_goals(alloc: Global, body: &Term, goals: &mut Vec<Indicator>) -> Result<(), AllocError>
+fn push_goals(alloc: Global, body: &Term, goals: &mut Vec<PredName>) -> Result<(), AllocError>
     requires { HasSmallArities (tree_of body.now) }
     ensures { OnOk result (goals.new.items ≡ goals.old.items ++ goals_of (tree_of body.now)) }
 {
@@ -37,7 +37,7 @@ fn push_goals(alloc: Global, body: &Term, goals: &mut Vec<Indicator>) -> Result<
         push_goals(alloc, goal, goals)?;
         rest = others;
     }
-    if let Some(goal) = indicator(alloc, rest)? {
+    if let Some(goal) = pred_name(alloc, rest)? {
         goals.push(goal)?;
     }
     Ok(())
@@ -47,7 +47,7 @@ fn push_goals(alloc: Global, body: &Term, goals: &mut Vec<Indicator>) -> Result<
 fn push_clause_goals(
     alloc: Global,
     clause: &Term,
-    goals: &mut Vec<Indicator>,
+    goals: &mut Vec<PredName>,
 ) -> Result<(), AllocError>
     requires { HasSmallArities (tree_of clause.now) }
     ensures { OnOk result (goals.new.items ≡ goals.old.items ++ clause_goals (tree_of clause.now)) }
@@ -67,7 +67,7 @@ fn rule(alloc: Global, predicate: &Defined) -> Result<Rule, AllocError>
     for clause in &predicate.clauses {
         push_clause_goals(alloc, &clause.term, &mut goals)?;
     }
-    let head = Indicator {
+    let head = PredName {
         name: Text::new(alloc, predicate.name.as_str())?,
         arity: predicate.arity,
     };

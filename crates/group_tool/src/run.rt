@@ -102,6 +102,3 @@ pub fn run_groups<R: Threads + Wait + Sync, L: Library, O: Sink, E: Sink, G: Gat
 {
     run(alloc, words, library, out, err)
 }
-
-#[cfg(test)]
-mod tests;

@@ -1,10 +1,10 @@
-ghost use Rattle.std.specs.Prelude.{◌≡◌, ◌<◌, ◌++◌, ◌∷◌, ◌/◌, ◌%◌, IfOk, OnOk, chars, codes};
+ghost use Rattle.std.specs.Prelude.{◌≡◌, ◌<◌, ◌++◌, ◌∷◌, ◌/◌, ◌%◌, OnOk, chars, codes};
 ghost use Rattle.std.specs.List.{flat_map};
 ghost use Rattle.std.specs.String.{string_bytes};
 ghost use Rattle.group_tool.specs.Spelled.{hex_digit, quoted_char, quoted_name, spelled_name};
 
 use prolog_tokens::is_bare_name;
-use std::alloc::{AllocError, Global};
+use std::alloc::AllocError;
 
 /// The small hexadecimal digit of a number below 16.
 fn hex_digit(number: u8) -> u8
@@ -62,7 +62,9 @@ fn push_quoted(text: &mut String, name: &str) -> Result<(), AllocError>
     text.push_str("'")
 }
 
-/// Adds the name as it is, or between quotes where it would read otherwise.
+/// Adds the name as it is, or between quotes where it would read otherwise (ISO/IEC 13211-1,
+/// 6.4.2). In quotes `'` is `\'`, a backslash `\\`, a newline `\n`, and any other character below
+/// U+0020 and U+007F is `\xHH\` with two small hexadecimal digits.
 pub fn push_atom(text: &mut String, name: &str) -> Result<(), AllocError>
     ensures { OnOk result (string_bytes text.new ≡ string_bytes text.old ++ spelled_name name.now) }
 {
@@ -70,63 +72,4 @@ pub fn push_atom(text: &mut String, name: &str) -> Result<(), AllocError>
         return text.push_str(name);
     }
     push_quoted(text, name)
-}
-
-/// The name as it is, or between quotes where it would read otherwise (ISO/IEC 13211-1, 6.4.2). In
-/// quotes `'` is `\'`, a backslash `\\`, a newline `\n`, and any other character below U+0020 and
-/// U+007F is `\xHH\` with two small hexadecimal digits.
-pub fn quote_atom(alloc: Global, name: &str) -> Result<String, AllocError>
-    ensures { IfOk result (λ text. string_bytes text ≡ spelled_name name.now) }
-{
-    let mut text = String::new(alloc);
-    push_atom(&mut text, name)?;
-    Ok(text)
-}
-
-#[cfg(test)]
-mod tests {
-    use super::*;
-    use std::test::Fail;
-
-    #[test]
-    fn spells_names(rt: HostRuntime) -> Result<(), Fail> {
-        let rows = [
-            ("p", "p"),
-            ("aB_1", "aB_1"),
-            ("été", "été"),
-            ("+", "+"),
-            ("\\", "\\"),
-            ("..", ".."),
-            ("*/", "*/"),
-            ("!", "!"),
-            (";", ";"),
-            ("[]", "[]"),
-            ("{}", "{}"),
-            ("", "''"),
-            (".", "'.'"),
-            ("/*", "'/*'"),
-            (",", "','"),
-            ("|", "'|'"),
-            ("!!", "'!!'"),
-            ("X", "'X'"),
-            ("_a", "'_a'"),
-            ("1", "'1'"),
-            ("Ñu", "'Ñu'"),
-            ("a+", "'a+'"),
-            ("hello world", "'hello world'"),
-            ("it's", "'it\\'s'"),
-            ("a\\b", "'a\\\\b'"),
-            ("a\nb", "'a\\nb'"),
-            ("\u{0}\t\u{1f}", "'\\x00\\\\x09\\\\x1f\\'"),
-            ("\u{7f}é", "'\\x7f\\é'"),
-        ];
-        for (name, spelled) in rows {
-            assert_eq!(rt;
-                quote_atom(rt.alloc(), name)?.as_str(),
-                spelled,
-                "at {name}"
-            );
-        }
-        Ok(())
-    }
 }

@@ -1,2 +1,15 @@
 //! Tests of the libraries of files and of the calls that the program makes.
 #![tactic(auto)]
+
+#[cfg(test)]
+mod faults;
+#[cfg(test)]
+mod libraries;
+#[cfg(test)]
+mod reports;
+#[cfg(test)]
+mod runs;
+#[cfg(test)]
+mod sinks;
+#[cfg(test)]
+mod words;

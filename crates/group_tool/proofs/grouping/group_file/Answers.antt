@@ -24,15 +24,16 @@ pub group-requires-clause-rooted : goal.group-requires-clause-rooted
 group-requires-clause-rooted c =
     let facts = see_facts c.args.facts.now in
     let found = rw c.in-Some.is at c.in_ok-roots.ensures in
-    subst (λ ps. All (λ n. n < length ps) c.in-Some.roots.items) (c.deref-3.ensures.value ∙ sym c.deref-5.ensures.value)
-    (numbers_below c.deref-3.result.now (roots_of facts) c.in-Some.roots.items found.1)
+    subst (λ ps. All (λ n. n < length ps) c.deref-6.result.now) (c.deref-3.ensures.value ∙ sym c.deref-5.ensures.value)
+    (subst (All (λ n. n < length c.deref-3.result.now)) (sym c.deref-6.ensures.value)
+    (numbers_below c.deref-3.result.now (roots_of facts) c.in-Some.roots.items found.1))
 
 pub returns : goal.returns
 returns c =
     let facts = see_facts c.args.facts.now in
     let rules : c.in_ok-rules.rules.items ≡ rules_of facts = c.in_ok-rules.ensures ∙ ap (λ ds. map rule_of (map see_defined ds)) c.deref.ensures.value in
     let predicates : c.in_ok-predicates.predicates.items ≡ predicates_of facts = c.in_ok-predicates.ensures ∙ ap heads (c.deref-2.ensures.value ∙ rules) in
-    let roots = c.in-Some.roots.items in
+    let roots = c.deref-6.result.now in
     let bytes = string_bytes c.in_ok-text.text in
     let found = rw c.in-Some.is at c.in_ok-roots.ensures in
     let plain : is_plain_file facts ≡ true = sym c.is_plain_file.ensures ∙ c.if-not-is_plain_file.false in
@@ -46,7 +47,9 @@ returns c =
         predicates = predicates_of facts;
         numbering = numbered (rules_of facts) c.requires.rising;
         roots = roots;
-        are_roots = subst (λ ps. AreNumbers ps (roots_of facts) roots) (c.deref-3.ensures.value ∙ predicates) found.1;
+        are_roots =
+            subst (λ ps. AreNumbers ps (roots_of facts) roots) (c.deref-3.ensures.value ∙ predicates)
+            (subst (AreNumbers c.deref-3.result.now (roots_of facts)) (sym c.deref-6.ensures.value) found.1);
         reports = subst (λ ps. Reports facts.module_ (rules_of facts) ps roots bytes) (c.deref-5.ensures.value ∙ predicates) of_rules;
       },
     )

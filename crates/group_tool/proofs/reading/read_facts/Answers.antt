@@ -1,7 +1,7 @@
 use Rattle.std.proofs.Common.{map, subst, sym, arith}
 use Rattle.module_table.specs.Defined.{clause_tree}
 use Rattle.module_table.specs.Facts.{see_facts}
-use Rattle.group_tool.specs.FileFault.{IsRefused}
+use Rattle.group_tool.specs.FileFault.{FileFaultIs}
 use Rattle.group_tool.proofs.ReadingLemmas.{on_err, text_refused, facts_refused, small_defined, rising_predicates}
 use Rattle.group_tool.proofs.reading.read_facts.Goals as goal
 
@@ -9,14 +9,14 @@ pub returns-in_err-clauses-clause-refused : goal.returns-in_err-clauses-clause-r
 returns-in_err-clauses-clause-refused c =
     on_err c.from_residual.result _ _ c.from_residual.ensures.1
     (λ found same.
-    subst (IsRefused c.args.name.now c.args.text.now) (sym same)
+    subst (FileFaultIs c.args.name.now c.args.text.now) (sym same)
     (text_refused c.args.name.now c.args.text.now c.in_err-clauses.field-0.0 (omega (arith, c.if-text.false)) c.in_err-clauses.ensures.fault c.in_err-clauses.ensures.offset))
 
 pub returns-in_err-found-clause-refused : goal.returns-in_err-found-clause-refused
 returns-in_err-found-clause-refused c =
     on_err c.from_residual-in_err-found.result _ _ c.from_residual-in_err-found.ensures.1
     (λ found same.
-    subst (IsRefused c.args.name.now c.args.text.now) (sym same)
+    subst (FileFaultIs c.args.name.now c.args.text.now) (sym same)
     (facts_refused c.args.name.now c.args.text.now (map clause_tree c.in_ok-clauses.clauses.items) c.in_err-found.field-0.0 (omega (arith, c.if-text.false))
     c.in_ok-clauses.ensures.ok c.in_err-found.ensures.refused))
 

@@ -1,7 +1,7 @@
 use Rattle.std.proofs.Common.{sym, arith}
 use Rattle.prolog_terms.specs.Tree.{tree_of}
 use Rattle.group_tool.proofs.TermLemmas.{named_small}
-use Rattle.group_tool.proofs.rules.indicator.Goals as goal
+use Rattle.group_tool.proofs.rules.pred_name.Goals as goal
 
 pub overflow_cast-result : goal.overflow_cast-result
 overflow_cast-result c =

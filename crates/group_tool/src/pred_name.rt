@@ -1,22 +1,22 @@
 use prolog_tokens::Text;
 use std::alloc::{AllocError, Global};
 
-/// A predicate's name and the number of its arguments. Indicators are ordered by the bytes of
-/// their names, then by arity.
+/// A predicate's name and the number of its arguments. They are ordered by the bytes of the
+/// names, then by arity.
 #[derive(Debug, Drop, PartialEq, Eq, PartialOrd, Ord)]
-pub struct Indicator {
+pub struct PredName {
     pub name: Text,
     pub arity: u32,
 }
 
-impl Indicator {
+impl PredName {
     ghost use Rattle.std.specs.Prelude.{◌≡◌, IfOk};
 
-    /// An indicator that is equal to this one.
-    pub fn clone_in(&self, alloc: Global) -> Result<Indicator, AllocError>
+    /// A name that is equal to this one.
+    pub fn clone_in(&self, alloc: Global) -> Result<PredName, AllocError>
         ensures { IfOk result (λ copy. copy ≡ self.now) }
     {
-        Ok(Indicator {
+        Ok(PredName {
             name: Text::new(alloc, self.name.as_str())?,
             arity: self.arity,
         })

@@ -1,9 +1,0 @@
--- The order of indicators.
-use Rattle.std.specs.Ordering.{nat_cmp, ordering_then}
-use Rattle.std.specs.Cmp.Lexicographic.{slice_cmp}
-use Rattle.std.specs.declared.cmp.Ordering.{Ordering}
-use Rattle.group_tool.specs.declared.indicator.Indicator.{Indicator}
-
--- by the bytes of the names, then by arity
-abbrev pub indicator_cmp : Indicator → Indicator → Ordering
-indicator_cmp a b = ordering_then (slice_cmp nat_cmp a.name b.name) (nat_cmp a.arity b.arity)

@@ -1,0 +1,85 @@
+//! Runs of `run_groups` over files in memory, and what they are compared with.
+
+use file_library::MemoryLibrary;
+use group_tool::{MemorySink, OpenGate, run_groups};
+use prolog_tokens::Text;
+use std::alloc::{AllocError, Global};
+use std::collections::BTreeMap;
+use std::process::Abort;
+use std::sync::Wait;
+use std::test::Fail;
+use std::thread::Threads;
+
+/// A text, and of the run on it as the one file the wanted status and bytes on both sinks.
+pub type TextRun = (&'static str, u8, &'static str, &'static str);
+
+/// The words of a command line.
+pub fn words_of(alloc: Global, words: &[&str]) -> Result<Vec<Text>, AllocError> {
+    let mut found = Vec::new(alloc);
+    for word in words {
+        found.push(Text::new(alloc, word)?)?;
+    }
+    Ok(found)
+}
+
+/// A library of these files, of which the reads with these numbers fail.
+pub fn library_of(
+    alloc: Global,
+    files: &[(&str, &[u8])],
+    failing: &[u32],
+) -> Result<MemoryLibrary, AllocError> {
+    let mut map = BTreeMap::new(alloc);
+    for (name, bytes) in files {
+        map.insert(Text::new(alloc, name)?, bytes.to_vec(alloc)?)?;
+    }
+    MemoryLibrary::new(alloc, map, failing.to_vec(alloc)?)
+}
+
+/// The bytes that the sink has taken as text, or no text.
+pub fn shown(sink: &MemorySink) -> &str {
+    match str::from_utf8(sink.taken()) {
+        Ok(text) => text,
+        Err(_) => "no text",
+    }
+}
+
+/// Runs on the words over the library, and compares the status and what both sinks have taken.
+pub fn expect_run<R: Threads + Wait + Sync + Abort>(
+    rt: &R,
+    words: &[Text],
+    library: &mut MemoryLibrary,
+    alloc: Global,
+    wanted: (u8, &str, &str),
+) -> Result<(), Fail> {
+    let mut out = MemorySink::with_room(alloc, 1000)?;
+    let mut err = MemorySink::with_room(alloc, 1000)?;
+    let status = run_groups(rt, alloc, words, library, &mut out, &mut err, &OpenGate);
+    assert_eq!(rt; (status, shown(&out), shown(&err)), wanted);
+    Ok(())
+}
+
+/// Runs on the file `f.pl` with this text.
+pub fn expect_text<R: Threads + Wait + Sync + Abort>(
+    rt: &R,
+    alloc: Global,
+    text: &str,
+    status: u8,
+    on_out: &str,
+    on_err: &str,
+) -> Result<(), Fail> {
+    let words = words_of(alloc, &["f.pl"])?;
+    let mut library = library_of(alloc, &[("f.pl", text.as_bytes())], &[])?;
+    expect_run(rt, &words, &mut library, alloc, (status, on_out, on_err))
+}
+
+/// Runs on each text as the file `f.pl`.
+pub fn expect_texts<R: Threads + Wait + Sync + Abort>(
+    rt: &R,
+    alloc: Global,
+    rows: &[TextRun],
+) -> Result<(), Fail> {
+    for (text, status, on_out, on_err) in rows {
+        expect_text(rt, alloc, text, *status, on_out, on_err)?;
+    }
+    Ok(())
+}
