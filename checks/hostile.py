@@ -4,7 +4,8 @@
 - each prefix of an example, cut at every byte: status 0 or 3, and at 3 one line or more;
 - files of random bytes, of quotes, of opening brackets, of `:- ` again and again, and one long line;
 - a run in which the Nth allocation fails, for each N in turn: status 7 with nothing on standard
-  output, or the answer of a run in which none fails. This needs a C compiler, `cc`.
+  output and its line on standard error, or with no line where the words were not read yet, or the
+  answer of a run in which none fails. This needs a C compiler, `cc`.
 
 Ends with status 1 where an answer is wrong. The whole takes about a minute.
 """
@@ -95,13 +96,16 @@ def memory(folder):
 
     whole = answer(0)
     total = int(count.read_text())
-    wanting = (7, b"", b"groups: out of memory\n")
+    silent, wanting = (7, b"", b""), (7, b"", b"groups: out of memory\n")
     seen = []
     for number in range(1, total + 1):
         seen.append(answer(number))
-        if seen[-1] not in (wanting, whole):
+        if seen[-1] not in (silent, wanting, whole):
             wrong.append(f"allocation {number}: status {seen[-1][0]}, {len(seen[-1][1])} bytes on out")
-    print(f"{total} allocations: {seen.count(wanting)} times out of memory, {seen.count(whole)} as without")
+    if wanting in seen and silent in seen[seen.index(wanting) :]:
+        wrong.append("no line of status 7, though the words were read")
+    failed = seen.count(silent) + seen.count(wanting)
+    print(f"{total} allocations: {failed} times out of memory, {seen.count(whole)} as without")
 
 
 def main():

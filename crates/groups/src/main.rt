@@ -3,7 +3,7 @@
 #![tactic(auto)]
 
 use file_library::DiskLibrary;
-use group_tool::{OpenGate, Sink, StreamSink, run_groups};
+use group_tool::{OpenGate, StreamSink, run_groups};
 use prolog_tokens::Text;
 use std::alloc::{AllocError, Global};
 use std::env;
@@ -11,7 +11,7 @@ use std::io::ErrorKind;
 use std::process::ExitCode;
 use std::rt::Env;
 
-/// The status where there is no memory for the words.
+/// The status where there is no memory for the words. Nothing is put then.
 const NO_MEMORY: u8 = 7;
 
 /// One empty word, which no lawful command line has.
@@ -43,8 +43,6 @@ fn words<R: Env + AllocGlobal>(rt: &R) -> Result<Vec<Text>, AllocError> {
 fn main(rt: HostRuntime) -> ExitCode {
     let alloc = rt.alloc();
     let Ok(words) = words(&rt) else {
-        let mut err = StreamSink::new(rt.stderr());
-        let _ = err.put(b"groups: out of memory\n");
         return ExitCode::from(NO_MEMORY);
     };
     let mut library = DiskLibrary::new(&rt, alloc);
