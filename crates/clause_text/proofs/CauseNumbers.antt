@@ -1,5 +1,5 @@
 -- No two causes have one number.
-use Rattle.std.proofs.Common.{◌≡◌, ℕ, ◌-◌, List, [], ◌∷◌, Some, slice_get, refl, ap, sym, ◌∙◌}
+use Rattle.std.proofs.Common.{◌≡◌, ◌-◌, List, [], ◌∷◌, Some, slice_get, refl, ap, sym, ◌∙◌}
 use Rattle.clause_text.specs.declared.cause.Cause.{Cause}
 use Rattle.clause_text.specs.declared.cause.Cause.TheVariants.{NotUtf8, BadChar, OpenQuote, OpenComment, BadEscape, Stuck, TooDeep, NoEnd, BadPriority, BadKind, BadName, FixedOp, InfixAndPostfix, LateModule, BadIndicator, BadSpec, ControlHead, BadHead, NotInProfile, NoRoot, TwoModules, NoFile, NotModule, NotExported, NotDefined, TwoImports, NotCallable}
 use Rattle.clause_text.specs.Cause.{number_of}

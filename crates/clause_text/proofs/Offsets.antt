@@ -1,5 +1,5 @@
 -- A fault of the clauses of a text stands at an offset of it.
-use Rattle.std.proofs.Common.{◌≡◌, ℕ, List, [], ◌∷◌, ◌++◌, Option, Some, None, Ok, Err, true, false, option_to_list, refl, sym, ap, subst, inl, inr, arith, codes, ◌||◌, if◌then◌else◌}
+use Rattle.std.proofs.Common.{◌≡◌, ℕ, List, [], ◌∷◌, ◌++◌, Option, Some, None, Ok, Err, true, false, option_to_list, option_map, option_and_then, refl, sym, ap, subst, inl, inr, arith, codes, ◌||◌, if◌then◌else◌}
 use Rattle.std.specs.Option.{IfSome}
 use Rattle.std.specs.Prelude.{All}
 use Rattle.std.proofs.lemmas.List.Elements.{All-cons}
@@ -21,6 +21,7 @@ use Rattle.prolog_terms.specs.declared.term.Span.{Span}
 use Rattle.prolog_terms.specs.declared.reader.ReadFault.{ReadFault}
 use Rattle.prolog_terms.specs.declared.reader.ReadFault.TheVariants as of_clauses
 use Rattle.prolog_terms.specs.Tree.{Tree, Trees, variable, constant, atom, compound, listed, tailed as with_tail, curly, paren, none, more as with_more, span_of}
+use Rattle.prolog_terms.specs.Views.{inside, start_of, trees_in, sides_at, joined, atom_name}
 use Rattle.prolog_terms.specs.Words.{table_of}
 use Rattle.prolog_terms.specs.declared.word.Word.{Word}
 use Rattle.prolog_terms.specs.Grammar.{Parse, Parts, call, square, leaf, negative, bare, pair, group, tailed, wrapped, prefixed, infixed, postfixed, one, more, yield, parts_yield}
@@ -28,9 +29,9 @@ use Rattle.prolog_terms.specs.Clause.{AreWords, IsClauseOf, leaf_tree, negative_
 use Rattle.prolog_terms.proofs.TokenWords.{AreSpelled, spelled_front, spelled_behind, cut_spelled}
 use Rattle.prolog_terms.proofs.FaultOffsets.{TellsOffset, read_offset}
 use Rattle.clause_text.specs.declared.fault.TextFault.{TextFault}
-use Rattle.clause_text.specs.Terms.{inside, start_of, trees_in, sides_at, goals_in, listed_at}
+use Rattle.clause_text.specs.Lists.{listed_at, written_at, written_items}
 use Rattle.clause_text.specs.Offsets.{HasOffsets, HaveOffsets}
-use Rattle.clause_text.specs.Items.{Item, Name, Answer, then_on, each_on, set_or, name_on, with_names, with_kind, with_priority, item_on, items_on, item_at, item_of, items_by, exported_items, goal_items, directive_items, directive_at, items_under, items_of, priority_of, kind_of, name_at, name_of, is_name, listed_names_at, names_by, names_of, fault_of_ops}
+use Rattle.clause_text.specs.Items.{Item, Name, Answer, then_on, each_on, set_or, name_on, with_names, with_kind, with_priority, item_on, items_on, item_at, item_of, items_by, exported_items, goal_items, directive_items, directive_at, items_under, items_of, priority_of, kind_of, name_of, is_name, all_names, listed_names, names_by, names_of, fault_of_ops}
 use Rattle.clause_text.specs.Clauses.{AreClauses, ReadsAs, IsPartFault, FaultStandsBehind, fault_of_clauses, opening_ops}
 use Rattle.clause_text.specs.TextFault.{ClausesHave, offset_of}
 
@@ -191,10 +192,10 @@ each_flat : {A B : Type 0} (P : A → Type 0) (Q : B → Type 0) (f : A → List
 each_flat P Q f gives [] all = tt
 each_flat P Q f gives (x ∷ xs) all = each_join Q (f x) (flat_map f xs) (gives x all.0) (each_flat P Q f gives xs all.1)
 
-goals_stand : (text : List ℕ) (tree : Tree) → HasOffsets text tree → Each (HasOffsets text) (goals_in tree)
+goals_stand : (text : List ℕ) (tree : Tree) → HasOffsets text tree → Each (HasOffsets text) (joined tree)
 goals_stand text (compound name (with_more left (with_more right none)) form span) stands =
-    elim (bytes_eq name (codes ",")) as (λ b. Each (HasOffsets text) (if b then goals_in left ++ goals_in right else compound name (with_more left (with_more right none)) form span ∷ [])) [
-      | true ↦ each_join (HasOffsets text) (goals_in left) (goals_in right) (goals_stand text left stands.1.0) (goals_stand text right stands.1.1.0)
+    elim (bytes_eq name (codes ",")) as (λ b. Each (HasOffsets text) (if b then joined left ++ joined right else compound name (with_more left (with_more right none)) form span ∷ [])) [
+      | true ↦ each_join (HasOffsets text) (joined left) (joined right) (goals_stand text left stands.1.0) (goals_stand text right stands.1.1.0)
       | false ↦ (stands, tt)
     ]
 goals_stand text (paren inner span) stands = goals_stand text inner stands.1
@@ -245,7 +246,7 @@ goal_stands text goal stands =
 
 directive_stands : (text : List ℕ) (directive : Tree) → HasOffsets text directive → Each (ItemStands text) (directive_items directive)
 directive_stands text directive stands =
-    each_flat (HasOffsets text) (ItemStands text) goal_items (goal_stands text) (goals_in directive) (goals_stand text directive stands)
+    each_flat (HasOffsets text) (ItemStands text) goal_items (goal_stands text) (joined directive) (goals_stand text directive stands)
 
 at_stands : (text : List ℕ) (clause : Tree) → HasOffsets text clause → Where (HasOffsets text) (directive_at clause)
 at_stands text (compound name (with_more directive none) form span) stands =
@@ -261,20 +262,24 @@ items_stand text clause stands = under_stand text (directive_at (inside clause))
 
 -- names stand at offsets
 
-name_at_stands : (text : List ℕ) (tree : Tree) → HasOffsets text tree → Where (λ (name : Name). IsOffset text name.at) (name_at tree)
-name_at_stands text (atom name span) stands = stands
-name_at_stands text tree stands = tt
-
 name_stands : (text : List ℕ) (tree : Tree) → HasOffsets text tree → Where (λ (name : Name). IsOffset text name.at) (name_of tree)
-name_stands text tree stands = name_at_stands text (inside tree) (inside_stands text tree stands)
+name_stands text tree stands = of_atom (atom_name tree)
+  where
+    of_atom : (found : Option (List ℕ)) → Where (λ (name : Name). IsOffset text name.at) (option_map (λ (name : List ℕ). record { text = name; at = start_of tree }) found)
+    of_atom (Some name) = start_stands text tree stands
+    of_atom None = tt
 
-listed_names_stand : (text : List ℕ) (tree : Tree) → HasOffsets text tree → Where (Each (HasOffsets text)) (listed_names_at tree)
-listed_names_stand text (listed items span) stands =
-    elim (list_all is_name (trees_in items)) as (λ b. Where (Each (HasOffsets text)) (if b then Some (trees_in items) else None)) [
-      | true ↦ each_in text items stands.1
-      | false ↦ tt
-    ]
-listed_names_stand text tree stands = tt
+written_at_stand : (text : List ℕ) (tree : Tree) → HasOffsets text tree → Where (Each (HasOffsets text)) (written_at tree)
+written_at_stand text (listed items span) stands = each_in text items stands.1
+written_at_stand text tree stands = tt
+
+all_names_stand : (text : List ℕ) (list : Option (List Tree)) → Where (Each (HasOffsets text)) list → Where (Each (HasOffsets text)) (option_and_then all_names list)
+all_names_stand text (Some trees) stand =
+    elim (list_all is_name trees) as (λ b. Where (Each (HasOffsets text)) (if b then Some trees else None)) [ true ↦ stand | false ↦ tt ]
+all_names_stand text None stand = tt
+
+listed_names_stand : (text : List ℕ) (tree : Tree) → HasOffsets text tree → Where (Each (HasOffsets text)) (listed_names tree)
+listed_names_stand text tree stands = all_names_stand text (written_items tree) (written_at_stand text (inside tree) (inside_stands text tree stands))
 
 names_by_stand : (text : List ℕ) (name : Option Name) (list : Option (List Tree)) → Where (λ (n : Name). IsOffset text n.at) name → Where (Each (HasOffsets text)) list
     → Where (Each (λ (n : Name). IsOffset text n.at)) (names_by name list)
@@ -284,7 +289,7 @@ names_by_stand text None (Some trees) stands also = each_kept (HasOffsets text) 
 
 names_stand : (text : List ℕ) (tree : Tree) → HasOffsets text tree → Where (Each (λ (n : Name). IsOffset text n.at)) (names_of tree)
 names_stand text tree stands =
-    names_by_stand text (name_of tree) (listed_names_at (inside tree)) (name_stands text tree stands) (listed_names_stand text (inside tree) (inside_stands text tree stands))
+    names_by_stand text (name_of tree) (listed_names tree) (name_stands text tree stands) (listed_names_stand text tree stands)
 
 -- what is refused, is refused at an offset
 

@@ -2,23 +2,20 @@
 use Rattle.std.proofs.Common.{◌≡◌, ◌≢◌, ℕ, ◌+◌, ◌≤◌, List, [], ◌∷◌, length, All, ap, subst, ◌∙◌, arith, length-append}
 use Rattle.std.specs.Str.{IsUtf8}
 use Rattle.std.proofs.lemmas.List.Elements.{All-nil, All-cons}
+use Rattle.std.proofs.lemmas.List.Sums.{sum_by-cons}
 use Rattle.prolog_tokens.specs.declared.token.Token.{Token}
 use Rattle.prolog_tokens.specs.declared.token.TokenFault.{TokenFault}
 use Rattle.prolog_tokens.specs.declared.token.TokenFault.TheVariants as of_tokens
 use Rattle.prolog_tokens.specs.Cut.{IsCut, HasFault}
-use Rattle.prolog_ops.specs.Table.{Ops, IsOps}
+use Rattle.prolog_ops.specs.Table.{Ops}
 use Rattle.prolog_terms.specs.Tree.{Tree}
 use Rattle.prolog_terms.specs.Words.{table_of}
-use Rattle.prolog_terms.specs.Arity.{HasAritiesWithin}
-use Rattle.prolog_terms.proofs.ReaderTables.{table_is}
-use Rattle.prolog_terms.proofs.ClausesOf.{clause_once}
-use Rattle.prolog_terms.proofs.ClauseArities.{clause_within}
+use Rattle.prolog_terms.specs.Weight.{weight}
+use Rattle.prolog_terms.proofs.ClauseWeights.{clause_weight}
 use Rattle.clause_text.specs.declared.fault.TextFault.{TextFault}
 use Rattle.clause_text.specs.declared.fault.TextFault.TheVariants.{At, NoMemory}
-use Rattle.clause_text.specs.Items.{items_of}
-use Rattle.clause_text.specs.Clauses.{AreClauses, ReadsAs, HasClauseFault, opening_ops}
+use Rattle.clause_text.specs.Clauses.{AreClauses, ReadsAs, HasClauseFault, opening_ops, total_weight}
 use Rattle.clause_text.specs.TextFault.{TokensHave, ClausesHave, fault_of_tokens}
-use Rattle.clause_text.proofs.KeptTables.{items_keep}
 use Rattle.clause_text.proofs.Offsets.{IsPlaced, clauses_placed}
 
 -- what was read of the tokens of the text is read of the bytes
@@ -54,18 +51,22 @@ pub placed_or_none : (text : List ℕ) (fault : TextFault) → (fault ≢ NoMemo
 placed_or_none text (At cause at) have = clauses_placed text (At cause at) (have (λ e. cc))
 placed_or_none text NoMemory have = tt
 
--- there are no more clauses than tokens
-pub few_clauses : (table : Ops) → IsOps table → (text : List ℕ) (ts : List Token) (trees : List Tree) → AreClauses table text ts trees → length trees ≤ length ts
-few_clauses table ok text ts [] are = omega arith
-few_clauses table ok text ts (tree ∷ trees) (part, rest, left, is, leaves, are) =
-    let ends = clause_once (table_of table) (table_is table ok) text part tree leaves.clause in
+-- what stands within the clauses has a token each, and so have their Ends
+pub clauses_weigh : (table : Ops) (text : List ℕ) (ts : List Token) (trees : List Tree) → AreClauses table text ts trees → total_weight trees ≤ length ts
+clauses_weigh table text ts [] are = omega arith
+clauses_weigh table text ts (tree ∷ trees) (part, rest, left, is, leaves, are) =
     let count : length ts ≡ length part + length rest = ap length is ∙ length-append part rest in
-    omega (arith, few_clauses left (items_keep (items_of tree) table left ok leaves.items) text rest trees are, count, ends.some)
+    omega (
+      arith,
+      count,
+      sum_by-cons (λ t. weight t + 2) tree trees,
+      clause_weight (table_of table) text part tree leaves.clause,
+      clauses_weigh left text rest trees are,
+    )
 
--- no compound of a clause has more arguments than the text has tokens
-pub clauses_arities : (table : Ops) (text : List ℕ) (ts : List Token) (trees : List Tree) (n : ℕ) → length ts ≤ n → AreClauses table text ts trees → All (HasAritiesWithin n) trees
-clauses_arities table text ts [] n few are = All-nil (HasAritiesWithin n)
-clauses_arities table text ts (tree ∷ trees) n few (part, rest, left, is, leaves, are) =
-    let count : length ts ≡ length part + length rest = ap length is ∙ length-append part rest in
-    All-cons (HasAritiesWithin n) tree trees (clause_within (table_of table) text part tree n (omega (arith, count)) leaves.clause)
-    (clauses_arities left text rest trees n (omega (arith, count)) are)
+-- so each weighs no more than all do
+pub each_light : (trees : List Tree) (n : ℕ) → total_weight trees ≤ n → All (λ tree. weight tree ≤ n) trees
+each_light [] n light = All-nil (λ tree. weight tree ≤ n)
+each_light (tree ∷ trees) n light =
+    let both = sum_by-cons (λ t. weight t + 2) tree trees in
+    All-cons (λ t. weight t ≤ n) tree trees (omega (arith, light, both)) (each_light trees n (omega (arith, light, both)))

@@ -1,5 +1,5 @@
 -- A text as clauses, one after another, each read under the operators that those before it leave, or up to the first that is refused.
-use Rattle.std.specs.Prelude.{◌≡◌, ◌≢◌, ℕ, ◌+◌, ◌-◌, ◌<◌, ◌≤◌, ◌⊎◌, List, [], ◌∷◌, ◌++◌, Option, Some, Ok, Err, length, slice_get, option_map, map}
+use Rattle.std.specs.Prelude.{◌≡◌, ◌≢◌, ℕ, ◌+◌, ◌-◌, ◌<◌, ◌≤◌, ◌⊎◌, List, [], ◌∷◌, ◌++◌, Option, Some, Ok, Err, length, slice_get, option_map, map, sum_by}
 use Rattle.std.specs.Str.{IsUtf8}
 use Rattle.prolog_tokens.specs.declared.token.Kind.{Kind}
 use Rattle.prolog_tokens.specs.declared.token.Kind.TheVariants.{End}
@@ -9,6 +9,7 @@ use Rattle.prolog_ops.specs.Table.{Ops, opening}
 use Rattle.prolog_terms.specs.declared.reader.ReadFault.{ReadFault}
 use Rattle.prolog_terms.specs.declared.reader.ReadFault.TheVariants as of_clauses
 use Rattle.prolog_terms.specs.Tree.{Tree, tree_of}
+use Rattle.prolog_terms.specs.Weight.{weight}
 use Rattle.prolog_terms.specs.Words.{table_of}
 use Rattle.prolog_terms.specs.Clause.{IsClauseOf, IsReadFault, IsOneClause}
 use Rattle.clause_text.specs.declared.cause.Cause.TheVariants.{Stuck, TooDeep, NoEnd}
@@ -23,6 +24,10 @@ opening_ops = opening
 
 abbrev pub clause_trees : List Clause → List Tree
 clause_trees clauses = map (λ clause. tree_of clause.term) clauses
+
+-- how much stands within the clauses, and two more for each: its End, and the word that it is at least
+abbrev pub total_weight : List Tree → ℕ
+total_weight trees = sum_by (λ tree. weight tree + 2) trees
 
 -- the kind of the token at a place
 abbrev pub kind_there : List Token → ℕ → Option Kind

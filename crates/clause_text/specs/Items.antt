@@ -1,5 +1,5 @@
 -- The operator items of a clause, and the table of operators that they leave.
-use Rattle.std.specs.Prelude.{ℕ, ◌||◌, List, [], ◌∷◌, Option, Some, None, Bool, false, is_some, Result, Ok, Err, nat_le, if◌then◌else◌, codes, flat_map, option_map}
+use Rattle.std.specs.Prelude.{ℕ, ◌||◌, List, [], ◌∷◌, Option, Some, None, Bool, false, is_some, Result, Ok, Err, nat_le, if◌then◌else◌, codes, flat_map, option_map, option_and_then}
 use Rattle.std.specs.Option.{option_to_list}
 use Rattle.std.specs.List.{filter_map, list_all}
 use Rattle.std.specs.Str.{bytes_eq}
@@ -10,11 +10,12 @@ use Rattle.prolog_ops.specs.declared.table.OpFault.{OpFault}
 use Rattle.prolog_ops.specs.declared.table.OpFault.TheVariants as of_ops
 use Rattle.prolog_terms.specs.declared.term.ConstKind.{ConstKind}
 use Rattle.prolog_terms.specs.declared.term.ConstKind.TheVariants.{Integer}
-use Rattle.prolog_terms.specs.Tree.{Tree, constant, atom, compound, listed, more, none}
+use Rattle.prolog_terms.specs.Tree.{Tree, constant, compound, more, none}
+use Rattle.prolog_terms.specs.Views.{inside, start_of, sides_of, joined, atom_name}
 use Rattle.clause_text.specs.declared.cause.Cause.TheVariants.{BadPriority, BadKind, BadName, FixedOp, InfixAndPostfix}
 use Rattle.clause_text.specs.declared.fault.TextFault.{TextFault}
 use Rattle.clause_text.specs.declared.fault.TextFault.TheVariants.{At, NoMemory}
-use Rattle.clause_text.specs.Terms.{inside, start_of, trees_in, sides_of, goals_in, listed_at}
+use Rattle.clause_text.specs.Lists.{listed_items, written_items}
 
 -- an operator item, `op(priority, kind, names)`
 pub record Item : Type 0 where
@@ -32,7 +33,7 @@ item_of tree = item_at (inside tree)
 
 -- the items of a list that a module exports
 abbrev pub exported_items : Tree → List Item
-exported_items exports = filter_map item_of (listed_at (inside exports))
+exported_items exports = filter_map item_of (listed_items exports)
 
 -- the items of a goal of a directive: those that `module(name, exports)` exports, or itself
 abbrev pub items_by : Option (Tree × Tree) → Option Item → List Item
@@ -43,7 +44,7 @@ abbrev pub goal_items : Tree → List Item
 goal_items goal = items_by (sides_of (codes "module") goal) (item_of goal)
 
 abbrev pub directive_items : Tree → List Item
-directive_items directive = flat_map goal_items (goals_in directive)
+directive_items directive = flat_map goal_items (joined directive)
 
 -- what a clause `:- directive` or `?- directive` has behind its operator
 abbrev pub directive_at : Tree → Option Tree
@@ -85,35 +86,26 @@ kind_named name =
     else if bytes_eq name (codes "yf") then Some Yf
     else None
 
-abbrev pub kind_at : Tree → Option OpKind
-kind_at (atom name span) = kind_named name
-kind_at _ = None
-
 abbrev pub kind_of : Tree → Option OpKind
-kind_of tree = kind_at (inside tree)
+kind_of tree = option_and_then kind_named (atom_name tree)
 
 -- a name that an item sets, and where it stands
 pub record Name : Type 0 where
   pub text : List ℕ
   pub at : ℕ
 
-abbrev pub name_at : Tree → Option Name
-name_at (atom text span) = Some (record { text = text; at = span.from })
-name_at _ = None
-
 abbrev pub name_of : Tree → Option Name
-name_of tree = name_at (inside tree)
+name_of tree = option_map (λ text. record { text = text; at = start_of tree }) (atom_name tree)
 
 abbrev pub is_name : Tree → Bool
-is_name tree = is_some (name_of tree)
+is_name tree = is_some (atom_name tree)
 
 -- the names of an item: an atom, or a list without a tail of nothing but atoms
-abbrev pub listed_names_at : Tree → Option (List Tree)
-listed_names_at (listed items span) = if list_all is_name (trees_in items) then Some (trees_in items) else None
-listed_names_at _ = None
+abbrev pub all_names : List Tree → Option (List Tree)
+all_names trees = if list_all is_name trees then Some trees else None
 
 abbrev pub listed_names : Tree → Option (List Tree)
-listed_names tree = listed_names_at (inside tree)
+listed_names tree = option_and_then all_names (written_items tree)
 
 abbrev pub names_by : Option Name → Option (List Tree) → Option (List Name)
 names_by (Some name) list = Some (name ∷ [])

@@ -1,5 +1,5 @@
 pub mod Cause
-pub mod Terms
+pub mod Lists
 pub mod Items
 pub mod Clauses
 pub mod TextFault

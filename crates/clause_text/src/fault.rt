@@ -1,12 +1,11 @@
 ghost use Rattle.std.specs.Prelude.{◌≡◌};
 ghost use Rattle.prolog_terms.specs.Tree.{tree_of};
-ghost use Rattle.clause_text.specs.Terms.{start_of};
+ghost use Rattle.prolog_terms.specs.Views.{start_of};
 ghost use Rattle.clause_text.specs.Items.{fault_of_ops};
 
 use crate::cause::Cause;
-use crate::terms::inside;
 use prolog_ops::OpFault;
-use prolog_terms::{ReadFault, Term, span_at};
+use prolog_terms::{ReadFault, Term, start_of};
 use prolog_tokens::TokenFault;
 use std::alloc::AllocError;
 
@@ -75,5 +74,5 @@ pub fn fault_of_ops(fault: OpFault, at: u32) -> TextFault
 pub fn fault_at(cause: Cause, term: &Term) -> TextFault
     ensures { result ≡ TextFault.At cause (start_of (tree_of term.now)) }
 {
-    TextFault::At(cause, span_at(inside(term)).from)
+    TextFault::At(cause, start_of(term))
 }

@@ -7,9 +7,9 @@ ghost use Rattle.clause_text.specs.Items.{Item, priority_of, priority_when, kind
 
 use crate::cause::Cause;
 use crate::fault::{TextFault, fault_at, fault_of_ops};
-use crate::terms::{directive_of, inside, listed, operator_item, sides};
+use crate::terms::{directive_of, listed, operator_item, written_items};
 use prolog_ops::{OpKind, OpTable};
-use prolog_terms::{ConstKind, Term};
+use prolog_terms::{ConstKind, Term, atom_name, inside, sides, start_of};
 use std::alloc::Global;
 
 /// The greatest priority of an operator.
@@ -60,26 +60,22 @@ fn kind_named(name: &str) -> Option<OpKind>
 fn kind_of(term: &Term) -> Option<OpKind>
     ensures { result ≡ kind_of (tree_of term.now) }
 {
-    match inside(term) {
-        Term::Atom { name, .. } => kind_named(name.as_str()),
-        _ => None,
-    }
+    let name = atom_name(term)?;
+    kind_named(name)
 }
 
 /// The name of an atom, and where it stands.
 fn name_of(term: &Term) -> Option<(&str, u32)>
     ensures { option_map (λ name. record { text = name.0.now; at = name.1 }) result ≡ name_of (tree_of term.now) }
 {
-    match inside(term) {
-        Term::Atom { name, span } => Some((name.as_str(), span.from)),
-        _ => None,
-    }
+    let name = atom_name(term)?;
+    Some((name, start_of(term)))
 }
 
 fn is_name(term: &Term) -> bool
     ensures { result ≡ is_name (tree_of term.now) }
 {
-    name_of(term).is_some()
+    atom_name(term).is_some()
 }
 
 fn are_names(terms: &[Term]) -> bool
@@ -92,12 +88,7 @@ fn are_names(terms: &[Term]) -> bool
 fn listed_names(names: &Term) -> Option<&[Term]>
     ensures { option_map (λ list. map tree_of list.now) result ≡ listed_names (tree_of names.now) }
 {
-    let Term::List { items, tail, .. } = inside(names) else {
-        return None;
-    };
-    if tail.is_some() {
-        return None;
-    }
+    let items = written_items(names)?;
     if !are_names(items) {
         return None;
     }

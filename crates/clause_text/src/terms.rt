@@ -1,36 +1,10 @@
 ghost use Rattle.std.specs.Prelude.{◌≡◌, ◌||◌, option_map, map, codes};
 ghost use Rattle.std.specs.Str.{bytes_eq};
 ghost use Rattle.prolog_terms.specs.Tree.{tree_of};
-ghost use Rattle.clause_text.specs.Terms.{inside as inner_tree, sides_of, listed_at};
+ghost use Rattle.clause_text.specs.Lists.{listed_items, written_items};
 ghost use Rattle.clause_text.specs.Items.{item_of, directive_of};
 
-use prolog_terms::Term;
-
-/// The term in all brackets round it.
-pub fn inside(term: &Term) -> &Term
-    ensures { tree_of result.now ≡ inner_tree (tree_of term.now) }
-{
-    match term {
-        Term::Paren { inner, .. } => inside(inner),
-        _ => term,
-    }
-}
-
-/// The two arguments of a term that is a compound of this name, in any notation and brackets.
-pub fn sides<'a>(term: &'a Term, operator: &str) -> Option<(&'a Term, &'a Term)>
-    ensures { option_map (λ pair. (tree_of pair.0.now, tree_of pair.1.now)) result ≡ sides_of operator.now (tree_of term.now) }
-{
-    let Term::Compound { name, args, .. } = inside(term) else {
-        return None;
-    };
-    if name.as_str() != operator {
-        return None;
-    }
-    if args.len() != 2 {
-        return None;
-    }
-    Some((&args[0], &args[1]))
-}
+use prolog_terms::{Term, inside};
 
 /// The priority, the kind and the names of a term that is an operator item.
 pub fn operator_item(term: &Term) -> Option<(&Term, &Term, &Term)>
@@ -72,10 +46,23 @@ pub fn directive_of(clause: &Term) -> Option<&Term>
 
 /// The terms of a list, with a tail or without, and none of another term.
 pub fn listed(term: &Term) -> &[Term]
-    ensures { map tree_of result.now ≡ listed_at (inner_tree (tree_of term.now)) }
+    ensures { map tree_of result.now ≡ listed_items (tree_of term.now) }
 {
     match inside(term) {
         Term::List { items, .. } => items,
         _ => &[],
+    }
+}
+
+/// The terms of a list without a tail, which isn't the atom `[]`.
+pub fn written_items(term: &Term) -> Option<&[Term]>
+    ensures { option_map (λ items. map tree_of items.now) result ≡ written_items (tree_of term.now) }
+{
+    match inside(term) {
+        Term::List { items, tail, .. } => match tail {
+            None => Some(items),
+            Some(_) => None,
+        },
+        _ => None,
     }
 }

@@ -1,8 +1,7 @@
-ghost use Rattle.std.specs.Prelude.{◌≡◌, ◌≢◌, ◌≤◌, List, All, length, IfOk, IfErr, IfSome};
+ghost use Rattle.std.specs.Prelude.{◌≡◌, ◌≢◌, ◌≤◌, List, length, IfOk, IfErr, IfSome};
 ghost use Rattle.prolog_tokens.specs.Places.{IsOffset};
 ghost use Rattle.prolog_terms.specs.Tree.{Tree};
-ghost use Rattle.prolog_terms.specs.Arity.{HasAritiesWithin};
-ghost use Rattle.clause_text.specs.Clauses.{ReadsAs, clause_trees};
+ghost use Rattle.clause_text.specs.Clauses.{ReadsAs, clause_trees, total_weight};
 ghost use Rattle.clause_text.specs.TextFault.{HasTextFault, offset_of};
 
 use crate::Clause;
@@ -24,8 +23,7 @@ pub fn read_text(alloc: Global, bytes: &[u8]) -> Result<Vec<Clause>, TextFault>
     ensures fault { IfErr result (λ fault. fault ≢ TextFault.NoMemory → HasTextFault bytes.now fault) }
     ensures only_fault { IfErr result (λ fault. fault ≢ TextFault.NoMemory → (other : TextFault) → HasTextFault bytes.now other → other ≡ fault) }
     ensures offset { IfErr result (λ fault. IfSome (offset_of fault) (λ at. IsOffset bytes.now at)) }
-    ensures arities { IfOk result (λ clauses. All (HasAritiesWithin 8388608) (clause_trees clauses.items)) }
-    ensures few { IfOk result (λ clauses. length clauses.items ≤ 8388608) }
+    ensures weights { IfOk result (λ clauses. total_weight (clause_trees clauses.items) ≤ length bytes.now) }
 {
     let text = match str::from_utf8(bytes) {
         Ok(text) => text,

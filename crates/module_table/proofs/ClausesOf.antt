@@ -7,10 +7,10 @@ use Rattle.std.proofs.lemmas.List.Elements.{All-nil, All-cons, All-contains, All
 use Rattle.std.proofs.lemmas.Slice.Eq.{bytes_eq-Decides}
 use Rattle.std.proofs.lemmas.Bool.Decides.{Decides-eqb}
 use Rattle.prolog_terms.specs.Tree.{Tree}
+use Rattle.prolog_terms.specs.Views.{Named}
 use Rattle.clause_text.specs.Items.{directive_of}
 use Rattle.module_table.specs.Defined.{Defines, Predicate, clause_for, clauses_for}
 use Rattle.module_table.specs.Said.{Said, Part, Loads, declares, loads, defines, goal, Refusal, in_turn, each_said}
-use Rattle.module_table.specs.Heads.{Named}
 use Rattle.module_table.specs.Kinds.{defined_part, load_part}
 use Rattle.module_table.specs.Directives.{directive_said}
 use Rattle.module_table.specs.Facts.{Facts, AreFacts, clause_head, headed, clause_said, file_said, is_headed, is_clause_of}

@@ -3,14 +3,15 @@ use Rattle.std.proofs.Common.{◌≡◌, ℕ, Bool, true, false, List, [], ◌�
 use Rattle.std.specs.List.{AllByRecursion}
 use Rattle.std.specs.Str.{bytes_eq}
 use Rattle.prolog_terms.specs.Tree.{Tree, variable, constant, atom, compound, listed, tailed, curly, paren, more as with_more, none}
-use Rattle.clause_text.specs.Terms.{trees_in}
+use Rattle.prolog_terms.specs.Views.{trees_in}
+use Rattle.clause_text.specs.Lists.{written_items}
 use Rattle.module_table.specs.declared.indicator.Indicator.{Indicator}
 use Rattle.module_table.specs.declared.load.LoadKind.{LoadKind}
 use Rattle.module_table.specs.declared.load.LoadKind.TheVariants.{UseAll, UseSome, Ensure}
 use Rattle.module_table.specs.FileName.{resolved}
 use Rattle.module_table.specs.Said.{Said, Part, declares, loads, defines, goal, Refusal, in_turn, each_said}
 use Rattle.module_table.specs.Heads.{is_among}
-use Rattle.module_table.specs.Indicators.{written_items, declared_indicators, listed_indicators}
+use Rattle.module_table.specs.Indicators.{declared_indicators, listed_indicators}
 use Rattle.module_table.specs.Loading.{path_text, resolved_in, is_system, file_of, load_said, loads_said, use_all_said}
 use Rattle.module_table.specs.Directives.{defined_bare, defined_said, some_said, exports, declared_said, module_name, module_said, silent_names, outside_names, one_said, two_said, three_said, shallow_said, directive_said}
 

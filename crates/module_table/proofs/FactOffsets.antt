@@ -1,10 +1,10 @@
 -- The facts of a file, and their refusal, stand where terms of the text start.
-use Rattle.std.proofs.Common.{◌≡◌, ℕ, List, [], Err, subst}
+use Rattle.std.proofs.Common.{◌≡◌, ℕ, List, Err, subst}
 use Rattle.std.specs.Prelude.{All}
 use Rattle.std.proofs.lemmas.List.Elements.{All-nil, All-cons}
 use Rattle.prolog_tokens.specs.Places.{IsOffset}
 use Rattle.prolog_terms.specs.Tree.{Tree, Trees, variable, constant, atom, compound, listed, tailed, curly, paren, more as with_more, none, span_of}
-use Rattle.clause_text.specs.Terms.{trees_in}
+use Rattle.prolog_terms.specs.Views.{trees_in}
 use Rattle.clause_text.specs.Offsets.{HasOffsets, HaveOffsets}
 use Rattle.module_table.specs.Said.{Refusal}
 use Rattle.module_table.specs.Facts.{Facts, AreFacts, file_said}

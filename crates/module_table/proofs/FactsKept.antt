@@ -6,7 +6,7 @@ use Rattle.std.proofs.lemmas.List.Elements.{All-nil, All-cons, All-head, All-tai
 use Rattle.prolog_terms.specs.Tree.{Tree}
 use Rattle.module_table.specs.declared.indicator.Indicator.{Indicator}
 use Rattle.module_table.specs.Defined.{Predicate}
-use Rattle.module_table.specs.Said.{Said, Part, Declares, Loads, declares, loads, defines, goal}
+use Rattle.module_table.specs.Said.{Part, Declares, Loads, declares, loads, defines, goal}
 use Rattle.module_table.specs.Kinds.{declared_part, load_part, goal_part, first_of, IsModule}
 use Rattle.module_table.specs.Facts.{Facts, AreFacts, is_clause_of}
 use Rattle.module_table.proofs.ClausesOf.{clauses_are}

@@ -1,14 +1,15 @@
 -- What holds of a term and is handed down to the terms within it, and what so holds of where they start.
-use Rattle.std.proofs.Common.{◌≡◌, ℕ, Bool, true, false, ◌&&◌, List, [], ◌∷◌, ◌++◌, Option, Some, None, codes, refl, sym, ◌∙◌, subst, arith, if◌then◌else◌}
+use Rattle.std.proofs.Common.{◌≡◌, ℕ, Bool, true, false, List, [], ◌∷◌, ◌++◌, Option, Some, None, codes, refl, sym, ◌∙◌, subst, arith, if◌then◌else◌}
 use Rattle.std.specs.Prelude.{All}
 use Rattle.std.specs.Str.{bytes_eq}
 use Rattle.std.proofs.lemmas.List.Elements.{All-nil, All-cons, All-append}
 use Rattle.prolog_terms.specs.declared.term.Span.{Span}
 use Rattle.prolog_terms.specs.declared.term.Form.{Form}
 use Rattle.prolog_terms.specs.Tree.{Tree, Trees, compound, listed, paren, more as with_more, none, span_of}
-use Rattle.clause_text.specs.Terms.{inside, start_of, trees_in}
+use Rattle.prolog_terms.specs.Views.{inside, start_of, trees_in, Binary, binary_at, binary, sides_named, joined, atom_name}
+use Rattle.clause_text.specs.Lists.{written_at, written_items}
 use Rattle.module_table.specs.Heads.{is_pushback, before_pushback, grammar_head}
-use Rattle.module_table.specs.Indicators.{Binary, binary_at, binary, written_at, written_items, atom_name, list_of, joined}
+use Rattle.module_table.specs.Indicators.{list_of}
 
 -- what is handed down, and what so holds of where a term starts
 pub record HandsDown : Type 1 where
@@ -55,12 +56,16 @@ module _ (k : HandsDown) where
   pub grammar_good : (tree : Tree) → k.Good tree → k.Good (grammar_head tree)
   grammar_good tree good = by_pair (binary tree) refl
     where
-      chosen : (test : Bool) (pair : Binary) → AreGood pair → k.Good (if test then pair.left else tree)
-      chosen true pair are = are.left
-      chosen false pair are = good
+      chosen : (pushback : Bool) (left : Tree) → k.Good left → k.Good (if pushback then left else tree)
+      chosen true left one = one
+      chosen false left one = good
 
-      by_pair : (found : Option Binary) → binary tree ≡ found → k.Good (before_pushback tree found)
-      by_pair (Some pair) is = chosen (bytes_eq pair.name (codes ",") && is_pushback pair.right) pair (pair_good tree pair is good)
+      of_test : (test : Bool) (pair : Binary) → AreGood pair → k.Good (before_pushback tree (if test then Some (pair.left, pair.right) else None))
+      of_test true pair are = chosen (is_pushback pair.right) pair.left are.left
+      of_test false pair are = good
+
+      by_pair : (found : Option Binary) → binary tree ≡ found → k.Good (before_pushback tree (sides_named (codes ",") found))
+      by_pair (Some pair) is = of_test (bytes_eq pair.name (codes ",")) pair (pair_good tree pair is good)
       by_pair None is = good
 
   -- items

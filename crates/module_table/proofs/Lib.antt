@@ -19,5 +19,8 @@ pub mod HandedDown
 pub mod SaidKept
 pub mod FactsKept
 pub mod FactOffsets
+pub mod FactWeights
+pub mod SaidCounts
+pub mod FewDefined
 pub mod OneText
 pub mod Examples

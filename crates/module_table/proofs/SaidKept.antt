@@ -5,16 +5,17 @@ use Rattle.std.specs.Str.{bytes_eq}
 use Rattle.std.proofs.lemmas.List.Elements.{All-nil, All-cons, All-append}
 use Rattle.prolog_terms.specs.declared.term.Span.{Span}
 use Rattle.prolog_terms.specs.declared.term.Form.{Form}
-use Rattle.prolog_terms.specs.Tree.{Tree, Trees, variable, constant, atom, compound, listed, tailed, curly, paren, more as with_more, none, count, span_of}
-use Rattle.clause_text.specs.Terms.{inside, start_of, trees_in}
+use Rattle.prolog_terms.specs.Tree.{Tree, Trees, atom, compound, listed, tailed, paren, more as with_more, none}
+use Rattle.prolog_terms.specs.Views.{inside, start_of, trees_in, Binary, binary, Named, name_and_arity, joined, atom_name}
+use Rattle.clause_text.specs.Lists.{written_items}
 use Rattle.clause_text.specs.Items.{directive_at, directive_of}
 use Rattle.clause_text.specs.declared.cause.Cause.TheVariants.{LateModule, ControlHead, BadHead, NotInProfile}
 use Rattle.module_table.specs.declared.indicator.Indicator.{Indicator}
 use Rattle.module_table.specs.declared.load.LoadKind.{LoadKind}
 use Rattle.module_table.specs.declared.load.LoadKind.TheVariants.{UseAll, UseSome, Ensure}
-use Rattle.module_table.specs.Said.{Said, Part, declares, loads, defines, goal, Refusal, refused, more, in_turn, each_said, nothing, only}
-use Rattle.module_table.specs.Heads.{Named, is_among, control_names, headless_names, named_head, head_at, head, grammar_head}
-use Rattle.module_table.specs.Indicators.{Binary, binary, indicator_of, indicator_with, indicator_from, arguments_added, arity_of, indicator, one_indicator, indicators, written_items, atom_name, list_of, joined, declared_indicators, listed_indicators}
+use Rattle.module_table.specs.Said.{Said, Part, declares, loads, defines, goal, Refusal, refused, in_turn, each_said, nothing, only}
+use Rattle.module_table.specs.Heads.{is_among, control_names, headless_names, named_head, head_named, head, grammar_head}
+use Rattle.module_table.specs.Indicators.{indicator_of, indicator_with, indicator_from, arguments_added, arity_of, indicator, one_indicator, indicators, list_of, declared_indicators, listed_indicators}
 use Rattle.module_table.specs.Loading.{is_system, file_of, load_said, loads_said, use_all_said}
 use Rattle.module_table.specs.Directives.{defined_bare, defined_said, dynamic_said, some_said, use_some_said, is_operator, item_exports, exports_of, exports, declared_said, module_name, module_said, silent_names, outside_names, one_said, two_said, three_said, shallow_said, directive_said}
 use Rattle.module_table.specs.Facts.{with_added, head_with, clause_head, headed, clause_said, file_said}
@@ -93,13 +94,12 @@ module _ (k : HandsDown) where
       by_test (λ named. Unit {0}) (is_among (control_names arity) name) (refused ControlHead tree) _ (start_good k tree good)
       (by_test (λ named. Unit {0}) (is_among (headless_names arity) name) (refused BadHead tree) (Ok (record { name = name; arity = arity })) (start_good k tree good) tt)
 
-  head_at_kept : (tree : Tree) → k.Good tree → AnyHead (head_at tree)
-  head_at_kept (atom name span) good = named_kept (atom name span) name 0 good
-  head_at_kept (compound name args form span) good = named_kept (compound name args form span) name (count args) good
-  head_at_kept tree good = start_good k tree good
-
   head_kept : (tree : Tree) → k.Good tree → AnyHead (head tree)
-  head_kept tree good = head_at_kept (inside tree) (inside_good k tree good)
+  head_kept tree good = by_name (name_and_arity tree)
+    where
+      by_name : (found : Option Named) → AnyHead (head_named tree found)
+      by_name (Some named) = named_kept tree named.name named.arity good
+      by_name None = start_good k tree good
 
   added_kept : (n : ℕ) (told : Result Named Refusal) → AnyHead told → AnyHead (with_added n told)
   added_kept n (Ok named) kept = tt

@@ -1,14 +1,15 @@
 -- What directives say.
-use Rattle.std.specs.Prelude.{ℕ, List, [], ◌∷◌, Option, Some, None, Result, Ok, Err, Bool, false, if◌then◌else◌, codes, map}
+use Rattle.std.specs.Prelude.{ℕ, List, [], ◌∷◌, Option, Some, None, Result, Ok, Err, Bool, false, if◌then◌else◌, codes, map, is_some}
 use Rattle.std.specs.Str.{bytes_eq}
 use Rattle.prolog_terms.specs.Tree.{Tree, atom, compound, listed, tailed, paren, more as with_more, none}
-use Rattle.clause_text.specs.Terms.{inside, start_of, trees_in}
+use Rattle.prolog_terms.specs.Views.{start_of, trees_in, atom_name}
+use Rattle.clause_text.specs.Items.{item_of}
 use Rattle.clause_text.specs.declared.cause.Cause.TheVariants.{LateModule, BadIndicator, BadSpec, NotInProfile}
 use Rattle.module_table.specs.declared.indicator.Indicator.{Indicator}
 use Rattle.module_table.specs.declared.load.LoadKind.TheVariants.{UseSome, Ensure}
 use Rattle.module_table.specs.Said.{Said, Part, nothing, only, goal, defines, declares, refused, Refusal, in_turn, each_said}
 use Rattle.module_table.specs.Heads.{is_among}
-use Rattle.module_table.specs.Indicators.{atom_name, list_of, one_indicator, declared_indicators, listed_indicators}
+use Rattle.module_table.specs.Indicators.{list_of, one_indicator, declared_indicators, listed_indicators}
 use Rattle.module_table.specs.Loading.{load_said, loads_said, use_all_said}
 
 -- a predicate is defined, with no clause
@@ -33,12 +34,8 @@ abbrev pub use_some_said : List ℕ → Tree → Tree → Said
 use_some_said user file list = some_said user file (listed_indicators list)
 
 -- an operator of an export list
-abbrev pub operator_at : Tree → Bool
-operator_at (compound name (with_more priority (with_more kind (with_more names none))) form span) = bytes_eq name (codes "op")
-operator_at tree = false
-
 abbrev pub is_operator : Tree → Bool
-is_operator tree = operator_at (inside tree)
+is_operator item = is_some (item_of item)
 
 -- what an item of an export list exports: an operator nothing
 abbrev pub item_exports : Tree → Result (List Indicator) Refusal

@@ -3,13 +3,13 @@ use Rattle.std.specs.Prelude.{ℕ, ◌≡◌, List, [], ◌∷◌, Option, Some,
 use Rattle.std.specs.List.{filter_map}
 use Rattle.std.specs.Str.{bytes_eq}
 use Rattle.prolog_terms.specs.Tree.{Tree, tree_of}
+use Rattle.prolog_terms.specs.Views.{Binary, binary, Named}
 use Rattle.clause_text.specs.Items.{directive_of}
 use Rattle.module_table.specs.declared.indicator.Indicator.{Indicator}
 use Rattle.module_table.specs.declared.file_facts.FileFacts.{FileFacts}
 use Rattle.module_table.specs.Defined.{Predicate, AreDefined, see_defined}
 use Rattle.module_table.specs.Said.{Said, Part, Loads, defines, nothing, only, Refusal, in_turn, each_said, see_load}
-use Rattle.module_table.specs.Heads.{Named, head, grammar_head}
-use Rattle.module_table.specs.Indicators.{Binary, binary}
+use Rattle.module_table.specs.Heads.{head, grammar_head}
 use Rattle.module_table.specs.Directives.{directive_said}
 use Rattle.module_table.specs.Kinds.{declared_part, load_part, defined_part, goal_part, first_of, IsModule}
 

@@ -1,19 +1,13 @@
 -- Heads of clauses: what they define.
-use Rattle.std.specs.Prelude.{ℕ, ◌==◌, ◌&&◌, List, [], ◌∷◌, Option, Some, None, Result, Ok, Bool, true, false, if◌then◌else◌, codes}
+use Rattle.std.specs.Prelude.{ℕ, ◌==◌, List, [], ◌∷◌, Option, Some, None, Result, Ok, Bool, true, false, if◌then◌else◌, codes}
 use Rattle.std.specs.List.{list_any}
 use Rattle.std.specs.Str.{bytes_eq}
-use Rattle.prolog_terms.specs.Tree.{Tree, constant, atom, compound, listed, tailed, count}
+use Rattle.prolog_terms.specs.Tree.{Tree, constant, atom, listed, tailed}
+use Rattle.prolog_terms.specs.Views.{inside, sides_of, Named, name_and_arity}
 use Rattle.prolog_terms.specs.declared.term.ConstKind.{ConstKind}
 use Rattle.prolog_terms.specs.declared.term.ConstKind.TheVariants.{Str}
-use Rattle.clause_text.specs.Terms.{inside}
 use Rattle.clause_text.specs.declared.cause.Cause.TheVariants.{ControlHead, BadHead}
 use Rattle.module_table.specs.Said.{Refusal, refused}
-use Rattle.module_table.specs.Indicators.{Binary, binary}
-
--- a name with so many arguments
-pub record Named : Type 0 where
-  pub name : List ℕ
-  pub arity : ℕ
 
 abbrev pub is_among : List (List ℕ) → List ℕ → Bool
 is_among names name = list_any (λ word. bytes_eq word name) names
@@ -40,14 +34,13 @@ named_head tree name arity =
     else if is_among (headless_names arity) name then refused BadHead tree
     else Ok (record { name = name; arity = arity })
 
-abbrev pub head_at : Tree → Result Named Refusal
-head_at (atom name span) = named_head (atom name span) name 0
-head_at (compound name args form span) = named_head (compound name args form span) name (count args)
-head_at tree = refused BadHead tree
+abbrev pub head_named : Tree → Option Named → Result Named Refusal
+head_named tree (Some named) = named_head tree named.name named.arity
+head_named tree None = refused BadHead tree
 
 -- what a head defines, an atom or a compound
 abbrev pub head : Tree → Result Named Refusal
-head tree = head_at (inside tree)
+head tree = head_named tree (name_and_arity tree)
 
 abbrev is_string : ConstKind → Bool
 is_string Str = true
@@ -64,10 +57,10 @@ pushback_at tree = false
 abbrev pub is_pushback : Tree → Bool
 is_pushback tree = pushback_at (inside tree)
 
-abbrev pub before_pushback : Tree → Option Binary → Tree
-before_pushback tree (Some pair) = if bytes_eq pair.name (codes ",") && is_pushback pair.right then pair.left else tree
+abbrev pub before_pushback : Tree → Option (Tree × Tree) → Tree
+before_pushback tree (Some sides) = if is_pushback sides.1 then sides.0 else tree
 before_pushback tree None = tree
 
 -- the head of a grammar rule without its pushback
 abbrev pub grammar_head : Tree → Tree
-grammar_head tree = before_pushback tree (binary tree)
+grammar_head tree = before_pushback tree (sides_of (codes ",") tree)

@@ -1,33 +1,13 @@
 -- Predicate indicators, and lists of them.
-use Rattle.std.specs.Prelude.{ℕ, ◌+◌, List, [], ◌∷◌, ◌++◌, Option, Some, None, Result, Ok, false, nat_le, if◌then◌else◌, codes}
+use Rattle.std.specs.Prelude.{ℕ, ◌+◌, List, [], ◌∷◌, Option, Some, None, Result, Ok, false, nat_le, if◌then◌else◌, codes}
 use Rattle.std.specs.Str.{bytes_eq}
 use Rattle.prolog_terms.specs.declared.term.ConstKind.TheVariants.{Integer}
-use Rattle.prolog_terms.specs.Tree.{Tree, constant, atom, compound, listed, paren, more, none}
-use Rattle.clause_text.specs.Terms.{inside, start_of, trees_in}
+use Rattle.prolog_terms.specs.Tree.{Tree, constant}
+use Rattle.prolog_terms.specs.Views.{inside, start_of, Binary, binary, joined, atom_name}
+use Rattle.clause_text.specs.Lists.{written_items}
 use Rattle.clause_text.specs.declared.cause.Cause.TheVariants.{BadIndicator}
 use Rattle.module_table.specs.declared.indicator.Indicator.{Indicator}
 use Rattle.module_table.specs.Said.{Refusal, refused, each_said}
-
--- a term of two arguments, in any notation
-pub record Binary : Type 0 where
-  pub name : List ℕ
-  pub left : Tree
-  pub right : Tree
-
-abbrev pub binary_at : Tree → Option Binary
-binary_at (compound name (more left (more right none)) form span) = Some (record { name = name; left = left; right = right })
-binary_at tree = None
-
-abbrev pub binary : Tree → Option Binary
-binary tree = binary_at (inside tree)
-
-abbrev pub name_at : Tree → Option (List ℕ)
-name_at (atom name span) = Some name
-name_at tree = None
-
--- the name of an atom
-abbrev pub atom_name : Tree → Option (List ℕ)
-atom_name tree = name_at (inside tree)
 
 -- the value of an integer without minus, and so many more, where that is an arity
 abbrev pub arity_at : Tree → ℕ → Option ℕ
@@ -64,36 +44,9 @@ one_indicator tree = elim (indicator tree) [ Some i ↦ Ok (i ∷ []) | None ↦
 abbrev pub indicators : List Tree → Result (List Indicator) Refusal
 indicators trees = each_said one_indicator trees
 
-abbrev pub written_at : Tree → Option (List Tree)
-written_at (listed items span) = Some (trees_in items)
-written_at tree = None
-
--- the items of a list without a tail that isn't the atom `[]`
-abbrev pub written_items : Tree → Option (List Tree)
-written_items tree = written_at (inside tree)
-
 -- the items of a list without a tail
 abbrev pub list_of : Tree → Option (List Tree)
 list_of tree = elim (atom_name tree) [ Some name ↦ if bytes_eq name (codes "[]") then Some [] else None | None ↦ written_items tree ]
-
-abbrev pub sides_named : List ℕ → Option Binary → Option (Tree × Tree)
-sides_named name (Some pair) = if bytes_eq pair.name name then Some (pair.left, pair.right) else None
-sides_named name None = None
-
--- the sides of a comma
-abbrev pub comma_sides : Tree → Option (Tree × Tree)
-comma_sides tree = sides_named (codes ",") (binary tree)
-
--- the sides of a `/`
-abbrev pub slash_sides : Tree → Option (Tree × Tree)
-slash_sides tree = sides_named (codes "/") (binary tree)
-
--- the terms that commas join
-abbrev pub joined : Tree → List Tree
-joined (compound name (more left (more right none)) form span) =
-    if bytes_eq name (codes ",") then joined left ++ joined right else compound name (more left (more right none)) form span ∷ []
-joined (paren inner span) = joined inner
-joined tree = tree ∷ []
 
 -- the indicators of a list, or of the terms that commas join
 abbrev pub declared_indicators : Tree → Result (List Indicator) Refusal

@@ -4,13 +4,13 @@ use Rattle.std.specs.Str.{bytes_eq}
 use Rattle.prolog_terms.specs.Tree.{Tree, atom, compound, paren, more, none}
 use Rattle.prolog_terms.specs.declared.term.Form.{Form}
 use Rattle.prolog_terms.specs.declared.term.Form.TheVariants.{Functional}
-use Rattle.clause_text.specs.Terms.{inside, start_of}
+use Rattle.prolog_terms.specs.Views.{inside, start_of}
+use Rattle.clause_text.specs.Lists.{written_items}
 use Rattle.clause_text.specs.declared.cause.Cause.TheVariants.{BadSpec}
 use Rattle.module_table.specs.declared.indicator.Indicator.{Indicator}
 use Rattle.module_table.specs.declared.load.LoadKind.{LoadKind}
 use Rattle.module_table.specs.declared.load.LoadKind.TheVariants.{UseAll}
 use Rattle.module_table.specs.FileName.{resolved}
-use Rattle.module_table.specs.Indicators.{written_items}
 use Rattle.module_table.specs.Said.{Said, nothing, only, loads, refused, each_said}
 
 abbrev pub both_texts : Option (List ℕ) → Option (List ℕ) → Option (List ℕ)

@@ -1,7 +1,7 @@
 -- What a file says, part by part, or why it is refused.
 use Rattle.std.specs.Prelude.{ℕ, ◌≡◌, List, [], ◌∷◌, ◌++◌, Result, Ok, Err, map}
 use Rattle.prolog_terms.specs.Tree.{Tree, tree_of}
-use Rattle.clause_text.specs.Terms.{start_of}
+use Rattle.prolog_terms.specs.Views.{start_of}
 use Rattle.clause_text.specs.declared.cause.Cause.{Cause}
 use Rattle.module_table.specs.declared.indicator.Indicator.{Indicator}
 use Rattle.module_table.specs.declared.load.LoadKind.{LoadKind}

@@ -1,7 +1,7 @@
 -- What is told of a directive, and terms taken apart.
-use Rattle.std.specs.Prelude.{◌≡◌, List, Some, None, Ok}
+use Rattle.std.specs.Prelude.{◌≡◌, List, Some, None, Ok, codes}
 use Rattle.prolog_terms.specs.Tree.{Tree, tree_of}
-use Rattle.clause_text.specs.Terms.{inside}
+use Rattle.prolog_terms.specs.Views.{inside, sides_of}
 use Rattle.module_table.specs.declared.directive.Told.{Told}
 use Rattle.module_table.specs.declared.directive.Told.TheVariants.{Goal, Done}
 use Rattle.module_table.specs.declared.taken.Sides.{Sides}
@@ -10,7 +10,6 @@ use Rattle.module_table.specs.declared.taken.Taken.{Taken}
 use Rattle.module_table.specs.declared.taken.Taken.TheVariants.{Directive, Headed}
 use Rattle.module_table.specs.Defined.{clause_tree}
 use Rattle.module_table.specs.Said.{Said, Part, only, goal, more}
-use Rattle.module_table.specs.Indicators.{comma_sides}
 use Rattle.clause_text.specs.Items.{directive_of}
 
 -- the directive is a goal and nothing was added, or all that it says was
@@ -20,8 +19,8 @@ IsTold Done old said tree new = more old said ≡ Ok new
 
 -- the sides of a comma, or a term that is none, without the brackets round it
 abbrev pub AreSides : Sides → Tree → Type 0
-AreSides (Both left right) tree = comma_sides tree ≡ Some (tree_of left, tree_of right)
-AreSides (Alone term) tree = (comma_sides tree ≡ None) × (tree_of term ≡ inside tree)
+AreSides (Both left right) tree = sides_of (codes ",") tree ≡ Some (tree_of left, tree_of right)
+AreSides (Alone term) tree = (sides_of (codes ",") tree ≡ None) × (tree_of term ≡ inside tree)
 
 -- the directive that a clause is, or a clause that is none
 abbrev pub IsTaken : Taken → Tree → Type 0

@@ -12,9 +12,9 @@ use crate::load::{LoadKind, push_load, push_loads, push_use_all};
 use crate::module_directive::module_of;
 use crate::said::{FactFault, Part, push_part, refusal};
 use crate::taken::{Sides, sides_taken};
-use crate::terms::{is_one_of, start_of};
+use crate::terms::is_one_of;
 use clause_text::Cause;
-use prolog_terms::Term;
+use prolog_terms::{Term, start_of};
 use std::alloc::Global;
 
 /// Whether a directive is a goal, which is still to be kept, or has been told.

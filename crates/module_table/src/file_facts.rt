@@ -1,8 +1,8 @@
 //! The facts of a file, from its clauses.
 
-ghost use Rattle.std.specs.Prelude.{◌≡◌, ◌+◌, IfOk, IfErr, OnOk, Ok, All, ℕ, List, map};
+ghost use Rattle.std.specs.Prelude.{◌≡◌, ◌≤◌, ◌+◌, IfOk, IfErr, OnOk, Ok, All, ℕ, List, map};
 ghost use Rattle.prolog_terms.specs.Tree.{tree_of};
-ghost use Rattle.prolog_terms.specs.Arity.{HasAritiesWithin};
+ghost use Rattle.prolog_terms.specs.Weight.{weight};
 ghost use Rattle.module_table.specs.Defined.{clause_tree};
 ghost use Rattle.module_table.specs.Said.{IsWhy, more, see_parts};
 ghost use Rattle.module_table.specs.Facts.{clause_head, headed, clause_said, file_said, AreFacts, Facts, see_facts};
@@ -15,9 +15,8 @@ use crate::kinds::{by_kind, module_of_file};
 use crate::load::Load;
 use crate::said::{FactFault, Part, push_part};
 use crate::taken::{Taken, directive_taken};
-use crate::terms::binary_of;
 use clause_text::Clause;
-use prolog_terms::Term;
+use prolog_terms::{Term, binary};
 use prolog_tokens::Text;
 use std::alloc::Global;
 
@@ -40,11 +39,11 @@ pub struct FileFacts {
 
 /// The name and the number of arguments of the predicate that a clause defines.
 fn clause_head(clause: &Term) -> Result<(&str, usize), FactFault>
-    requires { HasAritiesWithin 8388608 (tree_of clause.now) }
+    requires { weight (tree_of clause.now) ≤ 8388608 }
     ensures ok { IfOk result (λ named. clause_head (tree_of clause.now) ≡ Ok (record { name = named.0.now; arity = named.1 })) }
     ensures refused { IfErr result (λ fault. IsWhy (clause_head (tree_of clause.now)) fault) }
 {
-    let Some(pair) = binary_of(clause) else {
+    let Some(pair) = binary(clause) else {
         return head(clause);
     };
     if pair.name == ":-" {
@@ -67,7 +66,7 @@ struct Head {
 }
 
 fn owned_head(alloc: Global, clause: &Term) -> Result<Head, FactFault>
-    requires { HasAritiesWithin 8388608 (tree_of clause.now) }
+    requires { weight (tree_of clause.now) ≤ 8388608 }
     ensures ok { IfOk result (λ made. clause_head (tree_of clause.now) ≡ Ok (record { name = made.name; arity = made.arity })) }
     ensures refused { IfErr result (λ fault. IsWhy (clause_head (tree_of clause.now)) fault) }
 {
@@ -83,7 +82,7 @@ fn owned_head(alloc: Global, clause: &Term) -> Result<Head, FactFault>
 
 /// Adds a clause that is no directive.
 fn push_headed(alloc: Global, clause: Clause, parts: &mut Vec<Part>) -> Result<(), FactFault>
-    requires { HasAritiesWithin 8388608 (clause_tree clause) }
+    requires { weight (clause_tree clause) ≤ 8388608 }
     ensures ok { OnOk result (more (see_parts parts.old.items) (headed (clause_head (clause_tree clause)) (clause_tree clause)) ≡ Ok (see_parts parts.new.items)) }
     ensures refused { IfErr result (λ fault. IsWhy (headed (clause_head (clause_tree clause)) (clause_tree clause)) fault) }
 {
@@ -104,7 +103,7 @@ fn push_clause(
     clause: Clause,
     parts: &mut Vec<Part>,
 ) -> Result<(), FactFault>
-    requires { HasAritiesWithin 8388608 (clause_tree clause) }
+    requires { weight (clause_tree clause) ≤ 8388608 }
     ensures ok { OnOk result (more (see_parts parts.old.items) (clause_said file.now first (clause_tree clause)) ≡ Ok (see_parts parts.new.items)) }
     ensures refused { IfErr result (λ fault. IsWhy (clause_said file.now first (clause_tree clause)) fault) }
 {
@@ -116,7 +115,7 @@ fn push_clause(
 
 /// All that the clauses say, in order.
 fn said(alloc: Global, file: &str, clauses: Vec<Clause>) -> Result<Vec<Part>, FactFault>
-    requires { All (HasAritiesWithin 8388608) (map clause_tree clauses.items) }
+    requires { All (λ tree. weight tree ≤ 8388608) (map clause_tree clauses.items) }
     ensures ok { IfOk result (λ parts. file_said file.now (map clause_tree clauses.items) ≡ Ok (see_parts parts.items)) }
     ensures refused { IfErr result (λ fault. IsWhy (file_said file.now (map clause_tree clauses.items)) fault) }
 {
@@ -131,7 +130,7 @@ fn said(alloc: Global, file: &str, clauses: Vec<Clause>) -> Result<Vec<Part>, Fa
 
 /// The facts of a file with these clauses (ISO/IEC 13211-1, 7.4).
 pub fn facts(alloc: Global, file: &str, clauses: Vec<Clause>) -> Result<FileFacts, FactFault>
-    requires { All (HasAritiesWithin 8388608) (map clause_tree clauses.items) }
+    requires { All (λ tree. weight tree ≤ 8388608) (map clause_tree clauses.items) }
     ensures ok { IfOk result (λ found. AreFacts file.now (map clause_tree clauses.items) (see_facts found)) }
     ensures only { IfOk result (λ found. (other : Facts) → AreFacts file.now (map clause_tree clauses.items) other → other ≡ see_facts found) }
     ensures refused { IfErr result (λ fault. IsWhy (file_said file.now (map clause_tree clauses.items)) fault) }

@@ -6,9 +6,9 @@ ghost use Rattle.module_table.specs.Said.{IsWhy};
 ghost use Rattle.module_table.specs.Heads.{is_among, control_names, headless_names, named_head, head, is_pushback, grammar_head};
 
 use crate::said::{FactFault, refusal};
-use crate::terms::{binary_of, is_one_of};
-use clause_text::{Cause, inside};
-use prolog_terms::{ConstKind, Term};
+use crate::terms::is_one_of;
+use clause_text::Cause;
+use prolog_terms::{ConstKind, Term, inside, name_and_arity, sides};
 
 fn is_control(name: &str, arity: usize) -> bool
     ensures { result ≡ is_among (control_names arity) name.now }
@@ -50,11 +50,9 @@ pub fn head(term: &Term) -> Result<(&str, usize), FactFault>
     ensures ok { IfOk result (λ named. head (tree_of term.now) ≡ Ok (record { name = named.0.now; arity = named.1 })) }
     ensures refused { IfErr result (λ fault. IsWhy (head (tree_of term.now)) fault) }
 {
-    let bare = inside(term);
-    match bare {
-        Term::Atom { name, .. } => named_head(bare, name.as_str(), 0),
-        Term::Compound { name, args, .. } => named_head(bare, name.as_str(), args.len()),
-        _ => Err(refusal(Cause::BadHead, bare)),
+    match name_and_arity(term) {
+        Some((name, arity)) => named_head(term, name, arity),
+        None => Err(refusal(Cause::BadHead, term)),
     }
 }
 
@@ -74,14 +72,8 @@ fn is_pushback(term: &Term) -> bool
 pub fn grammar_head(term: &Term) -> &Term
     ensures { tree_of result.now ≡ grammar_head (tree_of term.now) }
 {
-    let Some(pair) = binary_of(term) else {
-        return term;
-    };
-    if pair.name != "," {
-        return term;
+    match sides(term, ",") {
+        Some((left, right)) => { if is_pushback(right) { left } else { term } }
+        None => term,
     }
-    if is_pushback(pair.right) {
-        return pair.left;
-    }
-    term
 }

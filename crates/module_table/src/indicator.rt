@@ -2,13 +2,14 @@
 
 ghost use Rattle.std.specs.Prelude.{◌≡◌, IfOk, IfErr, OnOk, Ok, Some, map};
 ghost use Rattle.prolog_terms.specs.Tree.{tree_of};
+ghost use Rattle.prolog_terms.specs.Views.{joined};
 ghost use Rattle.module_table.specs.Said.{IsWhy, more};
-ghost use Rattle.module_table.specs.Indicators.{arity_of, arguments_added, indicator, one_indicator, indicators, joined, declared_indicators, listed_indicators};
+ghost use Rattle.module_table.specs.Indicators.{arity_of, arguments_added, indicator, one_indicator, indicators, declared_indicators, listed_indicators};
 
 use crate::said::{FactFault, refusal};
-use crate::terms::{atom_name, binary_of, commas, list_items, start_of};
-use clause_text::{Cause, inside};
-use prolog_terms::{ConstKind, Term};
+use crate::terms::list_items;
+use clause_text::Cause;
+use prolog_terms::{ConstKind, Term, atom_name, binary, inside, sides, start_of};
 use prolog_tokens::Text;
 use std::alloc::{AllocError, Global};
 
@@ -62,7 +63,7 @@ fn arguments_added(name: &str) -> Option<u32>
 fn read_indicator(alloc: Global, term: &Term) -> Result<Option<Indicator>, AllocError>
     ensures { IfOk result (λ found. found ≡ indicator (tree_of term.now)) }
 {
-    let Some(pair) = binary_of(term) else {
+    let Some(pair) = binary(term) else {
         return Ok(None);
     };
     let Some(added) = arguments_added(pair.name) else {
@@ -116,10 +117,10 @@ fn push_joined(alloc: Global, term: &Term, found: &mut Vec<Indicator>) -> Result
     ensures ok { OnOk result (more found.old.items (indicators (joined (tree_of term.now))) ≡ Ok found.new.items) }
     ensures refused { IfErr result (λ fault. IsWhy (indicators (joined (tree_of term.now))) fault) }
 {
-    match commas(term) {
-        Some(pair) => {
-            push_joined(alloc, pair.left, found)?;
-            push_joined(alloc, pair.right, found)
+    match sides(term, ",") {
+        Some((left, right)) => {
+            push_joined(alloc, left, found)?;
+            push_joined(alloc, right, found)
         }
         None => push_indicator(alloc, term, found),
     }

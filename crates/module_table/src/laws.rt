@@ -1,8 +1,10 @@
 //! What holds of the facts of each file, and of the names of files, as laws: functions with nothing to run.
 
-ghost use Rattle.std.specs.Prelude.{◌≡◌, ◌↔◌, ℕ, List, [], Some, None, Err, All, Contains, filter, true};
+ghost use Rattle.std.specs.Prelude.{◌≡◌, ◌≤◌, ◌↔◌, length, ℕ, List, [], Some, None, Err, All, Contains, filter, true};
 ghost use Rattle.prolog_tokens.specs.Places.{IsOffset};
 ghost use Rattle.prolog_terms.specs.Tree.{Tree};
+ghost use Rattle.prolog_terms.specs.Weight.{weight};
+ghost use Rattle.clause_text.specs.Clauses.{total_weight};
 ghost use Rattle.clause_text.specs.Items.{directive_of};
 ghost use Rattle.clause_text.specs.Offsets.{HasOffsets};
 ghost use Rattle.module_table.specs.FileName.{begins_with_slash, folder, resolved};
@@ -27,6 +29,19 @@ pub fn refusals_placed()
 /// do.
 pub fn facts_placed()
     ensures { (text user : List ℕ) (trees : List Tree) (facts : Facts) → All (HasOffsets text) trees → AreFacts user trees facts → ArePlacedIn text facts }
+{}
+
+/// Each clause and each goal that the facts of a file keep weighs no more than its heaviest clause.
+pub fn facts_light()
+    ensures clauses { (n : ℕ) (user : List ℕ) (trees : List Tree) (facts : Facts) → All (λ tree. weight tree ≤ n) trees → AreFacts user trees facts
+        → All (λ (p : Predicate). All (λ tree. weight tree ≤ n) p.clauses) facts.defined }
+    ensures goals { (n : ℕ) (user : List ℕ) (trees : List Tree) (facts : Facts) → All (λ tree. weight tree ≤ n) trees → AreFacts user trees facts
+        → All (λ tree. weight tree ≤ n) facts.goals }
+{}
+
+/// A file has no more predicates than its clauses weigh, and so no more than its text has bytes.
+pub fn few_defined()
+    ensures { (user : List ℕ) (trees : List Tree) (facts : Facts) → AreFacts user trees facts → length facts.defined ≤ total_weight trees }
 {}
 
 /// A text has one record of facts at most in a file of a name, or one fault, and never both.

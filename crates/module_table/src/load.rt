@@ -9,9 +9,8 @@ ghost use Rattle.module_table.specs.Loading.{path_text, file_of, is_system, load
 use crate::file_name::resolve_name;
 use crate::indicator::Indicator;
 use crate::said::{FactFault, Part, push_part, refusal};
-use crate::terms::{atom_name, slashes, start_of, written_items};
-use clause_text::{Cause, inside};
-use prolog_terms::{Form, Term};
+use clause_text::{Cause, written_items};
+use prolog_terms::{Form, Term, atom_name, inside, sides, start_of};
 use prolog_tokens::Text;
 use std::alloc::{AllocError, Global};
 
@@ -43,13 +42,13 @@ fn path_text(alloc: Global, term: &Term) -> Result<Option<String>, AllocError>
     if let Some(name) = atom_name(term) {
         return Ok(Some(String::from_str(alloc, name)?));
     }
-    let Some(pair) = slashes(term) else {
+    let Some((left, right)) = sides(term, "/") else {
         return Ok(None);
     };
-    let Some(mut path) = path_text(alloc, pair.left)? else {
+    let Some(mut path) = path_text(alloc, left)? else {
         return Ok(None);
     };
-    let Some(behind) = path_text(alloc, pair.right)? else {
+    let Some(behind) = path_text(alloc, right)? else {
         return Ok(None);
     };
     path.push_str("/")?;

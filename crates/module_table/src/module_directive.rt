@@ -1,16 +1,15 @@
 //! The directive that declares the module of a file.
 
 ghost use Rattle.std.specs.Prelude.{◌≡◌, ◌∷◌, [], IfOk, IfErr, Ok, option_map};
-ghost use Rattle.std.specs.Str.{bytes_eq};
 ghost use Rattle.prolog_terms.specs.Tree.{tree_of};
 ghost use Rattle.module_table.specs.Said.{IsWhy, see_module, declares};
 ghost use Rattle.module_table.specs.Directives.{is_operator, exports, module_name, module_said};
 
 use crate::indicator::{Indicator, push_indicator};
 use crate::said::{FactFault, Module, refusal};
-use crate::terms::{atom_name, list_items};
-use clause_text::{Cause, inside};
-use prolog_terms::Term;
+use crate::terms::list_items;
+use clause_text::{Cause, operator_item};
+use prolog_terms::{Term, atom_name};
 use prolog_tokens::Text;
 use std::alloc::Global;
 
@@ -18,13 +17,7 @@ use std::alloc::Global;
 fn is_operator(item: &Term) -> bool
     ensures { result ≡ is_operator (tree_of item.now) }
 {
-    let Term::Compound { name, args, .. } = inside(item) else {
-        return false;
-    };
-    if args.len() != 3 {
-        return false;
-    }
-    name.as_str() == "op"
+    operator_item(item).is_some()
 }
 
 /// The exports of a list, in which operators may stand too.

@@ -2,14 +2,13 @@ ghost use Rattle.std.specs.Prelude.{◌≡◌, ◌++◌, ◌∷◌, [], IfErr, O
 ghost use Rattle.prolog_terms.specs.Tree.{tree_of};
 ghost use Rattle.module_table.specs.declared.said.FactFault.TheVariants.{NoMemory};
 ghost use Rattle.module_table.specs.Said.{see_part, see_parts};
-ghost use Rattle.clause_text.specs.Terms.{start_of};
+ghost use Rattle.prolog_terms.specs.Views.{start_of};
 
 use crate::defined::Definition;
 use crate::indicator::Indicator;
 use crate::load::Load;
-use crate::terms::start_of;
 use clause_text::Cause;
-use prolog_terms::Term;
+use prolog_terms::{Term, start_of};
 use prolog_tokens::Text;
 use std::alloc::AllocError;
 

@@ -2,15 +2,13 @@
 
 ghost use Rattle.std.specs.Prelude.{◌≡◌, true, is_some, codes};
 ghost use Rattle.prolog_terms.specs.Tree.{tree_of};
-ghost use Rattle.clause_text.specs.Terms.{inside as inner_tree};
-ghost use Rattle.module_table.specs.Defined.{clause_tree};
+ghost use Rattle.prolog_terms.specs.Views.{inside as inner_tree, sides_at};
 ghost use Rattle.clause_text.specs.Items.{directive_of};
-ghost use Rattle.module_table.specs.Indicators.{binary_at, sides_named};
+ghost use Rattle.module_table.specs.Defined.{clause_tree};
 ghost use Rattle.module_table.specs.Told.{AreSides, IsTaken};
 
-use crate::terms::commas;
 use clause_text::{Clause, directive_of};
-use prolog_terms::Term;
+use prolog_terms::{Term, sides};
 
 /// The term without the brackets round it.
 pub fn unwrapped(term: Term) -> Term
@@ -31,7 +29,7 @@ pub enum Sides {
 
 /// The sides of a comma.
 fn sides_of_comma(comma: Term) -> Sides
-    requires { is_some (sides_named (codes ",") (binary_at (tree_of comma))) ≡ true }
+    requires { is_some (sides_at (codes ",") (tree_of comma)) ≡ true }
     ensures { AreSides result (tree_of comma) }
 {
     match comma {
@@ -54,7 +52,7 @@ pub fn sides_taken(term: Term) -> Sides
     ensures { AreSides result (tree_of term) }
 {
     let bare = unwrapped(term);
-    if commas(&bare).is_some() {
+    if sides(&bare, ",").is_some() {
         sides_of_comma(bare)
     } else {
         Sides::Alone(bare)

@@ -1,10 +1,11 @@
-use Rattle.std.proofs.Common.{Err, ap, sym, ◌∙◌, arith}
+use Rattle.std.proofs.Common.{codes, Err, ap, sym, ◌∙◌, arith}
 use Rattle.prolog_ops.specs.Table.{ops_of}
 use Rattle.prolog_terms.specs.Tree.{tree_of}
+use Rattle.prolog_terms.proofs.ViewLemmas.{AreBelow, sides_below}
 use Rattle.clause_text.specs.Items.{item_on, items_on, directive_items}
 use Rattle.clause_text.proofs.EachOn.{each_then, each_stops}
 use Rattle.clause_text.proofs.Outcomes.{on_err, err_only, ok_only}
-use Rattle.clause_text.proofs.TermShapes.{AreSides, comma_sides, directive_joined, directive_alone}
+use Rattle.clause_text.proofs.TermShapes.{directive_joined, directive_alone}
 use Rattle.clause_text.proofs.items.+apply_directive.Goals as goal
 
 pub returns-in_default-clause-done : goal.returns-in_default-clause-done
@@ -20,14 +21,14 @@ returns-in_default-clause-refused t c =
 
 pub apply_directive-requires : goal.apply_directive-requires
 apply_directive-requires t c =
-    let sides : AreSides (tree_of c.args.directive.now) (tree_of c.in-Some.first.now) (tree_of c.in-Some.others.now) =
-    comma_sides (tree_of c.args.directive.now) (tree_of c.in-Some.first.now) (tree_of c.in-Some.others.now) (sym c.in-Some.ensures) in
+    let sides : AreBelow (tree_of c.args.directive.now) (tree_of c.in-Some.first.now) (tree_of c.in-Some.others.now) =
+    sides_below (codes ",") (tree_of c.args.directive.now) (tree_of c.in-Some.first.now) (tree_of c.in-Some.others.now) (sym c.in-Some.ensures) in
     (omega (arith, sides.left_below), tt)
 
 pub apply_directive-requires-2 : goal.apply_directive-requires-2
 apply_directive-requires-2 t c =
-    let sides : AreSides (tree_of c.args.directive.now) (tree_of c.in-Some.first.now) (tree_of c.in-Some.others.now) =
-    comma_sides (tree_of c.args.directive.now) (tree_of c.in-Some.first.now) (tree_of c.in-Some.others.now) (sym c.in-Some.ensures) in
+    let sides : AreBelow (tree_of c.args.directive.now) (tree_of c.in-Some.first.now) (tree_of c.in-Some.others.now) =
+    sides_below (codes ",") (tree_of c.args.directive.now) (tree_of c.in-Some.first.now) (tree_of c.in-Some.others.now) (sym c.in-Some.ensures) in
     (omega (arith, sides.right_below), tt)
 
 pub returns-in_err-apply_directive-clause-refused : goal.returns-in_err-apply_directive-clause-refused

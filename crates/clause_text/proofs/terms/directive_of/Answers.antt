@@ -1,12 +1,10 @@
 use Rattle.std.proofs.Common.{◌≡◌, ◌≢◌, true, length, map, sym, ◌∙◌, ap, arith, codes, ◌||◌}
 use Rattle.std.proofs.lemmas.List.{length-map}
 use Rattle.std.specs.Str.{bytes_eq}
-use Rattle.prolog_terms.specs.declared.term.Term.{fold-roll-Term}
-use Rattle.prolog_terms.specs.declared.term.Term.TheVariants.{rolls-Compound}
-use Rattle.prolog_terms.specs.declared.term.Term.TheOpen.{Term-F}
-use Rattle.prolog_terms.specs.Tree.{Tree, tree_of, tree_step, compound, trees_from}
+use Rattle.prolog_terms.specs.Tree.{tree_of, compound, trees_from}
+use Rattle.prolog_terms.proofs.ViewLemmas.{read_tree, compound_seen}
 use Rattle.clause_text.specs.Items.{directive_at}
-use Rattle.clause_text.proofs.TermShapes.{not_one, one_part, read_tree}
+use Rattle.clause_text.proofs.TermShapes.{not_one, one_part}
 use Rattle.clause_text.proofs.terms.directive_of.Goals as goal
 
 pub returns-then-len-ne1 : goal.returns-then-len-ne1
@@ -14,7 +12,7 @@ returns-then-len-ne1 c =
     let v = c.in-Compound in
     let parts = map tree_of v.args.items in
     let is : tree_of c.inside.result.now ≡ compound v.name (trees_from parts) v.form v.span =
-    ap tree_of (v.is ∙ sym (rolls-Compound v.name v.args v.form v.span)) ∙ fold-roll-Term Tree tree_step (Term-F.Compound v.name v.args v.form v.span) in
+    compound_seen c.inside.result.now v.name v.args v.form v.span v.is in
     let count : length parts ≢ 1 = λ one. c.if-len-ne1.true (omega (arith, one, length-map v.args.items tree_of, v.args.ok, c.len.ensures)) in
     sym (ap directive_at (sym c.inside.ensures ∙ is) ∙ not_one v.name parts v.form v.span count)
 
@@ -23,7 +21,7 @@ returns c =
     let v = c.in-Compound in
     let parts = map tree_of v.args.items in
     let is : tree_of c.inside.result.now ≡ compound v.name (trees_from parts) v.form v.span =
-    ap tree_of (v.is ∙ sym (rolls-Compound v.name v.args v.form v.span)) ∙ fold-roll-Term Tree tree_step (Term-F.Compound v.name v.args v.form v.span) in
+    compound_seen c.inside.result.now v.name v.args v.form v.span v.is in
     let count : length parts ≡ 1 = omega (arith, length-map v.args.items tree_of, v.args.ok, c.len.ensures, c.if-len-ne1.false) in
     let name : (bytes_eq v.name (codes ":-") || bytes_eq v.name (codes "?-")) ≡ true =
     ap (λ n. bytes_eq n (codes ":-") || bytes_eq n (codes "?-")) (sym c.as_str.ensures) ∙ (sym c.begins_directive.ensures ∙ c.if-not-begins_directive.false) in

@@ -1,24 +1,18 @@
-use Rattle.std.proofs.Common.{◌≡◌, ◌≢◌, Bool, true, false, not, length, map, refl, sym, ◌∙◌, ap, arith, codes}
+use Rattle.std.proofs.Common.{◌≡◌, ◌≢◌, true, length, map, sym, ◌∙◌, ap, arith, codes}
 use Rattle.std.proofs.lemmas.List.{length-map}
 use Rattle.std.specs.Str.{bytes_eq}
-use Rattle.prolog_terms.specs.declared.term.Term.{fold-roll-Term}
-use Rattle.prolog_terms.specs.declared.term.Term.TheVariants.{rolls-Compound}
-use Rattle.prolog_terms.specs.declared.term.Term.TheOpen.{Term-F}
-use Rattle.prolog_terms.specs.Tree.{Tree, tree_of, tree_step, compound, trees_from}
+use Rattle.prolog_terms.specs.Tree.{tree_of, compound, trees_from}
+use Rattle.prolog_terms.proofs.ViewLemmas.{is_true, read_tree, compound_seen}
 use Rattle.clause_text.specs.Items.{item_at}
-use Rattle.clause_text.proofs.TermShapes.{not_three, three_parts, read_tree}
+use Rattle.clause_text.proofs.TermShapes.{not_three, three_parts}
 use Rattle.clause_text.proofs.terms.operator_item.Goals as goal
-
-is_true : (test : Bool) → false ≡ not test → test ≡ true
-is_true true is = refl
-is_true false is = let both : false ≡ true = is in absurd (cc)
 
 pub returns-then-len-ne3 : goal.returns-then-len-ne3
 returns-then-len-ne3 c =
     let v = c.in-Compound in
     let parts = map tree_of v.args.items in
     let is : tree_of c.inside.result.now ≡ compound v.name (trees_from parts) v.form v.span =
-    ap tree_of (v.is ∙ sym (rolls-Compound v.name v.args v.form v.span)) ∙ fold-roll-Term Tree tree_step (Term-F.Compound v.name v.args v.form v.span) in
+    compound_seen c.inside.result.now v.name v.args v.form v.span v.is in
     let count : length parts ≢ 3 = λ three. c.if-len-ne3.true (omega (arith, three, length-map v.args.items tree_of, v.args.ok, c.len.ensures)) in
     sym (ap item_at (sym c.inside.ensures ∙ is) ∙ not_three v.name parts v.form v.span count)
 
@@ -27,7 +21,7 @@ returns c =
     let v = c.in-Compound in
     let parts = map tree_of v.args.items in
     let is : tree_of c.inside.result.now ≡ compound v.name (trees_from parts) v.form v.span =
-    ap tree_of (v.is ∙ sym (rolls-Compound v.name v.args v.form v.span)) ∙ fold-roll-Term Tree tree_step (Term-F.Compound v.name v.args v.form v.span) in
+    compound_seen c.inside.result.now v.name v.args v.form v.span v.is in
     let count : length parts ≡ 3 = omega (arith, length-map v.args.items tree_of, v.args.ok, c.len.ensures, c.if-len-ne3.false) in
     let name : bytes_eq v.name (codes "op") ≡ true = ap (λ n. bytes_eq n (codes "op")) (sym c.as_str.ensures) ∙ is_true _ c.if-ne.ensures in
     three_parts v.name parts v.form v.span (tree_of c.index.result.now) (tree_of c.index-2.result.now) (tree_of c.index-3.result.now) count

@@ -1,15 +1,12 @@
 use Rattle.std.proofs.Common.{◌≤◌, length, arith, ap, sym, refl, subst}
 use Rattle.std.specs.Str.{IsValidUpTo}
-use Rattle.std.proofs.lemmas.List.{length-map}
 use Rattle.prolog_tokens.proofs.Lookups.{cut_fewer}
-use Rattle.prolog_terms.specs.Tree.{tree_of}
-use Rattle.clause_text.specs.declared.Clause.{Clause}
-use Rattle.clause_text.specs.Clauses.{clause_trees, opening_ops}
+use Rattle.clause_text.specs.Clauses.{clause_trees, opening_ops, total_weight}
 use Rattle.clause_text.specs.TextFault.{bytes, tokens, clauses}
 use Rattle.clause_text.proofs.Outcomes.{on_err, err_only, ok_with}
-use Rattle.clause_text.proofs.OneReading.{opening_ops_are, one_reading}
+use Rattle.clause_text.proofs.OneReading.{one_reading}
 use Rattle.clause_text.proofs.OneFault.{one_fault, fault_no_reading}
-use Rattle.clause_text.proofs.TextLemmas.{reads_as, clauses_have, tokens_have, placed_or_none, few_clauses, clauses_arities}
+use Rattle.clause_text.proofs.TextLemmas.{reads_as, clauses_have, tokens_have, placed_or_none, clauses_weigh}
 use Rattle.clause_text.proofs.text.read_text.Goals as goal
 
 pub returns-in-Err-clause-only_fault : goal.returns-in-Err-clause-only_fault
@@ -70,19 +67,11 @@ returns-clause-offset c =
     clauses_have c.args.bytes.now c.in-Ok.text.now c.in_ok-tokens.tokens.items c.deref.result.now fault c.in-Ok.ensures.cases.0 c.deref.ensures.value
     c.in-Ok.ensures.cases.1 c.in_ok-tokens.ensures.ok (has some)))
 
-pub returns-clause-arities : goal.returns-clause-arities
-returns-clause-arities c =
+pub returns-clause-weights : goal.returns-clause-weights
+returns-clause-weights c =
     let fewer : length c.in_ok-tokens.tokens.items ≤ length c.in-Ok.text.now = cut_fewer c.in-Ok.text.now c.in_ok-tokens.tokens.items c.in_ok-tokens.ensures.ok in
     ok_with c.read_clauses.result _ _ c.read_clauses.ensures.ok
     (λ found are.
-    clauses_arities opening_ops c.in-Ok.text.now c.deref.result.now (clause_trees found.items) 8388608
-    (omega (arith, fewer, ap length c.deref.ensures.value, ap length c.in-Ok.ensures.cases.0, c.requires)) are)
-
-pub returns-clause-few : goal.returns-clause-few
-returns-clause-few c =
-    let fewer : length c.in_ok-tokens.tokens.items ≤ length c.in-Ok.text.now = cut_fewer c.in-Ok.text.now c.in_ok-tokens.tokens.items c.in_ok-tokens.ensures.ok in
-    ok_with c.read_clauses.result _ _ c.read_clauses.ensures.ok
-    (λ found are.
-    (let few : length (clause_trees found.items) ≤ length c.deref.result.now =
-    few_clauses opening_ops opening_ops_are c.in-Ok.text.now c.deref.result.now (clause_trees found.items) are in
-    omega (arith, fewer, few, length-map found.items (λ (clause : Clause). tree_of clause.term), ap length c.deref.ensures.value, ap length c.in-Ok.ensures.cases.0, c.requires)))
+    (let weigh : total_weight (clause_trees found.items) ≤ length c.deref.result.now =
+    clauses_weigh opening_ops c.in-Ok.text.now c.deref.result.now (clause_trees found.items) are in
+    omega (arith, fewer, weigh, ap length c.deref.ensures.value, ap length c.in-Ok.ensures.cases.0)))

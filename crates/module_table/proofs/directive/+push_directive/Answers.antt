@@ -8,7 +8,8 @@ use Rattle.module_table.specs.declared.directive.Told.TheVariants.{Goal, Done}
 use Rattle.module_table.specs.Told.{IsTold}
 use Rattle.module_table.specs.Directives.{shallow_said, directive_said}
 use Rattle.module_table.proofs.SaidLemmas.{stops_first, stops_second, goes_on}
-use Rattle.module_table.proofs.Parts.{AreBelow, sides_below, directive_sides, directive_alone}
+use Rattle.prolog_terms.proofs.ViewLemmas.{AreBelow, sides_below}
+use Rattle.module_table.proofs.Parts.{directive_sides, directive_alone}
 use Rattle.module_table.proofs.directive.+push_directive.Goals as goal
 
 pub push_directive-requires : goal.push_directive-requires

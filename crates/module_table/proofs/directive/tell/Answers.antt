@@ -1,9 +1,7 @@
-use Rattle.std.proofs.Common.{◌≡◌, ◌≢◌, List, None, length, map, refl, sym, ◌∙◌, ap, subst, arith}
+use Rattle.std.proofs.Common.{◌≡◌, ◌≢◌, List, length, map, refl, sym, ◌∙◌, ap, subst, arith}
 use Rattle.std.proofs.lemmas.List.{length-map}
-use Rattle.prolog_terms.specs.declared.term.Term.{fold-roll-Term}
-use Rattle.prolog_terms.specs.declared.term.Term.TheVariants.{rolls-Compound, rolls-List}
-use Rattle.prolog_terms.specs.declared.term.Term.TheOpen.{Term-F}
-use Rattle.prolog_terms.specs.Tree.{Tree, tree_of, tree_step, compound, listed, trees_from}
+use Rattle.prolog_terms.specs.Tree.{tree_of, compound, listed, trees_from}
+use Rattle.prolog_terms.proofs.ViewLemmas.{compound_seen, list_seen, trees_back}
 use Rattle.std.specs.Prelude.{IfOk, IfErr, Ok}
 use Rattle.std.proofs.lemmas.Result.{err_from_is_err_and, IfOk-weaker}
 use Rattle.prolog_terms.specs.declared.term.Term.TheVariants.{List as list_term}
@@ -12,7 +10,6 @@ use Rattle.module_table.specs.Said.{Part, IsWhy, more, see_parts, only, goal as 
 use Rattle.module_table.specs.Told.{IsTold}
 use Rattle.module_table.specs.Loading.{loads_said}
 use Rattle.module_table.specs.Directives.{three_said, shallow_said}
-use Rattle.module_table.proofs.Shapes.{list_trees}
 use Rattle.module_table.proofs.DirectiveShapes.{shallow_three, shallow_other}
 use Rattle.module_table.proofs.directive.tell.Goals as goal
 
@@ -24,7 +21,7 @@ returns-then-len-eq3-clause-ok c =
     let v = c.in-Compound in
     let parts = map tree_of v.args.items in
     let is : tree_of c.args.directive.now ≡ compound v.name (trees_from parts) v.form v.span =
-    ap tree_of (v.is ∙ sym (rolls-Compound v.name v.args v.form v.span)) ∙ fold-roll-Term Tree tree_step (Term-F.Compound v.name v.args v.form v.span) in
+    compound_seen c.args.directive.now v.name v.args v.form v.span v.is in
     let count : length parts ≡ 3 = omega (arith, length-map v.args.items tree_of, v.args.ok, c.len-in-Compound-2.ensures, c.if-len-eq3.true) in
     let same : three_said c.as_str-name.result.now tree ≡ shallow_said user first tree =
     ap (λ n. three_said n tree) c.as_str-name.ensures ∙ (ap (λ t. three_said v.name t) is
@@ -42,7 +39,7 @@ returns-then-len-eq3-clause-refused c =
     let v = c.in-Compound in
     let parts = map tree_of v.args.items in
     let is : tree_of c.args.directive.now ≡ compound v.name (trees_from parts) v.form v.span =
-    ap tree_of (v.is ∙ sym (rolls-Compound v.name v.args v.form v.span)) ∙ fold-roll-Term Tree tree_step (Term-F.Compound v.name v.args v.form v.span) in
+    compound_seen c.args.directive.now v.name v.args v.form v.span v.is in
     let count : length parts ≡ 3 = omega (arith, length-map v.args.items tree_of, v.args.ok, c.len-in-Compound-2.ensures, c.if-len-eq3.true) in
     let same : three_said c.as_str-name.result.now tree ≡ shallow_said user first tree =
     ap (λ n. three_said n tree) c.as_str-name.ensures ∙ (ap (λ t. three_said v.name t) is
@@ -57,7 +54,7 @@ returns-else-len-eq3-clause-ok c =
     let v = c.in-Compound in
     let parts = map tree_of v.args.items in
     let is : tree_of c.args.directive.now ≡ compound v.name (trees_from parts) v.form v.span =
-    ap tree_of (v.is ∙ sym (rolls-Compound v.name v.args v.form v.span)) ∙ fold-roll-Term Tree tree_step (Term-F.Compound v.name v.args v.form v.span) in
+    compound_seen c.args.directive.now v.name v.args v.form v.span v.is in
     let counted = length-map v.args.items tree_of in
     let one : length parts ≢ 1 = λ same. c.if-len-eq1.false (omega (arith, same, counted, v.args.ok, c.len.ensures)) in
     let two : length parts ≢ 2 = λ same. c.if-len-eq2.false (omega (arith, same, counted, v.args.ok, c.len-in-Compound.ensures)) in
@@ -73,9 +70,9 @@ returns-in_err-push_loads-in-None-clause-refused c =
     let parts = map tree_of v.items.items in
     let bare = ap (λ t. list_term v.items t v.span) c.in-None.is in
     let is : tree ≡ listed (trees_from parts) v.span =
-    ap tree_of (v.is ∙ (bare ∙ sym (rolls-List v.items None v.span))) ∙ fold-roll-Term Tree tree_step (Term-F.List v.items None v.span) in
+    list_seen c.args.directive.now v.items v.span (v.is ∙ bare) in
     let same : loads_said user Ensure (map tree_of c.deref.result.now) ≡ shallow_said user first tree =
-    ap (λ l. loads_said user Ensure (map tree_of l)) c.deref.ensures.value ∙ (ap (loads_said user Ensure) (sym (list_trees parts)) ∙ ap (shallow_said user first) (sym is)) in
+    ap (λ l. loads_said user Ensure (map tree_of l)) c.deref.ensures.value ∙ (ap (loads_said user Ensure) (sym (trees_back parts)) ∙ ap (shallow_said user first) (sym is)) in
     let exit = err_from_is_err_and c.from_residual.result c.from_residual.ensures.1 in
     rw (exit.1, exit.2) (subst (λ said. IsWhy said c.in_err-push_loads-in-None.field-0.0) same c.in_err-push_loads-in-None.ensures.refused)
 
@@ -88,7 +85,7 @@ returns-in_ok-push_loads-in-None-clause-ok c =
     let parts = map tree_of v.items.items in
     let bare = ap (λ t. list_term v.items t v.span) c.in-None.is in
     let is : tree ≡ listed (trees_from parts) v.span =
-    ap tree_of (v.is ∙ (bare ∙ sym (rolls-List v.items None v.span))) ∙ fold-roll-Term Tree tree_step (Term-F.List v.items None v.span) in
+    list_seen c.args.directive.now v.items v.span (v.is ∙ bare) in
     let same : loads_said user Ensure (map tree_of c.deref.result.now) ≡ shallow_said user first tree =
-    ap (λ l. loads_said user Ensure (map tree_of l)) c.deref.ensures.value ∙ (ap (loads_said user Ensure) (sym (list_trees parts)) ∙ ap (shallow_said user first) (sym is)) in
+    ap (λ l. loads_said user Ensure (map tree_of l)) c.deref.ensures.value ∙ (ap (loads_said user Ensure) (sym (trees_back parts)) ∙ ap (shallow_said user first) (sym is)) in
     subst (λ said. more (see_parts c.args.parts.now.items) said ≡ Ok (see_parts c.push_loads.new.parts.items)) same c.in_ok-push_loads-in-None.ensures.ok

@@ -1,19 +1,24 @@
 use Rattle.std.proofs.Common.{◌≡◌, true, false, sym, ◌∙◌, ap, subst, arith, codes}
 use Rattle.std.specs.Str.{bytes_eq}
 use Rattle.prolog_terms.specs.Tree.{tree_of}
+use Rattle.prolog_terms.specs.Views.{Binary}
+use Rattle.prolog_terms.proofs.ViewLemmas.{is_true}
 use Rattle.module_table.specs.Heads.{head, grammar_head}
-use Rattle.module_table.specs.Indicators.{Binary}
 use Rattle.module_table.specs.Said.{IsWhy}
-use Rattle.module_table.proofs.Shapes.{is_true}
-use Rattle.module_table.proofs.HeadLemmas.{head_small, grammar_small, pair_arities, grammar_said, why_added}
+use Rattle.module_table.proofs.HeadLemmas.{head_small, grammar_weight, pair_weight, grammar_said, why_added}
 use Rattle.module_table.proofs.file_facts.clause_head.Goals as goal
 
 pub overflow_add-result : goal.overflow_add-result
 overflow_add-result c =
     let pair : Binary = record { name = c.in-Some.pair.name.now; left = tree_of c.in-Some.pair.left.now; right = tree_of c.in-Some.pair.right.now } in
-    let small = grammar_small 8388608 pair.left (pair_arities 8388608 (tree_of c.args.clause.now) pair (sym c.in-Some.ensures) c.requires).left in
     let is = ap head (sym c.grammar_head.ensures) ∙ c.in-Ok.ensures.ok in
-    omega (arith, head_small 8388608 (grammar_head pair.left) (record { name = c.in-Ok.name.now; arity = c.in-Ok.arity }) small is)
+    omega (
+      arith,
+      c.requires,
+      pair_weight (tree_of c.args.clause.now) pair (sym c.in-Some.ensures),
+      grammar_weight pair.left,
+      head_small (grammar_head pair.left) (record { name = c.in-Ok.name.now; arity = c.in-Ok.arity }) is,
+    )
 
 pub returns-in-Err-clause-refused : goal.returns-in-Err-clause-refused
 returns-in-Err-clause-refused c =

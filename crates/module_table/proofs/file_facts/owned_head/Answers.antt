@@ -5,4 +5,4 @@ use Rattle.module_table.proofs.file_facts.owned_head.Goals as goal
 
 pub overflow_cast-result : goal.overflow_cast-result
 overflow_cast-result c =
-    omega (arith, clause_small 8388608 (tree_of c.args.clause.now) (record { name = c.in-Ok.named.0.now; arity = c.in-Ok.named.1 }) c.requires c.in-Ok.ensures.ok)
+    omega (arith, c.requires, clause_small (tree_of c.args.clause.now) (record { name = c.in-Ok.named.0.now; arity = c.in-Ok.named.1 }) c.in-Ok.ensures.ok)

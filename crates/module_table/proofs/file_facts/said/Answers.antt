@@ -1,4 +1,4 @@
-use Rattle.std.proofs.Common.{◌≡◌, ◌<◌, List, [], ◌∷◌, false, length, map, sym, ◌∙◌, ap, subst, arith}
+use Rattle.std.proofs.Common.{◌≡◌, ◌<◌, ◌≤◌, List, [], ◌∷◌, false, length, map, sym, ◌∙◌, ap, subst, arith}
 use Rattle.std.proofs.lemmas.List.{length-map}
 use Rattle.std.proofs.Common.{◌++◌, get_or, take, drop}
 use Rattle.std.specs.Prelude.{suc}
@@ -9,7 +9,8 @@ use Rattle.std.proofs.lemmas.List.{map-append, map-id, take-append-drop}
 use Rattle.std.proofs.lemmas.List.Elements.{All-get_or}
 use Rattle.std.proofs.Math.ListN.{get_or-map}
 use Rattle.std.proofs.Math.Seq.{drop-cons}
-use Rattle.prolog_terms.specs.Arity.{HasAritiesWithin}
+use Rattle.prolog_terms.specs.Tree.{Tree}
+use Rattle.prolog_terms.specs.Weight.{weight}
 use Rattle.clause_text.specs.declared.Clause.{Clause}
 use Rattle.module_table.specs.Defined.{clause_tree}
 use Rattle.module_table.specs.Said.{IsWhy, see_parts, in_turn}
@@ -35,8 +36,8 @@ push_clause-requires c =
     let turn = YieldsList-turn road done c.loop-clause.clause-iterator c.loop-clause.yielded_by c.next.result c.next.new.self clause c.in-Some.is c.next.ensures.steps in
     let same : get_or (map clause_tree clauses) (length done) (clause_tree clause) ≡ clause_tree clause =
     get_or-map clause_tree clauses (length done) clause ∙ ap clause_tree (sym turn.1) in
-    subst (HasAritiesWithin 8388608) same
-    (All-get_or (HasAritiesWithin 8388608) (map clause_tree clauses) (length done) (clause_tree clause) (omega (arith, turn.0, length-map clauses clause_tree)) c.requires)
+    subst (λ (tree : Tree). weight tree ≤ 8388608) same
+    (All-get_or (λ (tree : Tree). weight tree ≤ 8388608) (map clause_tree clauses) (length done) (clause_tree clause) (omega (arith, turn.0, length-map clauses clause_tree)) c.requires)
 
 pub returns-in_err-push_clause-clause-refused : goal.returns-in_err-push_clause-clause-refused
 returns-in_err-push_clause-clause-refused c =

@@ -2,28 +2,29 @@ use Rattle.std.proofs.Common.{◌≡◌, Ok, ap, sym, ◌∙◌, subst, arith, c
 use Rattle.std.specs.Prelude.{IfErr, OnOk}
 use Rattle.std.proofs.lemmas.Result.{err_from_is_err_and, on_ok_weaker, IfErr-weaker}
 use Rattle.prolog_terms.specs.Tree.{tree_of}
-use Rattle.clause_text.specs.Terms.{inside}
+use Rattle.prolog_terms.specs.Views.{inside, joined}
+use Rattle.prolog_terms.proofs.ViewLemmas.{AreBelow, sides_below, joined_sides, joined_alone}
 use Rattle.module_table.specs.Said.{IsWhy, more}
-use Rattle.module_table.specs.Indicators.{indicators, one_indicator, joined}
+use Rattle.module_table.specs.Indicators.{indicators, one_indicator}
 use Rattle.module_table.proofs.SaidLemmas.{each_append, in_turn_none, stops_first, stops_second, goes_on}
-use Rattle.module_table.proofs.Parts.{AreBelow, sides_below, joined_sides, joined_alone, indicator_inside}
+use Rattle.module_table.proofs.Parts.{indicator_inside}
 use Rattle.module_table.proofs.indicator.+push_joined.Goals as goal
 
 pub push_joined-requires : goal.push_joined-requires
 push_joined-requires t c =
-    let below : AreBelow (tree_of c.args.term.now) (tree_of c.in-Some.pair.left.now) (tree_of c.in-Some.pair.right.now) = sides_below (codes ",") _ _ _ (sym c.in-Some.ensures) in
+    let below : AreBelow (tree_of c.args.term.now) (tree_of c.in-Some.left.now) (tree_of c.in-Some.right.now) = sides_below (codes ",") _ _ _ (sym c.in-Some.ensures) in
     (omega (arith, below.left_below), tt)
 
 pub push_joined-requires-in-Some : goal.push_joined-requires-in-Some
 push_joined-requires-in-Some t c =
-    let below : AreBelow (tree_of c.args.term.now) (tree_of c.in-Some.pair.left.now) (tree_of c.in-Some.pair.right.now) = sides_below (codes ",") _ _ _ (sym c.in-Some.ensures) in
+    let below : AreBelow (tree_of c.args.term.now) (tree_of c.in-Some.left.now) (tree_of c.in-Some.right.now) = sides_below (codes ",") _ _ _ (sym c.in-Some.ensures) in
     (omega (arith, below.right_below), tt)
 
 pub returns-in_err-push_joined-in-Some-clause-refused : goal.returns-in_err-push_joined-in-Some-clause-refused
 returns-in_err-push_joined-in-Some-clause-refused t c =
     let tree = tree_of c.args.term.now in
-    let left = tree_of c.in-Some.pair.left.now in
-    let right = tree_of c.in-Some.pair.right.now in
+    let left = tree_of c.in-Some.left.now in
+    let right = tree_of c.in-Some.right.now in
     let both = ap indicators (joined_sides tree left right (sym c.in-Some.ensures)) ∙ each_append one_indicator (joined left) (joined right) in
     let exit = err_from_is_err_and c.from_residual.result c.from_residual.ensures.1 in
     rw (exit.1, exit.2)
@@ -33,8 +34,8 @@ returns-in_err-push_joined-in-Some-clause-refused t c =
 pub returns-in_ok-push_joined-in-Some-clause-ok : goal.returns-in_ok-push_joined-in-Some-clause-ok
 returns-in_ok-push_joined-in-Some-clause-ok t c =
     let tree = tree_of c.args.term.now in
-    let left = tree_of c.in-Some.pair.left.now in
-    let right = tree_of c.in-Some.pair.right.now in
+    let left = tree_of c.in-Some.left.now in
+    let right = tree_of c.in-Some.right.now in
     let both = ap indicators (joined_sides tree left right (sym c.in-Some.ensures)) ∙ each_append one_indicator (joined left) (joined right) in
     let old = c.args.found.now.items in
     let mid = c.push_joined.new.found.items in
@@ -46,8 +47,8 @@ returns-in_ok-push_joined-in-Some-clause-ok t c =
 pub returns-in_ok-push_joined-in-Some-clause-refused : goal.returns-in_ok-push_joined-in-Some-clause-refused
 returns-in_ok-push_joined-in-Some-clause-refused t c =
     let tree = tree_of c.args.term.now in
-    let left = tree_of c.in-Some.pair.left.now in
-    let right = tree_of c.in-Some.pair.right.now in
+    let left = tree_of c.in-Some.left.now in
+    let right = tree_of c.in-Some.right.now in
     let both = ap indicators (joined_sides tree left right (sym c.in-Some.ensures)) ∙ each_append one_indicator (joined left) (joined right) in
     let old = c.args.found.now.items in
     let mid = c.push_joined.new.found.items in

@@ -1,9 +1,7 @@
 use Rattle.std.proofs.Common.{◌≡◌, ◌≢◌, length, map, refl, sym, ◌∙◌, ap, arith}
 use Rattle.std.proofs.lemmas.List.{length-map}
-use Rattle.prolog_terms.specs.declared.term.Term.{fold-roll-Term}
-use Rattle.prolog_terms.specs.declared.term.Term.TheVariants.{rolls-Compound}
-use Rattle.prolog_terms.specs.declared.term.Term.TheOpen.{Term-F}
-use Rattle.prolog_terms.specs.Tree.{Tree, tree_of, tree_step, compound, trees_from}
+use Rattle.prolog_terms.specs.Tree.{tree_of, compound, trees_from}
+use Rattle.prolog_terms.proofs.ViewLemmas.{compound_seen}
 use denote.Enum.Bare.{sameb}
 use Rattle.prolog_terms.specs.contracts.term.Form.{the_type}
 use Rattle.prolog_terms.specs.declared.term.Form.{Form}
@@ -17,7 +15,7 @@ returns-then-len-ne1 c =
     let v = c.in-Compound in
     let parts = map tree_of v.args.items in
     let is : tree_of c.inside.result.now ≡ compound v.name (trees_from parts) v.form v.span =
-    ap tree_of (v.is ∙ sym (rolls-Compound v.name v.args v.form v.span)) ∙ fold-roll-Term Tree tree_step (Term-F.Compound v.name v.args v.form v.span) in
+    compound_seen c.inside.result.now v.name v.args v.form v.span v.is in
     let count : length parts ≢ 1 = λ same. c.if-len-ne1.true (omega (arith, same, length-map v.args.items tree_of, v.args.ok, c.len.ensures)) in
     no_system v.name v.form v.span parts count ∙ ap system_at (sym is ∙ c.inside.ensures)
 
@@ -32,6 +30,6 @@ returns c =
     let v = c.in-Compound in
     let parts = map tree_of v.args.items in
     let is : tree_of c.inside.result.now ≡ compound v.name (trees_from parts) v.form v.span =
-    ap tree_of (v.is ∙ sym (rolls-Compound v.name v.args v.form v.span)) ∙ fold-roll-Term Tree tree_step (Term-F.Compound v.name v.args v.form v.span) in
+    compound_seen c.inside.result.now v.name v.args v.form v.span v.is in
     let count : length parts ≡ 1 = omega (arith, length-map v.args.items tree_of, v.args.ok, c.len.ensures, c.if-len-ne1.false) in
     c.eq.ensures ∙ (same v.form ∙ (one_system v.name v.form v.span parts count ∙ ap system_at (sym is ∙ c.inside.ensures)))

@@ -1,9 +1,7 @@
-use Rattle.std.proofs.Common.{◌≡◌, is_some, true, length, map, sym, ◌∙◌, ap, subst, arith}
+use Rattle.std.proofs.Common.{◌≡◌, is_some, true, length, map, sym, ◌∙◌, subst, arith}
 use Rattle.std.proofs.lemmas.List.{length-map}
-use Rattle.prolog_terms.specs.declared.term.Term.{fold-roll-Term}
-use Rattle.prolog_terms.specs.declared.term.Term.TheVariants.{rolls-Compound}
-use Rattle.prolog_terms.specs.declared.term.Term.TheOpen.{Term-F}
-use Rattle.prolog_terms.specs.Tree.{Tree, tree_of, tree_step, compound, trees_from}
+use Rattle.prolog_terms.specs.Tree.{tree_of, compound, trees_from}
+use Rattle.prolog_terms.proofs.ViewLemmas.{compound_seen}
 use Rattle.clause_text.specs.Items.{directive_at}
 use Rattle.module_table.proofs.Shapes.{directive_count}
 use Rattle.module_table.proofs.taken.directive_term.Goals as goal
@@ -13,7 +11,7 @@ remove-requires c =
     let v = c.in-Compound in
     let parts = map tree_of v.args.items in
     let is : tree_of c.unwrapped.result ≡ compound v._own (trees_from parts) v.form v.span =
-    ap tree_of (v.is ∙ sym (rolls-Compound v._own v.args v.form v.span)) ∙ fold-roll-Term Tree tree_step (Term-F.Compound v._own v.args v.form v.span) in
+    compound_seen c.unwrapped.result v._own v.args v.form v.span v.is in
     let one : length parts ≡ 1 = directive_count v._own v.form v.span parts
     (subst (λ t. is_some (directive_at t) ≡ true) (sym c.unwrapped.ensures ∙ is) c.requires) in
     omega (arith, one, length-map v.args.items tree_of, v.args.ok)
