@@ -18,7 +18,7 @@ use Rattle.module_table.specs.declared.said.FactFault.TheVariants as of_facts
 use Rattle.module_table.specs.Defined.{Predicate, predicate_cmp, key}
 use Rattle.module_table.specs.Said.{IsWhy}
 use Rattle.module_table.specs.Facts.{Facts, AreFacts, file_said}
-use Rattle.module_table.proofs.RefusalOffsets.{refusals_placed}
+use Rattle.module_table.proofs.FactOffsets.{refusals_placed}
 use Rattle.group_tool.specs.declared.pred_name.PredName.{PredName}
 use Rattle.group_tool.specs.PredName.{pred_name_cmp}
 use Rattle.group_tool.specs.Rule.{HeadAndGoals, heads}
