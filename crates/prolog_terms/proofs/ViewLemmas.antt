@@ -1,5 +1,5 @@
 -- What terms are, with the brackets round them passed through, by their parts.
-use Rattle.std.proofs.Common.{◌≡◌, ◌≢◌, ℕ, zero, suc, ◌+◌, ◌<◌, ◌≤◌, Bool, true, false, not, List, [], ◌∷◌, ◌++◌, Option, Some, None, is_some, Vec, Box, Global, length, get_or, map, codes, refl, arith, if◌then◌else◌, ap, sym, ◌∙◌}
+use Rattle.std.proofs.Common.{◌≡◌, ◌≢◌, ℕ, zero, suc, ◌+◌, ◌<◌, ◌≤◌, Bool, true, false, not, List, [], ◌∷◌, ◌++◌, Option, Some, None, is_some, Vec, Box, Global, length, get_or, map, codes, refl, arith, if◌then◌else◌, ap, sym, ◌∙◌, subst}
 use Rattle.std.specs.Str.{bytes_eq}
 use Rattle.std.specs.List.{sum_by}
 use Rattle.std.proofs.Math.ListN.{get_or-map}
@@ -59,6 +59,12 @@ list_seen found items span is = ap tree_of (is ∙ sym (term.rolls-List items No
 pub tailed_seen : (found : Term) (items : Vec Term Global) (tail : Box Term Global) (span : Span) → found ≡ term.List items (Some tail) span
     → tree_of found ≡ tailed (trees_from (map tree_of items.items)) (tree_of tail.value) span
 tailed_seen found items tail span is = ap tree_of (is ∙ sym (term.rolls-List items (Some tail) span)) ∙ fold-roll-Term Tree tree_step (Term-F.List items (Some tail) span)
+
+-- what holds of both lists, with a tail or without, holds of the term
+pub list_as : (P : Tree → Type 0) (found : Term) (items : Vec Term Global) (tail : Option (Box Term Global)) (span : Span) → found ≡ term.List items tail span
+    → P (listed (trees_from (map tree_of items.items)) span) → ((end : Tree) → P (tailed (trees_from (map tree_of items.items)) end span)) → P (tree_of found)
+list_as P found items None span is bare ended = subst P (sym (list_seen found items span is)) bare
+list_as P found items (Some tail) span is bare ended = subst P (sym (tailed_seen found items tail span is)) (ended (tree_of tail.value))
 
 pub curly_seen : (found : Term) (inner : Box Term Global) (span : Span) → found ≡ term.Curly inner span → tree_of found ≡ curly (tree_of inner.value) span
 curly_seen found inner span is = ap tree_of (is ∙ sym (term.rolls-Curly inner span)) ∙ fold-roll-Term Tree tree_step (Term-F.Curly inner span)

@@ -1,11 +1,10 @@
-ghost use Rattle.std.specs.Prelude.{◌≡◌, map, IfOk};
+ghost use Rattle.std.specs.Prelude.{◌≡◌, map};
 ghost use Rattle.prolog_terms.specs.declared.term.Form.TheVariants.{Functional};
-ghost use Rattle.prolog_terms.specs.Tree.{tree_of, trees_from, variable, atom, compound, span_of};
+ghost use Rattle.prolog_terms.specs.Tree.{tree_of, trees_from, atom, compound, span_of};
 ghost use Rattle.prolog_terms.specs.Clause.{joined_span};
 
 use crate::term::{Form, Span, Term};
 use prolog_tokens::Text;
-use std::alloc::{AllocError, Global};
 
 pub fn make_atom(name: Text, span: Span) -> Term
     ensures { tree_of result ≡ atom name span }

@@ -1,10 +1,10 @@
 //! The reader: one word at a time.
 
-ghost use Rattle.std.specs.Prelude.{◌≡◌, ◌∷◌, [], ◌&&◌, not, is_some, min, IfOk, None, Some, true, false, MatchOption};
+ghost use Rattle.std.specs.Prelude.{◌≡◌, ◌&&◌, min, IfOk, None, Some, true, false, MatchOption};
 ghost use Rattle.prolog_ops.specs.Table.{ops_of};
 ghost use Rattle.prolog_terms.specs.Words.{table_of};
 ghost use Rattle.prolog_terms.specs.ReaderWaiting.{is_infix_only};
-ghost use Rattle.prolog_terms.specs.ReaderSeen.{StackSeen, doubt_seen, see_mode, see_step, see_waiting, see_fed, settled_seen, enter_seen, then_enter_seen, infix_fits, infix_floor, doubt_step, call_step, feed_named_seen, feed_doubt_seen, feed_seen, mode_floor_seen, waiting_floor_seen, reduced_measure, infix_held, reduced_seen, atom_operand};
+ghost use Rattle.prolog_terms.specs.ReaderSeen.{StackSeen, doubt_seen, see_mode, see_step, see_waiting, see_fed, enter_seen, then_enter_seen, infix_fits, infix_floor, doubt_step, call_step, feed_named_seen, feed_doubt_seen, feed_seen, mode_floor_seen, waiting_floor_seen, reduced_measure};
 ghost use Rattle.prolog_terms.specs.StackSeen.{see_stack};
 
 use crate::measure::Measure;

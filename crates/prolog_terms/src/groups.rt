@@ -1,17 +1,16 @@
 //! The operands that brackets make.
 
-ghost use Rattle.std.specs.Prelude.{◌≡◌, ◌∷◌, [], map, IfOk};
+ghost use Rattle.std.specs.Prelude.{◌≡◌, map, IfOk};
 ghost use Rattle.prolog_terms.specs.Tree.{tree_of, trees_from, listed, tailed as with_tail};
-ghost use Rattle.prolog_terms.specs.Clause.{leaf_tree, negative_tree, pair_text, infix_text, wrapped_tree, joined_span};
-ghost use Rattle.prolog_terms.specs.ReaderSeen.{see_operand, see_operator, see_parts, parts_one, parts_more, leaf_operand, negative_operand, atom_operand, pair_operand, group_operand, tailed_operand, wrapped_operand, prefixed_operand, infixed_operand, postfixed_operand, built};
+ghost use Rattle.prolog_terms.specs.Clause.{wrapped_tree};
+ghost use Rattle.prolog_terms.specs.ReaderSeen.{see_operand, see_parts, parts_one, parts_more, group_operand, tailed_operand, wrapped_operand};
 
 use crate::build::{joined, make_functional};
 use crate::operand::{Operand, Parts};
-use crate::operator_sides::Sides;
 use crate::pending::Opened;
-use crate::term::{ConstKind, Form, Span, Term};
+use crate::term::{Span, Term};
 use crate::word::Word;
-use prolog_tokens::{Kind, Text};
+use prolog_tokens::Kind;
 use std::alloc::{AllocError, Global};
 
 /// An only argument or item (ISO/IEC 13211-1, 6.3.3.1 and 6.3.5.1).

@@ -1,9 +1,9 @@
 //! The operands that words and operators make.
 
-ghost use Rattle.std.specs.Prelude.{◌≡◌, ◌∷◌, [], map, IfOk};
-ghost use Rattle.prolog_terms.specs.Tree.{tree_of, trees_from, listed, tailed as with_tail};
-ghost use Rattle.prolog_terms.specs.Clause.{leaf_tree, negative_tree, pair_text, infix_text, wrapped_tree, joined_span};
-ghost use Rattle.prolog_terms.specs.ReaderSeen.{see_operand, see_operator, see_parts, parts_one, parts_more, leaf_operand, negative_operand, atom_operand, pair_operand, group_operand, tailed_operand, wrapped_operand, prefixed_operand, infixed_operand, postfixed_operand, built};
+ghost use Rattle.std.specs.Prelude.{◌≡◌, [], IfOk};
+ghost use Rattle.prolog_terms.specs.Tree.{tree_of};
+ghost use Rattle.prolog_terms.specs.Clause.{leaf_tree, negative_tree, pair_text, infix_text};
+ghost use Rattle.prolog_terms.specs.ReaderSeen.{see_operand, see_operator, leaf_operand, negative_operand, atom_operand, pair_operand, prefixed_operand, infixed_operand, postfixed_operand, built};
 
 use crate::build::{joined, make_atom, make_compound, span_at};
 use crate::operand::Operand;

@@ -1,7 +1,7 @@
 //! The operators and brackets that are open.
 
 ghost use Rattle.std.specs.Prelude.{◌≡◌, ◌∷◌, ℕ, Bool, [], OnOk, MatchOption, true, false, length, take, ◌≤◌, nat_lt};
-ghost use Rattle.prolog_terms.specs.ReaderSeen.{StackSeen, see_pending, see_operator, see_bracket, pending_operator, pending_bracket, entry, bound_seen, separates_seen, floor_seen, want_floor_seen, pushed, pending_has_parts, inner_depth, pending_bound, right_of, reach_seen, is_operator_top, is_bracket_top, is_operator_below, measure, reduced_measure, priority_of};
+ghost use Rattle.prolog_terms.specs.ReaderSeen.{StackSeen, see_pending, see_operator, see_bracket, pending_operator, pending_bracket, entry, bound_seen, separates_seen, floor_seen, want_floor_seen, pushed, inner_depth, pending_bound, right_of, reach_seen, is_operator_top, is_bracket_top, is_operator_below, measure, reduced_measure, priority_of};
 ghost use Rattle.prolog_terms.specs.StackSeen.{see_stack, see_entries};
 
 use crate::measure::Measure;

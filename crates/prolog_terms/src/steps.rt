@@ -1,9 +1,9 @@
 //! What one word makes of the stack.
 
-ghost use Rattle.std.specs.Prelude.{◌≡◌, ◌∷◌, [], Bool, IfOk};
+ghost use Rattle.std.specs.Prelude.{◌≡◌, IfOk};
 ghost use Rattle.prolog_ops.specs.Table.{ops_of};
 ghost use Rattle.prolog_terms.specs.Words.{table_of};
-ghost use Rattle.prolog_terms.specs.ReaderSeen.{first_in, see_operand, see_parts, see_mode, see_step, held, reduced_seen, closed_seen, goes_seen, wants, has, pushed, pending_bracket, next_in, tail_in, infix_held, postfix_held, infix_step_seen, name_step_seen, separator_seen, comma_in, bar_in, round_in, square_in, curly_in, end_in, with_held, have_step_seen, want_other_seen, want_name_seen, square_pair_seen, curly_pair_seen, prefix_step_seen, act_seen, wrapped_operand, see_bracket, StackSeen};
+ghost use Rattle.prolog_terms.specs.ReaderSeen.{first_in, see_operand, see_mode, see_step, goes_seen, wants, pushed, pending_bracket, have_step_seen, want_other_seen, want_name_seen, square_pair_seen, curly_pair_seen, prefix_step_seen, act_seen, see_bracket};
 ghost use Rattle.prolog_terms.specs.declared.pending.Opened.TheVariants.{Call};
 ghost use Rattle.prolog_terms.specs.StackSeen.{see_stack};
 

@@ -1,4 +1,4 @@
-ghost use Rattle.std.specs.Prelude.{◌≡◌, ◌||◌, ◌&&◌, not, true, false, List, ℕ, [], ◌∷◌, IfOk};
+ghost use Rattle.std.specs.Prelude.{◌≡◌, ◌&&◌, true, false, List, ℕ, [], ◌∷◌, IfOk};
 ghost use Rattle.prolog_tokens.specs.Spelling.{IsSpelled};
 ghost use Rattle.prolog_tokens.specs.Values.{IsNameText};
 ghost use Rattle.prolog_terms.specs.Words.{is_name, is_minus, begins_term, opens, number_next};
