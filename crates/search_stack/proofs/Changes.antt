@@ -60,3 +60,21 @@ pub record Keeps (s t : Stack) (frame : ℕ) : Type 0 where
   pub node_is : (i : ℕ) → i < position s frame → node t i ≡ node s i
   pub succs_is : (i : ℕ) → i < position s frame → succs t i ≡ succs s i
   pub begun_is : (i : ℕ) → i < position s frame → begun t i ≡ begun s i
+
+-- t is s with the part of d from a frame on on top of it
+pub record Joins (s d t : Stack) (frame : ℕ) : Type 0 where
+  pub within : frame < height d
+  pub size_is : size t + position d frame ≡ size s + size d
+  pub height_is : height t + frame ≡ height s + height d
+  pub position_is : (j : ℕ) → j < height s → position t j ≡ position s j
+  pub position_new : (j b : ℕ) → j + frame ≡ height s + b → frame ≤ b → b ≤ height d
+      → position t j + position d frame ≡ size s + position d b
+  pub low_is : (j : ℕ) → j < height s → low t j ≡ low s j
+  pub low_new : (j b : ℕ) → j + frame ≡ height s + b → frame ≤ b → b < height d → position d frame ≤ low d b
+      → low t j + position d frame ≡ size s + low d b
+  pub node_is : (i : ℕ) → i < size s → node t i ≡ node s i
+  pub node_new : (i p : ℕ) → i + position d frame ≡ size s + p → position d frame ≤ p → p < size d → node t i ≡ node d p
+  pub succs_is : (i : ℕ) → i < size s → succs t i ≡ succs s i
+  pub succs_new : (i p : ℕ) → i + position d frame ≡ size s + p → position d frame ≤ p → p < size d → succs t i ≡ succs d p
+  pub begun_is : (i : ℕ) → i < size s → begun t i ≡ begun s i
+  pub begun_new : (i p : ℕ) → i + position d frame ≡ size s + p → position d frame ≤ p → p < size d → begun t i ≡ begun d p

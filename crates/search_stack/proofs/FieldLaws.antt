@@ -122,7 +122,7 @@ next_some {s} {frame} {o} v read more at =
     (at ∙ ap (λ xs. get_or xs o.begun v) (sym read.succs_is) ∙ ap (λ k. get_or (succs s (position_on s (top s))) k v) (sym read.begun_is))
 
 -- the node of entry i is its key
-node_key : (es : List (ℕ × Opened)) (fs : List Frame) (i d : ℕ) → i < length es → get_or (keys_of es) i d ≡ node (stack_of es fs) i
+pub node_key : (es : List (ℕ × Opened)) (fs : List Frame) (i d : ℕ) → i < length es → get_or (keys_of es) i d ≡ node (stack_of es fs) i
 unfolding node
 node_key [] fs i d lt = absurd (omega (arith, lt))
 node_key (e ∷ es) fs zero d lt = refl
@@ -184,7 +184,7 @@ distinct es fs apart i j within inside same =
     ]
 
 -- a new key goes last
-inserted : (es : List (ℕ × Opened)) (v : ℕ) (o : Opened) → ((i : ℕ) → i < length es → get_or (keys_of es) i v ≡ v → ⊥)
+pub inserted : (es : List (ℕ × Opened)) (v : ℕ) (o : Opened) → ((i : ℕ) → i < length es → get_or (keys_of es) i v ≡ v → ⊥)
     → insert_entry nat_eq es v o ≡ es ++ (v, o) ∷ []
 inserted [] v o fresh = refl
 inserted (e ∷ es) v o fresh =

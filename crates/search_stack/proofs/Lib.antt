@@ -1,6 +1,7 @@
 pub mod Frames
 pub mod Changes
 pub mod Shapes
+pub mod Join
 pub mod Push
 pub mod Edges
 pub mod Back
@@ -8,8 +9,12 @@ pub mod Below
 pub mod Retreat
 pub mod Taken
 pub mod Steps
+pub mod Joined
+pub mod Scan
 pub mod FieldLaws
 pub mod FieldSteps
+pub mod Moves
+pub mod Transfers
 pub mod UnderWay
 pub mod Released
 pub mod Driving

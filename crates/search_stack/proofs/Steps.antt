@@ -20,12 +20,12 @@ unfolding low height
 low_of s j frame d lt is = ap (λ f. f.low) (get_or_default s.frames j (record { position = 0; low = 0 }) d lt ∙ is)
 
 -- a frame that stands in both
-same_position : (s t : Stack) (j k : ℕ) (d : Frame) → j < height s → k < height t → get_or t.frames k d ≡ get_or s.frames j d
+pub same_position : (s t : Stack) (j k : ℕ) (d : Frame) → j < height s → k < height t → get_or t.frames k d ≡ get_or s.frames j d
     → position t k ≡ position s j
 same_position s t j k d lt within is =
     position_of t k (get_or t.frames k d) d within refl ∙ ap (λ f. f.position) is ∙ sym (position_of s j (get_or s.frames j d) d lt refl)
 
-same_low : (s t : Stack) (j k : ℕ) (d : Frame) → j < height s → k < height t → get_or t.frames k d ≡ get_or s.frames j d
+pub same_low : (s t : Stack) (j k : ℕ) (d : Frame) → j < height s → k < height t → get_or t.frames k d ≡ get_or s.frames j d
     → low t k ≡ low s j
 same_low s t j k d lt within is =
     low_of t k (get_or t.frames k d) d within refl ∙ ap (λ f. f.low) is ∙ sym (low_of s j (get_or s.frames j d) d lt refl)
@@ -35,15 +35,15 @@ unfolding low
 frame_low s t j is = ap (λ (frames : List Frame). (get_or frames j (record { position = 0; low = 0 })).low) is
 
 -- the same entry, read from two lists
-same_node : (s t : Stack) (i : ℕ) → ((d : Entry) → get_or t.entries i d ≡ get_or s.entries i d) → node t i ≡ node s i
+pub same_node : (s t : Stack) (i : ℕ) → ((d : Entry) → get_or t.entries i d ≡ get_or s.entries i d) → node t i ≡ node s i
 unfolding node
 same_node s t i is = ap (λ e. e.node) (is (record { node = 0; succs = []; begun = 0 }))
 
-same_succs : (s t : Stack) (i : ℕ) → ((d : Entry) → get_or t.entries i d ≡ get_or s.entries i d) → succs t i ≡ succs s i
+pub same_succs : (s t : Stack) (i : ℕ) → ((d : Entry) → get_or t.entries i d ≡ get_or s.entries i d) → succs t i ≡ succs s i
 unfolding succs
 same_succs s t i is = ap (λ e. e.succs) (is (record { node = 0; succs = []; begun = 0 }))
 
-same_begun : (s t : Stack) (i : ℕ) → ((d : Entry) → get_or t.entries i d ≡ get_or s.entries i d) → begun t i ≡ begun s i
+pub same_begun : (s t : Stack) (i : ℕ) → ((d : Entry) → get_or t.entries i d ≡ get_or s.entries i d) → begun t i ≡ begun s i
 unfolding begun
 same_begun s t i is = ap (λ e. e.begun) (is (record { node = 0; succs = []; begun = 0 }))
 

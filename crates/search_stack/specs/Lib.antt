@@ -1,4 +1,5 @@
 pub mod Fields
+pub mod FrameCuts
 pub mod GoodSearch
 pub mod NodeHash
 pub mod PlainSearch

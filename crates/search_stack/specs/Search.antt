@@ -1,7 +1,9 @@
 -- What contracts see of a search, and what its calls do.
-use Rattle.std.specs.Prelude.{◌≡◌, ℕ, ◌+◌, ◌-◌, ◌<◌, ◌⊎◌, min, List, [], ◌∷◌, ◌++◌, length, map, take, drop, slice_get, slice_set, Contains, Option}
+use Rattle.std.specs.Prelude.{◌≡◌, ℕ, ◌+◌, ◌-◌, ◌<◌, ◌≤◌, ◌⊎◌, min, List, [], ◌∷◌, ◌++◌, length, map, take, drop, nat_eq, slice_get, slice_set, Contains, Option, Some, None, is_some, if◌then◌else◌, IfSome}
 use Rattle.graph_law.specs.Graph.{Calls}
 use Rattle.graph_law.specs.Reach.{IsReached, ReachEachOther}
+use Rattle.search_stack.specs.declared.frame.Frame.{Frame}
+use Rattle.search_stack.specs.GoodSearch.{Dips, IsGood}
 use Rattle.search_stack.specs.Stack.{Stack, size, height, top, node, succs, begun, target, position, low}
 
 -- the stack, the node that is wanted, and for how many more entries there is room
@@ -87,3 +89,34 @@ pub record IsReleasable (lists : List (List ℕ)) (roots done group : List ℕ) 
   pub mutual_reach : (p q : ℕ) → Contains group p → Contains group q → ReachEachOther (Calls lists) p q
   pub reached : (p : ℕ) → Contains group p → IsReached (Calls lists) roots p
   pub calls : (p q : ℕ) → Contains group p → Calls lists p q → Contains group q ⊎ Contains done q
+
+-- v stands on the stack, and the frame is the greatest at or below v's place such that no frame from it on has a low below its position
+pub record IsCut (s : Stack) (v frame : ℕ) : Type 0 where
+  pub place : ℕ
+  pub on : place < size s
+  pub is : node s place ≡ v
+  pub within : frame < height s
+  pub at_or_below : position s frame ≤ place
+  pub lawful : Dips s frame → ⊥
+  pub greatest : (b : ℕ) → frame < b → b < height s → position s b ≤ place → Dips s b
+
+-- a frame that stood above `first` stands above `base`
+abbrev pub moved : ℕ → ℕ → Frame → Frame
+moved base first frame = record { position = base + (frame.position - first); low = base + (frame.low - first) }
+
+-- the part of d from frame a on, on top of s
+unfoldable pub joined : Stack → Stack → ℕ → Stack
+joined s d a = record {
+  entries = s.entries ++ drop (position d a) d.entries;
+  frames = s.frames ++ map (moved (size s) (position d a)) (drop a d.frames);
+}
+
+-- the last successor that the top frame's entry has begun, or none where there is no frame
+abbrev pub last_begun : Stack → Option ℕ
+last_begun s =
+    if nat_eq (height s) 0 then None else Some (target s (position s (top s)) (begun s (position s (top s)) - 1))
+
+-- the search is good with nothing undecided: where it wants a node, the last edge of its top is open and leads to that node
+pub record IsGoodSearch (lists : List (List ℕ)) (roots done : List ℕ) (search : SearchValue) : Type 0 where
+  pub good : IsGood lists roots done (is_some search.wanted) search.stack
+  pub wants : IfSome search.wanted (IsLastBegun search.stack)

@@ -1,4 +1,4 @@
-ghost use Rattle.std.specs.Prelude.{◌≡◌, ◌⊎◌, ◌↔◌, ◌+◌, ◌-◌, ◌<◌, ◌≤◌, ℕ, Bool, true, false, is_some, List, [], ◌++◌, length, slice_index_or, Contains, IsOk, IsTrue, IfOk, IfSome, IfNone, OnOk, OnErr};
+ghost use Rattle.std.specs.Prelude.{◌≡◌, ◌⊎◌, ◌↔◌, ◌+◌, ◌-◌, ◌<◌, ◌≤◌, ℕ, Bool, true, false, is_some, List, [], ◌++◌, slice_index_or, Contains, IsOk, IsTrue, IfOk, IfSome, IfNone, OnOk, OnErr};
 ghost use Rattle.std.specs.Bool.{OnFalse};
 ghost use Rattle.graph_law.specs.Graph.{Calls};
 ghost use Rattle.graph_law.specs.Reach.{IsReached};
@@ -6,7 +6,7 @@ ghost use Rattle.search_stack.specs.Stack.{Stack, IsShaped, size, height, top, n
 ghost use Rattle.search_stack.specs.GoodSearch.{IsGood};
 ghost use Rattle.search_stack.specs.Search.{IsOn, IsDistinct, IsLastBegun, IsDone, IsRipe, IsReleasable, empty_stack, pushed, next_successor, one_more_begun, lowered, retreated, below_frame, nodes_from};
 
-use crate::frame::Frame;
+use crate::frame::{Frame, top_frame};
 use crate::node_hasher::NodeHasher;
 use crate::opening::Opening;
 use indexmap::IndexMap;
@@ -14,11 +14,13 @@ use std::alloc::{AllocError, Global};
 use std::hash::BuildHasherDefault;
 use std::marker::Model;
 
+mod parts;
+
 /// The successors of a node on the stack, the first of which have begun.
 #[derive(Drop)]
-struct Opened {
-    succs: Vec<u32>,
-    begun: usize,
+pub(crate) struct Opened {
+    pub(crate) succs: Vec<u32>,
+    pub(crate) begun: usize,
 }
 
 /// A depth-first search that stands still.
@@ -284,12 +286,4 @@ impl Search {
             → IsGood lists roots done opened stack → ((v : ℕ) → Contains done v → Contains more v)
             → IsGood lists roots more opened stack }
     {}
-}
-
-/// The last frame.
-fn top_frame(frames: &[Frame]) -> Frame
-    requires { 0 < length frames.now }
-    ensures { result ≡ slice_index_or frames.now (length frames.now - 1) (record { position = 0; low = 0 }) }
-{
-    frames[frames.len() - 1]
 }

@@ -1,0 +1,75 @@
+ghost use Rattle.std.specs.Prelude.{◌≡◌, ◌+◌, ◌≤◌, ℕ, Bool, true, List, Some, None, IfSome, IfNone};
+ghost use Rattle.search_stack.specs.GoodSearch.{IsGood};
+ghost use Rattle.search_stack.specs.Search.{IsCut, IsLastBegun, IsOn, below_frame, joined, last_begun as last_begun_on};
+ghost use Rattle.search_stack.specs.Stack.{size, position as position_of};
+
+use super::Search;
+use crate::cut::{Cut, greatest_cut};
+use crate::transfer::{last_begun, move_entries, move_frames};
+
+impl Search {
+    /// Where the search is cut at a node: the greatest frame, at or below that of the node's segment,
+    /// such that no frame from it on has a low below its position. None where the node isn't on the
+    /// stack.
+    pub fn cut(&self, node: u32) -> Option<Cut>
+        ensures none { IfNone result (IsOn self.now.stack node → ⊥) }
+        ensures cut { IfSome result (λ cut. IsCut self.now.stack node cut.frame) }
+        ensures position { IfSome result (λ cut. cut.position ≡ position_of self.now.stack cut.frame) }
+    {
+        let Some(place) = self.opened.get_index_of(&node) else {
+            return None;
+        };
+        Some(greatest_cut(&self.frames, place as u32))
+    }
+
+    /// Puts the part of the donor from a cut on, where the donor has the node that this search's last
+    /// edge leads to, on top of this search. The donor keeps the rest, and wants the last successor
+    /// that its new top has begun; with no rest it wants nothing. It takes no memory.
+    pub fn append(&mut self, donor: &mut Search, cut: Cut)
+        requires last { (v : ℕ) × IsLastBegun self.old.stack v × IsCut donor.old.stack v cut.frame }
+        requires position { cut.position ≡ position_of donor.old.stack cut.frame }
+        requires room { size donor.old.stack ≤ self.old.spare + cut.position }
+        requires apart { (v : ℕ) → IsOn self.old.stack v → IsOn donor.old.stack v → ⊥ }
+        ensures joined { self.new.stack ≡ joined self.old.stack donor.old.stack cut.frame }
+        ensures wants_nothing { self.new.wanted ≡ None }
+        ensures spare { self.old.spare + cut.position ≤ self.new.spare + size donor.old.stack }
+        ensures rest { donor.new.stack ≡ below_frame donor.old.stack cut.frame }
+        ensures rest_wants { donor.new.wanted ≡ last_begun_on donor.new.stack }
+
+        // Good searches stay good: this one with its last edge open, and the rest too.
+        ensures good { (lists : List (List ℕ)) (roots done : List ℕ) (opened : Bool) → IsGood lists roots done true self.old.stack
+            → IsGood lists roots done opened donor.old.stack → IsGood lists roots done true self.new.stack }
+        ensures good_rest { (lists : List (List ℕ)) (roots done : List ℕ) (opened : Bool) → IsGood lists roots done opened donor.old.stack
+            → IsGood lists roots done true donor.new.stack }
+    {
+        let base = self.opened.len() as u32;
+        let count = donor.opened.len() as u32 - cut.position;
+        move_entries(&mut self.opened, &mut donor.opened, cut.position as usize);
+        move_frames(&mut self.frames, &mut donor.frames, cut, base);
+        self.spare -= count;
+        self.wanted = None;
+        donor.wanted = last_begun(&donor.opened, &donor.frames);
+    }
+
+    /// The node that the search wants, or none.
+    pub fn wanted(&self) -> Option<u32>
+        ensures { result ≡ self.now.wanted }
+    {
+        self.wanted
+    }
+
+    /// Lets the search want the node that the last edge of its top leads to.
+    pub fn set_wanted(&mut self, on: u32)
+        requires { IsLastBegun self.old.stack on }
+        ensures { self.new ≡ record self.old { wanted = Some on } }
+    {
+        self.wanted = Some(on);
+    }
+
+    /// Lets the search want nothing.
+    pub fn clear_wanted(&mut self)
+        ensures { self.new ≡ record self.old { wanted = None } }
+    {
+        self.wanted = None;
+    }
+}
