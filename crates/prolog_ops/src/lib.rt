@@ -9,11 +9,9 @@
 #![tactic(auto)]
 
 mod op;
-mod opening;
+mod opening_table;
 mod place_ops;
 mod table;
-#[cfg(test)]
-mod tests;
 
 pub use op::{Op, OpKind};
 pub use table::{OpFault, OpTable};

@@ -3,7 +3,7 @@ ghost use Rattle.prolog_ops.specs.declared.table.OpFault.TheVariants.{NoMemory};
 ghost use Rattle.prolog_ops.specs.Table.{Prefix, Infix, Postfix, IsOps, ops_of, opening, place_of, set_fault, with_set, is_fixed, has_rival};
 
 use crate::op::{Op, OpKind};
-use crate::opening::{opening_infixes, opening_prefixes};
+use crate::opening_table::{opening_infixes, opening_prefixes};
 use crate::place_ops::PlaceOps;
 use std::alloc::{AllocError, Global};
 use std::marker::Model;

@@ -1,5 +1,5 @@
 use Rattle.std.proofs.Common.{refl}
-use Rattle.prolog_ops.proofs.opening.opening_prefixes.Goals as goal
+use Rattle.prolog_ops.proofs.opening_table.opening_prefixes.Goals as goal
 
 pub returns : goal.returns
 returns c = rw (c.in_ok-put_each-4.ensures, c.in_ok-put_each-3.ensures, c.in_ok-put_each-2.ensures, c.in_ok-put_each.ensures, c.new-ops.ensures) refl
