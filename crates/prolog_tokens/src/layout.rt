@@ -24,7 +24,7 @@ fn newline_at(bytes: &[u8], from: usize) -> usize
 }
 
 /// Whether `/*` stands at a place.
-fn is_opener(bytes: &[u8], at: usize) -> bool
+fn begins_comment(bytes: &[u8], at: usize) -> bool
     requires { at < length bytes.now }
     ensures { IsTrue result ↔ IsOpener bytes.now at }
 {
@@ -75,7 +75,7 @@ fn comment_end(bytes: &[u8], at: usize) -> Result<Option<usize>, TokenFault>
     requires within { at < length bytes.now }
     ensures { MatchResult result (λ found. MatchOption found (IsOpener bytes.now at → ⊥) (λ end. IsPiece bytes.now at end bracketed)) (λ fault. IsWrong bytes.now at fault) }
 {
-    if !is_opener(bytes, at) {
+    if !begins_comment(bytes, at) {
         return Ok(None);
     }
     match bracketed_end(bytes, at) {

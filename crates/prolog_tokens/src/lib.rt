@@ -16,17 +16,11 @@ mod escapes;
 mod laws;
 mod layout;
 mod numbers;
-#[cfg(test)]
-mod place_tests;
 mod places;
 mod quoted;
 mod spelling;
-#[cfg(test)]
-mod tests;
 mod text;
 mod token;
-#[cfg(test)]
-mod value_tests;
 mod values;
 
 pub use bare_names::is_bare_name;
