@@ -1,0 +1,2 @@
+//! Searches that are put aside until a node that they want is finished.
+#![tactic(auto)]
