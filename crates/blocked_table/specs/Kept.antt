@@ -1,7 +1,7 @@
 -- Kept searches, and where following their wants leads.
-use Rattle.std.specs.Prelude.{◌≡◌, ℕ, ◌<◌, ◌⊎◌, List, [], ◌∷◌, Option, None, Some, slice_index_or}
-use Rattle.search_stack.specs.Stack.{Stack, size, node}
-use Rattle.search_stack.specs.Search.{SearchValue, IsCut, IsOn, below_frame, joined, last_begun, lowered}
+use Rattle.std.specs.Prelude.{◌≡◌, ℕ, ◌⊎◌, List, [], ◌∷◌, Option, None, Some, slice_index_or}
+use Rattle.search_stack.specs.Stack.{Stack}
+use Rattle.search_stack.specs.Search.{SearchValue, IsOn}
 
 -- the search at a place, or none
 abbrev pub kept_at : List (Option SearchValue) → ℕ → Option SearchValue
