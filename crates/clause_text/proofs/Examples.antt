@@ -9,6 +9,7 @@ use Rattle.prolog_terms.specs.Tree.{Tree, variable, constant, atom, compound, li
 use Rattle.clause_text.specs.declared.cause.Cause.TheVariants.{BadPriority, BadKind, BadName, FixedOp, InfixAndPostfix}
 use Rattle.clause_text.specs.declared.fault.TextFault.TheVariants.{At}
 use Rattle.clause_text.specs.Items.{Item, items_of, item_on}
+use Rattle.clause_text.specs.Clauses.{total_weight}
 use Rattle.clause_text.specs.Offsets.{HasOffsets}
 
 abbrev at : ℕ → Span
@@ -61,6 +62,10 @@ law_8 = refl
 
 law_9 : item_on (one_item (number 700 6) (word (codes "xf") 11) (word (codes "is") 15)) opening ≡ Err (At InfixAndPostfix 15)
 law_9 = refl
+
+-- `p. q(r, [s, t]).`: the four terms within the second clause, and two for each clause
+weights : total_weight (word (codes "p") 0 ∷ compound (codes "q") (more (word (codes "r") 5) (more (listed (more (word (codes "s") 9) (more (word (codes "t") 12) none)) (at 8)) none)) Functional (at 3) ∷ []) ≡ 8
+weights = refl
 
 -- a term that starts in the text, and some that start or have a part behind its end
 starts_first : HasOffsets (codes "p") (word (codes "p") 0)

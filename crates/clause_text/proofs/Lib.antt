@@ -5,6 +5,7 @@ pub mod ClauseSplits
 pub mod OneReading
 pub mod OneFault
 pub mod Outcomes
+pub mod TermOffsets
 pub mod Offsets
 pub mod TermShapes
 pub mod SetNames

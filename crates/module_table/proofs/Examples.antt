@@ -76,6 +76,10 @@ dynamic_two = refl
 dynamic_name : says (directive (one (codes "dynamic") (atom (codes "p") (at 11)) 3) ∷ []) ≡ refusal BadIndicator 11
 dynamic_name = refl
 
+-- `:- dynamic p/"1".`, though the string has a value
+string_is_no_arity : says (directive (one (codes "dynamic") (two (codes "/") p (constant const.Str false (Some 1) (at 13)) 11) 3) ∷ []) ≡ refusal BadIndicator 11
+string_is_no_arity = refl
+
 -- `:- include(x).`
 include : says (directive (one (codes "include") (atom (codes "x") (at 11)) 3) ∷ []) ≡ refusal NotInProfile 3
 include = refl

@@ -3,9 +3,10 @@ use Rattle.std.proofs.Common.{◌≡◌, ℕ, List, Err, subst}
 use Rattle.std.specs.Prelude.{All}
 use Rattle.std.proofs.lemmas.List.Elements.{All-nil, All-cons}
 use Rattle.prolog_tokens.specs.Places.{IsOffset}
-use Rattle.prolog_terms.specs.Tree.{Tree, Trees, variable, constant, atom, compound, listed, tailed, curly, paren, more as with_more, none, span_of}
+use Rattle.prolog_terms.specs.Tree.{Tree, Trees, more as with_more, none}
 use Rattle.prolog_terms.specs.Views.{trees_in}
 use Rattle.clause_text.specs.Offsets.{HasOffsets, HaveOffsets}
+use Rattle.clause_text.proofs.TermOffsets.{span_stands}
 use Rattle.module_table.specs.Said.{Refusal}
 use Rattle.module_table.specs.Facts.{Facts, AreFacts, file_said}
 use Rattle.module_table.specs.Placed.{ArePlacedIn}
@@ -14,16 +15,6 @@ use Rattle.module_table.proofs.SaidKept.{Kept, file_kept}
 use Rattle.module_table.proofs.FactsKept.{facts_kept}
 
 module _ (text : List ℕ) where
-  starts_placed : (tree : Tree) → HasOffsets text tree → IsOffset text (span_of tree).from
-  starts_placed (variable span) stands = stands
-  starts_placed (constant kind minus value span) stands = stands
-  starts_placed (atom name span) stands = stands
-  starts_placed (compound name args form span) stands = stands.0
-  starts_placed (listed items span) stands = stands.0
-  starts_placed (tailed items tail span) stands = stands.0
-  starts_placed (curly inner span) stands = stands.0
-  starts_placed (paren inner span) stands = stands.0
-
   trees_placed : (trees : Trees) → HaveOffsets text trees → All (HasOffsets text) (trees_in trees)
   trees_placed none stand = All-nil (HasOffsets text)
   trees_placed (with_more tree trees) stand = All-cons (HasOffsets text) tree (trees_in trees) stand.0 (trees_placed trees stand.1)
@@ -32,7 +23,7 @@ module _ (text : List ℕ) where
   offsets = record {
     Good = HasOffsets text;
     At = IsOffset text;
-    start = starts_placed;
+    start = span_stands text;
     inner = λ inner span stands. stands.1;
     args = λ name args form span stands. trees_placed args stands.1;
     items = λ items span stands. trees_placed items stands.1;

@@ -13,7 +13,7 @@ use Rattle.module_table.specs.Defined.{Defines, Predicate, AreDefined, IsDefined
 use Rattle.module_table.specs.Kinds.{defined_part}
 use Rattle.module_table.specs.Facts.{Facts, AreFacts}
 use Rattle.module_table.proofs.PredicateOrder.{predicate_cmp_total}
-use Rattle.module_table.proofs.SaidCounts.{Defined, file_few}
+use Rattle.module_table.proofs.SaidCounts.{DefinesAtMost, file_few}
 
 -- tests that some element passes
 
@@ -72,5 +72,5 @@ few_grouped ds defined are =
 
 pub few_defined : (user : List ℕ) (trees : List Tree) (facts : Facts) → AreFacts user trees facts → length facts.defined ≤ total_weight trees
 few_defined user trees facts are =
-    let few : length (filter_map defined_part are.parts) ≤ total_weight trees = subst (Defined (total_weight trees)) are.said (file_few user trees) in
+    let few : length (filter_map defined_part are.parts) ≤ total_weight trees = subst (DefinesAtMost (total_weight trees)) are.said (file_few user trees) in
     omega (arith, few, few_grouped (filter_map defined_part are.parts) facts.defined are.are.defined)

@@ -72,8 +72,11 @@ fn is_pushback(term: &Term) -> bool
 pub fn grammar_head(term: &Term) -> &Term
     ensures { tree_of result.now ≡ grammar_head (tree_of term.now) }
 {
-    match sides(term, ",") {
-        Some((left, right)) => { if is_pushback(right) { left } else { term } }
-        None => term,
+    let Some((left, right)) = sides(term, ",") else {
+        return term;
+    };
+    if is_pushback(right) {
+        return left;
     }
+    term
 }

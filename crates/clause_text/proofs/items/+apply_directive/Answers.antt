@@ -23,13 +23,13 @@ pub apply_directive-requires : goal.apply_directive-requires
 apply_directive-requires t c =
     let sides : AreBelow (tree_of c.args.directive.now) (tree_of c.in-Some.first.now) (tree_of c.in-Some.others.now) =
     sides_below (codes ",") (tree_of c.args.directive.now) (tree_of c.in-Some.first.now) (tree_of c.in-Some.others.now) (sym c.in-Some.ensures) in
-    (omega (arith, sides.left_below), tt)
+    (omega (arith, sides.left_below, sides.right_below), tt)
 
 pub apply_directive-requires-2 : goal.apply_directive-requires-2
 apply_directive-requires-2 t c =
     let sides : AreBelow (tree_of c.args.directive.now) (tree_of c.in-Some.first.now) (tree_of c.in-Some.others.now) =
     sides_below (codes ",") (tree_of c.args.directive.now) (tree_of c.in-Some.first.now) (tree_of c.in-Some.others.now) (sym c.in-Some.ensures) in
-    (omega (arith, sides.right_below), tt)
+    (omega (arith, sides.left_below, sides.right_below), tt)
 
 pub returns-in_err-apply_directive-clause-refused : goal.returns-in_err-apply_directive-clause-refused
 returns-in_err-apply_directive-clause-refused t c =
