@@ -1,15 +1,16 @@
 -- Which files a library was asked for.
 use Rattle.std.proofs.Common.{◌≡◌, ℕ, List, [], ◌∷◌, ◌++◌, ap, sym, ◌∙◌, inl}
 use Rattle.group_tool.specs.declared.outcome.Outcome.{Outcome}
-use Rattle.group_tool.specs.Words.{IsLawful}
-use Rattle.group_tool.specs.OutcomeEnd.{IsAskedBy}
+use Rattle.group_tool.specs.Words.{IsLawful, Options, one_file}
+use Rattle.group_tool.specs.Outcome.{AreAskedBy}
 
--- words name one file
-pub one_name : (words : List (List ℕ)) (name other : List ℕ) → IsLawful words name → IsLawful words other → name ≡ other
-one_name words name other is also = let both : name ∷ [] ≡ other ∷ [] = sym is.one ∙ also.one in cc
+-- lawful words are the names of the files that they ask for
+pub lawful_files : (words : List (List ℕ)) (options : Options) → IsLawful words options → options.files ≡ words
+lawful_files words options is = is.files ∙ sym is.one
 
--- a library that was asked for the file of the words was asked for the one that they name
-pub asked_once : (words asked asked' : List (List ℕ)) (name said other : List ℕ) (outcome : Outcome) → IsLawful words name → said ≡ name
-    → asked' ≡ asked ++ said ∷ [] → IsLawful words other → IsAskedBy other asked asked' outcome
+-- a library that was asked for the file of the words was asked for those that they ask for
+pub asked_once : (words asked asked' : List (List ℕ)) (name said : List ℕ) (other : Options) (outcome : Outcome) → IsLawful words (one_file name) → said ≡ name
+    → asked' ≡ asked ++ said ∷ [] → IsLawful words other → AreAskedBy other.files asked asked' outcome
 asked_once words asked asked' name said other outcome is spelled once also =
-    inl (once ∙ ap (λ n. asked ++ n ∷ []) (spelled ∙ one_name words name other is also))
+    let same : said ∷ [] ≡ other.files = ap (λ n. n ∷ []) spelled ∙ (lawful_files words (one_file name) is ∙ sym (lawful_files words other also)) in
+    inl (once ∙ ap (λ names. asked ++ names) same)

@@ -1,11 +1,11 @@
 -- A bare name is one token as it stands, but for the two pairs of brackets.
-use Rattle.std.proofs.Common.{◌≡◌, ◌≢◌, ◌⊎◌, inl, inr, ℕ, zero, suc, ◌+◌, ◌<◌, ◌≤◌, Bool, true, false, not, List, [], ◌∷◌, ◌++◌, length, get_or, codes, refl, ap, sym, subst, ◌∙◌, arith, nat_eq}
+use Rattle.std.proofs.Common.{◌≡◌, ◌≢◌, inl, inr, ℕ, ◌<◌, Bool, true, false, not, List, [], ◌∷◌, length, get_or, codes, refl, ap, sym, subst, ◌∙◌, arith, nat_eq}
 use Rattle.std.proofs.lemmas.Bool.{or_cases, eqb-false}
 use Rattle.std.proofs.lemmas.Slice.Eq.{bytes_eq-Decides}
 use Rattle.std.proofs.lemmas.List.Sums.{AllPass-from_list_all}
 use Rattle.std.proofs.lemmas.List.FromFn.{length-range_with_len, get_or-range_with_len}
 use Rattle.std.specs.Prelude.{◌&&◌, ◌||◌, ◌==◌}
-use Rattle.std.specs.List.{list_all, list_any, range_with_len, starts_with}
+use Rattle.std.specs.List.{list_any, range_with_len, starts_with}
 use Rattle.std.specs.Str.{bytes_eq}
 use Rattle.prolog_tokens.specs.declared.chars.Class.{Class}
 use Rattle.prolog_tokens.specs.declared.chars.Class.TheVariants.{Small, Solo, Inner, Other}
@@ -13,7 +13,7 @@ use Rattle.prolog_tokens.specs.declared.token.Kind.TheVariants.{Name}
 use Rattle.prolog_tokens.specs.Chars.{class_at, continues, is_graphic}
 use Rattle.prolog_tokens.specs.BareNames.{is_small, all_are, is_letter_name, is_graphic_name, sign_names, is_bare_name}
 use Rattle.prolog_tokens.specs.Layout.{IsOpener, IsHashBang}
-use Rattle.prolog_tokens.specs.Spelling.{IsWord, IsRun, IsEnd, IsGraphicName, IsSign, Spells}
+use Rattle.prolog_tokens.specs.Spelling.{IsRun, IsEnd, Spells}
 use Rattle.prolog_tokens.proofs.Classes.{byte_class, class_past, class_here, here}
 use Rattle.group_tool.specs.ReadBack.{is_pair}
 

@@ -1,17 +1,16 @@
 -- What some words, names, lines and answers of sinks are, and what they aren't.
-use Rattle.std.proofs.Common.{◌≡◌, ◌⊎◌, inl, inr, ℕ, zero, suc, ◌+◌, ◌<◌, ◌≤◌, Bool, true, false, List, [], ◌∷◌, length, Option, Some, None, codes, refl, ap, arith}
+use Rattle.std.proofs.Common.{◌≡◌, inl, inr, ℕ, zero, suc, ◌<◌, Bool, true, false, List, [], ◌∷◌, length, Option, Some, None, codes, refl, ap, arith}
 use Rattle.std.specs.Fmt.{digits}
 use Rattle.std.specs.Prelude.{IsTrue, slice_index_or}
 use Rattle.std.proofs.lemmas.List.{length-take}
-use Rattle.prolog_tokens.specs.declared.token.Place.{Place}
 use Rattle.prolog_terms.specs.declared.term.Span.{Span}
 use Rattle.prolog_terms.specs.declared.term.Form.TheVariants.{Functional, Infix}
-use Rattle.prolog_terms.specs.Tree.{Tree, variable, atom, compound, listed, curly, paren, none, more}
+use Rattle.prolog_terms.specs.Tree.{Tree, variable, atom, compound, curly, paren, none, more}
 use Rattle.clause_text.specs.declared.cause.Cause.TheVariants.{Stuck}
 use Rattle.group_release.specs.declared.level.Level.{Level}
 use Rattle.group_tool.specs.declared.pred_name.PredName.{PredName}
 use Rattle.group_tool.specs.declared.sink.Put.TheVariants.{Took, Failed}
-use Rattle.group_tool.specs.declared.sink.Flushed.TheVariants.{Done, Failed as failed_flush}
+use Rattle.group_tool.specs.declared.sink.Flushed.TheVariants.{Done}
 use Rattle.group_tool.specs.Built.{is_plain_clause}
 use Rattle.group_tool.specs.FileFault.{fault_line}
 use Rattle.group_tool.specs.Report.{group_line, head_line}
@@ -19,7 +18,9 @@ use Rattle.group_tool.specs.Spelled.{spelled_name}
 use Rattle.group_tool.specs.RuleOf.{clause_goals}
 use Rattle.group_tool.specs.Say.{SaidIs, TookPart}
 use Rattle.group_tool.specs.Sink.{PutIs, FlushIs}
-use Rattle.group_tool.specs.Words.{IsFileWord, IsLawful, is_word_byte}
+use Rattle.group_tool.specs.Answer.{IsAnswer}
+use Rattle.group_tool.specs.End.{faults, unread, report}
+use Rattle.group_tool.specs.Words.{IsLawful, HasNoOptions, is_word_byte, one_file}
 
 -- one word that names a file; not none, not two, not one with a dash
 
@@ -27,14 +28,25 @@ letter : (k : ℕ) (d : ℕ) → k < 1 → IsTrue (is_word_byte (slice_index_or 
 letter zero d lt = refl
 letter (suc k) d lt = absurd (omega (arith, lt))
 
-file_word : IsLawful (codes "f.pl" ∷ []) (codes "f.pl")
-file_word = record { one = refl; file_word = record { stem = codes "f"; is = refl; plain = letter } }
+file_word : IsLawful (codes "f.pl" ∷ []) (one_file (codes "f.pl"))
+file_word = record { name = codes "f.pl"; one = refl; file_word = record { stem = codes "f"; is = refl; plain = letter }; files = refl }
 
-no_words : (name : List ℕ) → IsLawful [] name → ⊥
-no_words name lawful = omega (arith, ap length lawful.one)
+no_words : HasNoOptions []
+no_words options lawful = omega (arith, ap length lawful.one)
 
-two_words : (name : List ℕ) → IsLawful (codes "f.pl" ∷ codes "g.pl" ∷ []) name → ⊥
-two_words name lawful = omega (arith, ap length lawful.one)
+two_words : HasNoOptions (codes "f.pl" ∷ codes "g.pl" ∷ [])
+two_words options lawful = omega (arith, ap length lawful.one)
+
+-- an absent file is told, and isn't reported
+
+absent_file : IsAnswer (codes "f.pl" ∷ []) (λ name. None) (faults (codes "f.pl: no such file\n"))
+absent_file = record { options = one_file (codes "f.pl"); lawful = file_word; is = record { name = codes "f.pl"; one = refl; is = refl } }
+
+absent_report : IsAnswer (codes "f.pl" ∷ []) (λ name. None) (report []) → ⊥
+absent_report is = is.is.is
+
+no_failed_read : IsAnswer (codes "f.pl" ∷ []) (λ name. None) (unread []) → ⊥
+no_failed_read is = is.is.is
 
 -- the goals of clauses, and which clauses are plain
 

@@ -1,10 +1,9 @@
 -- The report of groups and their levels.
-use Rattle.std.proofs.Common.{◌≡◌, ℕ, List, length, sym, ◌∙◌, subst}
+use Rattle.std.proofs.Common.{◌≡◌, ℕ, List, length, sym, ◌∙◌}
 use Rattle.std.proofs.lemmas.List.{length-map}
-use Rattle.graph_law.specs.Reach.{Agree, IsReached}
-use Rattle.graph_law.specs.Classes.{HasMember, group_at}
+use Rattle.graph_law.specs.Reach.{Agree}
+use Rattle.graph_law.specs.Classes.{group_at}
 use Rattle.graph_law.specs.Graph.{Calls}
-use Rattle.graph_law.specs.LegalOrder.{IsLegalOrder, IsComplete}
 use Rattle.graph_law.proofs.ReachLaws.{is_reached_along}
 use Rattle.graph_law.proofs.Transport.{Agree-sym, IsLegalOrder-agree, HaveHeights-agree, IsRecursive-agree}
 use Rattle.group_release.specs.declared.level.Level.{Level}

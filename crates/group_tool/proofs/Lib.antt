@@ -10,7 +10,6 @@ mod ReadBack
 pub mod GroupingLemmas
 pub mod PredNameOrder
 pub mod NumberingLemmas
-pub mod DefinedClauses
 pub mod PlaceLemmas
 pub mod Printable
 pub mod ReadingLemmas

@@ -1,11 +1,14 @@
 -- A file has one report, and words over a map of files have one answer.
-use Rattle.std.proofs.Common.{◌≡◌, ℕ, List, [], ◌∷◌, Some, None, ap, sym, ◌∙◌, subst, refl, inl, inr}
+use Rattle.std.proofs.Common.{◌≡◌, ℕ, ◌≤◌, ◌⊎◌, List, Option, length, [], ◌∷◌, Some, None, ap, sym, ◌∙◌, subst, refl, inl, inr}
 use Rattle.file_library.specs.Library.{Files}
-use Rattle.group_tool.specs.Words.{IsLawful}
+use Rattle.group_tool.specs.Words.{Options, IsLawful, HasNoOptions}
 use Rattle.group_tool.specs.Grouping.{IsReportOf}
-use Rattle.group_tool.specs.FileFault.{HasFacts, IsOutsideForm, IsFaultLine}
-use Rattle.group_tool.specs.Answer.{Answer, usage, faults, report, IsAnswer, AreFaults, IsNotBuilt, HasFaultLine, HasReport, ReportsText}
-use Rattle.group_tool.proofs.OneFault.{same_facts, one_fault_line, faulty_no_facts, faulty_not_outside, built_not_outside}
+use Rattle.group_tool.specs.FileFault.{IsOutsideForm, IsFaultLine, most_bytes}
+use Rattle.group_tool.specs.Answer.{ReportsText, IsFileAnswer, IsFilesAnswer, IsLawfulAnswer, IsAnswer}
+use Rattle.group_tool.specs.End.{End, usage, faults, unread, report, no_memory}
+use Rattle.group_tool.proofs.Asked.{lawful_files}
+use Rattle.module_table.proofs.OneText.{same_facts, faulty_no_facts}
+use Rattle.group_tool.proofs.OneFault.{one_fault_line, faulty_not_outside, built_not_outside}
 use Rattle.group_tool.proofs.OneReport.{one_report}
 
 -- a file has one report
@@ -14,66 +17,78 @@ one_report_of_text name text bytes other is also =
     let same : also.facts ≡ is.facts = same_facts name text also.facts is.facts also.has is.has in
     one_report is.facts bytes other is.report (subst (λ facts. IsReportOf facts other) same also.report)
 
--- words name one file
-one_file : (words : List (List ℕ)) (name other : List ℕ) → IsLawful words name → IsLawful words other → name ≡ other
-one_file words name other is also = let both : name ∷ [] ≡ other ∷ [] = sym is.one ∙ also.one in cc
+-- words ask for the same files
+one_options : (words : List (List ℕ)) (options other : Options) → IsLawful words options → IsLawful words other → options.files ≡ other.files
+one_options words options other is also = lawful_files words options is ∙ sym (lawful_files words other also)
 
-one_text : (files : Files) (name text other : List ℕ) → files name ≡ Some text → files name ≡ Some other → text ≡ other
-one_text files name text other is also = let both : Some text ≡ Some other = sym is ∙ also in cc
+faulty_or_outside : (name text line : List ℕ) → length text ≤ most_bytes → IsFaultLine name text line → IsOutsideForm name text → ⊥
+faulty_or_outside name text line small is outside = faulty_not_outside name text is.fault small is.has outside
 
-not_absent : (files : Files) (name text : List ℕ) → files name ≡ None → files name ≡ Some text → ⊥
-not_absent files name text is also = let both : None ≡ Some text = sym is ∙ also in cc
+-- a text has the lines of its fault or that it is outside the form
+one_fault : (name text lines other : List ℕ) → IsFileAnswer name (Some text) (faults lines) → IsFileAnswer name (Some text) (faults other) → lines ≡ other
+one_fault name text lines other (inl is) (inl also) = one_fault_line name text lines other is.1 also.1
+one_fault name text lines other (inl is) (inr also) = absurd (faulty_or_outside name text lines is.0 is.1 also.0)
+one_fault name text lines other (inr is) (inl also) = absurd (faulty_or_outside name text other also.0 also.1 is.0)
+one_fault name text lines other (inr is) (inr also) = is.1 ∙ sym also.1
 
--- the text of a file that has two
-same_text : (files : Files) (name text other : List ℕ) (P : List ℕ → Type 0) → files name ≡ Some text → files name ≡ Some other → P other → P text
-same_text files name text other P is also holds = subst P (one_text files name other text also is) holds
+no_fault : (name text lines bytes : List ℕ) → IsFileAnswer name (Some text) (faults lines) → ReportsText name text bytes → ⊥
+no_fault name text lines bytes (inl is) reports = faulty_no_facts name text is.1.fault reports.facts is.1.has reports.has
+no_fault name text lines bytes (inr is) reports = built_not_outside name text reports.facts is.0 reports.small reports.has reports.built
 
-not_both : (files : Files) (name line : List ℕ) → HasFaultLine files name line → IsNotBuilt files name → ⊥
-not_both files name line has not_built =
-    faulty_not_outside name has.text has.is.fault has.is.has (same_text files name has.text not_built.text (IsOutsideForm name) has.there not_built.there not_built.outside)
+-- one thing is said of a file
+one_file_answer : (name : List ℕ) (text : Option (List ℕ)) (end other : End) → IsFileAnswer name text end → IsFileAnswer name text other → end ≡ other
+one_file_answer name None usage other is also = absurd is
+one_file_answer name None (unread line) other is also = absurd is
+one_file_answer name None (report bytes) other is also = absurd is
+one_file_answer name None no_memory other is also = absurd is
+one_file_answer name None (faults lines) usage is also = absurd also
+one_file_answer name None (faults lines) (unread line) is also = absurd also
+one_file_answer name None (faults lines) (report bytes) is also = absurd also
+one_file_answer name None (faults lines) no_memory is also = absurd also
+one_file_answer name None (faults lines) (faults others) is also = ap (λ xs. faults xs) (is ∙ sym also)
+one_file_answer name (Some text) usage other is also = absurd is
+one_file_answer name (Some text) (unread line) other is also = absurd is
+one_file_answer name (Some text) no_memory other is also = absurd is
+one_file_answer name (Some text) (faults lines) usage is also = absurd also
+one_file_answer name (Some text) (faults lines) (unread line) is also = absurd also
+one_file_answer name (Some text) (faults lines) no_memory is also = absurd also
+one_file_answer name (Some text) (faults lines) (report bytes) is also = absurd (no_fault name text lines bytes is also)
+one_file_answer name (Some text) (faults lines) (faults others) is also = ap (λ xs. faults xs) (one_fault name text lines others is also)
+one_file_answer name (Some text) (report bytes) usage is also = absurd also
+one_file_answer name (Some text) (report bytes) (unread line) is also = absurd also
+one_file_answer name (Some text) (report bytes) no_memory is also = absurd also
+one_file_answer name (Some text) (report bytes) (faults lines) is also = absurd (no_fault name text lines bytes also is)
+one_file_answer name (Some text) (report bytes) (report others) is also = ap (λ xs. report xs) (one_report_of_text name text bytes others is also)
 
-one_fault : (files : Files) (name lines other : List ℕ) → AreFaults files name lines → AreFaults files name other → lines ≡ other
-one_fault files name lines other (inl absent) (inl too) = absent.1 ∙ sym too.1
-one_fault files name lines other (inl absent) (inr (inl has)) = absurd (not_absent files name has.text absent.0 has.there)
-one_fault files name lines other (inl absent) (inr (inr not_built)) = absurd (not_absent files name not_built.0.text absent.0 not_built.0.there)
-one_fault files name lines other (inr (inl has)) (inl absent) = absurd (not_absent files name has.text absent.0 has.there)
-one_fault files name lines other (inr (inl has)) (inr (inl too)) =
-    one_fault_line name has.text lines other has.is (same_text files name has.text too.text (λ text. IsFaultLine name text other) has.there too.there too.is)
-one_fault files name lines other (inr (inl has)) (inr (inr not_built)) = absurd (not_both files name lines has not_built.0)
-one_fault files name lines other (inr (inr not_built)) (inl absent) = absurd (not_absent files name not_built.0.text absent.0 not_built.0.there)
-one_fault files name lines other (inr (inr not_built)) (inr (inl has)) = absurd (not_both files name other has not_built.0)
-one_fault files name lines other (inr (inr not_built)) (inr (inr too)) = not_built.1 ∙ sym too.1
+one_files_answer : (files : Files) (names : List (List ℕ)) (end other : End) → IsFilesAnswer files names end → IsFilesAnswer files names other → end ≡ other
+one_files_answer files names end other is also =
+    let both : also.name ∷ [] ≡ is.name ∷ [] = sym also.one ∙ is.one in
+    let same : also.name ≡ is.name = cc in
+    one_file_answer is.name (files is.name) end other is.is (subst (λ name. IsFileAnswer name (files name) other) same also.is)
 
-no_fault : (files : Files) (name lines bytes : List ℕ) → AreFaults files name lines → HasReport files name bytes → ⊥
-no_fault files name lines bytes (inl absent) has = not_absent files name has.text absent.0 has.there
-no_fault files name lines bytes (inr (inl faulty)) has =
-    faulty_no_facts name faulty.text faulty.is.fault has.reports.facts faulty.is.has
-    (same_text files name faulty.text has.text (λ text. HasFacts name text has.reports.facts) faulty.there has.there has.reports.has)
-no_fault files name lines bytes (inr (inr not_built)) has =
-    built_not_outside name not_built.0.text has.reports.facts not_built.0.outside
-    (same_text files name not_built.0.text has.text (λ text. HasFacts name text has.reports.facts) not_built.0.there has.there has.reports.has)
-    has.reports.built
+one_lawful_answer : (words : List (List ℕ)) (files : Files) (end other : End) → IsLawfulAnswer words files end → IsLawfulAnswer words files other → end ≡ other
+one_lawful_answer words files end other is also =
+    one_files_answer files is.options.files end other is.is
+    (subst (λ names. IsFilesAnswer files names other) (one_options words also.options is.options also.lawful is.lawful) also.is)
 
-one_report_of_file : (files : Files) (name bytes other : List ℕ) → HasReport files name bytes → HasReport files name other → bytes ≡ other
-one_report_of_file files name bytes other is also =
-    let same : also.text ≡ is.text = one_text files name also.text is.text also.there is.there in
-    one_report_of_text name is.text bytes other is.reports (subst (λ text. ReportsText name text other) same also.reports)
+-- the answer is the usage, or one to lawful words
+usage_or_lawful : (words : List (List ℕ)) (files : Files) (end : End) → IsAnswer words files end → (HasNoOptions words × (end ≡ usage)) ⊎ IsLawfulAnswer words files end
+usage_or_lawful words files usage is = inl (is, refl)
+usage_or_lawful words files (faults lines) is = inr is
+usage_or_lawful words files (unread line) is = inr is
+usage_or_lawful words files (report bytes) is = inr is
+usage_or_lawful words files no_memory is = inr is
 
-pub one_answer : (words : List (List ℕ)) (files : Files) (answer other : Answer) → IsAnswer words files answer → IsAnswer words files other → answer ≡ other
-one_answer words files usage usage is also = refl
-one_answer words files usage (faults lines) is (name, lawful, are) = absurd (is name lawful)
-one_answer words files usage (report bytes) is (name, lawful, has) = absurd (is name lawful)
-one_answer words files (faults lines) usage (name, lawful, are) also = absurd (also name lawful)
-one_answer words files (faults lines) (faults others) (name, lawful, are) (second, too, also) =
-    let same : second ≡ name = one_file words second name too lawful in
-    ap (λ xs. faults xs) (one_fault files name lines others are (subst (λ n. AreFaults files n others) same also))
-one_answer words files (faults lines) (report bytes) (name, lawful, are) (second, too, has) =
-    let same : second ≡ name = one_file words second name too lawful in
-    absurd (no_fault files name lines bytes are (subst (λ n. HasReport files n bytes) same has))
-one_answer words files (report bytes) usage (name, lawful, has) also = absurd (also name lawful)
-one_answer words files (report bytes) (faults lines) (name, lawful, has) (second, too, are) =
-    let same : second ≡ name = one_file words second name too lawful in
-    absurd (no_fault files name lines bytes (subst (λ n. AreFaults files n lines) same are) has)
-one_answer words files (report bytes) (report others) (name, lawful, has) (second, too, also) =
-    let same : second ≡ name = one_file words second name too lawful in
-    ap (λ xs. report xs) (one_report_of_file files name bytes others has (subst (λ n. HasReport files n others) same also))
+pub one_answer : (words : List (List ℕ)) (files : Files) (answer other : End) → IsAnswer words files answer → IsAnswer words files other → answer ≡ other
+one_answer words files answer other is also = elim (usage_or_lawful words files answer is) [
+  | inl none ↦
+      elim (usage_or_lawful words files other also) [
+        | inl too ↦ none.1 ∙ sym too.1
+        | inr lawful ↦ absurd (none.0 lawful.options lawful.lawful)
+      ]
+  | inr lawful ↦
+      elim (usage_or_lawful words files other also) [
+        | inl none ↦ absurd (none.0 lawful.options lawful.lawful)
+        | inr too ↦ one_lawful_answer words files answer other lawful too
+      ]
+]

@@ -1,19 +1,19 @@
 -- A name between quotes is a quoted item of that name.
-use Rattle.std.proofs.Common.{◌≡◌, ◌≢◌, ◌⊎◌, inl, inr, ℕ, zero, suc, ◌+◌, ◌*◌, ◌-◌, ◌/◌, ◌%◌, ◌<◌, ◌≤◌, Bool, true, false, List, [], ◌∷◌, ◌++◌, length, Some, None, get_or, codes, map, if◌then◌else◌, refl, ap, sym, subst, ◌∙◌, arith, append_assoc, length-append}
+use Rattle.std.proofs.Common.{◌≡◌, ◌≢◌, ◌⊎◌, inl, inr, ℕ, zero, suc, ◌+◌, ◌*◌, ◌-◌, ◌/◌, ◌%◌, ◌<◌, ◌≤◌, Bool, true, false, List, [], ◌∷◌, ◌++◌, length, Some, get_or, codes, if◌then◌else◌, refl, ap, sym, subst, ◌∙◌, arith, append_assoc, length-append}
 use Rattle.std.proofs.lemmas.Bool.{cases_eq, cases_lt, ne_eqb, le-ltb, ltb-true, eqb-true}
 use Rattle.std.proofs.lemmas.List.{get_or-append-add, get_or_past, append-nil}
 use Rattle.std.proofs.lemmas.Grind.{flat_map-append}
-use Rattle.std.proofs.Math.Utf8.{encode, encodes, scalar, scalars, low_scalar, next}
+use Rattle.std.proofs.Math.Utf8.{encode, encodes, low_scalar, next}
 use Rattle.std.proofs.Math.Dec.{ltb}
 use Rattle.std.proofs.lemmas.Str.{encode_ascii, encodes-chars}
 use Rattle.std.proofs.Math.Seq.{get_or-append_seam}
-use Rattle.std.specs.Prelude.{All, IsUtf8, chars, ◌&&◌, ◌||◌, ◌==◌, nat_lt}
-use Rattle.std.specs.Char.{IsScalar, digit_value, encode_utf8}
+use Rattle.std.specs.Prelude.{All, IsUtf8, chars, ◌||◌, ◌==◌, nat_lt}
+use Rattle.std.specs.Char.{digit_value, encode_utf8}
 use Rattle.std.specs.List.{flat_map}
 use Rattle.prolog_tokens.specs.declared.escapes.Mark.TheVariants.{Letter}
-use Rattle.prolog_tokens.specs.Digits.{IsDigits, number_at, Writes}
-use Rattle.prolog_tokens.specs.Escapes.{mark_of, IsCoded, EscapeBy, IsEscape}
-use Rattle.prolog_tokens.specs.Quoted.{Part, plain, twice, escape, PartBy, IsPart, AreParts, PartsLead, IsQuoted}
+use Rattle.prolog_tokens.specs.Digits.{Writes}
+use Rattle.prolog_tokens.specs.Escapes.{mark_of, IsCoded, EscapeBy}
+use Rattle.prolog_tokens.specs.Quoted.{Part, plain, escape, AreParts, IsQuoted}
 use Rattle.prolog_tokens.specs.Values.{part_bytes, IsQuotedText}
 use Rattle.group_tool.specs.Spelled.{hex_digit, quoted_char, quoted_name}
 

@@ -1,6 +1,6 @@
 -- A name in the report reads back as the name.
-use Rattle.std.proofs.Common.{◌≡◌, ◌⊎◌, inl, inr, ℕ, ◌<◌, ◌≤◌, Bool, true, false, List, [], ◌∷◌, ◌++◌, codes, length, take, get_or, refl, ap, sym, subst, ◌∙◌, arith}
-use Rattle.std.specs.Prelude.{IsUtf8, chars, ◌||◌, if◌then◌else◌}
+use Rattle.std.proofs.Common.{◌≡◌, inl, inr, ℕ, Bool, true, false, List, [], ◌∷◌, ◌++◌, codes, length, take, get_or, refl, ap, sym, subst, ◌∙◌, arith}
+use Rattle.std.specs.Prelude.{IsUtf8, chars, if◌then◌else◌}
 use Rattle.std.specs.List.{flat_map}
 use Rattle.std.specs.Str.{bytes_eq}
 use Rattle.std.proofs.lemmas.Bool.{or_cases}
@@ -12,7 +12,7 @@ use Rattle.prolog_tokens.specs.declared.token.Token.{Token}
 use Rattle.prolog_tokens.specs.BareNames.{is_bare_name}
 use Rattle.prolog_tokens.specs.Cut.{IsCut}
 use Rattle.prolog_tokens.specs.Layout.{IsLayout}
-use Rattle.prolog_tokens.specs.Spelling.{Spells, IsSpelled}
+use Rattle.prolog_tokens.specs.Spelling.{Spells}
 use Rattle.prolog_tokens.specs.Values.{IsNameText, IsQuotedText}
 use Rattle.prolog_tokens.proofs.OneToken.{token_within, kind_once}
 use Rattle.prolog_tokens.proofs.Names.{quoted_text_once}

@@ -1,16 +1,15 @@
 -- From what was read of a text to the facts of the file.
-use Rattle.std.proofs.Common.{◌≡◌, ◌≢◌, ℕ, ◌<◌, ◌≤◌, List, Err, Result, Ok, IfErr, IsErrAnd, All, length, get_or, map, sym, subst, ◌∙◌, ap, inl, inr, arith}
+use Rattle.std.proofs.Common.{◌≡◌, ◌≢◌, ℕ, ◌<◌, ◌≤◌, List, Err, Result, Ok, IfErr, IsErrAnd, length, get_or, map, sym, subst, ◌∙◌, ap, inl, inr, arith}
 use Rattle.std.specs.Option.{IfSome}
 use Rattle.std.specs.List.Sorted.{IsStrictlySortedBy}
 use Rattle.std.specs.declared.cmp.Ordering.TheVariants.{Less}
 use Rattle.std.proofs.lemmas.List.{get_or-map, length-map}
-use Rattle.std.proofs.lemmas.List.Elements.{Contains-get_or}
 use Rattle.std.proofs.lemmas.Map.Keys.{Less-from_sorted}
 use Rattle.prolog_tokens.specs.Places.{IsOffset}
 use Rattle.prolog_terms.specs.Tree.{Tree}
 use Rattle.clause_text.specs.declared.fault.TextFault.{TextFault}
 use Rattle.clause_text.specs.declared.fault.TextFault.TheVariants as of_text
-use Rattle.clause_text.specs.Clauses.{ReadsAs}
+use Rattle.clause_text.specs.Clauses.{ReadsAs, total_weight}
 use Rattle.clause_text.specs.TextFault.{HasTextFault, offset_of}
 use Rattle.clause_text.proofs.Offsets.{reading_placed}
 use Rattle.module_table.specs.declared.said.FactFault.{FactFault}
@@ -19,13 +18,13 @@ use Rattle.module_table.specs.Defined.{Predicate, predicate_cmp, key}
 use Rattle.module_table.specs.Said.{IsWhy}
 use Rattle.module_table.specs.Facts.{Facts, AreFacts, file_said}
 use Rattle.module_table.proofs.FactOffsets.{refusals_placed}
+use Rattle.module_table.proofs.FewDefined.{few_defined}
 use Rattle.group_tool.specs.declared.pred_name.PredName.{PredName}
 use Rattle.group_tool.specs.PredName.{pred_name_cmp}
 use Rattle.group_tool.specs.Rule.{HeadAndGoals, heads}
-use Rattle.group_tool.specs.RuleOf.{rule_of, predicates_of, HasSmallArities, HasSmallClauses}
+use Rattle.group_tool.specs.RuleOf.{rule_of, predicates_of}
 use Rattle.group_tool.specs.Numbering.{IsRising}
 use Rattle.group_tool.specs.FileFault.{FileFaultIs, fault_of_text, fault_of_facts, fault_from, most_bytes}
-use Rattle.group_tool.proofs.DefinedClauses.{defined_clauses_small}
 
 -- what holds of an error
 pub on_err : {T E : Type 0} (r : Result T E) (P Q : E → Type 0) → IsErrAnd r P → ((e : E) → P e → Q e) → IfErr r Q
@@ -34,20 +33,22 @@ on_err (Err e) P Q is then = then e is
 
 pub text_refused : (name text : List ℕ) (fault : TextFault) → length text ≤ most_bytes → (fault ≢ of_text.NoMemory → HasTextFault text fault)
     → IfSome (offset_of fault) (λ at. IsOffset text at) → FileFaultIs name text (fault_of_text fault)
-text_refused name text (of_text.At cause at) small has offset = (record { small = small; caused = inl (has (λ e. cc)) }, offset)
+text_refused name text (of_text.At cause at) small has offset = (small, inl (has (λ e. cc)), offset)
 text_refused name text of_text.NoMemory small has offset = tt
 
 pub facts_refused : (name text : List ℕ) (trees : List Tree) (fault : FactFault) → length text ≤ most_bytes → ReadsAs text trees → IsWhy (file_said name trees) fault
     → FileFaultIs name text (fault_of_facts fault)
 facts_refused name text trees (of_facts.At cause at) small reads why = (
-  record { small = small; caused = inr (record { trees = trees; reads = reads; said = why }) },
+  small,
+  inr (record { trees = trees; reads = reads; said = why }),
   refusals_placed text name trees (fault_from cause at) (reading_placed text trees reads) why,
 )
 facts_refused name text trees of_facts.NoMemory small reads why = tt
 
-pub small_defined : (name : List ℕ) (trees : List Tree) (facts : Facts) → AreFacts name trees facts → All HasSmallArities trees → All HasSmallClauses facts.defined
-small_defined name trees facts are small k d lt =
-    defined_clauses_small 8388608 name trees facts are small (get_or facts.defined k d) (Contains-get_or facts.defined k d lt)
+-- where a file has no more predicates than its text has bytes they are few
+pub few_predicates : (name text : List ℕ) (trees : List Tree) (facts : Facts) → AreFacts name trees facts → total_weight trees ≤ length text → length text ≤ most_bytes
+    → length facts.defined ≤ most_bytes
+few_predicates name text trees facts are light small = omega (arith, few_defined name trees facts are, light, small)
 
 abbrev head_of : HeadAndGoals → PredName
 head_of rule = rule.head

@@ -2,12 +2,11 @@
 use Rattle.std.proofs.Common.{◌≡◌, ◌≢◌, ℕ, ◌⊎◌, List, [], Option, Some, None, ap, sym, ◌∙◌, refl, inl, inr, append-nil, arith}
 use Rattle.file_library.specs.Counts.{Rose}
 use Rattle.file_library.specs.Library.{Files}
-use Rattle.group_tool.specs.Answer.{Answer, AreFaults, usage_line, memory_line}
-use Rattle.group_tool.specs.Answer as right
-use Rattle.group_tool.specs.Outcome.{IsRefused}
+use Rattle.group_tool.specs.Words.{HasNoOptions}
+use Rattle.group_tool.specs.End.{End, usage, faults, unread, report, no_memory, usage_line, memory_line}
 use Rattle.group_tool.specs.Say.{TookAll}
 use Rattle.group_tool.specs.Sink.{more_taken}
-use Rattle.group_tool.specs.Run.{End, usage, faults, unread, report, no_memory, EndIs, EndsBy, Taking, IsRun, SaidWith, SaysAnswer, SaysNoMemory, HasNoName}
+use Rattle.group_tool.specs.Run.{EndIs, EndsBy, Taking, IsRun, SaidWith, SaysAnswer, SaysNoMemory}
 
 pub more_none : (taken : Option (List ℕ)) → more_taken taken [] ≡ taken
 more_none None = refl
@@ -25,11 +24,6 @@ said_all bytes status result sink said quiet = elim said [
   | inr part ↦ absurd (quiet part.1.rose)
 ]
 
-faults_of : (told : Option Files) (m m' : ℕ) (name lines : List ℕ) (files : Files) → told ≡ Some files → IsRefused told m m' name lines → AreFaults files name lines
-faults_of told m m' name lines files tells (inl absent) = inl (absent.none files tells, absent.is)
-faults_of told m m' name lines files tells (inr (inl faulty)) = inr (inl (record { text = faulty.text; there = faulty.there files tells; is = faulty.is }))
-faults_of told m m' name lines files tells (inr (inr outside)) = inr (inr (outside.not_built files tells, outside.is))
-
 abbrev Says : List (List ℕ) → Files → Taking → Taking → ℕ → Type 0
 Says words files out err result =
     SaysAnswer words files out.taken err.taken out.taken' err.taken' result ⊎ SaysNoMemory out.taken err.taken out.taken' err.taken' result
@@ -39,23 +33,22 @@ answered_by : (words : List (List ℕ)) (told : Option Files) (asked' : List (Li
     → Says words files out err result
 answered_by words told asked' f f' m m' out err result files tells read_quiet out_quiet err_quiet usage cause written =
     let said = said_all usage_line 2 result err written.0 err_quiet in
-    inl (record { answer = right.usage; is_right = cause; status = said.is_status; on_out = written.1 ∙ sym (more_none out.taken); on_err = said.all.is })
+    inl (record { answer = usage; is_right = cause.is.told_too files tells; status = said.is_status; on_out = written.1 ∙ sym (more_none out.taken); on_err = said.all.is })
 answered_by words told asked' f f' m m' out err result files tells read_quiet out_quiet err_quiet (faults lines) cause written =
     let said = said_all lines 3 result err written.0 err_quiet in
     inl (record {
-      answer = right.faults lines;
-      is_right = (cause.0, cause.1, faults_of told m m' cause.0 lines files tells cause.2);
+      answer = faults lines;
+      is_right = cause.is.told_too files tells;
       status = said.is_status;
       on_out = written.1 ∙ sym (more_none out.taken);
       on_err = said.all.is;
     })
-answered_by words told asked' f f' m m' out err result files tells read_quiet out_quiet err_quiet (unread line) cause written = absurd (read_quiet cause.2.rose)
+answered_by words told asked' f f' m m' out err result files tells read_quiet out_quiet err_quiet (unread line) cause written = absurd (read_quiet cause.rose)
 answered_by words told asked' f f' m m' out err result files tells read_quiet out_quiet err_quiet (report bytes) cause written =
     let said = said_all bytes 0 result out written.0 out_quiet in
-    let is = cause.2 in
     inl (record {
-      answer = right.report bytes;
-      is_right = (cause.0, cause.1, record { text = is.text; there = is.there files tells; reports = is.reports });
+      answer = report bytes;
+      is_right = cause.is.told_too files tells;
       status = said.is_status;
       on_out = said.all.is;
       on_err = written.1 ∙ sym (more_none err.taken);
@@ -70,16 +63,16 @@ answered words told asked' f f' m m' out err result run files tells read_quiet o
     answered_by words told asked' f f' m m' out err result files tells read_quiet out_quiet err_quiet run.end run.cause run.written
 
 -- a run without a lawful word says the usage, fails to, or has no memory
-lawful_by : (words : List (List ℕ)) (told : Option Files) (asked' : List (List ℕ)) (f f' m m' : ℕ) (out err : Taking) (result : ℕ) → HasNoName words → (end : End)
+lawful_by : (words : List (List ℕ)) (told : Option Files) (asked' : List (List ℕ)) (f f' m m' : ℕ) (out err : Taking) (result : ℕ) → HasNoOptions words → (end : End)
     → EndIs words told asked' f f' m m' end → EndsBy result out err end → (result ≡ 2) ⊎ ((result ≡ 5) ⊎ (result ≡ 7))
 lawful_by words told asked' f f' m m' out err result none usage cause written = elim written.0 [ inl all ↦ inl all.0 | inr part ↦ inr (inl part.0) ]
-lawful_by words told asked' f f' m m' out err result none (faults lines) cause written = absurd (none cause.0 cause.1)
-lawful_by words told asked' f f' m m' out err result none (unread line) cause written = absurd (none cause.0 cause.1)
-lawful_by words told asked' f f' m m' out err result none (report bytes) cause written = absurd (none cause.0 cause.1)
+lawful_by words told asked' f f' m m' out err result none (faults lines) cause written = absurd (none cause.is.is.options cause.is.is.lawful)
+lawful_by words told asked' f f' m m' out err result none (unread line) cause written = absurd (none cause.options cause.lawful)
+lawful_by words told asked' f f' m m' out err result none (report bytes) cause written = absurd (none cause.is.is.options cause.is.is.lawful)
 lawful_by words told asked' f f' m m' out err result none no_memory cause written = elim written.0 [ inl all ↦ inr (inr all.0) | inr part ↦ inr (inl part.0) ]
 
 pub lawful : (words : List (List ℕ)) (told : Option Files) (asked' : List (List ℕ)) (f f' m m' : ℕ) (out err : Taking) (result : ℕ) → IsRun words told asked' f f' m m' out err result
-    → HasNoName words → (result ≡ 2) ⊎ ((result ≡ 5) ⊎ (result ≡ 7))
+    → HasNoOptions words → (result ≡ 2) ⊎ ((result ≡ 5) ⊎ (result ≡ 7))
 lawful words told asked' f f' m m' out err result run none = lawful_by words told asked' f f' m m' out err result none run.end run.cause run.written
 
 -- no status but its own
@@ -99,14 +92,14 @@ own_status bytes status result sink said not_five = elim said [
 ]
 
 usage_by : (words : List (List ℕ)) (told : Option Files) (asked' : List (List ℕ)) (f f' m m' : ℕ) (out err : Taking) (result : ℕ) → result ≡ 2 → (end : End)
-    → EndIs words told asked' f f' m m' end → EndsBy result out err end → HasNoName words × ((out.taken' ≡ out.taken) × (err.taken' ≡ more_taken err.taken usage_line))
+    → EndIs words told asked' f f' m m' end → EndsBy result out err end → HasNoOptions words × ((out.taken' ≡ out.taken) × (err.taken' ≡ more_taken err.taken usage_line))
 usage_by words told asked' f f' m m' out err result is usage cause written =
-    (cause, (written.1, (own_status usage_line 2 result err written.0 (λ five. omega (arith, is, five))).all.is))
+    (cause.is.is, (written.1, (own_status usage_line 2 result err written.0 (λ five. omega (arith, is, five))).all.is))
 usage_by words told asked' f f' m m' out err result is (faults lines) cause written = absurd (other_status lines 3 result 2 err written.0 is (λ e. omega (arith, e)) (λ e. omega (arith, e)))
 usage_by words told asked' f f' m m' out err result is (unread line) cause written = absurd (other_status line 4 result 2 err written.0 is (λ e. omega (arith, e)) (λ e. omega (arith, e)))
 usage_by words told asked' f f' m m' out err result is (report bytes) cause written = absurd (other_status bytes 0 result 2 out written.0 is (λ e. omega (arith, e)) (λ e. omega (arith, e)))
 usage_by words told asked' f f' m m' out err result is no_memory cause written = absurd (other_status memory_line 7 result 2 err written.0 is (λ e. omega (arith, e)) (λ e. omega (arith, e)))
 
 pub usage_said : (words : List (List ℕ)) (told : Option Files) (asked' : List (List ℕ)) (f f' m m' : ℕ) (out err : Taking) (result : ℕ) → IsRun words told asked' f f' m m' out err result
-    → result ≡ 2 → HasNoName words × ((out.taken' ≡ out.taken) × (err.taken' ≡ more_taken err.taken usage_line))
+    → result ≡ 2 → HasNoOptions words × ((out.taken' ≡ out.taken) × (err.taken' ≡ more_taken err.taken usage_line))
 usage_said words told asked' f f' m m' out err result run is = usage_by words told asked' f f' m m' out err result is run.end run.cause run.written

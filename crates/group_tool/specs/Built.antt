@@ -3,7 +3,7 @@ use Rattle.std.specs.Prelude.{ℕ, List, [], ◌∷◌, Bool, true, false, not, 
 use Rattle.std.specs.List.{list_all, list_any}
 use Rattle.std.specs.Str.{bytes_eq}
 use Rattle.prolog_terms.specs.Tree.{Tree, variable, constant, atom, compound, listed, tailed, curly, paren, count}
-use Rattle.clause_text.specs.Terms.{sides_of, goals_in}
+use Rattle.prolog_terms.specs.Views.{sides_of, joined}
 use Rattle.module_table.specs.Defined.{Predicate}
 use Rattle.module_table.specs.Heads.{is_among}
 use Rattle.module_table.specs.Facts.{Facts}
@@ -38,7 +38,7 @@ is_plain_goal (curly inner span) = false
 is_plain_goal (paren inner span) = is_plain_goal inner
 
 abbrev pub is_plain_body : Tree → Bool
-is_plain_body body = list_all is_plain_goal (goals_in body)
+is_plain_body body = list_all is_plain_goal (joined body)
 
 -- a rule by its body; a fact is plain
 abbrev pub is_plain_by : Option (Tree × Tree) → Bool
@@ -54,14 +54,10 @@ is_plain_clause clause = not (is_grammar_rule clause) && is_plain_by (sides_of (
 abbrev pub has_plain_clauses : Predicate → Bool
 has_plain_clauses p = list_all is_plain_clause p.clauses
 
--- the most predicates of a graph
-abbrev pub most_predicates : ℕ
-most_predicates = 1048576
-
 -- nothing is loaded and nothing run, and all clauses are plain
 abbrev pub is_plain_file : Facts → Bool
 is_plain_file facts =
-    (length facts.loads == 0) && (length facts.goals == 0) && nat_le (length facts.defined) most_predicates && list_all has_plain_clauses facts.defined
+    (length facts.loads == 0) && (length facts.goals == 0) && list_all has_plain_clauses facts.defined
 
 -- the predicate is one of these
 abbrev pub is_one_of : List PredName → PredName → Bool

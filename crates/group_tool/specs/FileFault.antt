@@ -1,19 +1,17 @@
 -- What is wrong with a file: its text, or what its clauses say.
-use Rattle.std.specs.Prelude.{◌≡◌, ℕ, ◌≤◌, ◌<◌, ◌⊎◌, false, List, ◌++◌, Err, length, codes, ⊤}
+use Rattle.std.specs.Prelude.{◌≡◌, ℕ, ◌≤◌, ◌<◌, ◌⊎◌, false, List, ◌++◌, length, codes, ⊤}
 use Rattle.std.specs.Fmt.{decimal}
 use Rattle.prolog_tokens.specs.declared.token.Place.{Place}
 use Rattle.prolog_tokens.specs.Places.{IsOffset, IsPlace}
-use Rattle.prolog_terms.specs.Tree.{Tree}
 use Rattle.clause_text.specs.Cause.{cause_text}
 use Rattle.clause_text.specs.declared.cause.Cause.{Cause}
 use Rattle.clause_text.specs.declared.fault.TextFault.{TextFault}
 use Rattle.clause_text.specs.declared.fault.TextFault.TheVariants as of_text
-use Rattle.clause_text.specs.Clauses.{ReadsAs}
-use Rattle.clause_text.specs.TextFault.{HasTextFault}
 use Rattle.module_table.specs.declared.said.FactFault.{FactFault}
 use Rattle.module_table.specs.declared.said.FactFault.TheVariants as of_facts
 use Rattle.module_table.specs.Said.{Refusal}
-use Rattle.module_table.specs.Facts.{Facts, AreFacts, file_said}
+use Rattle.module_table.specs.Facts.{Facts}
+use Rattle.module_table.specs.FileText.{HasFacts, HasFault}
 use Rattle.group_tool.specs.declared.file_fault.FileFault.{FileFault}
 use Rattle.group_tool.specs.declared.file_fault.FileFault.TheVariants.{At, NotBuilt, NoMemory}
 use Rattle.group_tool.specs.Built.{is_built}
@@ -21,24 +19,6 @@ use Rattle.group_tool.specs.Built.{is_built}
 -- the most bytes of a text of the built form
 abbrev pub most_bytes : ℕ
 most_bytes = 65536
-
--- the text is clauses, and what they say is refused
-pub record HasRefusal (name text : List ℕ) (refusal : Refusal) : Type 0 where
-  pub trees : List Tree
-  pub reads : ReadsAs text trees
-  pub said : file_said name trees ≡ Err refusal
-
--- the fault of a file whose text isn't too long: why the text isn't read, or why what it says is refused
-pub record HasFileFault (name text : List ℕ) (fault : Refusal) : Type 0 where
-  pub small : length text ≤ most_bytes
-  pub caused : HasTextFault text (of_text.At fault.cause fault.offset) ⊎ HasRefusal name text fault
-
--- the facts of a file whose text isn't too long
-pub record HasFacts (name text : List ℕ) (facts : Facts) : Type 0 where
-  pub small : length text ≤ most_bytes
-  pub trees : List Tree
-  pub reads : ReadsAs text trees
-  pub are : AreFacts name trees facts
 
 -- the file has facts, but they are not of the built form
 pub record HasOtherForm (name text : List ℕ) : Type 0 where
@@ -64,7 +44,7 @@ fault_from cause offset = record { cause = cause; offset = offset }
 
 -- why a file has no facts, or isn't built; want of memory says nothing of it
 abbrev pub FileFaultIs : List ℕ → List ℕ → FileFault → Type 0
-FileFaultIs name text (At cause offset) = HasFileFault name text (fault_from cause offset) × IsOffset text offset
+FileFaultIs name text (At cause offset) = (length text ≤ most_bytes) × HasFault name text (fault_from cause offset) × IsOffset text offset
 FileFaultIs name text NotBuilt = IsOutsideForm name text
 FileFaultIs name text NoMemory = ⊤
 
@@ -76,7 +56,7 @@ fault_line name place cause =
 -- the line tells the fault of the file with its place
 pub record IsFaultLine (name text line : List ℕ) : Type 0 where
   pub fault : Refusal
-  pub has : HasFileFault name text fault
+  pub has : HasFault name text fault
   pub place : Place
   pub stands : IsPlace text fault.offset place
   pub is : line ≡ fault_line name place fault.cause

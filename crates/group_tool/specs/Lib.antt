@@ -11,11 +11,10 @@ pub mod Say
 pub mod FileFault
 pub mod RuleOf
 pub mod Grouping
+pub mod End
 pub mod Answer
 pub mod Outcome
 pub mod Run
-pub mod OutcomeEnd
-pub mod Terms
 pub mod Built
 pub mod Spelled
 pub mod ReadBack

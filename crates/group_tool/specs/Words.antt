@@ -11,7 +11,21 @@ pub record IsFileWord (word : List ℕ) : Type 0 where
   pub is : word ≡ stem ++ codes ".pl"
   pub plain : All (λ b. IsTrue (is_word_byte b)) stem
 
--- the words are one word that names a file
-pub record IsLawful (words : List (List ℕ)) (name : List ℕ) : Type 0 where
+-- what lawful words ask for
+pub record Options : Type 0 where
+  pub files : List (List ℕ)
+
+-- the words are one word that names a file, which is asked for
+pub record IsLawful (words : List (List ℕ)) (options : Options) : Type 0 where
+  pub name : List ℕ
   pub one : words ≡ name ∷ []
   pub file_word : IsFileWord name
+  pub files : options.files ≡ name ∷ []
+
+-- one file is asked for
+abbrev pub one_file : List ℕ → Options
+one_file name = record { files = name ∷ [] }
+
+-- the words are not lawful
+abbrev pub HasNoOptions : List (List ℕ) → Type 0
+HasNoOptions words = (options : Options) → IsLawful words options → ⊥

@@ -1,11 +1,10 @@
-ghost use Rattle.std.specs.Prelude.{◌≡◌, ◌++◌, ℕ, List, IfOk, IfErr};
+ghost use Rattle.std.specs.Prelude.{◌≡◌, ◌++◌, IfOk, IfErr, Some};
 ghost use Rattle.std.specs.String.{string_bytes};
 ghost use Rattle.group_tool.specs.Answer.{ReportsText};
 ghost use Rattle.group_tool.specs.FileFault.{FileFaultIs};
-ghost use Rattle.group_tool.specs.Outcome.{TextOutcomeIs};
-ghost use Rattle.group_tool.specs.OutcomeEnd.{OutcomeIs, IsAskedBy};
-ghost use Rattle.group_tool.specs.Run.{HasNoName};
-ghost use Rattle.group_tool.specs.Words.{IsLawful};
+ghost use Rattle.group_tool.specs.Outcome.{AreAskedBy, IsFileOutcome, end_of};
+ghost use Rattle.group_tool.specs.Run.{EndIs};
+ghost use Rattle.group_tool.specs.Words.{HasNoOptions, IsLawful, Options};
 
 use crate::fault_line::fault_line;
 use crate::file_fault::FileFault;
@@ -30,7 +29,7 @@ fn line(alloc: Global, before: &str, name: &str, behind: &str) -> Result<String,
 /// What a file without facts comes out as.
 fn refused_file(alloc: Global, name: &str, text: &[u8], fault: FileFault) -> Outcome
     requires { FileFaultIs name.now text.now fault }
-    ensures { TextOutcomeIs name.now text.now result }
+    ensures { IsFileOutcome name.now (Some text.now) result }
 {
     match fault {
         FileFault::At(cause, offset) => match fault_line(alloc, name, text, cause, offset) {
@@ -59,7 +58,7 @@ fn report_text(alloc: Global, name: &str, text: &[u8]) -> Result<String, FileFau
 
 /// What the file of that name with the text comes out as.
 fn answer_text(alloc: Global, name: &str, text: &[u8]) -> Outcome
-    ensures { TextOutcomeIs name.now text.now result }
+    ensures { IsFileOutcome name.now (Some text.now) result }
 {
     match report_text(alloc, name, text) {
         Ok(report) => Outcome::Report(report),
@@ -69,9 +68,9 @@ fn answer_text(alloc: Global, name: &str, text: &[u8]) -> Outcome
 
 /// What the words come out as over the library, which is asked for the file that they name.
 pub fn answer_words<L: Library>(alloc: Global, words: &[Text], library: &mut L) -> Outcome
-    ensures outcome { OutcomeIs words.now (L.files library.old) (L.asked library.new) (L.faults library.old) (L.faults library.new) (L.misses library.old) (L.misses library.new) result }
-    ensures asked { (name : List ℕ) → IsLawful words.now name → IsAskedBy name (L.asked library.old) (L.asked library.new) result }
-    ensures unasked { HasNoName words.now → L.asked library.new ≡ L.asked library.old }
+    ensures end { EndIs words.now (L.files library.old) (L.asked library.new) (L.faults library.old) (L.faults library.new) (L.misses library.old) (L.misses library.new) (end_of result) }
+    ensures asked { (options : Options) → IsLawful words.now options → AreAskedBy options.files (L.asked library.old) (L.asked library.new) result }
+    ensures unasked { HasNoOptions words.now → L.asked library.new ≡ L.asked library.old }
 {
     let Some(name) = file_name(words) else {
         return Outcome::Usage;

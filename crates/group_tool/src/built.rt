@@ -7,12 +7,9 @@ ghost use Rattle.module_table.specs.Facts.{see_facts};
 ghost use Rattle.module_table.specs.Heads.{is_among};
 ghost use Rattle.group_tool.specs.Built.{calling_names, takes_goals, is_plain_goal, is_plain_body, is_plain_clause, has_plain_clauses, is_plain_file};
 
-use clause_text::{Clause, sides};
+use clause_text::Clause;
 use module_table::{Defined, FileFacts};
-use prolog_terms::Term;
-
-/// The most predicates of a graph.
-const MOST_PREDICATES: usize = 1_048_576;
+use prolog_terms::{Term, sides};
 
 fn is_one_of(words: &[&str], name: &str) -> bool
     ensures { result ≡ list_any (λ word. bytes_eq word.now name.now) words.now }
@@ -118,9 +115,6 @@ pub fn is_plain_file(facts: &FileFacts) -> bool
         return false;
     }
     if facts.goals.len() != 0 {
-        return false;
-    }
-    if facts.defined.len() > MOST_PREDICATES {
         return false;
     }
     are_plain(&facts.defined)

@@ -5,7 +5,7 @@ ghost use Rattle.module_table.specs.Defined.{see_defined};
 ghost use Rattle.module_table.specs.Facts.{see_facts};
 ghost use Rattle.group_tool.specs.Built.{is_built, is_one_of};
 ghost use Rattle.group_tool.specs.Numbering.{AreNumbers, IsNumbering, IsRising};
-ghost use Rattle.group_tool.specs.RuleOf.{HasSmallClauses, exported, predicates_of, roots_of};
+ghost use Rattle.group_tool.specs.RuleOf.{HasLightClauses, exported, predicates_of, roots_of};
 ghost use Rattle.group_tool.specs.Grouping.{IsReportOf, Reports};
 
 use crate::built::is_plain_file;
@@ -78,7 +78,8 @@ fn group(
 
 /// The report of a file, or `None` where it is outside the built form.
 pub fn group_file(alloc: Global, facts: &FileFacts) -> Result<Option<String>, AllocError>
-    requires arities { All HasSmallClauses (map see_defined facts.now.defined.items) }
+    requires light { All HasLightClauses (map see_defined facts.now.defined.items) }
+    requires few { length facts.now.defined.items < 2 ^ 32 }
     requires rising { IsRising (predicates_of (see_facts facts.now)) }
     ensures { IfOk result (λ found. MatchOption found
         (is_built (see_facts facts.now) ≡ false)

@@ -5,7 +5,8 @@ ghost use Rattle.std.specs.Prelude.{◌≡◌, ℕ, List, false, IsUtf8};
 ghost use Rattle.module_table.specs.Facts.{Facts};
 ghost use Rattle.file_library.specs.Library.{Files};
 ghost use Rattle.group_tool.specs.Grouping.{IsReportOf};
-ghost use Rattle.group_tool.specs.Answer.{Answer, IsAnswer};
+ghost use Rattle.group_tool.specs.Answer.{IsAnswer};
+ghost use Rattle.group_tool.specs.End.{End};
 ghost use Rattle.group_tool.specs.ReadBack.{ReadsBack, is_pair};
 ghost use Rattle.group_tool.specs.Spelled.{spelled_name};
 
@@ -16,7 +17,7 @@ pub fn one_report()
 
 /// Words over a map of files have one answer.
 pub fn one_answer()
-    ensures { (words : List (List ℕ)) (files : Files) (answer other : Answer) → IsAnswer words files answer → IsAnswer words files other → answer ≡ other }
+    ensures { (words : List (List ℕ)) (files : Files) (answer other : End) → IsAnswer words files answer → IsAnswer words files other → answer ≡ other }
 {}
 
 /// A name of the report reads back: as it is written there it is one token, whose name it is. Only

@@ -36,7 +36,6 @@ mod say;
 mod sink;
 mod spelled;
 mod stream_sink;
-mod terms;
 mod words;
 
 pub use gate::{Gate, OpenGate};

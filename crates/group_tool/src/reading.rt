@@ -1,10 +1,11 @@
-ghost use Rattle.std.specs.Prelude.{All, IfOk, IfErr, map};
+ghost use Rattle.std.specs.Prelude.{◌<◌, ◌≤◌, ◌^◌, All, IfOk, IfErr, length, map};
 ghost use Rattle.module_table.specs.Facts.{see_facts};
 ghost use Rattle.module_table.specs.Defined.{see_defined};
-ghost use Rattle.group_tool.specs.RuleOf.{HasSmallClauses};
+ghost use Rattle.group_tool.specs.RuleOf.{HasLightClauses};
 ghost use Rattle.group_tool.specs.Numbering.{IsRising};
 ghost use Rattle.group_tool.specs.RuleOf.{predicates_of};
-ghost use Rattle.group_tool.specs.FileFault.{HasFacts, FileFaultIs};
+ghost use Rattle.module_table.specs.FileText.{HasFacts};
+ghost use Rattle.group_tool.specs.FileFault.{FileFaultIs};
 
 use crate::file_fault::FileFault;
 use clause_text::read_text;
@@ -18,7 +19,9 @@ pub const MOST_BYTES: u32 = 65_536;
 /// text comes first, and then what is wrong with what its clauses say.
 pub fn read_facts(alloc: Global, name: &str, text: &[u8]) -> Result<FileFacts, FileFault>
     ensures ok { IfOk result (λ found. HasFacts name.now text.now (see_facts found)) }
-    ensures arities { IfOk result (λ found. All HasSmallClauses (map see_defined found.defined.items)) }
+    ensures small { IfOk result (λ _. length text.now ≤ 65536) }
+    ensures light { IfOk result (λ found. All HasLightClauses (map see_defined found.defined.items)) }
+    ensures few { IfOk result (λ found. length found.defined.items < 2 ^ 32) }
     ensures rising { IfOk result (λ found. IsRising (predicates_of (see_facts found))) }
     ensures refused { IfErr result (λ fault. FileFaultIs name.now text.now fault) }
 {

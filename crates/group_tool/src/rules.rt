@@ -1,24 +1,21 @@
 ghost use Rattle.std.specs.Prelude.{◌≡◌, ◌≤◌, ◌++◌, All, map, length, IfOk, OnOk};
 ghost use Rattle.prolog_terms.specs.Tree.{tree_of};
 ghost use Rattle.module_table.specs.Defined.{see_defined};
-ghost use Rattle.group_tool.specs.Terms.{pred_name_of};
-ghost use Rattle.group_tool.specs.RuleOf.{goals_of, clause_goals, rule_of, HasSmallArities, HasSmallClauses};
+ghost use Rattle.group_tool.specs.RuleOf.{IsLight, HasLightClauses, clause_goals, goals_of, pred_name_of, rule_of};
 
 use crate::pred_name::PredName;
 use crate::rule::Rule;
-use crate::terms::named;
-use clause_text::sides;
 use module_table::Defined;
-use prolog_terms::Term;
+use prolog_terms::{Term, name_and_arity, sides};
 use prolog_tokens::Text;
 use std::alloc::{AllocError, Global};
 
 /// The predicate that a goal names.
 fn pred_name(alloc: Global, term: &Term) -> Result<Option<PredName>, AllocError>
-    requires { HasSmallArities (tree_of term.now) }
+    requires { IsLight (tree_of term.now) }
     ensures { IfOk result (λ named. named ≡ pred_name_of (tree_of term.now)) }
 {
-    let Some((name, arity)) = named(term) else {
+    let Some((name, arity)) = name_and_arity(term) else {
         return Ok(None);
     };
     Ok(Some(PredName {
@@ -29,7 +26,7 @@ fn pred_name(alloc: Global, term: &Term) -> Result<Option<PredName>, AllocError>
 
 /// Adds what the goals of the body name.
 fn push_goals(alloc: Global, body: &Term, goals: &mut Vec<PredName>) -> Result<(), AllocError>
-    requires { HasSmallArities (tree_of body.now) }
+    requires { IsLight (tree_of body.now) }
     ensures { OnOk result (goals.new.items ≡ goals.old.items ++ goals_of (tree_of body.now)) }
 {
     let mut rest = body;
@@ -49,7 +46,7 @@ fn push_clause_goals(
     clause: &Term,
     goals: &mut Vec<PredName>,
 ) -> Result<(), AllocError>
-    requires { HasSmallArities (tree_of clause.now) }
+    requires { IsLight (tree_of clause.now) }
     ensures { OnOk result (goals.new.items ≡ goals.old.items ++ clause_goals (tree_of clause.now)) }
 {
     match sides(clause, ":-") {
@@ -60,7 +57,7 @@ fn push_clause_goals(
 
 /// What the clauses of a predicate say.
 fn rule(alloc: Global, predicate: &Defined) -> Result<Rule, AllocError>
-    requires { HasSmallClauses (see_defined predicate.now) }
+    requires { HasLightClauses (see_defined predicate.now) }
     ensures { IfOk result (λ rule. rule ≡ rule_of (see_defined predicate.now)) }
 {
     let mut goals = Vec::new(alloc);
@@ -76,7 +73,7 @@ fn rule(alloc: Global, predicate: &Defined) -> Result<Rule, AllocError>
 
 /// What the clauses of each predicate say.
 pub fn rules(alloc: Global, defined: &[Defined]) -> Result<Vec<Rule>, AllocError>
-    requires { All HasSmallClauses (map see_defined defined.now) }
+    requires { All HasLightClauses (map see_defined defined.now) }
     ensures { IfOk result (λ found. found.items ≡ map rule_of (map see_defined defined.now)) }
 {
     let mut found = Vec::new(alloc);

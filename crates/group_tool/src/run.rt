@@ -1,10 +1,10 @@
-ghost use Rattle.std.specs.Prelude.{◌≡◌, ◌≢◌, ◌⊎◌, ℕ, List, Some};
+ghost use Rattle.std.specs.Prelude.{◌≡◌, ◌≢◌, ◌⊎◌, Some};
 ghost use Rattle.file_library.specs.Counts.{Rose};
 ghost use Rattle.file_library.specs.Library.{Files};
-ghost use Rattle.group_tool.specs.Answer.{usage_line};
+ghost use Rattle.group_tool.specs.End.{usage_line};
 ghost use Rattle.group_tool.specs.Sink.{more_taken};
-ghost use Rattle.group_tool.specs.Words.{IsLawful};
-ghost use Rattle.group_tool.specs.Run.{IsRun, IsSettled, IsAskedFor, SaysAnswer, SaysNoMemory, SaidWith, HasNoName, HasReported, HasFaults, HasUnread, IsCutOff};
+ghost use Rattle.group_tool.specs.Words.{HasNoOptions, IsLawful, Options};
+ghost use Rattle.group_tool.specs.Run.{IsRun, IsSettled, AreAskedFor, SaysAnswer, SaysNoMemory, SaidWith, HasReported, HasFaults, HasUnread, IsCutOff};
 
 use crate::answer::answer_words;
 use crate::gate::Gate;
@@ -44,8 +44,8 @@ fn run<L: Library, O: Sink, E: Sink>(
         (record { taken = O.taken out.old; taken' = O.taken out.new; faults = O.faults out.old; faults' = O.faults out.new; settled' = O.settled out.new })
         (record { taken = E.taken err.old; taken' = E.taken err.new; faults = E.faults err.old; faults' = E.faults err.new; settled' = E.settled err.new })
         result }
-    ensures asked { (name : List ℕ) → IsLawful words.now name → IsAskedFor name (L.asked library.old) (L.asked library.new) result }
-    ensures unasked { HasNoName words.now → L.asked library.new ≡ L.asked library.old }
+    ensures asked { (options : Options) → IsLawful words.now options → AreAskedFor options.files (L.asked library.old) (L.asked library.new) result }
+    ensures unasked { HasNoOptions words.now → L.asked library.new ≡ L.asked library.old }
     ensures err_left { result ≡ 0 → err.new ≡ err.old }
     ensures out_left { result ≢ 0 → result ≢ 5 → out.new ≡ out.old }
     ensures one_left { (out.new ≡ out.old) ⊎ (err.new ≡ err.old) }
@@ -81,8 +81,8 @@ pub fn run_groups<R: Threads + Wait + Sync, L: Library, O: Sink, E: Sink, G: Gat
     // Over any library and sinks, what each status says.
     ensures statuses { (result ≡ 0) ⊎ ((result ≡ 2) ⊎ ((result ≡ 3) ⊎ ((result ≡ 4) ⊎ ((result ≡ 5) ⊎ (result ≡ 7))))) }
     ensures report { result ≡ 0 → HasReported words.now (L.files library.old) (O.taken out.old) (E.taken err.old) (O.taken out.new) (E.taken err.new) }
-    ensures usage { result ≡ 2 → HasNoName words.now × ((O.taken out.new ≡ O.taken out.old) × (E.taken err.new ≡ more_taken (E.taken err.old) usage_line)) }
-    ensures lawful { HasNoName words.now → (result ≡ 2) ⊎ ((result ≡ 5) ⊎ (result ≡ 7)) }
+    ensures usage { result ≡ 2 → HasNoOptions words.now × ((O.taken out.new ≡ O.taken out.old) × (E.taken err.new ≡ more_taken (E.taken err.old) usage_line)) }
+    ensures lawful { HasNoOptions words.now → (result ≡ 2) ⊎ ((result ≡ 5) ⊎ (result ≡ 7)) }
     ensures faults { result ≡ 3 → HasFaults words.now (L.files library.old) (L.misses library.old) (L.misses library.new) (E.taken err.old) (E.taken err.new) × (O.taken out.new ≡ O.taken out.old) }
     ensures unread { result ≡ 4 → HasUnread words.now (L.asked library.new) (L.faults library.old) (L.faults library.new) (E.taken err.old) (E.taken err.new) × (O.taken out.new ≡ O.taken out.old) }
     ensures cut_off { result ≡ 5 → IsCutOff words.now (L.files library.old) (L.asked library.new) (L.faults library.old) (L.faults library.new) (L.misses library.old) (L.misses library.new)
@@ -91,9 +91,9 @@ pub fn run_groups<R: Threads + Wait + Sync, L: Library, O: Sink, E: Sink, G: Gat
     ensures no_memory { result ≡ 7 → SaysNoMemory (O.taken out.old) (E.taken err.old) (O.taken out.new) (E.taken err.new) result }
     ensures settled { result ≢ 5 → IsSettled result (O.settled out.new) (E.settled err.new) }
 
-    // The library is asked for the file of the words alone, and once; with wrong words for nothing.
-    ensures asked { (name : List ℕ) → IsLawful words.now name → IsAskedFor name (L.asked library.old) (L.asked library.new) result }
-    ensures unasked { HasNoName words.now → L.asked library.new ≡ L.asked library.old }
+    // The library is asked for the files of the words alone, each once; with wrong words for none.
+    ensures asked { (options : Options) → IsLawful words.now options → AreAskedFor options.files (L.asked library.old) (L.asked library.new) result }
+    ensures unasked { HasNoOptions words.now → L.asked library.new ≡ L.asked library.old }
 
     // The sink that the run's bytes don't go to is left as it was.
     ensures err_left { result ≡ 0 → err.new ≡ err.old }

@@ -1,5 +1,5 @@
-ghost use Rattle.std.specs.Prelude.{◌≡◌, ◌↔◌, ℕ, List, All, IsTrue, MatchOption, codes};
-ghost use Rattle.group_tool.specs.Words.{IsLawful, IsFileWord, is_word_byte};
+ghost use Rattle.std.specs.Prelude.{◌≡◌, ◌↔◌, All, IsTrue, MatchOption, codes};
+ghost use Rattle.group_tool.specs.Words.{HasNoOptions, IsLawful, IsFileWord, is_word_byte, one_file};
 
 use prolog_tokens::Text;
 
@@ -37,7 +37,7 @@ fn is_file_word(word: &[u8]) -> bool
 
 /// The name of the file in lawful words.
 pub fn file_name(words: &[Text]) -> Option<&Text>
-    ensures { MatchOption result ((name : List ℕ) → IsLawful words.now name → ⊥) (λ name. IsLawful words.now name.now) }
+    ensures { MatchOption result (HasNoOptions words.now) (λ name. IsLawful words.now (one_file name.now)) }
 {
     match words {
         [word] if is_file_word(word.as_str().as_bytes()) => Some(word),

@@ -2,8 +2,8 @@ use Rattle.std.proofs.Common.{◌++◌, codes, ap, sym, ◌∙◌, append_assoc,
 use Rattle.std.specs.Option.{option_to_list}
 use Rattle.prolog_terms.specs.Tree.{tree_of}
 use Rattle.group_tool.specs.RuleOf.{goals_of}
-use Rattle.clause_text.proofs.TermShapes.{AreSides, comma_sides}
-use Rattle.group_tool.proofs.TermLemmas.{goals_joined, goals_one, sides_arities}
+use Rattle.prolog_terms.proofs.ViewLemmas.{sides_below, sides_weight}
+use Rattle.group_tool.proofs.TermLemmas.{goals_joined, goals_one}
 use Rattle.group_tool.proofs.rules.+push_goals.Goals as goal
 
 pub loop-goal-preserved : goal.loop-goal-preserved
@@ -11,12 +11,12 @@ loop-goal-preserved t c =
     let here = tree_of c.loop-goal.rest.now in
     let left = tree_of c.in-Some.goal.now in
     let right = tree_of c.in-Some.others.now in
-    let sides : AreSides here left right = comma_sides here left right (sym c.in-Some.ensures) in
+    let sides = sides_below (codes ",") here left right (sym c.in-Some.ensures) in
     let before = c.loop-goal.goals.items in (
       ap (λ goals. goals ++ goals_of right) c.in_ok-push_goals.ensures
           ∙ (append_assoc before (goals_of left) (goals_of right) ∙ (ap (λ goals. before ++ goals) (sym (goals_joined here left right (sym c.in-Some.ensures))) ∙ c.loop-goal.invariant.0)),
       omega (arith, sides.right_below, c.loop-goal.invariant.1),
-      (sides_arities (codes ",") 8388608 here left right (sym c.in-Some.ensures) c.loop-goal.invariant.2).1,
+      omega (arith, sides_weight (codes ",") here left right (sym c.in-Some.ensures), c.loop-goal.invariant.2),
     )
 
 pub push_goals-requires : goal.push_goals-requires
@@ -24,12 +24,12 @@ push_goals-requires t c =
     let here = tree_of c.loop-goal.rest.now in
     let left = tree_of c.in-Some.goal.now in
     let right = tree_of c.in-Some.others.now in
-    let sides : AreSides here left right = comma_sides here left right (sym c.in-Some.ensures) in
-    (omega (arith, sides.left_below, c.loop-goal.invariant.1), (sides_arities (codes ",") 8388608 here left right (sym c.in-Some.ensures) c.loop-goal.invariant.2).0)
+    let sides = sides_below (codes ",") here left right (sym c.in-Some.ensures) in
+    (omega (arith, sides.left_below, c.loop-goal.invariant.1), omega (arith, sides_weight (codes ",") here left right (sym c.in-Some.ensures), c.loop-goal.invariant.2))
 
 pub loop-goal-smaller : goal.loop-goal-smaller
 loop-goal-smaller t c =
-    let sides = comma_sides (tree_of c.loop-goal.rest.now) (tree_of c.in-Some.goal.now) (tree_of c.in-Some.others.now) (sym c.in-Some.ensures) in
+    let sides = sides_below (codes ",") (tree_of c.loop-goal.rest.now) (tree_of c.in-Some.goal.now) (tree_of c.in-Some.others.now) (sym c.in-Some.ensures) in
     sides.right_below
 
 pub returns-in_ok-push : goal.returns-in_ok-push
