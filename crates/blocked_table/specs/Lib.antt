@@ -1,2 +1,7 @@
+pub mod Blocked
+pub mod BlockedFields
 pub mod Kept
+pub mod Listed
+pub mod Paths
 pub mod Transfer
+pub mod Words

@@ -1,2 +1,7 @@
 //! Searches that are put aside until a node that they want is finished.
 #![tactic(auto)]
+
+mod blocked;
+mod words;
+
+pub use blocked::Blocked;

@@ -1,0 +1,134 @@
+-- What the calls read of the fields of kept searches.
+use Rattle.std.proofs.Common.{nat_eq, ne_eqb, true≢false, ◌≡◌, inl, inr, ℕ, ◌<◌, ◌≤◌, ◌+◌, List, [], ◌∷◌, ◌++◌, length, get_or, replicate, set, vec_len, vec_capacity, Option, None, Some, refl, ap, ◌∙◌, sym, subst, arith, get_or-set_same, get_or-set_other, length-set}
+use Rattle.std.proofs.lemmas.Bool.{cases_lt, eq-eqb}
+use Rattle.std.proofs.lemmas.List.{append-nil, get_or_default, get_or_past, get_or-replicate, length_push, length-replicate}
+use Rattle.std.proofs.lemmas.List.Elements.{Contains-get_or, Contains-push}
+use Rattle.std.specs.Prelude.{Bool, true, not, Contains}
+use Rattle.search_stack.specs.Search.{SearchValue}
+use Rattle.blocked_table.specs.declared.blocked.Blocked.TheInside.{Inside}
+use Rattle.blocked_table.specs.Blocked.{HasReady, IsReadyAt, IsTable, IsTaken}
+use Rattle.blocked_table.specs.BlockedFields.{IsBlocked, IsVacant, value_of}
+use Rattle.blocked_table.specs.Kept.{kept_at}
+use Rattle.blocked_table.specs.Listed.{AreJust}
+use Rattle.blocked_table.proofs.Chain.{none_is_not, place_within, some_is}
+use Rattle.blocked_table.proofs.Listed.{just_few}
+use Rattle.blocked_table.proofs.Tables.{take_vacant}
+
+-- the last of the ready places
+pub ready_last : {fields : Inside} → IsBlocked fields → (rest : List ℕ) (p : ℕ) → fields.ready.items ≡ rest ++ p ∷ []
+    → IsReadyAt fields.kept.items p
+ready_last {fields} is rest p last = is.ready.to p (subst (λ xs. Contains xs p) (sym last) (Contains-push rest p))
+
+pub ready_within : {fields : Inside} → IsBlocked fields → (rest : List ℕ) (p : ℕ) → fields.ready.items ≡ rest ++ p ∷ []
+    → p < length fields.kept.items
+ready_within {fields} is rest p last =
+    let there : IsReadyAt fields.kept.items p = ready_last is rest p last in
+    place_within fields.kept.items p there.search there.at
+
+-- what is read at a place
+pub read_kept : (kept : List (Option SearchValue)) (p : ℕ) (read : Option SearchValue) → p < length kept → read ≡ get_or kept p read
+    → kept_at kept p ≡ read
+read_kept kept p read lt is = get_or_default kept p None read lt ∙ sym is
+
+-- a ready search leaves its place
+abbrev pub taken_from : {fields : Inside} → IsBlocked fields → (rest : List ℕ) (p : ℕ) (read after : Option SearchValue) (search : SearchValue)
+    → fields.ready.items ≡ rest ++ p ∷ [] → read ≡ get_or fields.kept.items p read → read ≡ Some search → after ≡ None
+    → IsTaken fields.kept.items (set fields.kept.items p after) search
+taken_from {fields} is rest p read after search last here some gone =
+    let kept = fields.kept.items in
+    let there : IsReadyAt kept p = ready_last is rest p last in
+    let lt : p < length kept = ready_within is rest p last in
+    let at : kept_at kept p ≡ Some search = read_kept kept p read lt here ∙ some in
+    record {
+      place = p;
+      at = at;
+      wants_nothing =
+          sym (ap (λ (one : SearchValue). one.wanted) (some_is there.search search (sym there.at ∙ at))) ∙ there.wants_nothing;
+      each = length-set kept p after;
+      vacant = get_or-set_same kept p after None lt ∙ gone;
+      same = λ i ne. get_or-set_other kept p i after None ne;
+    }
+
+-- a place that is ready isn't vacant
+pub ready_is_kept : {fields : Inside} → IsBlocked fields → (rest : List ℕ) (p : ℕ) (read : Option SearchValue)
+    → fields.ready.items ≡ rest ++ p ∷ [] → read ≡ get_or fields.kept.items p read → read ≡ None → ⊥
+ready_is_kept {fields} is rest p read last here none =
+    let there : IsReadyAt fields.kept.items p = ready_last is rest p last in
+    none_is_not there.search (kept_at fields.kept.items p) (read_kept fields.kept.items p read (ready_within is rest p last) here ∙ none) there.at
+
+-- there is room to mark one more place as vacant
+pub vacant_room : {fields : Inside} → IsBlocked fields → {new : List (Option SearchValue)} {search : SearchValue}
+    → IsTaken fields.kept.items new search → vec_len fields.vacant < vec_capacity fields.vacant
+vacant_room {fields} is {new} {search} taken =
+    let few : length (fields.vacant.items ++ taken.place ∷ []) ≤ length new =
+    just_few (fields.vacant.items ++ taken.place ∷ []) (length new) (take_vacant taken fields.vacant.items is.vacant) (λ place vacant. vacant.0) in
+    omega (arith, few, length_push fields.vacant.items taken.place, taken.each, is.table.few, is.vacant_room, fields.vacant.ok.0)
+
+-- the list of ready places isn't empty just where a kept search is ready
+
+pub some_ready : {fields : Inside} → IsBlocked fields → {empty : Bool} → empty ≡ nat_eq (vec_len fields.ready) 0 → not empty ≡ true
+    → HasReady fields.kept.items
+some_ready {fields} is {empty} test some_left =
+    let some : 0 < length fields.ready.items =
+    elim (cases_lt 0 (length fields.ready.items)) as (λ _. 0 < length fields.ready.items) [
+      | inl lt ↦ lt
+      | inr none ↦
+          let full : empty ≡ true = test ∙ eq-eqb (vec_len fields.ready) 0 (omega (arith, none, fields.ready.ok.0)) in
+          absurd (true≢false (sym some_left ∙ ap not full))
+    ] in
+    let member = Contains-get_or fields.ready.items 0 0 some in
+    record { place = get_or fields.ready.items 0 0; ready = is.ready.to (get_or fields.ready.items 0 0) member }
+
+pub none_ready : {fields : Inside} → IsBlocked fields → {empty : Bool} → empty ≡ nat_eq (vec_len fields.ready) 0 → HasReady fields.kept.items
+    → not empty ≡ true
+none_ready {fields} is {empty} test has =
+    let member = is.ready.from has.place has.ready in
+    let lt : member.0 < length fields.ready.items = member.1 in
+    ap not (test ∙ ne_eqb (vec_len fields.ready) 0 (λ none. omega (arith, none, lt, fields.ready.ok.0)))
+
+-- a table without searches
+
+nothing_kept : (kept : List (Option SearchValue)) (p : ℕ) (search : SearchValue) → kept ≡ [] → kept_at kept p ≡ Some search → ⊥
+nothing_kept kept p search none at =
+    let lt : p < length kept = place_within kept p search at in omega (arith, lt, ap length none)
+
+pub empty_table : (fields : Inside) → fields.kept.items ≡ [] → IsTable (value_of fields)
+empty_table fields none = record {
+  few = omega (arith, ap length none);
+  each = λ p search at. absurd (nothing_kept fields.kept.items p search none at);
+  below = λ p v holds. absurd (nothing_kept fields.kept.items p holds.search none holds.at);
+  apart = λ i j v first second. absurd (nothing_kept fields.kept.items i first.search none first.at);
+  ends = λ p w search at wanted. absurd (nothing_kept fields.kept.items p search none at);
+}
+
+no_place : {P : ℕ → Type 0} (places : List ℕ) → places ≡ [] → ((p : ℕ) → P p → ⊥) → AreJust P places
+no_place {P} places none never = record {
+  once = λ i j before lt same. omega (arith, lt, ap length none);
+  to = λ p member. let lt : member.0 < length places = member.1 in absurd (omega (arith, lt, ap length none));
+  from = λ p holds. absurd (never p holds);
+}
+
+pub empty_blocked : (fields : Inside) (count : ℕ) → fields.kept.items ≡ [] → fields.vacant.items ≡ [] → fields.ready.items ≡ []
+    → fields.holders.items ≡ replicate count 0 → length fields.waited.items ≡ length fields.holders.items
+    → fields.most ≤ vec_capacity fields.kept → fields.most ≤ vec_capacity fields.vacant → fields.most ≤ vec_capacity fields.ready
+    → IsBlocked fields
+empty_blocked fields count none no_vacant no_ready zeros marks kept_room vacant_places ready_places = record {
+  table = empty_table fields none;
+  words = λ p v. (
+    λ word.
+        let zero_word : get_or fields.holders.items v 0 ≡ 0 =
+        elim (cases_lt v count) as (λ _. get_or fields.holders.items v 0 ≡ 0) [
+          | inl lt ↦ ap (λ xs. get_or xs v 0) zeros ∙ get_or-replicate count v 0 0 lt
+          | inr past ↦ ap (λ xs. get_or xs v 0) zeros ∙ get_or_past (replicate count 0) v 0 (omega (arith, past, length-replicate {A = ℕ} count 0))
+        ] in
+        absurd (omega (arith, word, zero_word)),
+    λ holds. absurd (nothing_kept fields.kept.items p holds.search none holds.at),
+  );
+  waited = λ p w search at wanted. absurd (nothing_kept fields.kept.items p search none at);
+  marks = marks;
+  vacant = no_place fields.vacant.items no_vacant (λ p vacant. let lt = vacant.0 in omega (arith, lt, ap length none));
+  ready = no_place fields.ready.items no_ready (λ p ready. nothing_kept fields.kept.items p ready.search none ready.at);
+  kept_room = kept_room;
+  vacant_room = vacant_places;
+  ready_room = ready_places;
+}

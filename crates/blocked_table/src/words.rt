@@ -1,0 +1,18 @@
+ghost use Rattle.std.specs.Prelude.{◌≡◌, ◌<◌, ◌≤◌, ℕ, length};
+ghost use Rattle.search_stack.specs.Search.{IsOn};
+ghost use Rattle.search_stack.specs.Stack.{size};
+ghost use Rattle.blocked_table.specs.Words.{AreWritten};
+
+use search_stack::Search;
+
+/// Writes a word at each node of a search that stands from a position on.
+pub(crate) fn write_words(holders: &mut Vec<u32>, search: &Search, from: u32, word: u32)
+    requires within { from ≤ size search.now.stack }
+    requires below { (v : ℕ) → IsOn search.now.stack v → v < length holders.old.items }
+    ensures { AreWritten search.now.stack from (size search.now.stack) word holders.old.items holders.new.items }
+{
+    'positions: for position in from..search.len() {
+        let node = search.node_at(position) as usize;
+        holders[node] = word;
+    }
+}
