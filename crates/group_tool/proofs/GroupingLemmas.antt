@@ -11,8 +11,8 @@ use Rattle.group_release.specs.Level.{AreLevels}
 use Rattle.group_tool.specs.declared.pred_name.PredName.{PredName}
 use Rattle.group_tool.specs.Rule.{HeadAndGoals}
 use Rattle.group_tool.specs.CallGraph.{NodeCalls, AreCalleeLists}
-use Rattle.group_tool.specs.Grouping.{AreGroups, Reports}
-use Rattle.group_tool.specs.Report.{IsReport}
+use Rattle.group_tool.specs.Grouping.{AreGroups, ReportsRoots}
+use Rattle.group_tool.specs.Report.{PrintsGroups}
 
 pub AreGroups-agree : {c d : ℕ → ℕ → Type 0} {starts : List ℕ} {groups : List (List ℕ)} → Agree c d → AreGroups c starts groups → AreGroups d starts groups
 AreGroups-agree {c} {d} {starts} {groups} agree are = record {
@@ -33,7 +33,7 @@ AreLevels-agree {c} {d} {groups} {levels} agree are = record {
 -- what the rules say and what the graph holds are the same calls
 pub reports_of : {own : List ℕ} {rules : List HeadAndGoals} {predicates : List PredName} {roots : List ℕ} {lists : List (List ℕ)} {groups : List (List ℕ)} {levels : List Level} {bytes : List ℕ}
     → AreCalleeLists rules predicates lists → AreGroups (Calls lists) roots groups
-    → AreLevels (Calls lists) groups levels → IsReport own predicates groups levels bytes → Reports own rules predicates roots bytes
+    → AreLevels (Calls lists) groups levels → PrintsGroups own predicates groups levels bytes → ReportsRoots own rules predicates roots bytes
 reports_of {own} {rules} {predicates} {roots} {lists} {groups} {levels} {bytes} callees are levels_are report =
     let agree : Agree (Calls lists) (NodeCalls rules predicates) = record { to = λ p q. (callees.calls p q).0; from = λ p q. (callees.calls p q).1 } in
     record {

@@ -15,9 +15,9 @@ use Rattle.group_tool.specs.PredName.{pred_name_cmp}
 use Rattle.group_tool.specs.Rule.{HeadAndGoals, heads}
 use Rattle.group_tool.specs.RuleOf.{rules_of, roots_of}
 use Rattle.group_tool.specs.Numbering.{IsRising, IsNumbering, AreNumbers}
-use Rattle.group_tool.specs.Grouping.{Reports, IsReportOf}
+use Rattle.group_tool.specs.Grouping.{ReportsRoots, IsReportOf}
 use Rattle.group_tool.proofs.CallGraphLemmas.{one_place}
-use Rattle.group_tool.specs.Report.{IsReport, IsLineOrder, group_line, place_line, head_line, height_count}
+use Rattle.group_tool.specs.Report.{PrintsGroups, IsLineOrder, group_line, place_line, head_line, height_count}
 use Rattle.group_tool.proofs.PredNameOrder.{pred_name_cmp_total}
 use Rattle.order_law.proofs.OneOrder.{less_strict, same_order, holds_of, sum_by-map, sum_by_places, most_upto, most_each}
 use Rattle.group_tool.proofs.OneLine.{AreLeveled, place_of, one_each, one_level, line_at, lines, same_lines}
@@ -83,7 +83,7 @@ abbrev line_text : List ℕ → List PredName → List ℕ × Level → List ℕ
 line_text own predicates line = group_line own predicates line.0 line.1
 
 same_bytes : {calls : ℕ → ℕ → Type 0} {starts : List ℕ} {groups others : List (List ℕ)} {levels marks : List Level} (own : List ℕ) (predicates : List PredName) (bytes other : List ℕ)
-    → AreLeveled calls starts groups levels → AreLeveled calls starts others marks → IsReport own predicates groups levels bytes → IsReport own predicates others marks other
+    → AreLeveled calls starts groups levels → AreLeveled calls starts others marks → PrintsGroups own predicates groups levels bytes → PrintsGroups own predicates others marks other
     → bytes ≡ other
 same_bytes {calls} {starts} {groups} {others} {levels} {marks} own predicates bytes other a b first second =
     let same = same_lines a b first.order second.order first.in_order second.in_order in
@@ -118,8 +118,8 @@ one_numbers predicates (p ∷ wanted) (n ∷ numbers) (m ∷ others) up are also
     let rest : numbers ≡ others = one_numbers predicates wanted numbers others up behind behind_too in
     λ i. first i ∷ rest i
 
-one_made : (own : List ℕ) (rules : List HeadAndGoals) (predicates : List PredName) (roots bytes other : List ℕ) → Reports own rules predicates roots bytes
-    → Reports own rules predicates roots other → bytes ≡ other
+one_made : (own : List ℕ) (rules : List HeadAndGoals) (predicates : List PredName) (roots bytes other : List ℕ) → ReportsRoots own rules predicates roots bytes
+    → ReportsRoots own rules predicates roots other → bytes ≡ other
 one_made own rules predicates roots bytes other a b =
     same_bytes own predicates bytes other (record { are = a.are_groups; leveled = a.are_levels }) (record { are = b.are_groups; leveled = b.are_levels }) a.report b.report
 
@@ -130,4 +130,4 @@ one_report facts bytes other a b =
     let roots_too : AreNumbers a.predicates (roots_of facts) b.roots = subst (λ ps. AreNumbers ps (roots_of facts) b.roots) same b.are_roots in
     let roots : b.roots ≡ a.roots = one_numbers a.predicates (roots_of facts) b.roots a.roots a.numbering.rising roots_too a.are_roots in
     one_made facts.module_ rules a.predicates a.roots bytes other a.reports
-    (subst (λ starts. Reports facts.module_ rules a.predicates starts other) roots (subst (λ ps. Reports facts.module_ rules ps b.roots other) same b.reports))
+    (subst (λ starts. ReportsRoots facts.module_ rules a.predicates starts other) roots (subst (λ ps. ReportsRoots facts.module_ rules ps b.roots other) same b.reports))

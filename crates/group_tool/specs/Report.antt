@@ -60,7 +60,7 @@ abbrev pub place_line : List ℕ → List PredName → List (List ℕ) → List 
 place_line own predicates groups levels place = group_line own predicates (group_at groups place) (level_at levels place)
 
 -- the bytes are the head line, and then the line of each group in order
-pub record IsReport (own : List ℕ) (predicates : List PredName) (groups : List (List ℕ)) (levels : List Level) (bytes : List ℕ) : Type 0 where
+pub record PrintsGroups (own : List ℕ) (predicates : List PredName) (groups : List (List ℕ)) (levels : List Level) (bytes : List ℕ) : Type 0 where
   pub order : List ℕ
   pub in_order : IsLineOrder groups levels order
   pub is : bytes ≡ head_line groups levels ++ flat_map (place_line own predicates groups levels) order

@@ -6,7 +6,7 @@ ghost use Rattle.module_table.specs.Facts.{see_facts};
 ghost use Rattle.group_tool.specs.Built.{is_built, is_one_of};
 ghost use Rattle.group_tool.specs.Numbering.{AreNumbers, IsNumbering, IsRising};
 ghost use Rattle.group_tool.specs.RuleOf.{HasLightClauses, exported, predicates_of, roots_of};
-ghost use Rattle.group_tool.specs.Grouping.{IsReportOf, Reports};
+ghost use Rattle.group_tool.specs.Grouping.{IsReportOf, ReportsRoots};
 
 use crate::built::is_plain_file;
 use crate::call_graph::call_graph;
@@ -67,7 +67,7 @@ fn group(
     requires numbering { IsNumbering rules.now predicates.now }
     requires few { length predicates.now < 2 ^ 32 }
     requires rooted { All (λ root. root < length predicates.now) roots.now }
-    ensures { IfOk result (λ text. Reports module_name.now rules.now predicates.now roots.now (string_bytes text)) }
+    ensures { IfOk result (λ text. ReportsRoots module_name.now rules.now predicates.now roots.now (string_bytes text)) }
 {
     let calls = call_graph(alloc, rules, predicates)?;
     let groups = groups_plain(alloc, &calls, roots)?;

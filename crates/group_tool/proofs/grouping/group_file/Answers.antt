@@ -7,7 +7,7 @@ use Rattle.group_tool.specs.Built.{is_plain_file, is_built, is_one_of}
 use Rattle.group_tool.specs.Rule.{heads}
 use Rattle.group_tool.specs.RuleOf.{rule_of, rules_of, predicates_of, roots_of}
 use Rattle.group_tool.specs.Numbering.{IsNumbering, AreNumbers}
-use Rattle.group_tool.specs.Grouping.{Reports}
+use Rattle.group_tool.specs.Grouping.{ReportsRoots}
 use Rattle.group_tool.proofs.NumberingLemmas.{numbered}
 use Rattle.group_tool.proofs.PlaceLemmas.{numbers_below}
 use Rattle.group_tool.proofs.grouping.group_file.Goals as goal
@@ -40,8 +40,8 @@ returns c =
     let there : list_all (is_one_of (predicates_of facts)) (roots_of facts) ≡ true =
     subst (λ ps. list_all (is_one_of ps) (roots_of facts) ≡ true) (c.deref-3.ensures.value ∙ predicates) found.0 in
     let built : is_built facts ≡ true = λ i. plain i && there i in
-    let own = subst (λ name. Reports name c.deref-4.result.now c.deref-5.result.now roots bytes) c.as_str.ensures c.in_ok-text.ensures in
-    let of_rules = subst (λ rs. Reports facts.module_ rs c.deref-5.result.now roots bytes) (c.deref-4.ensures.value ∙ rules) own in (
+    let own = subst (λ name. ReportsRoots name c.deref-4.result.now c.deref-5.result.now roots bytes) c.as_str.ensures c.in_ok-text.ensures in
+    let of_rules = subst (λ rs. ReportsRoots facts.module_ rs c.deref-5.result.now roots bytes) (c.deref-4.ensures.value ∙ rules) own in (
       built,
       record {
         predicates = predicates_of facts;
@@ -50,6 +50,6 @@ returns c =
         are_roots =
             subst (λ ps. AreNumbers ps (roots_of facts) roots) (c.deref-3.ensures.value ∙ predicates)
             (subst (AreNumbers c.deref-3.result.now (roots_of facts)) (sym c.deref-6.ensures.value) found.1);
-        reports = subst (λ ps. Reports facts.module_ (rules_of facts) ps roots bytes) (c.deref-5.ensures.value ∙ predicates) of_rules;
+        reports = subst (λ ps. ReportsRoots facts.module_ (rules_of facts) ps roots bytes) (c.deref-5.ensures.value ∙ predicates) of_rules;
       },
     )
