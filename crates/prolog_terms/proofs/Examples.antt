@@ -5,7 +5,6 @@ use Rattle.prolog_tokens.specs.declared.token.Kind.TheVariants.{Name, Quoted, In
 use Rattle.prolog_ops.specs.Table.{opening}
 use Rattle.prolog_terms.specs.declared.term.Span.{Span}
 use Rattle.prolog_terms.specs.declared.term.Form.TheVariants.{Functional, Infix}
-use Rattle.prolog_terms.specs.Arity.{HasAritiesWithin}
 use Rattle.prolog_terms.specs.Grammar.{Parse, GroupStart, square, leaf, bare, group, tailed as with_tail, prefixed, infixed, one, more as more_parts, IsAboveSpine, IsClause, parse_depth}
 use Rattle.prolog_terms.specs.Tree.{Tree, atom, compound, listed, tailed, paren, none, more, depth}
 use Rattle.prolog_terms.specs.Views.{start_of, sides_of, joined, name_and_arity, atom_name}
@@ -120,7 +119,7 @@ operand_too_short above = omega (arith, above.0)
 no_end : IsClause T equation (close_by CloseRound []) → ⊥
 no_end clause = let two : CloseRound ≡ End = clause.ends in cc
 
--- depths and arguments of trees
+-- depths of trees
 
 abbrev a : Tree
 a = atom (codes "a") (at 0)
@@ -136,12 +135,6 @@ deep_argument = refl
 
 bracket : depth (paren a (at 0)) ≡ 2
 bracket = refl
-
-two_arguments : HasAritiesWithin 2 (listed (more (f a (f a a)) none) (at 0))
-two_arguments = ((omega arith, (tt, ((omega arith, (tt, (tt, tt))), tt))), tt)
-
-more_than_one : HasAritiesWithin 1 (paren (f a a) (at 0)) → ⊥
-more_than_one within = omega (arith, within.0)
 
 -- brackets are passed through
 

@@ -1,5 +1,4 @@
 pub mod Tree
-pub mod Arity
 pub mod Views
 pub mod Weight
 pub mod Clause

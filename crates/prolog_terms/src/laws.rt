@@ -6,7 +6,6 @@ ghost use Rattle.prolog_terms.specs.Tree.{Tree, depth};
 ghost use Rattle.prolog_terms.specs.Words.{Word, Table, table_of};
 ghost use Rattle.prolog_terms.specs.Grammar.{Parse, IsClause, yield};
 ghost use Rattle.prolog_terms.specs.Clause.{IsClauseOf};
-ghost use Rattle.prolog_terms.specs.Arity.{HasAritiesWithin};
 ghost use Rattle.prolog_terms.specs.Weight.{weight};
 
 use prolog_tokens::Token;
@@ -14,11 +13,6 @@ use prolog_tokens::Token;
 /// No two clauses have the same words, under any table of operators.
 pub fn one_clause()
     ensures { (ops : Ops) → IsOps ops → (a b : Parse) (e f : Word) → IsClause (table_of ops) a e → IsClause (table_of ops) b f → yield a ++ e ∷ [] ≡ yield b ++ f ∷ [] → a ≡ b }
-{}
-
-/// No compound of a clause has more arguments than the clause has tokens.
-pub fn clause_arities()
-    ensures { (T : Table) (text : List ℕ) (ts : List Token) (tree : Tree) → IsClauseOf T text ts tree → HasAritiesWithin (length ts) tree }
 {}
 
 /// A clause has at least two tokens more than arguments, items, tails and terms in brackets.

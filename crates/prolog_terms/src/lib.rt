@@ -30,7 +30,7 @@ mod word;
 
 pub use binary_term::Binary;
 pub use build::span_at;
-pub use laws::{clause_arities, clause_depths, clause_weights, one_clause};
+pub use laws::{clause_depths, clause_weights, one_clause};
 pub use reader::{ReadFault, read_clause};
 pub use term::{ConstKind, Form, Span, Term};
 pub use views::{atom_name, binary, inside, name_and_arity, sides, start_of};
