@@ -26,7 +26,7 @@ pub record IsOnTheWay (lists : List (List ℕ)) (roots done : List ℕ) (now : L
       → IsDistinct search.stack × IsGoodSearch lists roots done search
 
 -- a place of a stack lies below a position, or from there on
-split_place : (d : Stack) (middle u : ℕ) → IsOn d u → StandsIn d 0 middle u ⊎ StandsIn d middle (size d) u
+pub split_place : (d : Stack) (middle u : ℕ) → IsOn d u → StandsIn d 0 middle u ⊎ StandsIn d middle (size d) u
 split_place d middle u on =
     elim (cases_lt on.place middle) as (λ _. StandsIn d 0 middle u ⊎ StandsIn d middle (size d) u) [
       | inl below ↦ inl (record { place = on.place; from = omega arith; below = below; is = on.is })
@@ -35,37 +35,37 @@ split_place d middle u on =
 
 module _ {lists : List (List ℕ)} {roots done : List ℕ} {now : List (Option SearchValue)} {s : Stack} {v : ℕ} (cut : ℕ × ℕ)
     (way : IsOnTheWay lists roots done now s v) (away : IsCutAway now v cut) where
-  abbrev d : Stack
+  abbrev pub d : Stack
   d = away.donor.stack
 
-  abbrev middle : ℕ
+  abbrev pub middle : ℕ
   middle = position away.donor.stack cut.1
 
-  abbrev t : Stack
+  abbrev pub t : Stack
   t = joined s away.donor.stack cut.1
 
-  donor_kept : IsDistinct d × IsGoodSearch lists roots done away.donor
+  pub donor_kept : IsDistinct d × IsGoodSearch lists roots done away.donor
   donor_kept = way.kept cut.0 away.donor away.at
 
-  shaped : IsShaped d
+  pub shaped : IsShaped d
   shaped = donor_kept.1.good.shaped
 
-  new : Joins s d t cut.1
+  pub new : Joins s d t cut.1
   new = joins s d cut.1 shaped away.cut_is.within
 
-  left : Keeps d (below_frame d cut.1) cut.1
+  pub left : Keeps d (below_frame d cut.1) cut.1
   left = keeps d cut.1 shaped away.cut_is.within
 
-  donor_last : IsLastBegun d away.wants
+  pub donor_last : IsLastBegun d away.wants
   donor_last = let P : Option ℕ → Type 0 = λ o. IfSome o (IsLastBegun d) in subst P away.wanted donor_kept.1.wants
 
   -- a search that is left at the place of the cut
-  record IsRest (search : SearchValue) : Type 0 where
-    stack_is : search.stack ≡ below_frame d cut.1
-    some : 0 < cut.1
-    wants_is : search.wanted ≡ last_begun search.stack
+  pub record IsRest (search : SearchValue) : Type 0 where
+    pub stack_is : search.stack ≡ below_frame d cut.1
+    pub some : 0 < cut.1
+    pub wants_is : search.wanted ≡ last_begun search.stack
 
-  rest_of : (search : SearchValue) → kept_at away.next cut.0 ≡ Some search → IsRest search
+  pub rest_of : (search : SearchValue) → kept_at away.next cut.0 ≡ Some search → IsRest search
   rest_of search at =
       elim away.left as (λ _. IsRest search) [
         | inl none ↦ absurd (none_is_not search (kept_at away.next cut.0) none.1 at)
@@ -75,21 +75,21 @@ module _ {lists : List (List ℕ)} {roots done : List ℕ} {now : List (Option S
       ]
 
   -- what the rest wants
-  above : (0 < cut.1) → WantsAbove shaped left
+  pub above : (0 < cut.1) → WantsAbove shaped left
   above some = rest_wants shaped left some (donor_kept.1.good.leads (cut.1 - 1) (omega (arith, some, away.cut_is.within)))
 
-  rest_wanted : (search : SearchValue) → (rest : IsRest search) → search.wanted ≡ Some (above rest.some).wants
+  pub rest_wanted : (search : SearchValue) → (rest : IsRest search) → search.wanted ≡ Some (above rest.some).wants
   rest_wanted search rest = rest.wants_is ∙ ap last_begun rest.stack_is ∙ (above rest.some).is
 
-  at_cut : (place : ℕ) (search : SearchValue) → place ≡ cut.0 → kept_at away.next place ≡ Some search → kept_at away.next cut.0 ≡ Some search
+  pub at_cut : (place : ℕ) (search : SearchValue) → place ≡ cut.0 → kept_at away.next place ≡ Some search → kept_at away.next cut.0 ≡ Some search
   at_cut place search is at = sym (ap (kept_at away.next) is) ∙ at
 
   -- who holds a node now held it before, and at the place of the cut it stands below
-  record WasHeld (place u : ℕ) : Type 0 where
-    before : Holds now place u
-    low : place ≡ cut.0 → StandsIn d 0 middle u
+  pub record WasHeld (place u : ℕ) : Type 0 where
+    pub before : Holds now place u
+    pub low : place ≡ cut.0 → StandsIn d 0 middle u
 
-  was_held : (place u : ℕ) → Holds away.next place u → WasHeld place u
+  pub was_held : (place u : ℕ) → Holds away.next place u → WasHeld place u
   was_held place u holds =
       elim (cases_eq place cut.0) as (λ _. WasHeld place u) [
         | inl is ↦
@@ -113,14 +113,14 @@ module _ {lists : List (List ℕ)} {roots done : List ℕ} {now : List (Option S
             }
       ]
 
-  donor_holds : (u : ℕ) → StandsIn d middle (size d) u → Holds now cut.0 u
+  pub donor_holds : (u : ℕ) → StandsIn d middle (size d) u → Holds now cut.0 u
   donor_holds u stands = record {
     search = away.donor;
     at = away.at;
     on = record { place = stands.place; within = stands.below; is = stands.is };
   }
 
-  next_off : (place u : ℕ) → Holds away.next place u → IsOn t u → ⊥
+  pub next_off : (place u : ℕ) → Holds away.next place u → IsOn t u → ⊥
   next_off place u holds on =
       let was : WasHeld place u = was_held place u holds in
       elim (joined_on shaped new u on) as (λ _. ⊥) [
@@ -132,7 +132,7 @@ module _ {lists : List (List ℕ)} {roots done : List ℕ} {now : List (Option S
             omega (arith, one, low.below, stands.from)
       ]
 
-  next_apart : IsApart away.next
+  pub next_apart : IsApart away.next
   next_apart i j u first second = way.apart i j u (was_held i u first).before (was_held j u second).before
 
   next_free : (u : ℕ) → IsOn t u → IsFree away.next u
@@ -141,7 +141,7 @@ module _ {lists : List (List ℕ)} {roots done : List ℕ} {now : List (Option S
   free_ends : (u : ℕ) → IsFree away.next u → Ends away.next u
   free_ends u free = record { end = u; steps = []; chain = refl; is = inl free }
 
-  wanted_free : (some : 0 < cut.1) → IsFree away.next (above some).wants
+  pub wanted_free : (some : 0 < cut.1) → IsFree away.next (above some).wants
   wanted_free some = next_free (above some).wants (on_up shaped new (above some).wants (above some).stands)
 
   -- following wants from a node of the donor ends
@@ -175,7 +175,7 @@ module _ {lists : List (List ℕ)} {roots done : List ℕ} {now : List (Option S
             ]
       ]
 
-  on_donor : (place u : ℕ) → place ≡ cut.0 → (holds : Holds now place u) → IsOn d u
+  pub on_donor : (place u : ℕ) → place ≡ cut.0 → (holds : Holds now place u) → IsOn d u
   on_donor place u is holds =
       subst (λ (search : SearchValue). IsOn search.stack u)
       (some_is holds.search away.donor (sym holds.at ∙ ap (kept_at now) is ∙ away.at)) holds.on
@@ -228,7 +228,7 @@ module _ {lists : List (List ℕ)} {roots done : List ℕ} {now : List (Option S
             record { end = then.end; steps = x ∷ then.steps; chain = (still, then.chain); is = then.is }
       ]
 
-  next_ends : AllEnd away.next
+  pub next_ends : AllEnd away.next
   next_ends place w search at wanted =
       elim (cases_eq place cut.0) as (λ _. Ends away.next w) [
         | inl is ↦
@@ -241,7 +241,7 @@ module _ {lists : List (List ℕ)} {roots done : List ℕ} {now : List (Option S
             ends_from w ends.steps ends.end ends.chain ends.is
       ]
 
-  next_kept : (place : ℕ) (search : SearchValue) → kept_at away.next place ≡ Some search
+  pub next_kept : (place : ℕ) (search : SearchValue) → kept_at away.next place ≡ Some search
       → IsDistinct search.stack × IsGoodSearch lists roots done search
   next_kept place search at =
       elim (cases_eq place cut.0) as (λ _. IsDistinct search.stack × IsGoodSearch lists roots done search) [

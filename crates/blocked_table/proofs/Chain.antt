@@ -5,6 +5,7 @@ use Rattle.std.proofs.lemmas.List.{get_or_past}
 use Rattle.search_stack.specs.Stack.{Stack, size, node}
 use Rattle.search_stack.specs.Search.{SearchValue, IsOn}
 use Rattle.blocked_table.specs.Kept.{kept_at, Holds, IsApart, Follows, IsChain, IsFree, IsAtReady, Ends, AllEnd, ComesTo}
+use Rattle.blocked_table.specs.Suspending.{Adds}
 
 pub some_is : {X : Type 0} (x y : X) → Some x ≡ Some y → x ≡ y
 some_is x y is = cc
@@ -157,12 +158,6 @@ no_ring_along kept apart v (x ∷ xs) end chain is ring =
 -- where following wants ends there is no ring
 pub no_ring : (kept : List (Option SearchValue)) → IsApart kept → (v : ℕ) → Ends kept v → IsRing kept v → ⊥
 no_ring kept apart v ends = no_ring_along kept apart v ends.steps ends.end ends.chain ends.is
-
--- one more search is kept at a place, and the others stay
-pub record Adds (old new : List (Option SearchValue)) (place : ℕ) (search : SearchValue) : Type 0 where
-  pub vacant : kept_at old place ≡ None
-  pub at : kept_at new place ≡ Some search
-  pub same : (i : ℕ) → (i ≡ place → ⊥) → kept_at new i ≡ kept_at old i
 
 module _ {old new : List (Option SearchValue)} {place : ℕ} {search : SearchValue} (adds : Adds old new place search) where
   other_place : (i : ℕ) (there : SearchValue) → kept_at old i ≡ Some there → i ≡ place → ⊥

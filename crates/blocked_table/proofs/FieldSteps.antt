@@ -1,13 +1,13 @@
 -- What the calls read of the fields of kept searches.
-use Rattle.std.proofs.Common.{nat_eq, ne_eqb, true≢false, ◌≡◌, inl, inr, ℕ, ◌<◌, ◌≤◌, ◌+◌, List, [], ◌∷◌, ◌++◌, length, get_or, replicate, set, vec_len, vec_capacity, Option, None, Some, refl, ap, ◌∙◌, sym, subst, arith, get_or-set_same, get_or-set_other, length-set}
+use Rattle.std.proofs.Common.{nat_eq, ne_eqb, true≢false, ◌≡◌, inl, inr, ℕ, ◌<◌, ◌≤◌, List, [], ◌∷◌, ◌++◌, length, get_or, replicate, set, vec_len, vec_capacity, Option, None, Some, ap, ◌∙◌, sym, subst, arith, get_or-set_same, get_or-set_other, length-set}
 use Rattle.std.proofs.lemmas.Bool.{cases_lt, eq-eqb}
-use Rattle.std.proofs.lemmas.List.{append-nil, get_or_default, get_or_past, get_or-replicate, length_push, length-replicate}
+use Rattle.std.proofs.lemmas.List.{get_or_default, get_or_past, get_or-replicate, length_push, length-replicate}
 use Rattle.std.proofs.lemmas.List.Elements.{Contains-get_or, Contains-push}
 use Rattle.std.specs.Prelude.{Bool, true, not, Contains}
 use Rattle.search_stack.specs.Search.{SearchValue}
 use Rattle.blocked_table.specs.declared.blocked.Blocked.TheInside.{Inside}
 use Rattle.blocked_table.specs.Blocked.{HasReady, IsReadyAt, IsTable, IsTaken}
-use Rattle.blocked_table.specs.BlockedFields.{IsBlocked, IsVacant, value_of}
+use Rattle.blocked_table.specs.BlockedFields.{IsBlocked, value_of}
 use Rattle.blocked_table.specs.Kept.{kept_at}
 use Rattle.blocked_table.specs.Listed.{AreJust}
 use Rattle.blocked_table.proofs.Chain.{none_is_not, place_within, some_is}

@@ -6,3 +6,9 @@ pub mod Listed
 pub mod WordSteps
 pub mod Tables
 pub mod FieldSteps
+pub mod PartTables
+pub mod WalkSteps
+pub mod MovedSteps
+pub mod KeepTables
+pub mod PartSteps
+pub mod EndSteps

@@ -1,10 +1,8 @@
 -- The places that following wants goes over.
-use Rattle.std.proofs.Common.{◌≡◌, ◌⊎◌, inl, inr, ℕ, zero, suc, ◌<◌, ◌≤◌, ◌+◌, ◌-◌, List, [], ◌∷◌, ◌++◌, length, get_or, Option, None, Some, refl, ap, ◌∙◌, sym, subst, arith}
-use Rattle.std.proofs.lemmas.Bool.{cases_order}
-use Rattle.std.specs.Prelude.{Contains}
+use Rattle.std.proofs.Common.{◌≡◌, ◌⊎◌, ℕ, zero, suc, ◌<◌, List, [], ◌∷◌, ◌++◌, length, get_or, Option, refl, ap, ◌∙◌, sym, subst, arith}
 use Rattle.search_stack.specs.Search.{SearchValue, IsOn}
 use Rattle.search_stack.specs.Stack.{Stack}
-use Rattle.blocked_table.specs.Kept.{kept_at, Holds, IsApart, Follows, IsChain, IsFree, IsAtReady, Ends, AllEnd, ComesTo}
+use Rattle.blocked_table.specs.Kept.{Holds, IsApart, Follows, IsChain, IsFree, IsAtReady, AllEnd, ComesTo}
 use Rattle.blocked_table.specs.Paths.{StepsAt, IsPath}
 use Rattle.blocked_table.proofs.Chain.{IsRing, chain_on, end_stops, follows_one, no_ring, place_within, same_search}
 

@@ -1,16 +1,15 @@
 -- What becomes of the tables where a ready search is taken.
-use Rattle.std.proofs.Common.{◌≡◌, ◌⊎◌, inl, inr, ℕ, ◌<◌, ◌≤◌, ◌+◌, List, [], ◌∷◌, ◌++◌, length, get_or, Option, None, Some, refl, ap, ◌∙◌, sym, subst, arith}
+use Rattle.std.proofs.Common.{◌≡◌, ◌⊎◌, inl, inr, ℕ, ◌+◌, List, [], ◌∷◌, ◌++◌, get_or, Option, Some, ap, ◌∙◌, sym, subst, arith}
 use Rattle.std.proofs.lemmas.Bool.{cases_eq}
-use Rattle.std.specs.Prelude.{Bool, true, false, ◌↔◌}
-use Rattle.search_stack.specs.Stack.{Stack, size}
-use Rattle.search_stack.specs.GoodSearch.{StandsIn}
+use Rattle.std.specs.Prelude.{Bool, ◌↔◌}
+use Rattle.search_stack.specs.Stack.{size}
 use Rattle.search_stack.specs.Search.{SearchValue, IsOn}
-use Rattle.blocked_table.specs.Blocked.{BlockedValue, IsKept, IsTable, IsReadyAt, IsTaken}
+use Rattle.blocked_table.specs.Blocked.{IsTable, IsReadyAt, IsTaken}
 use Rattle.blocked_table.specs.BlockedFields.{AreWaited, AreWords, IsVacant}
-use Rattle.blocked_table.specs.Kept.{kept_at, Holds, IsApart, Follows, IsChain, IsFree, IsAtReady, Ends, AllEnd}
+use Rattle.blocked_table.specs.Kept.{kept_at, Holds, IsApart, Follows, IsChain, IsFree, IsAtReady, Ends}
 use Rattle.blocked_table.specs.Listed.{AreJust}
 use Rattle.blocked_table.specs.Words.{AreWritten}
-use Rattle.blocked_table.proofs.Chain.{none_is_not, on_or_off, place_within, same_holder, same_search, some_is}
+use Rattle.blocked_table.proofs.Chain.{none_is_not, on_or_off, place_within, some_is}
 use Rattle.blocked_table.proofs.Listed.{just_pop, just_push}
 
 module _ {old new : List (Option SearchValue)} {search : SearchValue} (taken : IsTaken old new search) where

@@ -1,9 +1,7 @@
 -- How the words of the nodes of a search are written, one by one.
 use Rattle.std.proofs.Common.{◌≡◌, inl, inr, ℕ, ◌<◌, ◌≤◌, ◌+◌, List, length, get_or, set, refl, ap, ◌∙◌, sym, arith, get_or-set_same, get_or-set_other, length-set}
-use Rattle.std.proofs.lemmas.Bool.{cases_eq, cases_lt}
-use Rattle.search_stack.specs.Stack.{Stack, size, node}
-use Rattle.search_stack.specs.GoodSearch.{StandsIn}
-use Rattle.search_stack.specs.Search.{IsOn}
+use Rattle.std.proofs.lemmas.Bool.{cases_eq}
+use Rattle.search_stack.specs.Stack.{Stack, node}
 use Rattle.blocked_table.specs.Words.{AreWritten}
 
 pub written_none : (s : Stack) (from upto word : ℕ) (words : List ℕ) → upto ≤ from → AreWritten s from upto word words words

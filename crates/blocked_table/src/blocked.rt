@@ -8,6 +8,9 @@ use search_stack::Search;
 use std::alloc::{AllocError, Global};
 use std::marker::Model;
 
+mod suspend;
+mod transfer;
+
 /// Searches that are kept until a node that they want is finished.
 ///
 /// It is seen as a list of places, at each of which one search is kept or none. A kept search is

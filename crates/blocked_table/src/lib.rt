@@ -2,6 +2,8 @@
 #![tactic(auto)]
 
 mod blocked;
+mod suspended;
 mod words;
 
 pub use blocked::Blocked;
+pub use suspended::Suspended;

@@ -1,4 +1,4 @@
-ghost use Rattle.std.specs.Prelude.{◌≡◌, ◌+◌, ◌≤◌, ℕ, Bool, true, List, Some, None, IfSome, IfNone};
+ghost use Rattle.std.specs.Prelude.{◌≡◌, ◌↔◌, IsTrue, ◌+◌, ◌≤◌, ℕ, Bool, true, List, Some, None, IfSome, IfNone};
 ghost use Rattle.search_stack.specs.GoodSearch.{IsGood};
 ghost use Rattle.search_stack.specs.Search.{IsCut, IsLastBegun, IsOn, below_frame, joined, last_begun as last_begun_on};
 ghost use Rattle.search_stack.specs.Stack.{size, position as position_of};
@@ -20,6 +20,16 @@ impl Search {
             return None;
         };
         Some(greatest_cut(&self.frames, place as u32))
+    }
+
+    /// Whether the node is on the stack. It costs a constant.
+    pub fn holds(&self, node: u32) -> bool
+        ensures { IsTrue result ↔ IsOn self.now.stack node }
+    {
+        let Some(_) = self.opened.get_index_of(&node) else {
+            return false;
+        };
+        true
     }
 
     /// Puts the part of the donor from a cut on, where the donor has the node that this search's last

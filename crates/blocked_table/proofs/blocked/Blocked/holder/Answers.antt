@@ -1,6 +1,5 @@
-use Rattle.std.proofs.Common.{rules, ◌≡◌, ◌+◌, ◌∙◌, sym, arith}
+use Rattle.std.proofs.Common.{rules, ◌≡◌, arith}
 use Rattle.std.specs.Prelude.{slice_index_or}
-use Rattle.blocked_table.specs.Kept.{Holds}
 use Rattle.blocked_table.proofs.blocked.Blocked.holder.Goals as goal
 
 pub returns-then-word-eq0-clause-none : goal.returns-then-word-eq0-clause-none

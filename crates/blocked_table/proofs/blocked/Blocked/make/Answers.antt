@@ -1,4 +1,4 @@
-use Rattle.std.proofs.Common.{ℕ, ◌∙◌, sym, ap, length, arith}
+use Rattle.std.proofs.Common.{ℕ, ap, length, arith}
 use Rattle.std.specs.Prelude.{Bool, false}
 use Rattle.std.proofs.lemmas.List.{length-replicate}
 use Rattle.blocked_table.proofs.FieldSteps.{empty_blocked}

@@ -1,9 +1,7 @@
-use Rattle.std.proofs.Common.{◌≡◌, ◌∙◌, ◌<◌, ◌++◌, List, [], length, set, ap, sym, subst, arith}
+use Rattle.std.proofs.Common.{◌∙◌, ◌<◌, length, sym, subst, arith}
 use Rattle.std.proofs.lemmas.List.{append-nil}
-use Rattle.std.specs.Prelude.{Contains}
-use Rattle.blocked_table.specs.Blocked.{IsReadyAt, IsTable}
+use Rattle.blocked_table.specs.Blocked.{IsReadyAt}
 use Rattle.blocked_table.specs.Listed.{AreJust}
-use Rattle.blocked_table.proofs.Chain.{place_within}
 use Rattle.blocked_table.proofs.FieldSteps.{ready_is_kept, ready_within, taken_from, vacant_room}
 use Rattle.blocked_table.proofs.Tables.{take_ready_list, take_table, take_vacant, take_waited, take_words}
 use Rattle.blocked_table.proofs.blocked.Blocked.take_ready.Goals as goal
@@ -73,10 +71,10 @@ invariant_of-self-2 c =
     let pushed = rw c.unwrap.ensures at c.push.ensures.items in
     record {
       table =
-          rw c.write_words.ensures.each (take_table taken (length c.self.inside.holders.items) c.self.inside.most c.self.invariant.table);
-      words = take_words taken c.self.invariant.table.apart c.self.invariant.words c.write_words.ensures;
+          rw c.write_words.ensures.written.each (take_table taken (length c.self.inside.holders.items) c.self.inside.most c.self.invariant.table);
+      words = take_words taken c.self.invariant.table.apart c.self.invariant.words c.write_words.ensures.written;
       waited = take_waited taken c.self.inside.waited.items c.self.invariant.waited;
-      marks = c.self.invariant.marks ∙ sym c.write_words.ensures.each;
+      marks = c.self.invariant.marks ∙ sym c.write_words.ensures.written.each;
       vacant = rw pushed (take_vacant taken c.self.inside.vacant.items c.self.invariant.vacant);
       ready =
           take_ready_list taken c.pop.new.self.items

@@ -1,0 +1,100 @@
+-- The end of a transfer, and where a search is kept.
+use Rattle.std.proofs.Common.{vec_len, ◌≡◌, inl, inr, ℕ, ◌<◌, ◌+◌, List, [], ◌∷◌, ◌++◌, length, get_or, drop, set, Option, None, Some, ap, ◌∙◌, sym, subst, arith, add-one, drop-cons, get_or-set_same, get_or-set_other}
+use Rattle.std.proofs.lemmas.Bool.{cases_eq, cases_lt}
+use Rattle.std.proofs.lemmas.List.{get_or_append_left, get_or_past, get_or_push, length_push}
+use Rattle.search_stack.specs.Stack.{Stack, size, node}
+use Rattle.search_stack.specs.Search.{SearchValue, IsGoodSearch, IsLastBegun, IsOn, joined, lowered}
+use Rattle.std.proofs.lemmas.List.Elements.{Contains-push}
+use Rattle.std.specs.Prelude.{Contains}
+use Rattle.blocked_table.specs.declared.blocked.Blocked.TheInside.{Inside}
+use Rattle.blocked_table.specs.Blocked.{HasRoom}
+use Rattle.blocked_table.specs.BlockedFields.{IsBlocked, IsVacant, value_of}
+use Rattle.blocked_table.specs.Kept.{kept_at}
+use Rattle.blocked_table.specs.Suspending.{Adds, AreGood}
+use Rattle.blocked_table.specs.Transfer.{IsCutAway, IsMoved, IsTransfer}
+use Rattle.blocked_table.proofs.Along.{IsOnTheWay, cut_away, new, shaped}
+use Rattle.blocked_table.proofs.Chain.{some_is}
+use Rattle.blocked_table.proofs.MovedSteps.{IsPartWay}
+use Rattle.blocked_table.proofs.Rests.{on_low}
+
+pub rest_drop : (xs : List ℕ) (i : ℕ) → i < length xs → drop i xs ≡ get_or xs i 0 ∷ drop (i + 1) xs
+rest_drop xs i lt = rw (add-one, drop-cons xs i 0)
+
+-- what stood on the receiver stands on it still
+pub moved_on : {lists : List (List ℕ)} {roots done : List ℕ} (now : List (Option SearchValue)) (s : Stack) (v : ℕ) (cuts : List (ℕ × ℕ))
+    (after : List (Option SearchValue)) (t : Stack) (end u : ℕ) → IsOnTheWay lists roots done now s v → IsMoved now s v cuts after t end
+    → IsOn s u → IsOn t u
+moved_on now s v [] after t end u way moved on = subst (λ stack. IsOn stack u) (sym moved.1) on
+moved_on now s v (cut ∷ cuts) after t end u way moved on =
+    let away : IsCutAway now v cut = moved.0 in
+    moved_on away.next (joined s away.donor.stack cut.1) away.wants cuts after t end u (cut_away cut way away) moved.1
+    (on_low (shaped cut way away) (new cut way away) u on)
+
+-- the edge at the end is taken as one back
+pub transferred : {old now : List (Option SearchValue)} {s t after : Stack} {on node_now end spare : ℕ} (place : ℕ)
+    → (way : IsPartWay old s on now t node_now [] end spare) → IsOn s end → place < size t → node t place ≡ node_now → after ≡ lowered t place
+    → IsTransfer old now s on after
+transferred {old} {now} {s} {t} {after} {on} {node_now} {end} {spare} place way back within is lowered_is = record {
+  cuts = way.cuts;
+  whole = t;
+  end = end;
+  moved = subst (λ u. IsMoved old s on way.cuts now t u) way.path way.moved;
+  back = back;
+  place = place;
+  within = within;
+  is = is ∙ way.path;
+  lowered = lowered_is;
+}
+
+-- a search is kept at a vacant place, or at a new one
+
+pub adds_at : (kept : List (Option SearchValue)) (place : ℕ) (search : SearchValue) → place < length kept → kept_at kept place ≡ None
+    → Adds kept (set kept place (Some search)) place search
+adds_at kept place search lt none = record {
+  vacant = none;
+  at = get_or-set_same kept place (Some search) None lt;
+  same = λ i ne. get_or-set_other kept place i (Some search) None ne;
+}
+
+pub adds_last : (kept : List (Option SearchValue)) (place : ℕ) (search : SearchValue) → place ≡ length kept
+    → Adds kept (kept ++ Some search ∷ []) place search
+adds_last kept place search last = record {
+  vacant = get_or_past kept place None (omega (arith, last));
+  at = get_or_push kept (Some search) None place (sym last);
+  same = λ i ne.
+      elim (cases_lt i (length kept)) as (λ _. kept_at (kept ++ Some search ∷ []) i ≡ kept_at kept i) [
+        | inl lt ↦ get_or_append_left kept (Some search ∷ []) None i lt
+        | inr past ↦
+            get_or_past (kept ++ Some search ∷ []) i None (omega (arith, past, ne, last, length_push kept (Some search)))
+            ∙ sym (get_or_past kept i None past)
+      ];
+}
+
+-- kept searches stay good where one more is kept that wants what its last edge leads to
+pub keep_good : {lists : List (List ℕ)} {roots done : List ℕ} {old after : List (Option SearchValue)} {place : ℕ} (search : SearchValue) (on : ℕ)
+    → Adds old after place (record search { wanted = Some on }) → IsLastBegun search.stack on → AreGood lists roots done old search.stack
+    → (i : ℕ) (one : SearchValue) → kept_at after i ≡ Some one → IsGoodSearch lists roots done one
+keep_good {lists} {roots} {done} {old} {after} {place} search on adds last good i one at =
+    elim (cases_eq i place) as (λ _. IsGoodSearch lists roots done one) [
+      | inl is ↦
+          let same : record search { wanted = Some on } ≡ one =
+          some_is (record search { wanted = Some on }) one (sym adds.at ∙ ap (kept_at after) (sym is) ∙ at) in
+          subst (IsGoodSearch lists roots done) same (record { good = good.good; wants = last })
+      | inr ne ↦ good.kept_good i one (sym (adds.same i ne) ∙ at)
+    ]
+
+-- the last of the vacant places
+pub vacant_last : {fields : Inside} → IsBlocked fields → (rest : List ℕ) (p : ℕ) → fields.vacant.items ≡ rest ++ p ∷ []
+    → IsVacant fields.kept.items p
+vacant_last {fields} is rest p last = is.vacant.to p (subst (λ xs. Contains xs p) (sym last) (Contains-push rest p))
+
+-- where no place is vacant there is room for a new one
+pub room_left : {fields : Inside} → IsBlocked fields → vec_len fields.vacant ≡ 0 → HasRoom (value_of fields) → length fields.kept.items < fields.most
+room_left {fields} is none room =
+    elim room as (λ _. length fields.kept.items < fields.most) [
+      | inl lt ↦ lt
+      | inr (place, within, vacant) ↦
+          let member = is.vacant.from place (within, vacant) in
+          let lt : member.0 < length fields.vacant.items = member.1 in
+          absurd (omega (arith, lt, none, fields.vacant.ok.0))
+    ]

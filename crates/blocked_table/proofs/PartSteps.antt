@@ -1,0 +1,110 @@
+-- A kept search that is cut, as the fields have it.
+use Rattle.std.proofs.Common.{vec_len, vec_capacity, ◌≡◌, inl, inr, ℕ, ◌<◌, ◌≤◌, ◌-◌, List, [], ◌∷◌, ◌++◌, length, get_or, set, nat_eq, Option, None, Some, ap, ◌∙◌, sym, subst, arith, ne_eqb, get_or-set_same, get_or-set_other, length-set}
+use Rattle.std.proofs.lemmas.Bool.{cases_eq, cond-true, cond-false, eq-eqb}
+use Rattle.search_stack.specs.Stack.{Stack, IsShaped, begun, height, position, target, top}
+use Rattle.search_stack.specs.Search.{SearchValue, IsCut, IsOn, below_frame, last_begun}
+use Rattle.search_stack.proofs.Steps.{keeps}
+use Rattle.blocked_table.specs.Kept.{kept_at}
+use Rattle.std.proofs.lemmas.List.{length_push}
+use Rattle.blocked_table.specs.declared.blocked.Blocked.TheInside.{Inside}
+use Rattle.blocked_table.specs.BlockedFields.{IsBlocked, IsVacant}
+use Rattle.blocked_table.specs.Listed.{AreJust}
+use Rattle.blocked_table.specs.Paths.{StepsAt}
+use Rattle.blocked_table.specs.Transfer.{IsCutAway}
+use Rattle.blocked_table.proofs.FieldSteps.{read_kept}
+use Rattle.blocked_table.proofs.Listed.{just_few}
+use Rattle.blocked_table.proofs.Chain.{none_is_not, place_within, some_is}
+
+last_none : (r : Stack) → height r ≡ 0 → last_begun r ≡ None
+last_none r none =
+    cond-true (nat_eq (height r) 0) None (Some (target r (position r (top r)) (begun r (position r (top r)) - 1))) (eq-eqb (height r) 0 none)
+
+last_some : (r : Stack) → 0 < height r → last_begun r ≡ Some (target r (position r (top r)) (begun r (position r (top r)) - 1))
+last_some r some =
+    cond-false (nat_eq (height r) 0) None (Some (target r (position r (top r)) (begun r (position r (top r)) - 1)))
+    (ne_eqb (height r) 0 (λ none. omega (arith, none, some)))
+
+-- something is left just where the rest wants a node
+pub left_some : {d r : Stack} {frame w : ℕ} → IsShaped d → frame < height d → r ≡ below_frame d frame → last_begun r ≡ Some w → 0 < frame
+left_some {d} {r} {frame} {w} shaped within is wants =
+    elim (cases_eq frame 0) as (λ _. 0 < frame) [
+      | inr some ↦ omega (arith, some)
+      | inl none ↦
+          absurd
+          (none_is_not w (last_begun r) (last_none r (ap height is ∙ (keeps d frame shaped within).height_is ∙ none)) wants)
+    ]
+
+pub left_none : {d r : Stack} {frame : ℕ} → IsShaped d → frame < height d → r ≡ below_frame d frame → last_begun r ≡ None → frame ≡ 0
+left_none {d} {r} {frame} shaped within is none =
+    elim (cases_eq frame 0) as (λ _. frame ≡ 0) [
+      | inl is_zero ↦ is_zero
+      | inr some ↦
+          absurd
+          (none_is_not (target r (position r (top r)) (begun r (position r (top r)) - 1)) (last_begun r) none
+          (last_some r (omega (arith, some, ap height is, (keeps d frame shaped within).height_is))))
+    ]
+
+module _ (kept : List (Option SearchValue)) (place node frame wanted : ℕ) (donor : SearchValue) (at : kept_at kept place ≡ Some donor)
+    (cut : IsCut donor.stack node frame) (wants : donor.wanted ≡ Some wanted) (shaped : IsShaped donor.stack) (gone : Option SearchValue) where
+  -- the rest is put back
+  abbrev pub away_some : (rest : SearchValue) (w : ℕ) → rest.stack ≡ below_frame donor.stack frame → rest.wanted ≡ last_begun rest.stack
+      → rest.wanted ≡ Some w → IsCutAway kept node (place, frame)
+  away_some rest w stack_is last is = record {
+    donor = donor;
+    at = at;
+    cut_is = cut;
+    wants = wanted;
+    wanted = wants;
+    next = set (set kept place gone) place (Some rest);
+    left =
+        inr (
+          rest,
+          get_or-set_same (set kept place gone) place (Some rest) None (omega (arith, place_within kept place donor at, length-set kept place gone)),
+          stack_is,
+          left_some shaped cut.within stack_is (sym last ∙ is),
+          last,
+        );
+    same = λ i ne. get_or-set_other (set kept place gone) place i (Some rest) None ne ∙ get_or-set_other kept place i gone None ne;
+  }
+
+  -- nothing is left
+  abbrev pub away_none : (rest : SearchValue) → gone ≡ None → rest.stack ≡ below_frame donor.stack frame → rest.wanted ≡ last_begun rest.stack
+      → rest.wanted ≡ None → IsCutAway kept node (place, frame)
+  away_none rest none stack_is last is = record {
+    donor = donor;
+    at = at;
+    cut_is = cut;
+    wants = wanted;
+    wanted = wants;
+    next = set kept place gone;
+    left = inl (left_none shaped cut.within stack_is (sym last ∙ is), get_or-set_same kept place gone None (place_within kept place donor at) ∙ none);
+    same = λ i ne. get_or-set_other kept place i gone None ne;
+  }
+
+-- the search that is read at the place is the donor
+pub record IsDonor (kept : List (Option SearchValue)) (node place : ℕ) (donor : SearchValue) : Type 0 where
+  pub at : kept_at kept place ≡ Some donor
+  pub on : IsOn donor.stack node
+  pub wants : ℕ
+  pub wanted : donor.wanted ≡ Some wants
+
+pub donor_read : {kept : List (Option SearchValue)} {node place : ℕ} (x : ℕ) (read : Option SearchValue) (donor : SearchValue)
+    → StepsAt kept node place x → read ≡ get_or kept place read → read ≡ Some donor → IsDonor kept node place donor
+donor_read {kept} {node} {place} x read donor step here is =
+    let at : kept_at kept place ≡ Some donor =
+    read_kept kept place read (place_within kept place step.holds.search step.holds.at) here ∙ is in
+    let same : step.holds.search ≡ donor = some_is step.holds.search donor (sym step.holds.at ∙ at) in
+    record {
+      at = at;
+      on = subst (λ (search : SearchValue). IsOn search.stack node) same step.holds.on;
+      wants = x;
+      wanted = sym (ap (λ (search : SearchValue). search.wanted) same) ∙ step.wants;
+    }
+
+-- there is room to mark one more place as vacant
+pub room_for : {fields : Inside} → IsBlocked fields → (new : List (Option SearchValue)) (p : ℕ)
+    → AreJust (IsVacant new) (fields.vacant.items ++ p ∷ []) → length new ≡ length fields.kept.items
+    → vec_len fields.vacant < vec_capacity fields.vacant
+room_for {fields} is new p are same_length =
+    let few : length (fields.vacant.items ++ p ∷ []) ≤ length new = just_few (fields.vacant.items ++ p ∷ []) (length new) are (λ place vacant. vacant.0) in
+    omega (arith, few, length_push fields.vacant.items p, same_length, is.table.few, is.vacant_room, fields.vacant.ok.0)

@@ -1,0 +1,143 @@
+use Rattle.std.proofs.Common.{ℕ, ◌≡◌, ◌<◌, ◌∙◌, length, set, Some, ap, sym, subst, arith, length-set}
+use Rattle.std.proofs.lemmas.List.{append-nil, length_push}
+use Rattle.std.specs.Prelude.{true}
+use Rattle.search_stack.specs.Stack.{size}
+use Rattle.search_stack.specs.Search.{SearchValue, IsOn}
+use Rattle.blocked_table.specs.BlockedFields.{IsVacant}
+use Rattle.blocked_table.specs.Kept.{ComesTo, Holds}
+use Rattle.blocked_table.specs.Listed.{AreJust}
+use Rattle.blocked_table.specs.Suspending.{Adds}
+use Rattle.blocked_table.proofs.EndSteps.{adds_at, adds_last, room_left, vacant_last}
+use Rattle.blocked_table.proofs.KeepTables.{keep_popped, keep_pushed, keep_ready, keep_table, keep_waited, keep_words}
+use Rattle.blocked_table.proofs.blocked.Blocked.keep.Goals as goal
+
+pub write_words-requires-clause-below : goal.write_words-requires-clause-below
+write_words-requires-clause-below c =
+    let stack_is = ap (λ (one : SearchValue). one.stack) c.set_wanted.ensures in
+    let wants = ap (λ (one : SearchValue). one.wanted) c.set_wanted.ensures in
+    let apart = rw (← c.self.view_is) at c.requires.apart in
+    let below = rw (← c.self.view_is) at c.requires.below in
+    let off : (i v : ℕ) → Holds c.self.inside.kept.items i v → IsOn c.set_wanted.new.self.stack v → ⊥ =
+    λ i v holds on. apart i v holds (subst (λ stack. IsOn stack v) stack_is on) in
+    let low : (v : ℕ) → IsOn c.set_wanted.new.self.stack v → v < length c.self.inside.holders.items =
+    λ v on. below v (subst (λ stack. IsOn stack v) stack_is on) in
+    low
+
+pub invariant_of-self : goal.invariant_of-self
+invariant_of-self c =
+    let stack_is = ap (λ (one : SearchValue). one.stack) c.set_wanted.ensures in
+    let wants = ap (λ (one : SearchValue). one.wanted) c.set_wanted.ensures in
+    let apart = rw (← c.self.view_is) at c.requires.apart in
+    let below = rw (← c.self.view_is) at c.requires.below in
+    let off : (i v : ℕ) → Holds c.self.inside.kept.items i v → IsOn c.set_wanted.new.self.stack v → ⊥ =
+    λ i v holds on. apart i v holds (subst (λ stack. IsOn stack v) stack_is on) in
+    let low : (v : ℕ) → IsOn c.set_wanted.new.self.stack v → v < length c.self.inside.holders.items =
+    λ v on. below v (subst (λ stack. IsOn stack v) stack_is on) in
+    let never : ComesTo c.self.inside.kept.items c.set_wanted.new.self.stack c.args.on → ⊥ =
+    subst (λ stack. ComesTo c.self.inside.kept.items stack c.args.on → ⊥) (sym stack_is) (rw (← c.self.view_is) at c.requires.never) in
+    let marked : c.args.on < length c.self.inside.waited.items = omega (arith, rw (← c.self.view_is) at c.requires.on_below, c.self.invariant.marks) in
+    let pushed = rw c.unwrap.ensures at c.push.ensures.items in
+    let last : c.len-place.result ≡ length c.self.inside.kept.items = omega (arith, c.len-place.ensures, c.self.inside.kept.ok.0) in
+    let adds : Adds c.self.inside.kept.items c.push.new.self.items c.len-place.result c.set_wanted.new.self =
+    rw pushed (adds_last c.self.inside.kept.items c.len-place.result c.set_wanted.new.self last) in
+    let room = room_left c.self.invariant c.in_default.ensures.cases.0 (rw (← c.self.view_is) at c.requires.room) in
+    record {
+      table =
+          rw c.write_words.ensures.written.each
+          (keep_table adds c.args.on wants off (length c.self.inside.holders.items) c.self.inside.most (omega (
+            arith,
+            room,
+            ap length pushed,
+            length_push c.self.inside.kept.items (Some c.set_wanted.new.self),
+          ))
+          (record { some = omega (arith, c.requires.some, ap size stack_is); distinct = c.write_words.ensures.distinct }) low never c.self.invariant.table);
+      words = keep_words adds c.args.on wants off c.self.invariant.words c.write_words.ensures.written;
+      waited = keep_waited adds c.args.on wants off c.self.inside.waited.items marked c.self.invariant.waited;
+      marks = length-set c.self.inside.waited.items c.args.on true ∙ c.self.invariant.marks ∙ sym c.write_words.ensures.written.each;
+      vacant = subst (AreJust (IsVacant c.push.new.self.items)) (c.in_default.ensures.items ∙ append-nil c.pop.new.self.items)
+          (keep_pushed adds c.args.on wants off last (ap length pushed ∙ length_push c.self.inside.kept.items (Some c.set_wanted.new.self))
+          c.self.invariant.vacant);
+      ready = keep_ready adds c.args.on wants off c.self.invariant.ready;
+      kept_room = omega (arith, c.self.invariant.kept_room, c.push.ensures.capacity);
+      vacant_room = omega (arith, c.self.invariant.vacant_room, c.pop.ensures.capacity);
+      ready_room = c.self.invariant.ready_room;
+    }
+
+pub returns-in_default-clause-kept : goal.returns-in_default-clause-kept
+returns-in_default-clause-kept c =
+    let pushed = rw c.unwrap.ensures at c.push.ensures.items in
+    let last : c.len-place.result ≡ length c.self.inside.kept.items = omega (arith, c.len-place.ensures, c.self.inside.kept.ok.0) in
+    let adds : Adds c.self.inside.kept.items c.push.new.self.items c.len-place.result c.set_wanted.new.self =
+    rw pushed (adds_last c.self.inside.kept.items c.len-place.result c.set_wanted.new.self last) in
+    rw (← c.self.view_is)
+    (c.len-place.result, subst (Adds c.self.inside.kept.items c.push.new.self.items c.len-place.result) c.set_wanted.ensures adds)
+
+pub overflow_add-place-2 : goal.overflow_add-place-2
+overflow_add-place-2 c =
+    let vacant = vacant_last c.self.invariant c.pop.new.self.items c.in-Some.place c.in-Some.ensures.items in
+    let adds = adds_at c.self.inside.kept.items c.in-Some.place c.set_wanted.new.self vacant.0 vacant.1 in
+    omega (arith, vacant.0, c.self.invariant.table.few)
+
+pub write_words-requires-2-clause-below : goal.write_words-requires-2-clause-below
+write_words-requires-2-clause-below c =
+    let stack_is = ap (λ (one : SearchValue). one.stack) c.set_wanted.ensures in
+    let wants = ap (λ (one : SearchValue). one.wanted) c.set_wanted.ensures in
+    let apart = rw (← c.self.view_is) at c.requires.apart in
+    let below = rw (← c.self.view_is) at c.requires.below in
+    let off : (i v : ℕ) → Holds c.self.inside.kept.items i v → IsOn c.set_wanted.new.self.stack v → ⊥ =
+    λ i v holds on. apart i v holds (subst (λ stack. IsOn stack v) stack_is on) in
+    let low : (v : ℕ) → IsOn c.set_wanted.new.self.stack v → v < length c.self.inside.holders.items =
+    λ v on. below v (subst (λ stack. IsOn stack v) stack_is on) in
+    low
+
+pub index_mut-requires-2 : goal.index_mut-requires-2
+index_mut-requires-2 c =
+    let vacant = vacant_last c.self.invariant c.pop.new.self.items c.in-Some.place c.in-Some.ensures.items in
+    let adds = adds_at c.self.inside.kept.items c.in-Some.place c.set_wanted.new.self vacant.0 vacant.1 in
+    omega (arith, vacant.0, c.self.inside.kept.ok.0)
+
+pub invariant_of-self-2 : goal.invariant_of-self-2
+invariant_of-self-2 c =
+    let stack_is = ap (λ (one : SearchValue). one.stack) c.set_wanted.ensures in
+    let wants = ap (λ (one : SearchValue). one.wanted) c.set_wanted.ensures in
+    let apart = rw (← c.self.view_is) at c.requires.apart in
+    let below = rw (← c.self.view_is) at c.requires.below in
+    let off : (i v : ℕ) → Holds c.self.inside.kept.items i v → IsOn c.set_wanted.new.self.stack v → ⊥ =
+    λ i v holds on. apart i v holds (subst (λ stack. IsOn stack v) stack_is on) in
+    let low : (v : ℕ) → IsOn c.set_wanted.new.self.stack v → v < length c.self.inside.holders.items =
+    λ v on. below v (subst (λ stack. IsOn stack v) stack_is on) in
+    let never : ComesTo c.self.inside.kept.items c.set_wanted.new.self.stack c.args.on → ⊥ =
+    subst (λ stack. ComesTo c.self.inside.kept.items stack c.args.on → ⊥) (sym stack_is) (rw (← c.self.view_is) at c.requires.never) in
+    let marked : c.args.on < length c.self.inside.waited.items = omega (arith, rw (← c.self.view_is) at c.requires.on_below, c.self.invariant.marks) in
+    let vacant = vacant_last c.self.invariant c.pop.new.self.items c.in-Some.place c.in-Some.ensures.items in
+    let adds = adds_at c.self.inside.kept.items c.in-Some.place c.set_wanted.new.self vacant.0 vacant.1 in
+    record {
+      table =
+          rw c.write_words-2.ensures.written.each
+          (keep_table adds c.args.on wants off (length c.self.inside.holders.items) c.self.inside.most (omega (
+            arith,
+            c.self.invariant.table.few,
+            length-set c.self.inside.kept.items c.in-Some.place (Some c.set_wanted.new.self),
+          ))
+          (record { some = omega (arith, c.requires.some, ap size stack_is); distinct = c.write_words-2.ensures.distinct }) low never c.self.invariant.table);
+      words = keep_words adds c.args.on wants off c.self.invariant.words c.write_words-2.ensures.written;
+      waited = keep_waited adds c.args.on wants off c.self.inside.waited.items marked c.self.invariant.waited;
+      marks = length-set c.self.inside.waited.items c.args.on true ∙ c.self.invariant.marks ∙ sym c.write_words-2.ensures.written.each;
+      vacant = keep_popped adds c.args.on wants off c.pop.new.self.items
+          (length-set c.self.inside.kept.items c.in-Some.place (Some c.set_wanted.new.self))
+          (subst (AreJust (IsVacant c.self.inside.kept.items)) c.in-Some.ensures.items c.self.invariant.vacant);
+      ready = keep_ready adds c.args.on wants off c.self.invariant.ready;
+      kept_room = c.self.invariant.kept_room;
+      vacant_room = omega (arith, c.self.invariant.vacant_room, c.pop.ensures.capacity);
+      ready_room = c.self.invariant.ready_room;
+    }
+
+pub returns-clause-kept : goal.returns-clause-kept
+returns-clause-kept c =
+    let vacant = vacant_last c.self.invariant c.pop.new.self.items c.in-Some.place c.in-Some.ensures.items in
+    let adds = adds_at c.self.inside.kept.items c.in-Some.place c.set_wanted.new.self vacant.0 vacant.1 in
+    rw (← c.self.view_is) (
+      c.in-Some.place,
+      subst (Adds c.self.inside.kept.items (set c.self.inside.kept.items c.in-Some.place (Some c.set_wanted.new.self)) c.in-Some.place)
+          c.set_wanted.ensures adds,
+    )

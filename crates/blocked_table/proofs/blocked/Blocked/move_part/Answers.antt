@@ -1,0 +1,245 @@
+use Rattle.std.proofs.Common.{◌≡◌, ◌<◌, ◌∙◌, length, set, None, Some, refl, ap, sym, subst, arith, get_or-set_same, length-set}
+use Rattle.std.specs.Prelude.{true}
+use Rattle.search_stack.specs.Stack.{size}
+use Rattle.search_stack.specs.Search.{SearchValue}
+use Rattle.blocked_table.specs.Words.{AreWritten}
+use Rattle.blocked_table.proofs.Chain.{none_is_not, place_within, some_is}
+use Rattle.blocked_table.proofs.MovedSteps.{way_of}
+use Rattle.blocked_table.proofs.PartSteps.{away_none, away_some, donor_read, room_for}
+use Rattle.blocked_table.proofs.PartTables.{part_kept, part_marked, part_ready, part_table, part_vacant, part_waited, part_words, rest_held}
+use Rattle.blocked_table.proofs.blocked.Blocked.move_part.Goals as goal
+
+pub invariant_of-self-in_default-wanted : goal.invariant_of-self-in_default-wanted
+invariant_of-self-in_default-wanted c =
+    let step = rw (← c.self.view_is) at c.requires.step.1 in
+    let donor = donor_read c.requires.step.0 c.index_mut.result.now c.in-Some.donor step c.index_mut.ensures.value (sym c.take.ensures.value ∙ c.in-Some.is) in
+    absurd (none_is_not donor.wants c.in-Some.donor.wanted (sym c.in_default-wanted.ensures) donor.wanted)
+
+pub returns-in_default-wanted-clause-moved : goal.returns-in_default-wanted-clause-moved
+returns-in_default-wanted-clause-moved c =
+    let step = rw (← c.self.view_is) at c.requires.step.1 in
+    let donor = donor_read c.requires.step.0 c.index_mut.result.now c.in-Some.donor step c.index_mut.ensures.value (sym c.take.ensures.value ∙ c.in-Some.is) in
+    absurd (none_is_not donor.wants c.in-Some.donor.wanted (sym c.in_default-wanted.ensures) donor.wanted)
+
+pub invariant_of-self-in_default-cut : goal.invariant_of-self-in_default-cut
+invariant_of-self-in_default-cut c =
+    let step = rw (← c.self.view_is) at c.requires.step.1 in
+    let donor = donor_read c.requires.step.0 c.index_mut.result.now c.in-Some.donor step c.index_mut.ensures.value (sym c.take.ensures.value ∙ c.in-Some.is) in
+    absurd (c.in_default-cut.ensures.none donor.on)
+
+pub returns-in_default-cut-clause-moved : goal.returns-in_default-cut-clause-moved
+returns-in_default-cut-clause-moved c =
+    let step = rw (← c.self.view_is) at c.requires.step.1 in
+    let donor = donor_read c.requires.step.0 c.index_mut.result.now c.in-Some.donor step c.index_mut.ensures.value (sym c.take.ensures.value ∙ c.in-Some.is) in
+    absurd (c.in_default-cut.ensures.none donor.on)
+
+pub returns-in_default-cut-clause-wants_nothing : goal.returns-in_default-cut-clause-wants_nothing
+returns-in_default-cut-clause-wants_nothing c =
+    let step = rw (← c.self.view_is) at c.requires.step.1 in
+    let donor = donor_read c.requires.step.0 c.index_mut.result.now c.in-Some.donor step c.index_mut.ensures.value (sym c.take.ensures.value ∙ c.in-Some.is) in
+    absurd (c.in_default-cut.ensures.none donor.on)
+
+pub write_words-requires-clause-below : goal.write_words-requires-clause-below
+write_words-requires-clause-below c =
+    let step = rw (← c.self.view_is) at c.requires.step.1 in
+    let donor = donor_read c.requires.step.0 c.index_mut.result.now c.in-Some.donor step c.index_mut.ensures.value (sym c.take.ensures.value ∙ c.in-Some.is) in
+    λ v on. c.self.invariant.table.below c.args.place v (record { search = c.in-Some.donor; at = donor.at; on = on })
+
+pub append-requires-clause-apart : goal.append-requires-clause-apart
+append-requires-clause-apart c =
+    let step = rw (← c.self.view_is) at c.requires.step.1 in
+    let donor = donor_read c.requires.step.0 c.index_mut.result.now c.in-Some.donor step c.index_mut.ensures.value (sym c.take.ensures.value ∙ c.in-Some.is) in
+    let apart = rw (← c.self.view_is) at c.requires.apart in
+    λ v mine there. apart c.args.place v (record { search = c.in-Some.donor; at = donor.at; on = there }) mine
+
+pub unwrap-requires : goal.unwrap-requires
+unwrap-requires c =
+    let step = rw (← c.self.view_is) at c.requires.step.1 in
+    let donor = donor_read c.requires.step.0 c.index_mut.result.now c.in-Some.donor step c.index_mut.ensures.value (sym c.take.ensures.value ∙ c.in-Some.is) in
+    let good = rw (← c.self.view_is) at c.requires.good.3 in
+    let way = way_of c.self.invariant.table good c.requires.last (rw (← c.self.view_is) at c.requires.apart) in
+    let shaped = (good.kept_good c.args.place c.in-Some.donor donor.at).good.shaped in
+    let away =
+    away_none c.self.inside.kept.items c.args.place c.args.node c.in-Some-cut.cut.frame c.in-Some-wanted.wanted c.in-Some.donor donor.at
+    c.in-Some-cut.ensures.cut (sym c.in-Some-wanted.ensures) shaped c.take.new.self c.append.new.donor c.take.ensures.after c.append.ensures.rest
+    c.append.ensures.rest_wants (sym c.in_default-wanted-2.ensures) in
+    let same = length-set c.self.inside.kept.items c.args.place c.take.new.self in
+    let gone = get_or-set_same c.self.inside.kept.items c.args.place c.take.new.self None (place_within c.self.inside.kept.items c.args.place c.in-Some.donor donor.at) ∙ c.take.ensures.after in
+    let vacant = part_vacant (c.args.place, c.in-Some-cut.cut.frame) way away c.self.inside.vacant.items same gone c.self.invariant.vacant in
+    c.push.ensures.succeeds (room_for c.self.invariant away.next c.args.place vacant same)
+
+pub invariant_of-self-in_default-wanted-2 : goal.invariant_of-self-in_default-wanted-2
+invariant_of-self-in_default-wanted-2 c =
+    let step = rw (← c.self.view_is) at c.requires.step.1 in
+    let donor = donor_read c.requires.step.0 c.index_mut.result.now c.in-Some.donor step c.index_mut.ensures.value (sym c.take.ensures.value ∙ c.in-Some.is) in
+    let good = rw (← c.self.view_is) at c.requires.good.3 in
+    let way = way_of c.self.invariant.table good c.requires.last (rw (← c.self.view_is) at c.requires.apart) in
+    let shaped = (good.kept_good c.args.place c.in-Some.donor donor.at).good.shaped in
+    let away =
+    away_none c.self.inside.kept.items c.args.place c.args.node c.in-Some-cut.cut.frame c.in-Some-wanted.wanted c.in-Some.donor donor.at
+    c.in-Some-cut.ensures.cut (sym c.in-Some-wanted.ensures) shaped c.take.new.self c.append.new.donor c.take.ensures.after c.append.ensures.rest
+    c.append.ensures.rest_wants (sym c.in_default-wanted-2.ensures) in
+    let same = length-set c.self.inside.kept.items c.args.place c.take.new.self in
+    let gone = get_or-set_same c.self.inside.kept.items c.args.place c.take.new.self None (place_within c.self.inside.kept.items c.args.place c.in-Some.donor donor.at) ∙ c.take.ensures.after in
+    let vacant = part_vacant (c.args.place, c.in-Some-cut.cut.frame) way away c.self.inside.vacant.items same gone c.self.invariant.vacant in
+    let written =
+    subst (λ from. AreWritten c.in-Some.donor.stack from (size c.in-Some.donor.stack) 0 c.self.inside.holders.items c.write_words.new.holders.items)
+    c.in-Some-cut.ensures.position c.write_words.ensures.written in
+    let pushed = rw c.unwrap.ensures at c.push.ensures.items in
+    record {
+      table =
+          rw c.write_words.ensures.written.each
+          (part_table (c.args.place, c.in-Some-cut.cut.frame) way away (length c.self.inside.holders.items) c.self.inside.most same c.self.invariant.table);
+      words = part_words (c.args.place, c.in-Some-cut.cut.frame) way away c.self.invariant.words written;
+      waited = part_waited (c.args.place, c.in-Some-cut.cut.frame) way away c.self.inside.waited.items gone c.self.invariant.waited;
+      marks = c.self.invariant.marks ∙ sym c.write_words.ensures.written.each;
+      vacant = rw pushed vacant;
+      ready = part_ready (c.args.place, c.in-Some-cut.cut.frame) way away c.self.invariant.ready;
+      kept_room = c.self.invariant.kept_room;
+      vacant_room = omega (arith, c.self.invariant.vacant_room, c.push.ensures.capacity);
+      ready_room = c.self.invariant.ready_room;
+    }
+
+pub returns-in_default-wanted-2-clause-moved : goal.returns-in_default-wanted-2-clause-moved
+returns-in_default-wanted-2-clause-moved c =
+    let step = rw (← c.self.view_is) at c.requires.step.1 in
+    let donor = donor_read c.requires.step.0 c.index_mut.result.now c.in-Some.donor step c.index_mut.ensures.value (sym c.take.ensures.value ∙ c.in-Some.is) in
+    let good = rw (← c.self.view_is) at c.requires.good.3 in
+    let way = way_of c.self.invariant.table good c.requires.last (rw (← c.self.view_is) at c.requires.apart) in
+    let shaped = (good.kept_good c.args.place c.in-Some.donor donor.at).good.shaped in
+    let away =
+    away_none c.self.inside.kept.items c.args.place c.args.node c.in-Some-cut.cut.frame c.in-Some-wanted.wanted c.in-Some.donor donor.at
+    c.in-Some-cut.ensures.cut (sym c.in-Some-wanted.ensures) shaped c.take.new.self c.append.new.donor c.take.ensures.after c.append.ensures.rest
+    c.append.ensures.rest_wants (sym c.in_default-wanted-2.ensures) in
+    let same = length-set c.self.inside.kept.items c.args.place c.take.new.self in
+    let gone = get_or-set_same c.self.inside.kept.items c.args.place c.take.new.self None (place_within c.self.inside.kept.items c.args.place c.in-Some.donor donor.at) ∙ c.take.ensures.after in
+    let vacant = part_vacant (c.args.place, c.in-Some-cut.cut.frame) way away c.self.inside.vacant.items same gone c.self.invariant.vacant in
+    rw (← c.self.view_is)
+    (record {
+      frame = c.in-Some-cut.cut.frame;
+      away = away;
+      next_is = refl;
+      stack_is = c.append.ensures.joined;
+      wants_is = refl;
+    })
+
+pub returns-in_default-wanted-2-clause-spare : goal.returns-in_default-wanted-2-clause-spare
+returns-in_default-wanted-2-clause-spare c =
+    let step = rw (← c.self.view_is) at c.requires.step.1 in
+    let donor = donor_read c.requires.step.0 c.index_mut.result.now c.in-Some.donor step c.index_mut.ensures.value (sym c.take.ensures.value ∙ c.in-Some.is) in
+    rw (← c.self.view_is)
+    (λ one at.
+    let same : one ≡ c.in-Some.donor = some_is one c.in-Some.donor (sym at ∙ donor.at) in
+    omega (arith, c.append.ensures.spare, ap (λ (search : SearchValue). size search.stack) same))
+
+pub index_mut-requires-2 : goal.index_mut-requires-2
+index_mut-requires-2 c =
+    let step = rw (← c.self.view_is) at c.requires.step.1 in
+    let donor = donor_read c.requires.step.0 c.index_mut.result.now c.in-Some.donor step c.index_mut.ensures.value (sym c.take.ensures.value ∙ c.in-Some.is) in
+    let good = rw (← c.self.view_is) at c.requires.good.3 in
+    let way = way_of c.self.invariant.table good c.requires.last (rw (← c.self.view_is) at c.requires.apart) in
+    let shaped = (good.kept_good c.args.place c.in-Some.donor donor.at).good.shaped in
+    let away =
+    away_some c.self.inside.kept.items c.args.place c.args.node c.in-Some-cut.cut.frame c.in-Some-wanted.wanted c.in-Some.donor donor.at
+    c.in-Some-cut.ensures.cut (sym c.in-Some-wanted.ensures) shaped c.take.new.self c.append.new.donor c.in-Some-wanted-2.wants
+    c.append.ensures.rest c.append.ensures.rest_wants (sym c.in-Some-wanted-2.ensures) in
+    let same =
+    length-set (set c.self.inside.kept.items c.args.place c.take.new.self) c.args.place (Some c.append.new.donor)
+    ∙ length-set c.self.inside.kept.items c.args.place c.take.new.self in
+    let there =
+    get_or-set_same (set c.self.inside.kept.items c.args.place c.take.new.self) c.args.place (Some c.append.new.donor) None
+    (omega (
+      arith,
+      place_within c.self.inside.kept.items c.args.place c.in-Some.donor donor.at,
+      length-set c.self.inside.kept.items c.args.place c.take.new.self,
+    )) in
+    let held = rest_held (c.args.place, c.in-Some-cut.cut.frame) way away c.append.new.donor c.in-Some-wanted-2.wants there (sym c.in-Some-wanted-2.ensures) in
+    omega (
+      arith,
+      c.self.invariant.table.below c.args.place c.in-Some-wanted-2.wants held,
+      c.self.invariant.marks,
+      c.self.inside.waited.ok.0,
+    )
+
+pub invariant_of-self-2 : goal.invariant_of-self-2
+invariant_of-self-2 c =
+    let step = rw (← c.self.view_is) at c.requires.step.1 in
+    let donor = donor_read c.requires.step.0 c.index_mut.result.now c.in-Some.donor step c.index_mut.ensures.value (sym c.take.ensures.value ∙ c.in-Some.is) in
+    let good = rw (← c.self.view_is) at c.requires.good.3 in
+    let way = way_of c.self.invariant.table good c.requires.last (rw (← c.self.view_is) at c.requires.apart) in
+    let shaped = (good.kept_good c.args.place c.in-Some.donor donor.at).good.shaped in
+    let away =
+    away_some c.self.inside.kept.items c.args.place c.args.node c.in-Some-cut.cut.frame c.in-Some-wanted.wanted c.in-Some.donor donor.at
+    c.in-Some-cut.ensures.cut (sym c.in-Some-wanted.ensures) shaped c.take.new.self c.append.new.donor c.in-Some-wanted-2.wants
+    c.append.ensures.rest c.append.ensures.rest_wants (sym c.in-Some-wanted-2.ensures) in
+    let same =
+    length-set (set c.self.inside.kept.items c.args.place c.take.new.self) c.args.place (Some c.append.new.donor)
+    ∙ length-set c.self.inside.kept.items c.args.place c.take.new.self in
+    let there =
+    get_or-set_same (set c.self.inside.kept.items c.args.place c.take.new.self) c.args.place (Some c.append.new.donor) None
+    (omega (
+      arith,
+      place_within c.self.inside.kept.items c.args.place c.in-Some.donor donor.at,
+      length-set c.self.inside.kept.items c.args.place c.take.new.self,
+    )) in
+    let written =
+    subst (λ from. AreWritten c.in-Some.donor.stack from (size c.in-Some.donor.stack) 0 c.self.inside.holders.items c.write_words.new.holders.items)
+    c.in-Some-cut.ensures.position c.write_words.ensures.written in
+    let held = rest_held (c.args.place, c.in-Some-cut.cut.frame) way away c.append.new.donor c.in-Some-wanted-2.wants there (sym c.in-Some-wanted-2.ensures) in
+    let inside : c.in-Some-wanted-2.wants < length c.self.inside.waited.items =
+    omega (arith, c.self.invariant.table.below c.args.place c.in-Some-wanted-2.wants held, c.self.invariant.marks) in
+    record {
+      table =
+          rw c.write_words.ensures.written.each
+          (part_table (c.args.place, c.in-Some-cut.cut.frame) way away (length c.self.inside.holders.items) c.self.inside.most same c.self.invariant.table);
+      words = part_words (c.args.place, c.in-Some-cut.cut.frame) way away c.self.invariant.words written;
+      waited =
+          part_marked (c.args.place, c.in-Some-cut.cut.frame) way away c.self.inside.waited.items c.in-Some-wanted-2.wants c.append.new.donor inside there
+          (sym c.in-Some-wanted-2.ensures) c.self.invariant.waited;
+      marks =
+          length-set c.self.inside.waited.items c.in-Some-wanted-2.wants true ∙ c.self.invariant.marks ∙ sym c.write_words.ensures.written.each;
+      vacant = part_kept (c.args.place, c.in-Some-cut.cut.frame) way away c.append.new.donor same there c.self.invariant.vacant;
+      ready = part_ready (c.args.place, c.in-Some-cut.cut.frame) way away c.self.invariant.ready;
+      kept_room = c.self.invariant.kept_room;
+      vacant_room = c.self.invariant.vacant_room;
+      ready_room = c.self.invariant.ready_room;
+    }
+
+pub returns-clause-moved : goal.returns-clause-moved
+returns-clause-moved c =
+    let step = rw (← c.self.view_is) at c.requires.step.1 in
+    let donor = donor_read c.requires.step.0 c.index_mut.result.now c.in-Some.donor step c.index_mut.ensures.value (sym c.take.ensures.value ∙ c.in-Some.is) in
+    let good = rw (← c.self.view_is) at c.requires.good.3 in
+    let way = way_of c.self.invariant.table good c.requires.last (rw (← c.self.view_is) at c.requires.apart) in
+    let shaped = (good.kept_good c.args.place c.in-Some.donor donor.at).good.shaped in
+    let away =
+    away_some c.self.inside.kept.items c.args.place c.args.node c.in-Some-cut.cut.frame c.in-Some-wanted.wanted c.in-Some.donor donor.at
+    c.in-Some-cut.ensures.cut (sym c.in-Some-wanted.ensures) shaped c.take.new.self c.append.new.donor c.in-Some-wanted-2.wants
+    c.append.ensures.rest c.append.ensures.rest_wants (sym c.in-Some-wanted-2.ensures) in
+    let same =
+    length-set (set c.self.inside.kept.items c.args.place c.take.new.self) c.args.place (Some c.append.new.donor)
+    ∙ length-set c.self.inside.kept.items c.args.place c.take.new.self in
+    let there =
+    get_or-set_same (set c.self.inside.kept.items c.args.place c.take.new.self) c.args.place (Some c.append.new.donor) None
+    (omega (
+      arith,
+      place_within c.self.inside.kept.items c.args.place c.in-Some.donor donor.at,
+      length-set c.self.inside.kept.items c.args.place c.take.new.self,
+    )) in
+    rw (← c.self.view_is)
+    (record {
+      frame = c.in-Some-cut.cut.frame;
+      away = away;
+      next_is = refl;
+      stack_is = c.append.ensures.joined;
+      wants_is = refl;
+    })
+
+pub returns-clause-spare : goal.returns-clause-spare
+returns-clause-spare c =
+    let step = rw (← c.self.view_is) at c.requires.step.1 in
+    let donor = donor_read c.requires.step.0 c.index_mut.result.now c.in-Some.donor step c.index_mut.ensures.value (sym c.take.ensures.value ∙ c.in-Some.is) in
+    rw (← c.self.view_is)
+    (λ one at.
+    let same : one ≡ c.in-Some.donor = some_is one c.in-Some.donor (sym at ∙ donor.at) in
+    omega (arith, c.append.ensures.spare, ap (λ (search : SearchValue). size search.stack) same))

@@ -1,0 +1,87 @@
+ghost use Rattle.std.specs.Prelude.{◌≡◌, ◌⊎◌, ◌<◌, ◌≤◌, ℕ, List, None, Some, IfOk, IfErr};
+ghost use Rattle.search_stack.specs.Stack.{size};
+ghost use Rattle.search_stack.specs.Search.{IsDistinct, IsLastBegun, IsOn};
+ghost use Rattle.blocked_table.specs.Blocked.{HasRoom};
+ghost use Rattle.blocked_table.specs.Kept.{Ends, Holds, ComesTo};
+ghost use Rattle.blocked_table.specs.Paths.{IsPath};
+ghost use Rattle.blocked_table.specs.Suspending.{Adds, AreGood, IsSuspended, StaysGood, entries_of};
+ghost use Rattle.blocked_table.specs.Transfer.{IsTransfer};
+
+use super::Blocked;
+use crate::suspended::Suspended;
+use crate::words::write_words;
+use search_stack::Search;
+use std::alloc::AllocError;
+
+impl Blocked {
+    /// Puts a search aside until a node is finished that its last edge leads to. Where following wants
+    /// from this node comes back to the search, it isn't kept: the searches on the way are cut at the
+    /// node that is wanted in each, their upper parts come on top of the search in that order, and the
+    /// edge at the end is taken as one back. At want of memory the search comes back and all stays.
+    pub fn suspend(
+        &mut self,
+        mut search: Search,
+        on: u32,
+    ) -> Result<Suspended, (AllocError, Search)>
+        requires room { HasRoom self.old }
+        requires some { 0 < size search.stack }
+        requires wants_nothing { search.wanted ≡ None }
+        requires below { (v : ℕ) → IsOn search.stack v → v < self.old.count }
+        requires on_below { on < self.old.count }
+        requires apart { (place v : ℕ) → Holds self.old.kept place v → IsOn search.stack v → ⊥ }
+        requires last { IsLastBegun search.stack on }
+        requires off { IsOn search.stack on → ⊥ }
+        requires good { (lists : List (List ℕ)) × (roots : List ℕ) × (done : List ℕ) × AreGood lists roots done self.old.kept search.stack }
+        ensures count { self.new.count ≡ self.old.count }
+        ensures most { self.new.most ≡ self.old.most }
+        ensures done { IfOk result (IsSuspended self.old.kept self.new.kept search on) }
+        ensures kept { IfErr result (λ failed. self.new ≡ self.old) }
+        ensures back { IfErr result (λ failed. failed.1.stack ≡ search.stack) }
+        ensures back_wants { IfErr result (λ failed. failed.1.wanted ≡ None) }
+
+        // All searches stay good.
+        ensures good { IfOk result (λ suspended. (lists : List (List ℕ)) (roots done : List ℕ)
+            → AreGood lists roots done self.old.kept search.stack → StaysGood lists roots done self.new.kept suspended) }
+    {
+        let alloc = *self.holders.allocator();
+        let mut places = Vec::new(alloc);
+        let found = match self.walk(&search, on, &mut places) {
+            Ok(found) => found,
+            Err(error) => return Err((error, search)),
+        };
+        let Some(way) = found else {
+            self.keep(search, on);
+            return Ok(Suspended::Kept);
+        };
+        if let Err(error) = search.reserve(way.entries) {
+            return Err((error, search));
+        }
+        self.transfer(&mut search, on, &places, way.end);
+        Ok(Suspended::Moved(search))
+    }
+
+    /// Keeps the search at a vacant place, where it wants a node.
+    fn keep(&mut self, mut search: Search, on: u32)
+        requires room { HasRoom self.old }
+        requires some { 0 < size search.stack }
+        requires below { (v : ℕ) → IsOn search.stack v → v < self.old.count }
+        requires on_below { on < self.old.count }
+        requires apart { (place v : ℕ) → Holds self.old.kept place v → IsOn search.stack v → ⊥ }
+        requires last { IsLastBegun search.stack on }
+        requires never { ComesTo self.old.kept search.stack on → ⊥ }
+        ensures count { self.new.count ≡ self.old.count }
+        ensures most { self.new.most ≡ self.old.most }
+        ensures kept { (place : ℕ) × Adds self.old.kept self.new.kept place (record search { wanted = Some on }) }
+    {
+        search.set_wanted(on);
+        self.waited[on as usize] = true;
+        let Some(place) = self.vacant.pop() else {
+            let place = self.kept.len() as u32;
+            write_words(&mut self.holders, &search, 0, place + 1);
+            self.kept.push(Some(search)).unwrap();
+            return;
+        };
+        write_words(&mut self.holders, &search, 0, place + 1);
+        self.kept[place as usize] = Some(search);
+    }
+}

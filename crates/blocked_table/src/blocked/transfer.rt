@@ -1,0 +1,121 @@
+ghost use Rattle.std.specs.Prelude.{◌≡◌, ◌+◌, ◌<◌, ◌≤◌, ℕ, List, [], true, false, None, Some, IfOk, IfSome, IfNone};
+ghost use Rattle.search_stack.specs.Stack.{size};
+ghost use Rattle.search_stack.specs.GoodSearch.{IsGood};
+ghost use Rattle.search_stack.specs.Search.{SearchValue, IsGoodSearch, IsLastBegun, IsOn};
+ghost use Rattle.blocked_table.specs.Transfer.{IsTransfer};
+ghost use Rattle.blocked_table.specs.Blocked.{IsTable};
+ghost use Rattle.blocked_table.specs.Kept.{kept_at, Holds, ComesTo};
+ghost use Rattle.blocked_table.specs.Paths.{StepsAt, IsPath};
+ghost use Rattle.blocked_table.specs.Suspending.{AreGood, IsPartMoved, entries_of};
+
+use super::Blocked;
+use crate::words::write_words;
+use search_stack::Search;
+use std::alloc::AllocError;
+
+/// Where the chain of wants comes back to a search: the node that ends it, and how many entries the
+/// searches on the way have.
+#[derive(Clone, Copy)]
+pub(crate) struct Way {
+    pub(crate) end: u32,
+    pub(crate) entries: u32,
+}
+
+impl Blocked {
+    /// Follows wants from a node until they come to a node of the search, over the searches at these
+    /// places. None where they don't. Searches of 2^32 entries together are refused as want of memory.
+    pub(crate) fn walk(
+        &self,
+        search: &Search,
+        on: u32,
+        places: &mut Vec<u32>,
+    ) -> Result<Option<Way>, AllocError>
+        requires empty { places.old.items ≡ [] }
+        requires apart { (place v : ℕ) → Holds self.now.kept place v → IsOn search.now.stack v → ⊥ }
+        ensures path { IfOk result (λ found. IfSome found (λ way. IsPath self.now.kept on places.new.items way.end)) }
+        ensures back { IfOk result (λ found. IfSome found (λ way. IsOn search.now.stack way.end)) }
+        ensures entries { IfOk result (λ found. IfSome found (λ way. way.entries ≡ entries_of self.now.kept places.new.items)) }
+        ensures never { IfOk result (λ found. IfNone found (ComesTo self.now.kept search.now.stack on → ⊥)) }
+        ensures table { IsTable self.now }
+    {
+        let mut node = on;
+        let mut entries = 0u32;
+        'walk: while !search.holds(node) {
+            let Some(place) = self.holder(node) else {
+                return Ok(None);
+            };
+            let Some(keeper) = &self.kept[place as usize] else {
+                return Ok(None);
+            };
+            let Some(wanted) = keeper.wanted() else {
+                return Ok(None);
+            };
+            entries = entries.checked_add(keeper.len()).ok_or(AllocError)?;
+            places.push(place)?;
+            node = wanted;
+        }
+        Ok(Some(Way { end: node, entries }))
+    }
+
+    /// Cuts the search at a place at the node, and puts its upper part on top of another. What is
+    /// left is kept and wants the last that its top has begun; where nothing is left the place is
+    /// vacant. Gives what the search at the place wanted.
+    pub(crate) fn move_part(&mut self, search: &mut Search, place: u32, node: u32) -> u32
+        requires step { (x : ℕ) × StepsAt self.old.kept node place x }
+        requires last { IsLastBegun search.old.stack node }
+        requires apart { (i v : ℕ) → Holds self.old.kept i v → IsOn search.old.stack v → ⊥ }
+        requires good { (lists : List (List ℕ)) × (roots : List ℕ) × (done : List ℕ) × AreGood lists roots done self.old.kept search.old.stack }
+        requires room { (donor : SearchValue) → kept_at self.old.kept place ≡ Some donor → size donor.stack ≤ search.old.spare }
+        ensures count { self.new.count ≡ self.old.count }
+        ensures most { self.new.most ≡ self.old.most }
+        ensures moved { IsPartMoved self.old.kept self.new.kept search.old.stack search.new.stack node place result }
+        ensures wants_nothing { search.new.wanted ≡ None }
+        ensures spare { (donor : SearchValue) → kept_at self.old.kept place ≡ Some donor → search.old.spare ≤ search.new.spare + size donor.stack }
+    {
+        let Some(mut donor) = self.kept[place as usize].take() else {
+            return node;
+        };
+        let Some(wanted) = donor.wanted() else {
+            return node;
+        };
+        let Some(cut) = donor.cut(node) else {
+            return node;
+        };
+        write_words(&mut self.holders, &donor, cut.position, 0);
+        search.append(&mut donor, cut);
+        let Some(wants) = donor.wanted() else {
+            self.vacant.push(place).unwrap();
+            return wanted;
+        };
+        self.waited[wants as usize] = true;
+        self.kept[place as usize] = Some(donor);
+        wanted
+    }
+
+    /// Moves the upper parts of the searches at these places on top of a search, one after another,
+    /// and takes the edge at the end as one back.
+    pub(crate) fn transfer(&mut self, search: &mut Search, on: u32, places: &[u32], end: u32)
+        requires table { IsTable self.old }
+        requires path { IsPath self.old.kept on places.now end }
+        requires back { IsOn search.old.stack end }
+        requires room { entries_of self.old.kept places.now ≤ search.old.spare }
+        requires wants_nothing { search.old.wanted ≡ None }
+        requires last { IsLastBegun search.old.stack on }
+        requires apart { (place v : ℕ) → Holds self.old.kept place v → IsOn search.old.stack v → ⊥ }
+        requires good { (lists : List (List ℕ)) × (roots : List ℕ) × (done : List ℕ) × AreGood lists roots done self.old.kept search.old.stack }
+        ensures count { self.new.count ≡ self.old.count }
+        ensures most { self.new.most ≡ self.old.most }
+        ensures moved { IsTransfer self.old.kept self.new.kept search.old.stack on search.new.stack }
+        ensures wants_nothing { search.new.wanted ≡ None }
+        ensures good { (lists : List (List ℕ)) (roots done : List ℕ) → AreGood lists roots done self.old.kept search.old.stack
+            → IsGood lists roots done false search.new.stack }
+        ensures kept_good { (lists : List (List ℕ)) (roots done : List ℕ) → AreGood lists roots done self.old.kept search.old.stack
+            → (place : ℕ) (kept : SearchValue) → kept_at self.new.kept place ≡ Some kept → IsGoodSearch lists roots done kept }
+    {
+        let mut node = on;
+        'parts: for &place in places {
+            node = self.move_part(search, place, node);
+        }
+        search.back(node);
+    }
+}
