@@ -1,5 +1,5 @@
 #!/usr/bin/env python3
-"""Times `read_clause` beside SWI-Prolog's `read_term/2`, on the same generated text of 8 MiB.
+"""Times `read_clause` and `read_text` beside SWI-Prolog's `read_term/2`, on the same generated text of 8 MiB.
 
 Needs `rt` and `swipl`. Prints a table: the best of five runs of each, in milliseconds and in
 nanoseconds a token. With `--keep FOLDER` the text stays there.
@@ -7,7 +7,7 @@ nanoseconds a token. With `--keep FOLDER` the text stays there.
 
 import sys
 
-from common import built, filled, folders, runs
+from common import best, built, filled, folders, runs
 
 # Reads all terms of a file, and writes their number and the seconds of processor time.
 SWI = """
@@ -50,34 +50,30 @@ def clauses(number):
     )
 
 
-def ours(program, path):
-    """The least microseconds of the tokens, those of the clauses, and the two numbers of them."""
-    found = [[int(word) for word in err + out] for out, err in runs(program, path)]
-    return min(run[0] for run in found), min(run[1] for run in found), found[-1][2], found[-1][3]
-
-
 def swi(script, path):
-    """The least microseconds of SWI-Prolog, and its number of terms."""
+    """The least milliseconds of SWI-Prolog, and its number of terms."""
     found = [out for out, _ in runs("swipl", script, "--", path)]
-    return min(float(took) for _, took in found) * 1_000_000, int(found[-1][0])
+    return min(float(took) for _, took in found) * 1000, int(found[-1][0])
 
 
 def main():
     with folders(__doc__) as (folder, texts):
-        program = built("clause_bench", "data/f.pl")
+        program = built("clauses", "data/f.pl")
         script = folder / "read.pl"
         script.write_text(SWI)
         path = texts / "clauses.pl"
         path.write_text(filled(clauses))
-        cut, read, tokens, count = ours(program, path)
+        cut, tokens = best(program, "tokens", path)
+        read, count = best(program, "clauses", path)
+        whole, kept = best(program, "text", path)
         theirs, also = swi(script, path)
-        if count != also:
-            sys.exit(f"{count} clauses, but SWI-Prolog finds {also}")
+        if not count == kept == also:
+            sys.exit(f"{count} clauses one by one and {kept} in the text, but SWI-Prolog finds {also}")
         size = path.stat().st_size
         print(f"{size} bytes, {tokens} tokens, {count} clauses")
         print(f"{'':<20}{'ms':>8}{'ns/token':>10}{'MB/s':>7}")
-        for name, took in [("tokens", cut), ("read_clause", read), ("both", cut + read), ("SWI read_term/2", theirs)]:
-            print(f"{name:<20}{took / 1000:>8.1f}{took * 1000 / tokens:>10.1f}{size / took:>7.1f}")
+        for name, took in [("tokens", cut), ("read_clause", read), ("both", cut + read), ("read_text", whole), ("SWI read_term/2", theirs)]:
+            print(f"{name:<20}{took:>8.1f}{took * 1_000_000 / tokens:>10.1f}{size / took / 1000:>7.1f}")
         print(f"SWI-Prolog takes {theirs / (cut + read):.2f} times as long")
 
 

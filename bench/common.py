@@ -1,4 +1,4 @@
-"""What the benchmarks share: generated texts, the built programs and their runs."""
+"""What the benchmarks share: generated texts, the built program and its runs."""
 
 import argparse
 import contextlib
@@ -22,9 +22,9 @@ def filled(part):
     return "".join(parts)
 
 
-def built(crate, *words):
-    """The program of a crate, which is proved and built first where it isn't there; the words are a lawful run."""
-    program = ROOT / "crates" / crate / "out" / crate
+def built(*words):
+    """The benchmark program, which is proved and built first where it isn't there; the words are a lawful run."""
+    program = ROOT / "crates" / "bench" / "out" / "bench"
     if not program.exists():
         subprocess.run(["rt", "run", "--", *words], cwd=program.parent.parent, check=True, stdout=sys.stderr)
     return program

@@ -1,4 +1,4 @@
-// The peer of `token_bench`: a scanner by hand of the same small part of Prolog that the generated
+// The peer of `bench tokens`: a scanner by hand of the same small part of Prolog that the generated
 // texts are made of: names, variables, graphic names, brackets, commas, ends and comments. It cuts
 // the file into kinds with places once, prints how many there are, and on standard error how many
 // microseconds that took.

@@ -15,14 +15,14 @@ GRAPHS = [("ring", 1_000_000), ("chain", 1_000_000), ("random", 200_000)]
 
 
 def main():
-    program = built("search_bench", "ring", "3")
+    program = built("search", "ring", "3")
     with tempfile.TemporaryDirectory() as folder:
         tarjan = pathlib.Path(folder) / "tarjan"
         source = ROOT / "bench" / "tarjan.rs"
         subprocess.run(["rustc", "--edition", "2021", "-O", "-o", tarjan, source], check=True)
         print(f"{'graph':<8}{'nodes':>10}{'groups':>10}{'search':>10}{'tarjan':>10}{'factor':>8}")
         for shape, count in GRAPHS:
-            ours, groups = best(program, shape, str(count))
+            ours, groups = best(program, "search", shape, str(count))
             theirs, also = best(tarjan, shape, str(count))
             if groups != also:
                 sys.exit(f"{shape}: {groups} groups, but the plain search finds {also}")

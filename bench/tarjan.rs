@@ -1,4 +1,4 @@
-//! A plain Tarjan search with vectors, on the same graphs as the program `search_bench`.
+//! A plain Tarjan search with vectors, on the same graphs as `bench search`.
 //! `tarjan SHAPE COUNT` prints the number of groups, and on standard error the microseconds.
 
 use std::time::Instant;

@@ -31,14 +31,14 @@ def ordinary(number):
 
 def main():
     with folders(__doc__) as (folder, texts):
-        program = built("token_bench", "data/f.pl")
+        program = built("tokens", "data/f.pl")
         scan = folder / "scan"
         subprocess.run(["g++", "-O2", "-o", scan, ROOT / "bench" / "scan.cpp"], check=True)
         print(f"{'text':<10}{'bytes':>10}{'tokens':>10}{'ours':>8}{'C++':>8}{'factor':>8}{'MB/s':>7}")
         for name, part in [("dense", dense), ("ordinary", ordinary)]:
             text = texts / f"{name}.pl"
             text.write_text(filled(part))
-            ours, found = best(program, text)
+            ours, found = best(program, "tokens", text)
             theirs, also = best(scan, text)
             if found != also:
                 sys.exit(f"{name}: {found} tokens, but the scanner finds {also}")

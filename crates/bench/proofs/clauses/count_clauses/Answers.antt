@@ -1,5 +1,5 @@
-use Rattle.clause_bench.proofs.ClauseParts.{slice_part}
-use Rattle.clause_bench.proofs.clauses.count_clauses.Goals as goal
+use Rattle.bench.proofs.ClauseParts.{slice_part}
+use Rattle.bench.proofs.clauses.count_clauses.Goals as goal
 
 pub read_clause-requires-clause-part : goal.read_clause-requires-clause-part
 read_clause-requires-clause-part c =

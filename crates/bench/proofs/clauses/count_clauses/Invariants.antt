@@ -1,5 +1,5 @@
 use Rattle.std.proofs.Common.{◌-◌, length}
-use Rattle.clause_bench.proofs.clauses.count_clauses.Given as goal
+use Rattle.bench.proofs.clauses.count_clauses.Given as goal
 
 abbrev pub decreases-loop-from : goal.decreases-loop-from
 decreases-loop-from l = length l.tokens - l.from

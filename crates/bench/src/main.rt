@@ -1,0 +1,73 @@
+//! `bench WHAT ..`: does one thing once. It prints the number of what was found, and on standard
+//! error how many microseconds it took.
+//!
+//! - `search SHAPE COUNT`: the search of a made graph of so many nodes. The number of groups.
+//! - `tokens FILE`: the tokens of a text. Their number.
+//! - `clauses FILE`: the clauses of a text one by one, when it is cut into tokens, under the operators
+//!   that each text begins with. Their number.
+//! - `text FILE`: the clauses of a text as a whole. Their number.
+#![tactic(auto)]
+
+ghost use Rattle.std.specs.Prelude.{◌≤◌, length};
+
+mod clause_times;
+mod clauses;
+mod measured;
+mod search_times;
+mod shape;
+mod source;
+mod text_times;
+mod token_times;
+
+use crate::clause_times::time_clauses;
+use crate::measured::Measured;
+use crate::search_times::time_search;
+use crate::source::read_source;
+use crate::text_times::time_text;
+use crate::token_times::time_tokens;
+use std::alloc::Global;
+use std::env;
+use std::io::{self, ErrorKind};
+use std::rt::{Clock, Env, Files};
+
+/// The words behind the program's name.
+fn words<R: Env + AllocGlobal>(rt: &R) -> io::Result<Vec<String>> {
+    let mut words = Vec::new(rt.alloc());
+    for word in env::args(rt)?.skip(1) {
+        words.push(word)?;
+    }
+    Ok(words)
+}
+
+/// Does what the word says with a text.
+fn measure_text(clock: &impl Clock, alloc: Global, what: &str, text: &str) -> io::Result<Measured>
+    requires { length text.now ≤ 8388608 }
+{
+    match what {
+        "tokens" => time_tokens(clock, alloc, text),
+        "clauses" => time_clauses(clock, alloc, text),
+        "text" => time_text(clock, alloc, text),
+        _ => Err(ErrorKind::InvalidInput.into()),
+    }
+}
+
+/// Does what the words say.
+fn measure<R: Clock + Files + AllocGlobal>(rt: &R, words: &[String]) -> io::Result<Measured> {
+    match words {
+        [what, name] => {
+            let text = read_source(rt, name)?;
+            measure_text(rt, rt.alloc(), what, &text)
+        }
+        [what, shape, count] if what.as_str() == "search" => {
+            time_search(rt, rt.alloc(), shape, count)
+        }
+        _ => Err(ErrorKind::InvalidInput.into()),
+    }
+}
+
+fn main(rt: HostRuntime) -> io::Result<()> {
+    let words = words(&rt)?;
+    let measured = measure(&rt, &words)?;
+    eprintln!(rt; "{}", measured.micros)?;
+    println!(rt; "{}", measured.found)
+}

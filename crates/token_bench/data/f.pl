@@ -1,2 +1,0 @@
-% a clause
-p(X) :- q(X, "s"), /* r */ X = 0'a.
