@@ -12,3 +12,5 @@ pub mod MovedSteps
 pub mod KeepTables
 pub mod PartSteps
 pub mod EndSteps
+pub mod WakeSteps
+pub mod WakeTables

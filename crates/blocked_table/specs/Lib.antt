@@ -5,4 +5,5 @@ pub mod Listed
 pub mod Paths
 pub mod Suspending
 pub mod Transfer
+pub mod Waking
 pub mod Words

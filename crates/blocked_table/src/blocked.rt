@@ -10,6 +10,7 @@ use std::marker::Model;
 
 mod suspend;
 mod transfer;
+mod waking;
 
 /// Searches that are kept until a node that they want is finished.
 ///
