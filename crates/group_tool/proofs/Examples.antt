@@ -63,15 +63,15 @@ abbrev rule : Tree → Tree
 rule body = two (codes ":-") (word (codes "p")) body
 
 abbrev named : List ℕ → ℕ → PredName
-named name arity = record { name = name; arity = arity }
+named name arity = record { «module» = codes "m"; name = name; arity = arity }
 
 -- `p :- q, (X, r(a)).`
-joined_goals : clause_goals (rule (two (codes ",") (word (codes "q")) (paren (two (codes ",") (variable at) (compound (codes "r") (more (word (codes "a")) none) Functional at)) at)))
+joined_goals : clause_goals (codes "m") (rule (two (codes ",") (word (codes "q")) (paren (two (codes ",") (variable at) (compound (codes "r") (more (word (codes "a")) none) Functional at)) at)))
     ≡ named (codes "q") 0 ∷ named (codes "r") 1 ∷ []
 joined_goals = refl
 
 -- `p.` calls nothing, and what stands in a head doesn't
-fact_goals : clause_goals (word (codes "p")) ≡ []
+fact_goals : clause_goals (codes "m") (word (codes "p")) ≡ []
 fact_goals = refl
 
 plain_rule : is_plain_clause (rule (two (codes ",") (word (codes "call")) (variable at))) ≡ true
@@ -99,7 +99,7 @@ no_groups : head_line [] [] ≡ codes "predicates 0 groups 0 recursive 0 levels 
 unfolding digits
 no_groups = refl
 
-recursive_line : group_line (codes "m") (named (codes "a") 0 ∷ named (codes "b") 12 ∷ []) (0 ∷ 1 ∷ []) (level 3 true) ≡ codes "3 recursive m:a/0 m:b/12\n"
+recursive_line : group_line (named (codes "a") 0 ∷ named (codes "b") 12 ∷ []) (0 ∷ 1 ∷ []) (level 3 true) ≡ codes "3 recursive m:a/0 m:b/12\n"
 unfolding spelled_name digits
 recursive_line = refl
 

@@ -31,10 +31,10 @@ AreLevels-agree {c} {d} {groups} {levels} agree are = record {
 }
 
 -- what the rules say and what the graph holds are the same calls
-pub reports_of : {own : List ℕ} {rules : List HeadAndGoals} {predicates : List PredName} {roots : List ℕ} {lists : List (List ℕ)} {groups : List (List ℕ)} {levels : List Level} {bytes : List ℕ}
+pub reports_of : {rules : List HeadAndGoals} {predicates : List PredName} {roots : List ℕ} {lists : List (List ℕ)} {groups : List (List ℕ)} {levels : List Level} {bytes : List ℕ}
     → AreCalleeLists rules predicates lists → AreGroups (Calls lists) roots groups
-    → AreLevels (Calls lists) groups levels → PrintsGroups own predicates groups levels bytes → ReportsRoots own rules predicates roots bytes
-reports_of {own} {rules} {predicates} {roots} {lists} {groups} {levels} {bytes} callees are levels_are report =
+    → AreLevels (Calls lists) groups levels → PrintsGroups predicates groups levels bytes → ReportsRoots rules predicates roots bytes
+reports_of {rules} {predicates} {roots} {lists} {groups} {levels} {bytes} callees are levels_are report =
     let agree : Agree (Calls lists) (NodeCalls rules predicates) = record { to = λ p q. (callees.calls p q).0; from = λ p q. (callees.calls p q).1 } in
     record {
       groups = groups;

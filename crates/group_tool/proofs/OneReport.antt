@@ -79,13 +79,13 @@ head_of predicates groups recursive levels =
     ++ (codes " recursive " ++ decimal recursive)
     ++ (codes " levels " ++ decimal levels) ++ codes "\n"
 
-abbrev line_text : List ℕ → List PredName → List ℕ × Level → List ℕ
-line_text own predicates line = group_line own predicates line.0 line.1
+abbrev line_text : List PredName → List ℕ × Level → List ℕ
+line_text predicates line = group_line predicates line.0 line.1
 
-same_bytes : {calls : ℕ → ℕ → Type 0} {starts : List ℕ} {groups others : List (List ℕ)} {levels marks : List Level} (own : List ℕ) (predicates : List PredName) (bytes other : List ℕ)
-    → AreLeveled calls starts groups levels → AreLeveled calls starts others marks → PrintsGroups own predicates groups levels bytes → PrintsGroups own predicates others marks other
+same_bytes : {calls : ℕ → ℕ → Type 0} {starts : List ℕ} {groups others : List (List ℕ)} {levels marks : List Level} (predicates : List PredName) (bytes other : List ℕ)
+    → AreLeveled calls starts groups levels → AreLeveled calls starts others marks → PrintsGroups predicates groups levels bytes → PrintsGroups predicates others marks other
     → bytes ≡ other
-same_bytes {calls} {starts} {groups} {others} {levels} {marks} own predicates bytes other a b first second =
+same_bytes {calls} {starts} {groups} {others} {levels} {marks} predicates bytes other a b first second =
     let same = same_lines a b first.order second.order first.in_order second.in_order in
     let size : sum_by length groups ≡ sum_by length others =
     sizes groups levels first.order first.in_order
@@ -97,9 +97,9 @@ same_bytes {calls} {starts} {groups} {others} {levels} {marks} own predicates by
     ∙ (ap (sum_by (λ (line : List ℕ × Level). cond line.1.recursive 1 0)) same ∙ sym (marked others marks second.order (one_each b.leveled) second.in_order)) in
     let heights : height_count levels ≡ height_count marks = omega (arith, counts_le a b, counts_le b a) in
     let head : head_line groups levels ≡ head_line others marks = λ i. head_of (size i) (many i) (recursive i) (heights i) in
-    let rest : flat_map (place_line own predicates groups levels) first.order ≡ flat_map (place_line own predicates others marks) second.order =
-    sym (flat_map-map (line_text own predicates) (line_at groups levels) first.order)
-    ∙ (ap (flat_map (line_text own predicates)) same ∙ flat_map-map (line_text own predicates) (line_at others marks) second.order) in
+    let rest : flat_map (place_line predicates groups levels) first.order ≡ flat_map (place_line predicates others marks) second.order =
+    sym (flat_map-map (line_text predicates) (line_at groups levels) first.order)
+    ∙ (ap (flat_map (line_text predicates)) same ∙ flat_map-map (line_text predicates) (line_at others marks) second.order) in
     first.is ∙ ((λ i. head i ++ rest i) ∙ sym second.is)
 
 -- a list of numbers by its predicates
@@ -118,10 +118,10 @@ one_numbers predicates (p ∷ wanted) (n ∷ numbers) (m ∷ others) up are also
     let rest : numbers ≡ others = one_numbers predicates wanted numbers others up behind behind_too in
     λ i. first i ∷ rest i
 
-one_made : (own : List ℕ) (rules : List HeadAndGoals) (predicates : List PredName) (roots bytes other : List ℕ) → ReportsRoots own rules predicates roots bytes
-    → ReportsRoots own rules predicates roots other → bytes ≡ other
-one_made own rules predicates roots bytes other a b =
-    same_bytes own predicates bytes other (record { are = a.are_groups; leveled = a.are_levels }) (record { are = b.are_groups; leveled = b.are_levels }) a.report b.report
+one_made : (rules : List HeadAndGoals) (predicates : List PredName) (roots bytes other : List ℕ) → ReportsRoots rules predicates roots bytes
+    → ReportsRoots rules predicates roots other → bytes ≡ other
+one_made rules predicates roots bytes other a b =
+    same_bytes predicates bytes other (record { are = a.are_groups; leveled = a.are_levels }) (record { are = b.are_groups; leveled = b.are_levels }) a.report b.report
 
 pub one_report : (facts : Facts) (bytes other : List ℕ) → IsReportOf facts bytes → IsReportOf facts other → bytes ≡ other
 one_report facts bytes other a b =
@@ -129,5 +129,5 @@ one_report facts bytes other a b =
     let same : b.predicates ≡ a.predicates = one_numbering rules b.predicates a.predicates b.numbering a.numbering in
     let roots_too : AreNumbers a.predicates (roots_of facts) b.roots = subst (λ ps. AreNumbers ps (roots_of facts) b.roots) same b.are_roots in
     let roots : b.roots ≡ a.roots = one_numbers a.predicates (roots_of facts) b.roots a.roots a.numbering.rising roots_too a.are_roots in
-    one_made facts.module_ rules a.predicates a.roots bytes other a.reports
-    (subst (λ starts. ReportsRoots facts.module_ rules a.predicates starts other) roots (subst (λ ps. ReportsRoots facts.module_ rules ps b.roots other) same b.reports))
+    one_made rules a.predicates a.roots bytes other a.reports
+    (subst (λ starts. ReportsRoots rules a.predicates starts other) roots (subst (λ ps. ReportsRoots rules ps b.roots other) same b.reports))

@@ -2,7 +2,9 @@
 use Rattle.std.proofs.Common.{◌≡◌, ◌≢◌, ℕ, ◌<◌, ◌≤◌, List, Err, Result, Ok, IfErr, IsErrAnd, length, get_or, map, sym, subst, ◌∙◌, ap, inl, inr, arith}
 use Rattle.std.specs.Option.{IfSome}
 use Rattle.std.specs.List.Sorted.{IsStrictlySortedBy}
+use Rattle.std.specs.Ordering.{ordering_then}
 use Rattle.std.specs.declared.cmp.Ordering.TheVariants.{Less}
+use Rattle.std.proofs.lemmas.Cmp.{tied_itself, nat_list_cmp_total}
 use Rattle.std.proofs.lemmas.List.{get_or-map, length-map}
 use Rattle.std.proofs.lemmas.Map.Keys.{Less-from_sorted}
 use Rattle.prolog_tokens.specs.Places.{IsOffset}
@@ -53,21 +55,25 @@ few_predicates name text trees facts are light small = omega (arith, few_defined
 abbrev head_of : HeadAndGoals → PredName
 head_of rule = rule.head
 
+-- in one module predicates are ordered as they are defined
+in_one_module : (own : List ℕ) (p q : Predicate) → predicate_cmp p q ≡ Less → pred_name_cmp (head_of (rule_of own p)) (head_of (rule_of own q)) ≡ Less
+in_one_module own p q less = ap (λ o. ordering_then o (predicate_cmp p q)) (tied_itself nat_list_cmp_total own) ∙ less
+
 -- the predicates rise as they are defined
-rising : (ps : List Predicate) → IsStrictlySortedBy predicate_cmp ps → IsRising (heads (map rule_of ps))
-rising ps up i j d lt within =
+rising : (own : List ℕ) (ps : List Predicate) → IsStrictlySortedBy predicate_cmp ps → IsRising (heads (map (rule_of own) ps))
+rising own ps up i j d lt within =
     let none : Predicate = key d.name d.arity in
-    let outer : length (heads (map rule_of ps)) ≡ length (map rule_of ps) = length-map (map rule_of ps) head_of in
-    let inner : length (map rule_of ps) ≡ length ps = length-map ps rule_of in
+    let outer : length (heads (map (rule_of own) ps)) ≡ length (map (rule_of own) ps) = length-map (map (rule_of own) ps) head_of in
+    let inner : length (map (rule_of own) ps) ≡ length ps = length-map ps (rule_of own) in
     let below : j < length ps = omega (arith, outer, inner, within) in
     let above : i < length ps = omega (arith, below, lt) in
-    let less = Less-from_sorted predicate_cmp ps i j none up lt below in
-    let read : (k : ℕ) → k < length ps → get_or (heads (map rule_of ps)) k d ≡ head_of (rule_of (get_or ps k none)) =
+    let less = in_one_module own (get_or ps i none) (get_or ps j none) (Less-from_sorted predicate_cmp ps i j none up lt below) in
+    let read : (k : ℕ) → k < length ps → get_or (heads (map (rule_of own) ps)) k d ≡ head_of (rule_of own (get_or ps k none)) =
     λ k inside.
-    get_or-map head_of (map rule_of ps) k (rule_of none) d (omega (arith, inner, inside))
-    ∙ ap head_of (get_or-map rule_of ps k none (rule_of none) inside) in
-    let one = subst (λ p. pred_name_cmp p (head_of (rule_of (get_or ps j none))) ≡ Less) (sym (read i above)) less in
-    subst (λ p. pred_name_cmp (get_or (heads (map rule_of ps)) i d) p ≡ Less) (sym (read j below)) one
+    get_or-map head_of (map (rule_of own) ps) k (rule_of own none) d (omega (arith, inner, inside))
+    ∙ ap head_of (get_or-map (rule_of own) ps k none (rule_of own none) inside) in
+    let one = subst (λ p. pred_name_cmp p (head_of (rule_of own (get_or ps j none))) ≡ Less) (sym (read i above)) less in
+    subst (λ p. pred_name_cmp (get_or (heads (map (rule_of own) ps)) i d) p ≡ Less) (sym (read j below)) one
 
 pub rising_predicates : (name : List ℕ) (trees : List Tree) (facts : Facts) → AreFacts name trees facts → IsRising (predicates_of facts)
-rising_predicates name trees facts are = rising facts.defined are.are.defined.in_order
+rising_predicates name trees facts are = rising facts.module_ facts.defined are.are.defined.in_order

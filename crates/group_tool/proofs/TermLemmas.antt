@@ -24,18 +24,18 @@ plain_inside (curly inner span) = refl
 plain_inside (paren inner span) = plain_inside inner
 
 -- what the goals of a body name
-pub goals_joined : (tree left right : Tree) → sides_of (codes ",") tree ≡ Some (left, right) → goals_of tree ≡ goals_of left ++ goals_of right
-goals_joined tree left right is =
-    ap (filter_map pred_name_of) (joined_sides tree left right is) ∙ filter_map-append pred_name_of (joined left) (joined right)
+pub goals_joined : (own : List ℕ) (tree left right : Tree) → sides_of (codes ",") tree ≡ Some (left, right) → goals_of own tree ≡ goals_of own left ++ goals_of own right
+goals_joined own tree left right is =
+    ap (filter_map (pred_name_of own)) (joined_sides tree left right is) ∙ filter_map-append (pred_name_of own) (joined left) (joined right)
 
-one_named : (tree : Tree) (named : Option PredName) → pred_name_of tree ≡ named → filter_map pred_name_of (tree ∷ []) ≡ option_to_list named
-one_named tree None is = rw is refl
-one_named tree (Some named) is = rw is refl
+one_named : (own : List ℕ) (tree : Tree) (named : Option PredName) → pred_name_of own tree ≡ named → filter_map (pred_name_of own) (tree ∷ []) ≡ option_to_list named
+one_named own tree None is = rw is refl
+one_named own tree (Some named) is = rw is refl
 
-pub goals_one : (tree : Tree) → sides_of (codes ",") tree ≡ None → goals_of tree ≡ option_to_list (pred_name_of tree)
-goals_one tree is =
-    ap (filter_map pred_name_of) (joined_alone tree is)
-    ∙ one_named (inside tree) (pred_name_of tree) (ap (λ t. option_map pred_name (named_at t)) (inside_once tree))
+pub goals_one : (own : List ℕ) (tree : Tree) → sides_of (codes ",") tree ≡ None → goals_of own tree ≡ option_to_list (pred_name_of own tree)
+goals_one own tree is =
+    ap (filter_map (pred_name_of own)) (joined_alone tree is)
+    ∙ one_named own (inside tree) (pred_name_of own tree) (ap (λ t. option_map (pred_name own) (named_at t)) (inside_once tree))
 
 -- and whether they are plain
 all_joined : (test : Tree → Bool) (trees others : List Tree) → list_all test (trees ++ others) ≡ (list_all test trees && list_all test others)

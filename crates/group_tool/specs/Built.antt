@@ -61,7 +61,7 @@ is_plain_file facts =
 
 -- the predicate is one of these
 abbrev pub is_one_of : List PredName → PredName → Bool
-is_one_of predicates p = list_any (λ q. bytes_eq q.name p.name && nat_eq q.arity p.arity) predicates
+is_one_of predicates p = list_any (λ q. bytes_eq q.module p.module && (bytes_eq q.name p.name && nat_eq q.arity p.arity)) predicates
 
 -- a plain file, which defines its roots
 abbrev pub is_built : Facts → Bool

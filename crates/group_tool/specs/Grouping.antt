@@ -20,12 +20,12 @@ pub record AreGroups (calls : ℕ → ℕ → Type 0) (starts : List ℕ) (group
   pub reached : (p : ℕ) → HasMember groups p → IsReached calls starts p
 
 -- the bytes are the report of the groups that the roots reach
-pub record ReportsRoots (own : List ℕ) (rules : List HeadAndGoals) (predicates : List PredName) (roots bytes : List ℕ) : Type 0 where
+pub record ReportsRoots (rules : List HeadAndGoals) (predicates : List PredName) (roots bytes : List ℕ) : Type 0 where
   pub groups : List (List ℕ)
   pub are_groups : AreGroups (NodeCalls rules predicates) roots groups
   pub levels : List Level
   pub are_levels : AreLevels (NodeCalls rules predicates) groups levels
-  pub report : PrintsGroups own predicates groups levels bytes
+  pub report : PrintsGroups predicates groups levels bytes
 
 -- the bytes are the report of a file, whose predicates are numbered, and whose roots have these numbers
 pub record IsReportOf (facts : Facts) (bytes : List ℕ) : Type 0 where
@@ -33,4 +33,4 @@ pub record IsReportOf (facts : Facts) (bytes : List ℕ) : Type 0 where
   pub numbering : IsNumbering (rules_of facts) predicates
   pub roots : List ℕ
   pub are_roots : AreNumbers predicates (roots_of facts) roots
-  pub reports : ReportsRoots facts.module_ (rules_of facts) predicates roots bytes
+  pub reports : ReportsRoots (rules_of facts) predicates roots bytes

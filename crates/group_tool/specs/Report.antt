@@ -1,4 +1,4 @@
--- The report of a module: a head line, then a line for each group by height and least member.
+-- The report: a head line, then a line for each group by height and least member.
 use Rattle.std.specs.Prelude.{◌≡◌, ℕ, ◌+◌, ◌<◌, ◌^◌, ◌≢◌, Bool, ◌⊎◌, List, [], ◌++◌, length, max, map, sum_by, count_by, fold, All, AllPairs, IsPermutation, slice_index_or, if◌then◌else◌, codes}
 use Rattle.std.specs.Fmt.{decimal}
 use Rattle.std.specs.List.{flat_map, range_with_len}
@@ -9,25 +9,25 @@ use Rattle.group_release.specs.declared.level.Level.{Level}
 use Rattle.group_release.specs.Level.{level_at}
 use Rattle.group_tool.specs.Spelled.{spelled_name}
 
--- how the report names a predicate of a module: `MODULE:NAME/ARITY`, where both names are spelled
-abbrev pub predicate_name : List ℕ → PredName → List ℕ
-predicate_name own predicate = spelled_name own ++ (codes ":" ++ (spelled_name predicate.name ++ (codes "/" ++ decimal predicate.arity)))
+-- how the report names a predicate: `MODULE:NAME/ARITY`, where both names are spelled
+abbrev pub predicate_name : PredName → List ℕ
+predicate_name predicate = spelled_name predicate.module ++ (codes ":" ++ (spelled_name predicate.name ++ (codes "/" ++ decimal predicate.arity)))
 
 -- the predicate at a place
 abbrev pub predicate_at : List PredName → ℕ → PredName
-predicate_at predicates place = slice_index_or predicates place (record { name = []; arity = 0 })
+predicate_at predicates place = slice_index_or predicates place (record { «module» = []; name = []; arity = 0 })
 
 -- a group's member as its line has it
-abbrev pub member_name : List ℕ → List PredName → ℕ → List ℕ
-member_name own predicates member = codes " " ++ predicate_name own (predicate_at predicates member)
+abbrev pub member_name : List PredName → ℕ → List ℕ
+member_name predicates member = codes " " ++ predicate_name (predicate_at predicates member)
 
 -- `recursive` or `plain`
 abbrev pub kind_of : Bool → List ℕ
 kind_of recursive = if recursive then codes " recursive" else codes " plain"
 
 -- the line of a group: `HEIGHT KIND NAME NAME ..`
-abbrev pub group_line : List ℕ → List PredName → List ℕ → Level → List ℕ
-group_line own predicates members level = decimal level.height ++ kind_of level.recursive ++ flat_map (member_name own predicates) members ++ codes "\n"
+abbrev pub group_line : List PredName → List ℕ → Level → List ℕ
+group_line predicates members level = decimal level.height ++ kind_of level.recursive ++ flat_map (member_name predicates) members ++ codes "\n"
 
 -- one more than the greatest height, or 0 where there is no level
 abbrev pub height_count : List Level → ℕ
@@ -56,14 +56,14 @@ pub record IsLineOrder (groups : List (List ℕ)) (levels : List Level) (order :
   pub rising : AllPairs (ComesBefore groups levels) order
 
 -- the line of the group at a place
-abbrev pub place_line : List ℕ → List PredName → List (List ℕ) → List Level → ℕ → List ℕ
-place_line own predicates groups levels place = group_line own predicates (group_at groups place) (level_at levels place)
+abbrev pub place_line : List PredName → List (List ℕ) → List Level → ℕ → List ℕ
+place_line predicates groups levels place = group_line predicates (group_at groups place) (level_at levels place)
 
 -- the bytes are the head line, and then the line of each group in order
-pub record PrintsGroups (own : List ℕ) (predicates : List PredName) (groups : List (List ℕ)) (levels : List Level) (bytes : List ℕ) : Type 0 where
+pub record PrintsGroups (predicates : List PredName) (groups : List (List ℕ)) (levels : List Level) (bytes : List ℕ) : Type 0 where
   pub order : List ℕ
   pub in_order : IsLineOrder groups levels order
-  pub is : bytes ≡ head_line groups levels ++ flat_map (place_line own predicates groups levels) order
+  pub is : bytes ≡ head_line groups levels ++ flat_map (place_line predicates groups levels) order
 
 -- no two groups have the same least member
 abbrev pub LeastDiffer : List (List ℕ) → Type 0

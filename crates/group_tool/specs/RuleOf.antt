@@ -1,5 +1,5 @@
 -- What a file says for the call graph.
-use Rattle.std.specs.Prelude.{◌≤◌, List, [], Option, Some, None, All, map, option_map, if◌then◌else◌, codes}
+use Rattle.std.specs.Prelude.{ℕ, ◌≤◌, List, [], Option, Some, None, All, map, option_map, if◌then◌else◌, codes}
 use Rattle.std.specs.List.{filter_map, flat_map}
 use Rattle.prolog_terms.specs.Tree.{Tree}
 use Rattle.prolog_terms.specs.Views.{Named, name_and_arity, sides_of, joined}
@@ -10,42 +10,43 @@ use Rattle.module_table.specs.declared.indicator.Indicator.{Indicator}
 use Rattle.group_tool.specs.declared.pred_name.PredName.{PredName}
 use Rattle.group_tool.specs.Rule.{HeadAndGoals, heads}
 
--- the predicate that an atom or a compound names
-abbrev pub pred_name : Named → PredName
-pred_name named = record { name = named.name; arity = named.arity }
+-- the predicate of a module that an atom or a compound names
+abbrev pub pred_name : List ℕ → Named → PredName
+pred_name own named = record { «module» = own; name = named.name; arity = named.arity }
 
-abbrev pub pred_name_of : Tree → Option PredName
-pred_name_of tree = option_map pred_name (name_and_arity tree)
+abbrev pub pred_name_of : List ℕ → Tree → Option PredName
+pred_name_of own tree = option_map (pred_name own) (name_and_arity tree)
 
--- the predicates that the goals of a body name; a variable names none
-abbrev pub goals_of : Tree → List PredName
-goals_of body = filter_map pred_name_of (joined body)
+-- the predicates that the goals of a body in a module name; a variable names none
+abbrev pub goals_of : List ℕ → Tree → List PredName
+goals_of own body = filter_map (pred_name_of own) (joined body)
 
 -- a rule names what its body does, a fact nothing
-abbrev pub goals_by : Option (Tree × Tree) → List PredName
-goals_by (Some sides) = goals_of sides.1
-goals_by None = []
+abbrev pub goals_by : List ℕ → Option (Tree × Tree) → List PredName
+goals_by own (Some sides) = goals_of own sides.1
+goals_by own None = []
 
-abbrev pub clause_goals : Tree → List PredName
-clause_goals clause = goals_by (sides_of (codes ":-") clause)
+abbrev pub clause_goals : List ℕ → Tree → List PredName
+clause_goals own clause = goals_by own (sides_of (codes ":-") clause)
 
--- a predicate with the goals of all its clauses
-abbrev pub rule_of : Predicate → HeadAndGoals
-rule_of p = record { head = record { name = p.name; arity = p.arity }; goals = flat_map clause_goals p.clauses }
+-- a predicate of a module with the goals of all its clauses
+abbrev pub rule_of : List ℕ → Predicate → HeadAndGoals
+rule_of own p = record { head = record { «module» = own; name = p.name; arity = p.arity }; goals = flat_map (clause_goals own) p.clauses }
 
 abbrev pub rules_of : Facts → List HeadAndGoals
-rules_of facts = map rule_of facts.defined
+rules_of facts = map (rule_of facts.module_) facts.defined
 
 -- the predicates of a file, in order
 abbrev pub predicates_of : Facts → List PredName
 predicates_of facts = heads (rules_of facts)
 
-abbrev pub exported : Indicator → PredName
-exported export = record { name = export.name; arity = export.arity }
+-- the predicate of a module that an export names
+abbrev pub exported : List ℕ → Indicator → PredName
+exported own export = record { «module» = own; name = export.name; arity = export.arity }
 
 -- the roots: what a module file exports, all predicates of another file
 abbrev pub roots_of : Facts → List PredName
-roots_of facts = if facts.is_module then map exported facts.exports else predicates_of facts
+roots_of facts = if facts.is_module then map (exported facts.module_) facts.exports else predicates_of facts
 
 -- no more stands within a term than a text has bytes
 abbrev pub IsLight : Tree → Type 0

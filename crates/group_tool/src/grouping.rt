@@ -21,13 +21,14 @@ use prolog_tokens::Text;
 use search_stack::groups_plain;
 use std::alloc::{AllocError, Global};
 
-/// The predicates that the indicators of a list are.
-fn exported(alloc: Global, exports: &[Indicator]) -> Result<Vec<PredName>, AllocError>
-    ensures { IfOk result (λ found. found.items ≡ map exported exports.now) }
+/// The predicates of the module that the indicators of a list are.
+fn exported(alloc: Global, own: &str, exports: &[Indicator]) -> Result<Vec<PredName>, AllocError>
+    ensures { IfOk result (λ found. found.items ≡ map (exported own.now) exports.now) }
 {
     let mut found = Vec::new(alloc);
     for export in exports {
         found.push(PredName {
+            module: Text::new(alloc, own)?,
             name: Text::new(alloc, export.name.as_str())?,
             arity: export.arity,
         })?;
@@ -50,7 +51,7 @@ fn roots(
         (λ roots. (list_all (is_one_of predicates.now) (roots_of (see_facts facts.now)) ≡ true) × AreNumbers predicates.now (roots_of (see_facts facts.now)) roots.items)) }
 {
     if facts.is_module {
-        let exports = exported(alloc, &facts.exports)?;
+        let exports = exported(alloc, facts.module.as_str(), &facts.exports)?;
         return places(alloc, predicates, &exports);
     }
     places(alloc, predicates, predicates)
@@ -59,7 +60,6 @@ fn roots(
 /// The report of the predicates that the roots reach, grouped by mutual reach.
 fn group(
     alloc: Global,
-    module_name: &str,
     rules: &[Rule],
     predicates: &[PredName],
     roots: &[u32],
@@ -67,12 +67,12 @@ fn group(
     requires numbering { IsNumbering rules.now predicates.now }
     requires few { length predicates.now < 2 ^ 32 }
     requires rooted { All (λ root. root < length predicates.now) roots.now }
-    ensures { IfOk result (λ text. ReportsRoots module_name.now rules.now predicates.now roots.now (string_bytes text)) }
+    ensures { IfOk result (λ text. ReportsRoots rules.now predicates.now roots.now (string_bytes text)) }
 {
     let calls = call_graph(alloc, rules, predicates)?;
     let groups = groups_plain(alloc, &calls, roots)?;
     let levels = levels(alloc, &calls, &groups)?;
-    let text = report(alloc, module_name, predicates, &groups, &levels)?;
+    let text = report(alloc, predicates, &groups, &levels)?;
     Ok(text)
 }
 
@@ -88,11 +88,11 @@ pub fn group_file(alloc: Global, facts: &FileFacts) -> Result<Option<String>, Al
     if !is_plain_file(facts) {
         return Ok(None);
     }
-    let rules = rules(alloc, &facts.defined)?;
+    let rules = rules(alloc, facts.module.as_str(), &facts.defined)?;
     let predicates = heads(alloc, &rules)?;
     let Some(roots) = roots(alloc, facts, &predicates)? else {
         return Ok(None);
     };
-    let text = group(alloc, facts.module.as_str(), &rules, &predicates, &roots)?;
+    let text = group(alloc, &rules, &predicates, &roots)?;
     Ok(Some(text))
 }

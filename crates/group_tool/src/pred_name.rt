@@ -1,10 +1,11 @@
 use prolog_tokens::Text;
 use std::alloc::{AllocError, Global};
 
-/// A predicate's name and the number of its arguments. They are ordered by the bytes of the
-/// names, then by arity.
+/// A predicate: its module, its name and the number of its arguments. Predicates are ordered by the
+/// bytes of their modules, then by those of their names, then by arity.
 #[derive(Debug, Drop, PartialEq, Eq, PartialOrd, Ord)]
 pub struct PredName {
+    pub module: Text,
     pub name: Text,
     pub arity: u32,
 }
@@ -17,6 +18,7 @@ impl PredName {
         ensures { IfOk result (λ copy. copy ≡ self.now) }
     {
         Ok(PredName {
+            module: Text::new(alloc, self.module.as_str())?,
             name: Text::new(alloc, self.name.as_str())?,
             arity: self.arity,
         })

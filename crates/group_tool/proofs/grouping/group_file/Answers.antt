@@ -15,7 +15,7 @@ use Rattle.group_tool.proofs.grouping.group_file.Goals as goal
 pub group-requires-clause-numbering : goal.group-requires-clause-numbering
 group-requires-clause-numbering c =
     let facts = see_facts c.args.facts.now in
-    let rules : c.in_ok-rules.rules.items ≡ rules_of facts = c.in_ok-rules.ensures ∙ ap (λ ds. map rule_of (map see_defined ds)) c.deref.ensures.value in
+    let rules : c.in_ok-rules.rules.items ≡ rules_of facts = c.in_ok-rules.ensures ∙ (λ i. map (rule_of (c.as_str.ensures i)) (map see_defined (c.deref.ensures.value i))) in
     let predicates : c.in_ok-predicates.predicates.items ≡ predicates_of facts = c.in_ok-predicates.ensures ∙ ap heads (c.deref-2.ensures.value ∙ rules) in
     subst (λ rs. IsNumbering rs c.deref-5.result.now) (sym (c.deref-4.ensures.value ∙ rules))
     (subst (IsNumbering (rules_of facts)) (sym (c.deref-5.ensures.value ∙ predicates)) (numbered (rules_of facts) c.requires.rising))
@@ -31,7 +31,7 @@ group-requires-clause-rooted c =
 pub returns : goal.returns
 returns c =
     let facts = see_facts c.args.facts.now in
-    let rules : c.in_ok-rules.rules.items ≡ rules_of facts = c.in_ok-rules.ensures ∙ ap (λ ds. map rule_of (map see_defined ds)) c.deref.ensures.value in
+    let rules : c.in_ok-rules.rules.items ≡ rules_of facts = c.in_ok-rules.ensures ∙ (λ i. map (rule_of (c.as_str.ensures i)) (map see_defined (c.deref.ensures.value i))) in
     let predicates : c.in_ok-predicates.predicates.items ≡ predicates_of facts = c.in_ok-predicates.ensures ∙ ap heads (c.deref-2.ensures.value ∙ rules) in
     let roots = c.deref-6.result.now in
     let bytes = string_bytes c.in_ok-text.text in
@@ -40,8 +40,7 @@ returns c =
     let there : list_all (is_one_of (predicates_of facts)) (roots_of facts) ≡ true =
     subst (λ ps. list_all (is_one_of ps) (roots_of facts) ≡ true) (c.deref-3.ensures.value ∙ predicates) found.0 in
     let built : is_built facts ≡ true = λ i. plain i && there i in
-    let own = subst (λ name. ReportsRoots name c.deref-4.result.now c.deref-5.result.now roots bytes) c.as_str.ensures c.in_ok-text.ensures in
-    let of_rules = subst (λ rs. ReportsRoots facts.module_ rs c.deref-5.result.now roots bytes) (c.deref-4.ensures.value ∙ rules) own in (
+    let of_rules = subst (λ rs. ReportsRoots rs c.deref-5.result.now roots bytes) (c.deref-4.ensures.value ∙ rules) c.in_ok-text.ensures in (
       built,
       record {
         predicates = predicates_of facts;
@@ -50,6 +49,6 @@ returns c =
         are_roots =
             subst (λ ps. AreNumbers ps (roots_of facts) roots) (c.deref-3.ensures.value ∙ predicates)
             (subst (AreNumbers c.deref-3.result.now (roots_of facts)) (sym c.deref-6.ensures.value) found.1);
-        reports = subst (λ ps. ReportsRoots facts.module_ (rules_of facts) ps roots bytes) (c.deref-5.ensures.value ∙ predicates) of_rules;
+        reports = subst (λ ps. ReportsRoots (rules_of facts) ps roots bytes) (c.deref-5.ensures.value ∙ predicates) of_rules;
       },
     )

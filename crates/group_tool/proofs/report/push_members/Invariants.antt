@@ -7,4 +7,4 @@ use Rattle.group_tool.proofs.report.push_members.Given as goal
 -- the members so far
 abbrev pub invariant-loop-member : goal.invariant-loop-member
 invariant-loop-member l =
-    string_bytes l.text ≡ string_bytes l.initial.text ++ flat_map (member_name l.module_name l.predicates) (take l.member-index l.members)
+    string_bytes l.text ≡ string_bytes l.initial.text ++ flat_map (member_name l.predicates) (take l.member-index l.members)

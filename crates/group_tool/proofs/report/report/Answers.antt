@@ -75,9 +75,9 @@ loop-line-preserved c =
     ) in
     let members : c.deref.result.now ≡ group_at lists place =
     c.deref.ensures.value ∙ sym (get_or-lists_of c.args.groups.now place c.index-groups-place.result within c.index-groups-place.is) in
-    lines_more (λ line. place_line c.args.module_name.now predicates lists levels line.place) (head_line lists levels) (string_bytes c.loop-line.text)
+    lines_more (λ line. place_line predicates lists levels line.place) (head_line lists levels) (string_bytes c.loop-line.text)
     (string_bytes c.push_group.new.text) c.deref-line-items.result.now c.loop-line.line-index no_line c.loop-line-test.true c.loop-line.invariant
-    (c.in_ok-push_group.ensures ∙ ap (λ ms. string_bytes c.loop-line.text ++ group_line c.args.module_name.now predicates ms (level_at levels place)) members)
+    (c.in_ok-push_group.ensures ∙ ap (λ ms. string_bytes c.loop-line.text ++ group_line predicates ms (level_at levels place)) members)
 
 pub returns : goal.returns
 returns c = record {
@@ -86,6 +86,6 @@ returns c = record {
   is =
       c.loop-line.invariant
       ∙ ap (λ lines. head_line (lists_of c.args.groups.now) c.args.levels.now ++ lines)
-      (lines_all (place_line c.args.module_name.now c.args.predicates.now (lists_of c.args.groups.now) c.args.levels.now) c.in_ok-lines.lines.items c.deref-line-items.result.now c.loop-line.line-index
+      (lines_all (place_line c.args.predicates.now (lists_of c.args.groups.now) c.args.levels.now) c.in_ok-lines.lines.items c.deref-line-items.result.now c.loop-line.line-index
       c.deref-line-items.ensures.value c.loop-line-test.false);
 }

@@ -11,4 +11,4 @@ abbrev pub invariant-loop-line : goal.invariant-loop-line
 invariant-loop-line l =
     string_bytes l.text
     ≡ head_line (lists_of l.groups) l.levels
-    ++ flat_map (λ (line : Line). place_line l.module_name l.predicates (lists_of l.groups) l.levels line.place) (take l.line-index l.line-items)
+    ++ flat_map (λ (line : Line). place_line l.predicates (lists_of l.groups) l.levels line.place) (take l.line-index l.line-items)

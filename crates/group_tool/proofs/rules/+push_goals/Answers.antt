@@ -8,13 +8,14 @@ use Rattle.group_tool.proofs.rules.+push_goals.Goals as goal
 
 pub loop-goal-preserved : goal.loop-goal-preserved
 loop-goal-preserved t c =
+    let own = c.args.own.now in
     let here = tree_of c.loop-goal.rest.now in
     let left = tree_of c.in-Some.goal.now in
     let right = tree_of c.in-Some.others.now in
     let sides = sides_below (codes ",") here left right (sym c.in-Some.ensures) in
     let before = c.loop-goal.goals.items in (
-      ap (λ goals. goals ++ goals_of right) c.in_ok-push_goals.ensures
-          ∙ (append_assoc before (goals_of left) (goals_of right) ∙ (ap (λ goals. before ++ goals) (sym (goals_joined here left right (sym c.in-Some.ensures))) ∙ c.loop-goal.invariant.0)),
+      ap (λ goals. goals ++ goals_of own right) c.in_ok-push_goals.ensures
+          ∙ (append_assoc before (goals_of own left) (goals_of own right) ∙ (ap (λ goals. before ++ goals) (sym (goals_joined own here left right (sym c.in-Some.ensures))) ∙ c.loop-goal.invariant.0)),
       omega (arith, sides.right_below, c.loop-goal.invariant.1),
       omega (arith, sides_weight (codes ",") here left right (sym c.in-Some.ensures), c.loop-goal.invariant.2),
     )
@@ -35,13 +36,13 @@ loop-goal-smaller t c =
 pub returns-in_ok-push : goal.returns-in_ok-push
 returns-in_ok-push t c =
     let before = c.loop-goal.goals.items in
-    let one = goals_one (tree_of c.loop-goal.rest.now) (sym c.in_default.ensures) in
+    let one = goals_one c.args.own.now (tree_of c.loop-goal.rest.now) (sym c.in_default.ensures) in
     c.in_ok-push.ensures.items
     ∙ (ap (λ said. before ++ option_to_list said) (sym c.in-Some-2.is ∙ c.in_ok-goal.ensures) ∙ (ap (λ goals. before ++ goals) (sym one) ∙ c.loop-goal.invariant.0))
 
 pub returns-in_default-2 : goal.returns-in_default-2
 returns-in_default-2 t c =
     let before = c.loop-goal.goals.items in
-    let one = goals_one (tree_of c.loop-goal.rest.now) (sym c.in_default.ensures) in
+    let one = goals_one c.args.own.now (tree_of c.loop-goal.rest.now) (sym c.in_default.ensures) in
     sym (append-nil before)
     ∙ (ap (λ said. before ++ option_to_list said) (sym c.in_default-2.is ∙ c.in_ok-goal.ensures) ∙ (ap (λ goals. before ++ goals) (sym one) ∙ c.loop-goal.invariant.0))

@@ -5,7 +5,7 @@ use Rattle.group_tool.proofs.rules.+push_goals.Given as goal
 
 abbrev pub invariant-loop-goal : goal.invariant-loop-goal
 invariant-loop-goal l =
-    (l.goals.items ++ goals_of (tree_of l.rest) ≡ l.initial.goals.items ++ goals_of (tree_of l.fn.body)) × (depth (tree_of l.rest) ≤ depth (tree_of l.fn.body))
+    (l.goals.items ++ goals_of l.own (tree_of l.rest) ≡ l.initial.goals.items ++ goals_of l.own (tree_of l.fn.body)) × (depth (tree_of l.rest) ≤ depth (tree_of l.fn.body))
     × IsLight (tree_of l.rest)
 
 abbrev pub decreases-loop-goal : goal.decreases-loop-goal

@@ -6,4 +6,4 @@ use Rattle.group_tool.proofs.rules.rule.Given as goal
 
 -- the goals of the clauses so far
 abbrev pub invariant-loop-clause : goal.invariant-loop-clause
-invariant-loop-clause l = l.goals.items ≡ flat_map clause_goals (map clause_tree (take l.clause-index l.clause-items))
+invariant-loop-clause l = l.goals.items ≡ flat_map (clause_goals l.own) (map clause_tree (take l.clause-index l.clause-items))

@@ -5,4 +5,4 @@ use Rattle.group_tool.proofs.rules.rules.Given as goal
 
 -- the predicates so far
 abbrev pub invariant-loop-predicate : goal.invariant-loop-predicate
-invariant-loop-predicate l = l.found.items ≡ map rule_of (map see_defined (take l.predicate-index l.defined))
+invariant-loop-predicate l = l.found.items ≡ map (rule_of l.own) (map see_defined (take l.predicate-index l.defined))
