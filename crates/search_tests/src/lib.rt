@@ -11,3 +11,5 @@ mod level_tests;
 mod plain_tests;
 #[cfg(test)]
 mod step_tests;
+#[cfg(test)]
+mod table_tests;
