@@ -14,3 +14,4 @@ pub mod PartSteps
 pub mod EndSteps
 pub mod WakeSteps
 pub mod WakeTables
+pub mod WakeGood

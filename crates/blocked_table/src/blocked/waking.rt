@@ -1,4 +1,4 @@
-ghost use Rattle.std.specs.Prelude.{◌≡◌, ◌<◌, ◌≤◌, ℕ, List, Bool, false, length, slice_index_or, vec_capacity, Contains};
+ghost use Rattle.std.specs.Prelude.{◌≡◌, ◌<◌, ◌≤◌, ℕ, List, Bool, Some, false, length, slice_index_or, vec_capacity, Contains};
 ghost use Rattle.search_stack.specs.Search.{SearchValue, IsGoodSearch};
 ghost use Rattle.blocked_table.specs.Blocked.{IsReadyAt, IsWoken};
 ghost use Rattle.blocked_table.specs.Kept.{kept_at};
@@ -15,6 +15,12 @@ impl Blocked {
         ensures count { self.new.count ≡ self.old.count }
         ensures most { self.new.most ≡ self.old.most }
         ensures woken { IsWoken group.now self.old.kept self.new.kept }
+
+        // Kept searches stay good where the group is finished now.
+        ensures good { (lists : List (List ℕ)) (roots done more : List ℕ)
+            → ((place : ℕ) (search : SearchValue) → kept_at self.old.kept place ≡ Some search → IsGoodSearch lists roots done search)
+            → ((v : ℕ) → Contains done v → Contains more v) → ((v : ℕ) → Contains group.now v → Contains more v)
+            → (place : ℕ) (search : SearchValue) → kept_at self.new.kept place ≡ Some search → IsGoodSearch lists roots more search }
     {
         if !take_marks(&mut self.waited, group) {
             return;

@@ -1,4 +1,5 @@
 use Rattle.std.proofs.Common.{◌∙◌, length, refl, arith}
+use Rattle.blocked_table.proofs.WakeGood.{woken_good}
 use Rattle.blocked_table.proofs.WakeSteps.{is_woken}
 use Rattle.blocked_table.proofs.WakeTables.{none_woken, wake_table, wake_vacant, wake_waited, wake_words}
 use Rattle.blocked_table.proofs.blocked.Blocked.wake.Goals as goal
@@ -28,3 +29,15 @@ pub returns-clause-woken : goal.returns-clause-woken
 returns-clause-woken c =
     let woken = rw c.deref.ensures.value at c.wake_unmarked.ensures.woken in
     rw (← c.self.view_is) (is_woken woken c.take_marks.ensures.unmarked c.self.invariant.waited)
+
+pub returns-then-not-take_marks-clause-good : goal.returns-then-not-take_marks-clause-good
+returns-then-not-take_marks-clause-good c =
+    let woken =
+    none_woken c.self.inside.waited.items c.args.group.now c.self.inside.kept.items (c.if-not-take_marks.ensures.none refl) c.self.invariant.waited in
+    rw (← c.self.view_is) (λ lists roots done more good grows finished. woken_good woken grows finished good)
+
+pub returns-clause-good : goal.returns-clause-good
+returns-clause-good c =
+    let marked = rw c.deref.ensures.value at c.wake_unmarked.ensures.woken in
+    let woken = is_woken marked c.take_marks.ensures.unmarked c.self.invariant.waited in
+    rw (← c.self.view_is) (λ lists roots done more good grows finished. woken_good woken grows finished good)
