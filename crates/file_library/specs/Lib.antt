@@ -2,3 +2,12 @@ pub mod Counts
 pub mod Library
 pub mod MemoryLibrary
 pub mod Copied
+pub mod Asked
+pub mod FileLoads
+pub mod Loaded
+pub mod Asking
+pub mod Answers
+pub mod AskedFile
+pub mod NextWave
+pub mod AskAll
+pub mod SortedOut

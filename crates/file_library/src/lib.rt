@@ -6,10 +6,25 @@
 //! trusted edge, a few lines.
 #![tactic(auto)]
 
+mod answer;
+mod asked_file;
+mod asking;
 mod disk_library;
+mod fault;
+mod laws;
 mod library;
+mod loaded;
+mod loading;
 mod memory_library;
+mod next_wave;
+mod parsing;
+mod reading;
+mod sorted_out;
 
 pub use disk_library::DiskLibrary;
+pub use fault::Fault;
+pub use laws::{asked_least, one_end};
 pub use library::{Library, Read};
+pub use loaded::{LoadStop, Loaded};
+pub use loading::load_all;
 pub use memory_library::MemoryLibrary;

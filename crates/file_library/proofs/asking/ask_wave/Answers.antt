@@ -1,0 +1,14 @@
+-- What was read and parsed is the wave.
+use Rattle.std.proofs.Common.{◌∙◌, ap, ◌++◌}
+use Rattle.file_library.proofs.WaveAsked.{small_answers, wave_asked}
+use Rattle.file_library.proofs.asking.ask_wave.Goals as goal
+
+pub parse_wave-requires-after_bounds : goal.parse_wave-requires-after_bounds
+parse_wave-requires-after_bounds g c = λ lifetimes outlives. small_answers c.in-Ok-read_wave.answers.items c.in-Ok-read_wave.ensures.answers.small
+
+pub returns-clause-asked : goal.returns-clause-asked
+returns-clause-asked g c =
+    let same = c.deref.ensures.value ∙ c.in-Ok.ensures.same in
+    wave_asked (g.L.Library.files c.args.library.now) c.args.wave.now.keys c.args.total (g.L.Library.asked c.args.library.now) (g.L.Library.asked c.read_wave.new.library)
+    (g.L.Library.misses c.args.library.now) (g.L.Library.misses c.read_wave.new.library) c.in-Ok-read_wave.answers.items c.in-Ok-parse_wave.files.items c.in-Ok.ensures.ordered
+    (c.in-Ok-read_wave.ensures.names ∙ same) (c.in-Ok-read_wave.ensures.asked ∙ ap (λ names. g.L.Library.asked c.args.library.now ++ names) same) c.in-Ok-read_wave.ensures.answers c.in-Ok-parse_wave.ensures

@@ -1,0 +1,96 @@
+-- How the asking for files ends, over a map of files.
+use Rattle.std.specs.Prelude.{◌≡◌, ℕ, ◌+◌, ◌<◌, ◌≤◌, ◌⊎◌, List, [], ◌∷◌, ◌++◌, Option, Some, None, Contains, length, take, sum_by, option_map, ⊤}
+use Rattle.file_library.specs.Counts.{Rose}
+use Rattle.file_library.specs.declared.fault.Fault.{Fault}
+use Rattle.file_library.specs.Library.{Files}
+use Rattle.file_library.specs.Asked.{AreInOrder, IsInWave, AreFirstWaves, AreWaves, names_in}
+use Rattle.file_library.specs.FileLoads.{FileLoads}
+use Rattle.file_library.specs.Loaded.{LoadedFiles, IsLoaded, AreLoadFaults, AreWithin, size_of, most_files, most_bytes, most_text}
+
+-- these names are asked for first
+pub record AreFirst (files : Files) (roots names : List (List ℕ)) : Type 0 where
+  pub waves : List (List (List ℕ))
+  pub are : AreFirstWaves (FileLoads files) roots waves
+  pub rest : List (List ℕ)
+  pub is : names_in waves ≡ names ++ rest
+  pub few : length (names_in waves) ≤ most_files
+
+-- all that is asked
+pub record AreAll (files : Files) (roots names : List (List ℕ)) : Type 0 where
+  pub waves : List (List (List ℕ))
+  pub are : AreWaves (FileLoads files) roots waves
+  pub is : names ≡ names_in waves
+  pub few : length names ≤ most_files
+  pub within : AreWithin files names
+
+-- the next wave has more names than may be asked for
+pub record AreTooMany (files : Files) (roots names : List (List ℕ)) : Type 0 where
+  pub waves : List (List (List ℕ))
+  pub are : AreFirstWaves (FileLoads files) roots waves
+  pub is : names ≡ names_in waves
+  pub few : length names ≤ most_files
+  pub within : AreWithin files names
+  pub next : List (List ℕ)
+  pub ordered : AreInOrder next
+  pub in_wave : (name : List ℕ) → Contains next name → IsInWave (FileLoads files) roots (length waves) name
+  pub many : most_files < length names + length next
+
+-- the names up to a last one, all before it within the limits
+pub record LeadTo (files : Files) (roots names : List (List ℕ)) (last : List ℕ) : Type 0 where
+  pub before : List (List ℕ)
+  pub is : names ≡ before ++ last ∷ []
+  pub first : AreFirst files roots names
+  pub within : AreWithin files before
+
+pub record IsTooMuch (files : Files) (roots names : List (List ℕ)) : Type 0 where
+  pub last : List ℕ
+  pub leads : LeadTo files roots names last
+  pub small : size_of files last ≤ most_bytes
+  pub much : most_text < sum_by (size_of files) names
+
+-- how the asking ends
+pub data LoadEnd : Type 0 where
+  loaded : LoadedFiles → LoadEnd
+  faults : List Fault → LoadEnd
+  unread : List ℕ → LoadEnd
+  too_many : LoadEnd
+  too_large : List ℕ → LoadEnd
+  too_much : LoadEnd
+  no_memory : LoadEnd
+
+-- the map alone decides on the end: no read failed, and memory was ample
+abbrev pub IsDecided : LoadEnd → Type 0
+IsDecided (unread name) = ⊥
+IsDecided no_memory = ⊥
+IsDecided _ = ⊤
+
+-- when it ends so over the map, the names being those that were asked for
+abbrev pub LoadEndIs : Files → List (List ℕ) → List (List ℕ) → LoadEnd → Type 0
+LoadEndIs files roots names (loaded found) = AreAll files roots names × IsLoaded files roots found
+LoadEndIs files roots names (faults found) = AreAll files roots names × AreLoadFaults files roots found × (found ≡ [] → ⊥)
+LoadEndIs files roots names (unread name) = LeadTo files roots names name
+LoadEndIs files roots names too_many = AreTooMany files roots names
+LoadEndIs files roots names (too_large name) = LeadTo files roots names name × (most_bytes < size_of files name)
+LoadEndIs files roots names too_much = IsTooMuch files roots names
+LoadEndIs files roots names no_memory = AreFirst files roots names
+
+-- what is seen of a map when no file is read further than one byte past the limit
+abbrev pub seen_of : Files → Files
+seen_of files name = option_map (λ bytes. take (most_bytes + 1) bytes) (files name)
+
+-- all names were answered, but for the last where that could not be read or memory was wanting
+abbrev pub AreAnswered : List (List ℕ) → List (List ℕ) → LoadEnd → Type 0
+AreAnswered names answered (unread name) = names ≡ answered ++ name ∷ []
+AreAnswered names answered no_memory = (names ≡ answered) ⊎ ((last : List ℕ) × (names ≡ answered ++ last ∷ []))
+AreAnswered names answered end = names ≡ answered
+
+-- the asking ended so over some map that the library's answers are, which is what is seen of its own, where it tells that; only a last name that could not be read, or for which memory was wanting, is without an answer
+pub record HasEnded (told : Option Files) (roots before now : List (List ℕ)) (misses misses' : ℕ) (end : LoadEnd) : Type 0 where
+  pub seen : Files
+  pub names : List (List ℕ)
+  pub put : now ≡ before ++ names
+  pub answered : List (List ℕ)
+  pub answers_are : AreAnswered names answered end
+  pub agrees : (files : Files) → told ≡ Some files → (name : List ℕ) → Contains answered name → seen name ≡ seen_of files name
+  pub missed : (name : List ℕ) → Contains answered name → seen name ≡ None → Rose misses misses'
+  pub is : LoadEndIs seen roots names end

@@ -1,0 +1,128 @@
+ghost use Rattle.std.specs.Prelude.{◌≡◌, ◌≤◌, ◌+◌, length, map, sum_by, IfOk, IfErr};
+ghost use Rattle.file_library.specs.AskedFile.{see_file, answered_of};
+ghost use Rattle.file_library.specs.Answers.{bytes_of};
+ghost use Rattle.file_library.specs.AskAll.{answers_of, HasAskedWave, StopsInWave, HasAskedAll, HasStopped, IsKept};
+
+use crate::asked_file::{AskedFile, Content};
+use crate::library::Library;
+use crate::loaded::LoadStop;
+use crate::next_wave::{in_order, name_set, next_wave};
+use crate::parsing::parse_wave;
+use crate::reading::read_wave;
+use prolog_tokens::Text;
+use std::alloc::{AllocError, Global};
+use std::collections::BTreeSet;
+use std::thread::Threads;
+
+/// The most files that are asked for.
+const MOST_FILES: usize = 1024;
+
+/// Asks for the roots and for all that the files load, wave by wave, each file once: what each is
+/// found to be, in the order in which they were asked for.
+pub(crate) fn ask_all<R: Threads + Sync, L: Library>(
+    rt: &R,
+    alloc: Global,
+    roots: &[Text],
+    library: &mut L,
+) -> Result<Vec<AskedFile>, LoadStop>
+    ensures same_files { L.files library.new ≡ L.files library.old }
+    ensures faults_kept { L.faults library.old ≤ L.faults library.new }
+    ensures misses_kept { L.misses library.old ≤ L.misses library.new }
+    ensures asked { IfOk result (λ files. HasAskedAll (L.files library.old) roots.now (L.asked library.old) (L.asked library.new)
+        (L.misses library.old) (L.misses library.new) (map see_file files.items)) }
+    ensures stops { IfErr result (HasStopped (L.files library.old) roots.now (L.asked library.old) (L.asked library.new)
+        (L.faults library.old) (L.faults library.new) (L.misses library.old) (L.misses library.new)) }
+{
+    let mut known = BTreeSet::new(alloc);
+    let mut files = Vec::new(alloc);
+    let mut total = 0;
+    let Ok(mut wave) = name_set(alloc, roots, MOST_FILES) else {
+        return Err(LoadStop::NoMemory);
+    };
+    while wave.len() > 0 {
+        if wave.len() > MOST_FILES - files.len() {
+            return Err(LoadStop::TooManyFiles);
+        }
+        let found = match ask_wave(rt, alloc, &wave, total, library) {
+            Ok(found) => found,
+            Err(stop) => return Err(stop),
+        };
+        total += bytes_in(&found);
+        let Ok(next) = keep(alloc, &mut known, wave, &mut files, found) else {
+            return Err(LoadStop::NoMemory);
+        };
+        wave = next;
+    }
+    Ok(files)
+}
+
+/// Keeps a wave and what was found, and gives the names that come next.
+fn keep(
+    alloc: Global,
+    known: &mut BTreeSet<Text>,
+    mut wave: BTreeSet<Text>,
+    files: &mut Vec<AskedFile>,
+    mut found: Vec<AskedFile>,
+) -> Result<BTreeSet<Text>, AllocError>
+    requires { length files.old.items + length found.items ≤ 1024 }
+    ensures { IfOk result (λ next. IsKept known.old.keys wave.keys known.new.keys (map see_file files.old.items) (map see_file found.items) (map see_file files.new.items) next.keys) }
+{
+    known.append(&mut wave)?;
+    let room = MOST_FILES - (files.len() + found.len());
+    let next = next_wave(alloc, known, &found, room)?;
+    files.append(&mut found)?;
+    Ok(next)
+}
+
+/// How many bytes the files have together.
+fn bytes_in(files: &[AskedFile]) -> u32
+    requires { sum_by bytes_of (answers_of (map see_file files.now)) ≤ 33554432 }
+    ensures { result ≡ sum_by bytes_of (answers_of (map see_file files.now)) }
+{
+    let mut total = 0;
+    for file in files {
+        total += bytes_of(file);
+    }
+    total
+}
+
+fn bytes_of(file: &AskedFile) -> u32
+    requires { bytes_of (answered_of (see_file file.now)) ≤ 33554432 }
+    ensures { result ≡ bytes_of (answered_of (see_file file.now)) }
+{
+    match &file.content {
+        Content::Absent => 0,
+        Content::Sound(bytes, _) => bytes.len() as u32,
+        Content::Faulty(bytes, _, _) => bytes.len() as u32,
+    }
+}
+
+/// Asks for the files of a wave, when `total` bytes were read before.
+fn ask_wave<R: Threads + Sync, L: Library>(
+    rt: &R,
+    alloc: Global,
+    wave: &BTreeSet<Text>,
+    total: u32,
+    library: &mut L,
+) -> Result<Vec<AskedFile>, LoadStop>
+    requires { total ≤ 33554432 }
+    ensures same_files { L.files library.new ≡ L.files library.old }
+    ensures faults_kept { L.faults library.old ≤ L.faults library.new }
+    ensures misses_kept { L.misses library.old ≤ L.misses library.new }
+    ensures asked { IfOk result (λ files. HasAskedWave (L.files library.old) wave.now.keys total (L.asked library.old) (L.asked library.new)
+        (L.misses library.old) (L.misses library.new) (map see_file files.items)) }
+    ensures stops { IfErr result (StopsInWave (L.files library.old) wave.now.keys total (L.asked library.old) (L.asked library.new)
+        (L.faults library.old) (L.faults library.new) (L.misses library.old) (L.misses library.new)) }
+{
+    let Ok(names) = in_order(alloc, wave) else {
+        return Err(LoadStop::NoMemory);
+    };
+    let answers = match read_wave(alloc, &names, total, library) {
+        Ok(answers) => answers,
+        Err(stop) => return Err(stop),
+    };
+    let Ok(files) = parse_wave(rt, alloc, answers) else {
+        return Err(LoadStop::NoMemory);
+    };
+    Ok(files)
+}

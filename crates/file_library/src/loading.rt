@@ -1,0 +1,68 @@
+ghost use Rattle.std.specs.Prelude.{◌≡◌, ◌≤◌, List, All, IfErr, length, map, sum_by};
+ghost use Rattle.file_library.specs.Library.{Files};
+ghost use Rattle.file_library.specs.Answers.{names_of, bytes_of};
+ghost use Rattle.file_library.specs.AskedFile.{see_file, IsOfText};
+ghost use Rattle.file_library.specs.AskAll.{answers_of, Agrees, AreApart};
+ghost use Rattle.file_library.specs.Asking.{HasEnded};
+ghost use Rattle.file_library.specs.SortedOut.{AreJustAsked, FinishIs, HasFailed, end_of};
+
+use crate::asked_file::AskedFile;
+use crate::asking::ask_all;
+use crate::library::Library;
+use crate::loaded::{LoadStop, Loaded};
+use crate::next_wave::{in_order, name_set};
+use crate::sorted_out::{SortedOut, ordered, sorted_out};
+use prolog_tokens::Text;
+use std::alloc::Global;
+use std::thread::Threads;
+
+/// Asks the library for the roots and for all that the files load, wave by wave and each file once:
+/// what was loaded, or why nothing was. A fault of one file hides no fault of another.
+pub fn load_all<R: Threads + Sync, L: Library>(
+    rt: &R,
+    alloc: Global,
+    roots: &[Text],
+    library: &mut L,
+) -> Result<Loaded, LoadStop>
+    ensures same_files { L.files library.new ≡ L.files library.old }
+    ensures faults_kept { L.faults library.old ≤ L.faults library.new }
+    ensures misses_kept { L.misses library.old ≤ L.misses library.new }
+    ensures ended { HasEnded (L.files library.old) roots.now (L.asked library.old) (L.asked library.new) (L.misses library.old) (L.misses library.new) (end_of result) }
+    ensures failed { IfErr result (HasFailed (L.faults library.old) (L.faults library.new)) }
+{
+    let files = match ask_all(rt, alloc, roots, library) {
+        Ok(files) => files,
+        Err(stop) => return Err(stop),
+    };
+    finish(alloc, roots, files)
+}
+
+/// What the files come to, all of them having been asked for.
+fn finish(alloc: Global, roots: &[Text], files: Vec<AskedFile>) -> Result<Loaded, LoadStop>
+    requires apart { AreApart (answers_of (map see_file files.items)) }
+    requires texts { All IsOfText (map see_file files.items) }
+    requires small { All (λ answer. bytes_of answer ≤ 8388608) (answers_of (map see_file files.items)) }
+    requires together { sum_by bytes_of (answers_of (map see_file files.items)) ≤ 33554432 }
+    requires few { length files.items ≤ 1024 }
+    ensures { (seen : Files) → Agrees seen (answers_of (map see_file files.items)) → AreJustAsked seen roots.now (names_of (answers_of (map see_file files.items)))
+        → FinishIs seen roots.now (end_of result) }
+{
+    let set = name_set(alloc, roots, usize::MAX)?;
+    let names = in_order(alloc, &set)?;
+    let files = ordered(files)?;
+    let SortedOut {
+        files,
+        absent,
+        texts,
+        faults,
+    } = sorted_out(alloc, &set, files)?;
+    if faults.len() > 0 {
+        return Err(LoadStop::Faults(faults));
+    }
+    Ok(Loaded {
+        files,
+        absent,
+        roots: names,
+        texts,
+    })
+}

@@ -1,0 +1,118 @@
+ghost use Rattle.std.specs.Prelude.{◌≡◌, ◌≢◌, ◌≤◌, List, Some, All, IfOk, IfErr, length};
+ghost use Rattle.std.specs.List.{AllZip, flat_map};
+ghost use Rattle.module_table.specs.Facts.{see_facts};
+ghost use Rattle.module_table.specs.FileText.{HasFacts};
+ghost use Rattle.file_library.specs.declared.answer.Answer.{Answer as AnswerOf};
+ghost use Rattle.file_library.specs.AskedFile.{see_content, see_file, text_of, IsTold, IsFaultOf, IsSmall, IsParsed, AreParsed, items_in};
+
+use crate::answer::Answer;
+use crate::asked_file::{AskedFile, Content};
+use clause_text::{TextFault, read_text};
+use module_table::{FactFault, FileFacts, facts};
+use std::alloc::{AllocError, Global};
+use std::thread::{self, Threads};
+
+/// In how many lists of neighbours the files of a wave are cut at most, which are read side by side.
+const MOST_LISTS: usize = 64;
+
+/// What the files of the answers are, in the order of the answers. They are read side by side.
+pub(crate) fn parse_wave<R: Threads + Sync>(
+    rt: &R,
+    alloc: Global,
+    answers: Vec<Answer>,
+) -> Result<Vec<AskedFile>, AllocError>
+    requires { All IsSmall answers.items }
+    ensures { IfOk result (λ files. AllZip IsParsed answers.items files.items) }
+{
+    let lists = cut(alloc, answers)?;
+    let parse = |list: Vec<Answer>| -> Result<Vec<AskedFile>, AllocError>
+        requires { All IsSmall list.items }
+        ensures { AreParsed list.items result }
+    { parse_list(alloc, list) };
+    let parsed = thread::map_vec(rt, lists, &parse)?;
+    joined(alloc, parsed)
+}
+
+/// The answers in at most 64 lists of neighbours.
+fn cut(alloc: Global, answers: Vec<Answer>) -> Result<Vec<Vec<Answer>>, AllocError>
+    ensures all { IfOk result (λ lists. items_in lists.items ≡ answers.items) }
+    ensures few { IfOk result (λ lists. length lists.items ≤ 64) }
+{
+    let size = answers.len() / MOST_LISTS + 1;
+    let mut lists = Vec::new(alloc);
+    let mut rest = answers;
+    while rest.len() > size {
+        let more = rest.split_off(size)?;
+        lists.push(rest)?;
+        rest = more;
+    }
+    lists.push(rest)?;
+    Ok(lists)
+}
+
+/// The files of one list, one after another.
+fn parse_list(alloc: Global, list: Vec<Answer>) -> Result<Vec<AskedFile>, AllocError>
+    requires { All IsSmall list.items }
+    ensures { AreParsed list.items result }
+{
+    let mut files = Vec::new(alloc);
+    for answer in list {
+        files.push(parse_one(alloc, answer)?)?;
+    }
+    Ok(files)
+}
+
+/// The files of all lists, in order.
+fn joined(
+    alloc: Global,
+    lists: Vec<Result<Vec<AskedFile>, AllocError>>,
+) -> Result<Vec<AskedFile>, AllocError>
+    ensures { IfOk result (λ all. (answers : List (List AnswerOf)) → AllZip AreParsed answers lists.items → AllZip IsParsed (flat_map (λ list. list) answers) all.items) }
+{
+    let mut all = Vec::new(alloc);
+    for list in lists {
+        let mut list = list?;
+        all.append(&mut list)?;
+    }
+    Ok(all)
+}
+
+/// What the file of the answer is.
+fn parse_one(alloc: Global, answer: Answer) -> Result<AskedFile, AllocError>
+    requires { IsSmall answer }
+    ensures { IfOk result (IsParsed answer) }
+{
+    let Answer { name, bytes } = answer;
+    let content = match bytes {
+        None => Content::Absent,
+        Some(bytes) => content_of(alloc, name.as_str(), bytes)?,
+    };
+    Ok(AskedFile { name, content })
+}
+
+/// The bytes with the facts of the file of that name, or with its fault.
+fn content_of(alloc: Global, name: &str, bytes: Vec<u8>) -> Result<Content, AllocError>
+    requires { length bytes.items ≤ 8388608 }
+    ensures text { IfOk result (λ content. text_of (see_content content) ≡ Some bytes.items) }
+    ensures told { IfOk result (λ content. IsTold name.now (see_content content)) }
+{
+    match file_facts(alloc, name, &bytes) {
+        Ok(facts) => Ok(Content::Sound(bytes, facts)),
+        Err(FactFault::At(cause, offset)) => Ok(Content::Faulty(bytes, cause, offset)),
+        Err(FactFault::NoMemory) => Err(AllocError),
+    }
+}
+
+/// The facts of the file of that name with the bytes. What is wrong with the text comes first, and
+/// then what is wrong with what its clauses say.
+fn file_facts(alloc: Global, name: &str, bytes: &[u8]) -> Result<FileFacts, FactFault>
+    requires { length bytes.now ≤ 8388608 }
+    ensures facts { IfOk result (λ found. HasFacts name.now bytes.now (see_facts found)) }
+    ensures fault { IfErr result (IsFaultOf name.now bytes.now) }
+{
+    match read_text(alloc, bytes) {
+        Ok(clauses) => facts(alloc, name, clauses),
+        Err(TextFault::At(cause, offset)) => Err(FactFault::At(cause, offset)),
+        Err(TextFault::NoMemory) => Err(FactFault::NoMemory),
+    }
+}
