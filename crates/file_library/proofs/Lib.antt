@@ -11,6 +11,7 @@ pub mod LoadsFound
 pub mod AskingSteps
 pub mod AskingKept
 pub mod OrderedFiles
+pub mod NameLists
 pub mod OneEnd
 pub mod Stopped
 pub mod LoadedFiles
