@@ -1,4 +1,5 @@
-//! Files on demand: a library that is asked for files by name, in memory or on the disk.
+//! Files on demand: a library that is asked for files by name, in memory or on the disk, and
+//! `load_all`, which asks it for roots and for all that they lead to.
 //!
 //! A `Library` keeps the names that it was asked for, and counts its misses and its faults. It may tell
 //! its map of files, as `MemoryLibrary` does; then a file is found exactly where the map has it, but
