@@ -6,6 +6,10 @@ mod faults;
 #[cfg(test)]
 mod libraries;
 #[cfg(test)]
+mod load_limits;
+#[cfg(test)]
+mod loads;
+#[cfg(test)]
 mod reports;
 #[cfg(test)]
 mod runs;
