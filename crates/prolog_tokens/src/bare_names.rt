@@ -60,20 +60,3 @@ pub fn is_bare_name(name: &str) -> bool
 {
     is_letter_name(name) || is_graphic_name(name) || is_sign_name(name)
 }
-
-#[cfg(test)]
-mod tests {
-    use super::*;
-
-    #[test]
-    fn tells_bare_names(rt: HostRuntime) {
-        for name in ["p", "aB_1", "été", "+", "*/", "..", "!", ";", "[]", "{}"] {
-            assert!(rt; is_bare_name(name), "at {name}");
-        }
-        for name in [
-            "", ".", "/*", "/**/", ",", "|", "!!", "X", "_a", "1", "Ñu", "a+", "a b",
-        ] {
-            assert!(rt; !is_bare_name(name), "at {name}");
-        }
-    }
-}

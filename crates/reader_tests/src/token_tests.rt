@@ -1,6 +1,6 @@
 ghost use Rattle.std.specs.Prelude.{◌≤◌, length};
 
-use prolog_tokens::{Kind, Token, TokenFault, tokens};
+use prolog_tokens::{Kind, Token, TokenFault, is_bare_name, tokens};
 use std::alloc::{AllocError, Global};
 use std::process::Abort;
 use std::test::Fail;
@@ -327,5 +327,17 @@ fn refuses_bad_escapes(rt: HostRuntime) {
     for (text, at) in rows {
         assert!(rt; text.len() <= 64);
         expect_fault(&rt, rt.alloc(), text, TokenFault::BadEscape(at));
+    }
+}
+
+#[test]
+fn tells_bare_names(rt: HostRuntime) {
+    for name in ["p", "aB_1", "été", "+", "*/", "..", "!", ";", "[]", "{}"] {
+        assert!(rt; is_bare_name(name), "at {name}");
+    }
+    for name in [
+        "", ".", "/*", "/**/", ",", "|", "!!", "X", "_a", "1", "Ñu", "a+", "a b",
+    ] {
+        assert!(rt; !is_bare_name(name), "at {name}");
     }
 }
