@@ -1,2 +1,3 @@
 mod NewGroups
+mod OneNode
 mod RingGroups

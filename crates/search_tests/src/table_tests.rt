@@ -1,4 +1,11 @@
-use blocked_table::Blocked;
+ghost use Rattle.std.specs.Prelude.{◌≡◌, ◌<◌, ℕ, List, [], ◌∷◌, slice_index_or, true, None, IfOk, Contains};
+ghost use Rattle.search_stack.specs.Stack.{size};
+ghost use Rattle.search_stack.specs.GoodSearch.{IsGood};
+ghost use Rattle.search_stack.specs.Search.{IsLastBegun, IsOn};
+
+use blocked_table::{Blocked, Suspended};
+use search_stack::{Opening, Search};
+use std::alloc::Global;
 use std::test::Fail;
 
 #[test]
@@ -11,4 +18,52 @@ fn keeps_nothing_at_first(rt: HostRuntime) -> Result<(), Fail> {
     blocked.wake(&[0, 3, 9]);
     assert!(rt; !blocked.has_ready());
     Ok(())
+}
+
+#[test]
+fn two_searches_that_want_each_other_become_one_group(rt: HostRuntime) -> Result<(), Fail> {
+    let alloc = rt.alloc();
+    let mut blocked = Blocked::make(alloc, 2, 2)?;
+    let first = started(alloc, 0, 1)?;
+    let second = started(alloc, 1, 0)?;
+    let Ok(Suspended::Kept) = blocked.suspend(second, 0) else {
+        return Err("the second isn't kept".into());
+    };
+    assert_eq!(rt; blocked.holder(1), Some(0));
+    assert_eq!(rt; blocked.holder(0), None);
+    let Ok(Suspended::Moved(mut search)) = blocked.suspend(first, 1) else {
+        return Err("nothing moved".into());
+    };
+    assert_eq!(rt; blocked.holder(1), None);
+    assert_eq!(rt; search.len(), 2);
+    assert_eq!(rt; search.node_at(0), 0);
+    assert_eq!(rt; search.node_at(1), 1);
+    assert_eq!(rt; search.frame_count(), 2);
+    let lower = search.frame_at(0);
+    assert_eq!(rt; lower.position, 0);
+    assert_eq!(rt; lower.low, 0);
+    let upper = search.frame_at(1);
+    assert_eq!(rt; upper.position, 1);
+    assert_eq!(rt; upper.low, 0);
+    assert_eq!(rt; search.begin(), None);
+    search.retreat();
+    assert!(rt; search.is_ripe());
+    assert_eq!(rt; search.take_ripe()?.as_slice(), [0, 1].as_slice());
+    assert!(rt; search.is_empty());
+    Ok(())
+}
+
+/// A search that holds one node and has begun the one call of it.
+fn started(alloc: Global, node: u32, next: u32) -> Result<Search, Fail>
+    ensures some { IfOk result (λ search. 0 < size search.stack) }
+    ensures wants_nothing { IfOk result (λ search. search.wanted ≡ None) }
+    ensures only { IfOk result (λ search. (v : ℕ) → IsOn search.stack v → v ≡ node) }
+    ensures last { IfOk result (λ search. IsLastBegun search.stack next) }
+    ensures good { IfOk result (λ search. (lists : List (List ℕ)) (roots : List ℕ) → slice_index_or lists node [] ≡ next ∷ []
+        → Contains roots node → IsGood lists roots [] true search.stack) }
+{
+    let mut search = Search::with_room(alloc, 1)?;
+    search.push(Opening { node, succs: vec![in alloc; next]? });
+    let _ = search.begin().ok_or("none")?;
+    Ok(search)
 }
