@@ -87,7 +87,7 @@ held_by old new spot kept empty adds place v holds =
     ]
 
 pub room_for_one : (old new : List (Option SearchValue)) (spot most : ℕ) (kept : SearchValue) → old ≡ [] → Adds old new spot kept
-    → most ≡ 2 → length new ≤ most → (length new < most) ⊎ ((place : ℕ) × (place < length new) × (kept_at new place ≡ None))
+    → 2 ≤ most → length new ≤ most → (length new < most) ⊎ ((place : ℕ) × (place < length new) × (kept_at new place ≡ None))
 room_for_one old new spot most kept empty adds two few =
     elim (cases_lt (length new) most) [
       | inl lt ↦ inl lt
@@ -112,3 +112,50 @@ pub kept_stays : (lists : List (List ℕ)) (roots finished : List ℕ) (new : Li
 kept_stays lists roots finished new suspended is good =
     let P : Suspended → Type 0 = λ s. StaysGood lists roots finished new s in
     subst P is good
+
+-- a table with one more search holds what that one holds, and what it held before
+pub held_after : (old new : List (Option SearchValue)) (spot : ℕ) (kept : SearchValue) → Adds old new spot kept
+    → (place v : ℕ) → Holds new place v → IsOn kept.stack v ⊎ Holds old place v
+held_after old new spot kept adds place v holds =
+    elim (cases_eq place spot) [
+      | inl is ↦
+          let P : ℕ → Type 0 = λ p. kept_at new p ≡ Some holds.search in
+          let here : kept_at new spot ≡ Some holds.search = subst P is holds.at in
+          let also : kept_at new spot ≡ Some kept = adds.at in
+          let same : holds.search ≡ kept = cc in
+          let Q : SearchValue → Type 0 = λ search. IsOn search.stack v in
+          inl (subst Q same holds.on)
+      | inr ne ↦
+          let same : kept_at new place ≡ kept_at old place = adds.same place ne in
+          inr (record { search = holds.search; at = sym same ∙ holds.at; on = holds.on })
+    ]
+
+free_place : (p q : ℕ) → (i : ℕ) × (i < 3) × (i ≡ p → ⊥) × (i ≡ q → ⊥)
+free_place p q =
+    elim (cases_eq 0 p) [
+      | inl is ↦
+          elim (cases_eq 1 q) [
+            | inl at ↦ (2, omega arith, (λ two. omega (arith, is, two)), (λ two. omega (arith, at, two)))
+            | inr ne ↦ (1, omega arith, (λ one. omega (arith, is, one)), ne)
+          ]
+      | inr off ↦
+          elim (cases_eq 0 q) [
+            | inl at ↦
+                elim (cases_eq 1 p) [
+                  | inl is ↦ (2, omega arith, (λ two. omega (arith, is, two)), (λ two. omega (arith, at, two)))
+                  | inr ne ↦ (1, omega arith, ne, (λ one. omega (arith, at, one)))
+                ]
+            | inr ne ↦ (0, omega arith, off, ne)
+          ]
+    ]
+
+pub room_for_two : (old between new : List (Option SearchValue)) (spot after most : ℕ) (kept more : SearchValue) → old ≡ []
+    → Adds old between spot kept → Adds between new after more
+    → most ≡ 3 → length new ≤ most → (length new < most) ⊎ ((place : ℕ) × (place < length new) × (kept_at new place ≡ None))
+room_for_two old between new spot after most kept more empty first second three few =
+    elim (cases_lt (length new) most) [
+      | inl lt ↦ inl lt
+      | inr ge ↦
+          let free = free_place spot after in
+          inr (free.0, omega (arith, ge, three, free.1), second.same free.0 free.3 ∙ first.same free.0 free.2 ∙ none_kept old empty free.0)
+    ]

@@ -1,4 +1,4 @@
-use Rattle.std.proofs.Common.{◌≡◌, ℕ, List, [], ◌∷◌, Some, ap, refl, ◌∙◌, arith}
+use Rattle.std.proofs.Common.{◌≡◌, ℕ, List, [], ◌∷◌, Some, ap, refl, arith}
 use Rattle.blocked_table.specs.Suspending.{AreGood}
 use Rattle.search_tests.proofs.OneNode.{held_by, kept_adds, kept_stays, no_search, room_for_one}
 use Rattle.search_tests.proofs.table_tests.two_searches_that_want_each_other_become_one_group.Goals as goal
@@ -29,7 +29,7 @@ suspend-requires-2-clause-room g c =
     c.in-Ok-Kept.ensures.done in
     room_for_one c.in_ok-blocked.blocked.kept c.suspend.new.self.kept adds.0 c.suspend.new.self.most
     (record c.in_ok-second.second { wanted = Some 0 }) empty adds.1
-    (c.suspend.ensures.most ∙ ap (λ table. table.most) c.in_ok-blocked.ensures) c.holder.ensures.table.few
+    (omega (arith, c.suspend.ensures.most, ap (λ table. table.most) c.in_ok-blocked.ensures)) c.holder.ensures.table.few
 
 pub suspend-requires-2-clause-below : goal.suspend-requires-2-clause-below
 suspend-requires-2-clause-below g c v on =
