@@ -124,7 +124,10 @@ fn started(alloc: Global, node: u32, next: u32) -> Result<Search, Fail>
         → Contains roots node → IsGood lists roots [] true search.stack) }
 {
     let mut search = Search::with_room(alloc, 1)?;
-    search.push(Opening { node, succs: vec![in alloc; next]? });
+    search.push(Opening {
+        node,
+        succs: vec![in alloc; next]?,
+    });
     let _ = search.begin().ok_or("none")?;
     Ok(search)
 }

@@ -18,11 +18,15 @@ suspend-requires-clause-off c on = omega (arith, c.in_ok-second.ensures.only 2 o
 
 pub suspend-requires-clause-good : goal.suspend-requires-clause-good
 suspend-requires-clause-good c =
-    let empty : c.in_ok-blocked.blocked.kept ≡ [] = ap (λ table. table.kept) c.in_ok-blocked.ensures in
-    (ring, roots, [], record {
-      good = c.in_ok-second.ensures.good ring roots refl (1, omega arith, refl);
-      kept_good = λ place search at. absurd (no_search c.in_ok-blocked.blocked.kept empty place search at);
-    })
+    let empty : c.in_ok-blocked.blocked.kept ≡ [] = ap (λ table. table.kept) c.in_ok-blocked.ensures in (
+      ring,
+      roots,
+      [],
+      record {
+        good = c.in_ok-second.ensures.good ring roots refl (1, omega arith, refl);
+        kept_good = λ place search at. absurd (no_search c.in_ok-blocked.blocked.kept empty place search at);
+      },
+    )
 
 pub suspend-requires-2-clause-room : goal.suspend-requires-2-clause-room
 suspend-requires-2-clause-room c =
@@ -57,13 +61,17 @@ suspend-requires-2-clause-good c =
     let before : AreGood ring roots [] c.in_ok-blocked.blocked.kept c.in_ok-second.second.stack = record {
       good = c.in_ok-second.ensures.good ring roots refl (1, omega arith, refl);
       kept_good = λ place search at. absurd (no_search c.in_ok-blocked.blocked.kept empty place search at);
-    } in
-    (ring, roots, [], record {
-      good = c.in_ok-third.ensures.good ring roots refl (2, omega arith, refl);
-      kept_good =
-          kept_stays ring roots [] c.suspend.new.self.kept c.in-Ok-Kept.field-0 c.in-Ok-Kept.field-0-is
-          (c.in-Ok-Kept.ensures.good ring roots [] before);
-    })
+    } in (
+      ring,
+      roots,
+      [],
+      record {
+        good = c.in_ok-third.ensures.good ring roots refl (2, omega arith, refl);
+        kept_good =
+            kept_stays ring roots [] c.suspend.new.self.kept c.in-Ok-Kept.field-0 c.in-Ok-Kept.field-0-is
+            (c.in-Ok-Kept.ensures.good ring roots [] before);
+      },
+    )
 
 pub suspend-requires-3-clause-room : goal.suspend-requires-3-clause-room
 suspend-requires-3-clause-room c =
@@ -115,10 +123,14 @@ suspend-requires-3-clause-good c =
       kept_good =
           kept_stays ring roots [] c.suspend.new.self.kept c.in-Ok-Kept.field-0 c.in-Ok-Kept.field-0-is
           (c.in-Ok-Kept.ensures.good ring roots [] before);
-    } in
-    (ring, roots, [], record {
-      good = c.in_ok-first.ensures.good ring roots refl (0, omega arith, refl);
-      kept_good =
-          kept_stays ring roots [] c.suspend-2.new.self.kept c.in-Ok-Kept-suspend.field-0 c.in-Ok-Kept-suspend.field-0-is
-          (c.in-Ok-Kept-suspend.ensures.good ring roots [] next);
-    })
+    } in (
+      ring,
+      roots,
+      [],
+      record {
+        good = c.in_ok-first.ensures.good ring roots refl (0, omega arith, refl);
+        kept_good =
+            kept_stays ring roots [] c.suspend-2.new.self.kept c.in-Ok-Kept-suspend.field-0 c.in-Ok-Kept-suspend.field-0-is
+            (c.in-Ok-Kept-suspend.ensures.good ring roots [] next);
+      },
+    )

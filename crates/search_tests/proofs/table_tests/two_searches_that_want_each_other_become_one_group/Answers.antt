@@ -15,11 +15,15 @@ suspend-requires-clause-off g c on = omega (arith, c.in_ok-second.ensures.only 0
 
 pub suspend-requires-clause-good : goal.suspend-requires-clause-good
 suspend-requires-clause-good g c =
-    let empty : c.in_ok-blocked.blocked.kept ≡ [] = ap (λ table. table.kept) c.in_ok-blocked.ensures in
-    (ring, 0 ∷ 1 ∷ [], [], record {
-      good = c.in_ok-second.ensures.good ring (0 ∷ 1 ∷ []) refl (1, omega arith, refl);
-      kept_good = λ place search at. absurd (no_search c.in_ok-blocked.blocked.kept empty place search at);
-    })
+    let empty : c.in_ok-blocked.blocked.kept ≡ [] = ap (λ table. table.kept) c.in_ok-blocked.ensures in (
+      ring,
+      0 ∷ 1 ∷ [],
+      [],
+      record {
+        good = c.in_ok-second.ensures.good ring (0 ∷ 1 ∷ []) refl (1, omega arith, refl);
+        kept_good = λ place search at. absurd (no_search c.in_ok-blocked.blocked.kept empty place search at);
+      },
+    )
 
 pub suspend-requires-2-clause-room : goal.suspend-requires-2-clause-room
 suspend-requires-2-clause-room g c =
@@ -54,10 +58,14 @@ suspend-requires-2-clause-good g c =
     let before : AreGood ring (0 ∷ 1 ∷ []) [] c.in_ok-blocked.blocked.kept c.in_ok-second.second.stack = record {
       good = c.in_ok-second.ensures.good ring (0 ∷ 1 ∷ []) refl (1, omega arith, refl);
       kept_good = λ place search at. absurd (no_search c.in_ok-blocked.blocked.kept empty place search at);
-    } in
-    (ring, 0 ∷ 1 ∷ [], [], record {
-      good = c.in_ok-first.ensures.good ring (0 ∷ 1 ∷ []) refl (0, omega arith, refl);
-      kept_good =
-          kept_stays ring (0 ∷ 1 ∷ []) [] c.suspend.new.self.kept c.in-Ok-Kept.field-0 c.in-Ok-Kept.field-0-is
-          (c.in-Ok-Kept.ensures.good ring (0 ∷ 1 ∷ []) [] before);
-    })
+    } in (
+      ring,
+      0 ∷ 1 ∷ [],
+      [],
+      record {
+        good = c.in_ok-first.ensures.good ring (0 ∷ 1 ∷ []) refl (0, omega arith, refl);
+        kept_good =
+            kept_stays ring (0 ∷ 1 ∷ []) [] c.suspend.new.self.kept c.in-Ok-Kept.field-0 c.in-Ok-Kept.field-0-is
+            (c.in-Ok-Kept.ensures.good ring (0 ∷ 1 ∷ []) [] before);
+      },
+    )
