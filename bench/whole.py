@@ -1,0 +1,140 @@
+#!/usr/bin/env python3
+"""Times whole runs of `groups` on made programs, beside a C++ program that reads just such texts, and SWI-Prolog's `read_term/2`.
+
+The C++ program (`floor.cpp`) writes the same report, and its bytes are compared; SWI-Prolog reads the clauses and finds no groups.
+Needs `g++`, `swipl` and `rt`, or the built program. Prints a table: the best of five runs of each, in seconds, and the most memory
+that one held, in MB. With `--keep FOLDER` the texts stay there.
+"""
+
+import os
+import random
+import subprocess
+import sys
+import time
+
+from common import ROOT, RUNS, folders
+
+GROUPS = ROOT / "groups"
+
+SWI = """
+:- initialization(main, main).
+
+main(Files) :-
+    forall(member(File, Files),
+           setup_call_cleanup(open(File, read, In), pass(In), close(In))).
+
+pass(In) :-
+    repeat,
+    read_term(In, Term, []),
+    Term == end_of_file,
+    !.
+"""
+
+
+def blocks(count):
+    """Rings of ten, each but the first calling one before it."""
+    calls = []
+    for i in range(count):
+        calls.append([i - 9] if i % 10 == 9 else [i + 1] if i + 1 < count else [])
+        if i % 10 == 0 and i >= 10:
+            calls[i].append(10 * ((i // 10 - 1) // 2))
+    return calls
+
+
+def anywhere(count):
+    """One to eight calls to any predicate: one giant group and single ones."""
+    source = random.Random(7)
+    return [[source.randrange(count) for _ in range(source.randint(1, 8))] for _ in range(count)]
+
+
+def nearby(count):
+    """Most calls go a short way on and few go back, as in programs that people write: groups of all sizes."""
+    source = random.Random(11)
+
+    def callee(i):
+        if source.random() < 0.04:
+            return max(0, i - source.randint(0, 20))
+        if source.random() < 0.10:
+            return source.randrange(i, count)
+        return min(count - 1, i + source.randint(1, 60))
+
+    return [[callee(i) for _ in range(source.randint(0, 5))] for i in range(count)]
+
+
+def wide(count):
+    """Two steps of fan-out: no group is recursive, and bodies are long."""
+    width = int(count**0.5)
+    return [[width * i + k + 1 for k in range(width) if width * i + k + 1 < count] if i <= width else [] for i in range(count)]
+
+
+def deep(count):
+    """A chain that ends in a ring, each of half of the predicates."""
+    return [[i + 1] if i + 1 < count else [count // 2] for i in range(count)]
+
+
+# How many predicates, what they call, and over how many files they are spread.
+FAMILIES = {
+    "blocks of ten": (100_000, blocks, 1),
+    "anywhere": (200_000, anywhere, 1),
+    "nearby": (200_000, nearby, 1),
+    "wide": (200_000, wide, 1),
+    "deep": (200_000, deep, 1),
+    "nearby, 64 files": (200_000, nearby, 64),
+    "nearby, 1,024 files": (200_000, nearby, 1_024),
+}
+
+
+def written(folder, calls, count):
+    """The names of the files over which the clauses are spread."""
+    lines = [f"p{i}{' :- ' if goals else ''}{', '.join(f'p{goal}' for goal in goals)}.\n" for i, goals in enumerate(calls)]
+    step = -(-len(lines) // count)
+    names = []
+    for number in range(count):
+        names.append(f"f{number:04}.pl")
+        (folder / names[-1]).write_text("".join(lines[number * step : (number + 1) * step]))
+    return names
+
+
+def once(words, folder):
+    """The seconds and the most MB of a run, and what it wrote."""
+    with (folder / "written").open("wb") as out:
+        begun = time.monotonic()
+        child = subprocess.Popen(words, cwd=folder, stdout=out, stdin=subprocess.DEVNULL)
+        _, status, used = os.wait4(child.pid, 0)
+        took = time.monotonic() - begun
+    child.returncode = os.waitstatus_to_exitcode(status)
+    if child.returncode:
+        sys.exit(f"{words[0]} ended with status {child.returncode}")
+    return took, used.ru_maxrss / 1024, (folder / "written").read_bytes()
+
+
+def best(words, folder):
+    found = [once(words, folder) for _ in range(RUNS)]
+    return min(took for took, _, _ in found), max(most for _, most, _ in found), found[-1][2]
+
+
+def main():
+    with folders(__doc__) as (folder, texts):
+        floor = folder / "floor"
+        subprocess.run(["g++", "-O3", "-std=c++17", "-o", floor, ROOT / "bench" / "floor.cpp"], check=True)
+        script = folder / "read.pl"
+        script.write_text(SWI)
+        print(f"{'family':<22}{'calls':>9}{'MB of text':>12}{'floor s':>10}{'groups s':>10}{'factor':>8}{'SWI s':>8}{'floor MB':>10}{'groups MB':>11}{'factor':>8}")
+        for name, (count, shape, spread) in FAMILIES.items():
+            calls = shape(count)
+            names = written(texts, calls, spread)
+            size = sum((texts / name).stat().st_size for name in names)
+            least, floor_mb, right = best([floor, *names], texts)
+            took, mb, answer = best([GROUPS, *names], texts)
+            if answer != right:
+                sys.exit(f"{name}: the reports differ")
+            theirs, _, _ = best(["swipl", script, "--", *names], texts)
+            print(
+                f"{name:<22}{sum(map(len, calls)):>9}{size / 1e6:>12.1f}{least:>10.3f}{took:>10.3f}{took / least:>8.2f}{theirs:>8.2f}"
+                f"{floor_mb:>10.1f}{mb:>11.1f}{mb / floor_mb:>8.2f}",
+                flush=True,
+            )
+
+
+if __name__ == "__main__":
+    main()
