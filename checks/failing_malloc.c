@@ -28,7 +28,8 @@ __attribute__((destructor)) static void end(void) {
 }
 
 static int fails(void) {
-    if (++asked != fail_at) return 0;
+    /* Threads allocate at once. */
+    if (__atomic_add_fetch(&asked, 1, __ATOMIC_SEQ_CST) != fail_at) return 0;
     errno = ENOMEM;
     return 1;
 }

@@ -2,10 +2,11 @@
 """Runs `groups` on hostile input: each must answer at once, with a lawful status and lines.
 
 - each prefix of an example, cut at every byte: status 0 or 3, and at 3 one line or more;
-- files of random bytes, of quotes, of opening brackets, of `:- ` again and again, and one long line;
-- a run in which the Nth allocation fails, for each N in turn: status 7 with nothing on standard
-  output and its line on standard error, or with no line where the words were not read yet, or the
-  answer of a run in which none fails. This needs a C compiler, `cc`.
+- files of random bytes, of quotes, of opening brackets, of `:- ` again and again, and one long line,
+  each of a MiB, and one file that is a byte too large;
+- a run over three files in which the Nth allocation fails, for each N in turn: status 7 with nothing
+  on standard output and its line on standard error, or with no line where the words were not read
+  yet, or the answer of a run in which none fails. This needs a C compiler, `cc`.
 
 Ends with status 1 where an answer is wrong. The whole takes about a minute.
 """
@@ -21,8 +22,10 @@ import time
 ROOT = pathlib.Path(__file__).resolve().parent.parent
 GROUPS = ROOT / "groups"
 PROGRAM = ROOT / "crates" / "groups" / "out" / "groups"
-EXAMPLE = ROOT / "examples" / "module.pl"
-MOST_BYTES = 65_536
+EXAMPLES = ROOT / "examples"
+EXAMPLE = EXAMPLES / "module.pl"
+SIZE = 1_048_576
+TOO_LARGE = 8_388_609
 MOST_SECONDS = 20.0
 
 wrong = []
@@ -53,25 +56,25 @@ def prefixes(folder):
 
 
 def patterns():
-    """Names and bytes of hostile files, each of the greatest size that is read."""
+    """Names and bytes of hostile files."""
     source = random.Random(20)
-    yield "random bytes", bytes(source.randrange(256) for _ in range(MOST_BYTES))
-    yield "random ASCII", bytes(source.randrange(32, 127) for _ in range(MOST_BYTES))
-    yield "quotes", b"'" * MOST_BYTES
-    yield "double quotes", b'"' * MOST_BYTES
+    yield "random bytes", bytes(source.randrange(256) for _ in range(SIZE))
+    yield "random ASCII", bytes(source.randrange(32, 127) for _ in range(SIZE))
+    yield "quotes", b"'" * SIZE
+    yield "double quotes", b'"' * SIZE
     for bracket in (b"(", b"[", b"{", b"f("):
-        yield f"opening {bracket.decode()}", bracket * (MOST_BYTES // len(bracket))
-    yield "prefix operators", b":- " * (MOST_BYTES // 3)
-    yield "minus signs", b"- " * (MOST_BYTES // 2)
-    yield "infix operators", b"a=" * (MOST_BYTES // 2)
-    yield "commas", b"a," * (MOST_BYTES // 2)
-    yield "one long line", b"a" * MOST_BYTES
-    yield "open comment", b"/*" + b"*" * (MOST_BYTES - 2)
-    yield "facts", b"".join(b"p%d.\n" % number for number in range(9000))[:MOST_BYTES]
-    yield "a long list", b"p([a" + b",b" * 32_000 + b"])."
-    yield "one predicate often", b"p.\n" * (MOST_BYTES // 3)
-    yield "operators set often", b":-op(1,fx,a).\n" * (MOST_BYTES // 14)
-    yield "a long declaration", b":- dynamic a/1" + b",a/1" * 16_000 + b"."
+        yield f"opening {bracket.decode()}", bracket * (SIZE // len(bracket))
+    yield "prefix operators", b":- " * (SIZE // 3)
+    yield "minus signs", b"- " * (SIZE // 2)
+    yield "infix operators", b"a=" * (SIZE // 2)
+    yield "commas", b"a," * (SIZE // 2)
+    yield "one long line", b"a" * SIZE
+    yield "open comment", b"/*" + b"*" * (SIZE - 2)
+    yield "facts", b"".join(b"p%d.\n" % number for number in range(120_000))[:SIZE]
+    yield "a long list", b"p([a" + b",b" * 500_000 + b"])."
+    yield "one predicate often", b"p.\n" * (SIZE // 3)
+    yield "operators set often", b":-op(1,fx,a).\n" * (SIZE // 14)
+    yield "a long declaration", b":- dynamic a/1" + b",a/1" * 250_000 + b"."
     yield "a long path", b":- use_module(a" + b"/a" * 900 + b")."
     yield "nothing", b""
 
@@ -80,6 +83,9 @@ def hostile_files(folder):
     for name, data in patterns():
         status, took = check(folder, name, data)
         print(f"{name:<22} status {status}  {took * 1000:7.1f} ms")
+    answer = run(folder, b" " * TOO_LARGE)[:3]
+    if answer != (6, b"", b"groups: f.pl is larger than 8388608 bytes\n"):
+        wrong.append(f"a file that is too large: {answer}")
 
 
 def memory(folder):
@@ -87,11 +93,12 @@ def memory(folder):
     shim, count = folder / "failing_malloc.so", folder / "count"
     source = ROOT / "checks" / "failing_malloc.c"
     subprocess.run(["cc", "-O1", "-shared", "-fPIC", "-o", shim, source, "-ldl"], check=True)
-    (folder / "f.pl").write_bytes(EXAMPLE.read_bytes())
+    for name in ("calculator.pl", "scanner.pl", "module.pl"):
+        (folder / name).write_bytes((EXAMPLES / name).read_bytes())
 
     def answer(number):
         env = {"LD_PRELOAD": str(shim), "FAIL_AT": str(number), "COUNT_TO": str(count)}
-        done = subprocess.run([PROGRAM, "f.pl"], cwd=folder, capture_output=True, env=env, timeout=60)
+        done = subprocess.run([PROGRAM, "calculator.pl", "module.pl"], cwd=folder, capture_output=True, env=env, timeout=60)
         return done.returncode, done.stdout, done.stderr
 
     whole = answer(0)

@@ -1,111 +1,73 @@
--- What some words, names, lines and answers of sinks are, and what they aren't.
-use Rattle.std.proofs.Common.{◌≡◌, inl, inr, ℕ, zero, suc, ◌<◌, Bool, true, false, List, [], ◌∷◌, length, Option, Some, None, codes, refl, ap, arith}
+-- What some words, lines and answers of sinks are, and what they aren't.
+use Rattle.std.proofs.Common.{◌≡◌, inl, inr, ℕ, Bool, true, false, List, [], ◌∷◌, length, Option, Some, None, codes, refl, ap, arith}
 use Rattle.std.specs.Fmt.{digits}
-use Rattle.std.specs.Prelude.{IsTrue, slice_index_or}
+use Rattle.std.specs.List.{AllZip}
 use Rattle.std.proofs.lemmas.List.{length-take}
-use Rattle.prolog_terms.specs.declared.term.Span.{Span}
-use Rattle.prolog_terms.specs.declared.term.Form.TheVariants.{Functional, Infix}
-use Rattle.prolog_terms.specs.Tree.{Tree, variable, atom, compound, curly, paren, none, more}
-use Rattle.clause_text.specs.declared.cause.Cause.TheVariants.{Stuck}
-use Rattle.group_release.specs.declared.level.Level.{Level}
-use Rattle.group_tool.specs.declared.pred_name.PredName.{PredName}
+use Rattle.clause_text.specs.declared.cause.Cause.TheVariants.{NoRoot, Stuck}
+use Rattle.file_library.specs.Library.{Files}
+use Rattle.file_library.specs.Asking.{LoadEnd, loaded, too_many, too_large, too_much, IsDecided}
+use Rattle.file_library.specs.Asking as of_load
 use Rattle.group_tool.specs.declared.sink.Put.TheVariants.{Took, Failed}
 use Rattle.group_tool.specs.declared.sink.Flushed.TheVariants.{Done}
-use Rattle.group_tool.specs.Built.{is_plain_clause}
-use Rattle.group_tool.specs.FileFault.{fault_line}
-use Rattle.group_tool.specs.Report.{group_line, head_line}
-use Rattle.group_tool.specs.Spelled.{spelled_name}
-use Rattle.group_tool.specs.RuleOf.{clause_goals}
+use Rattle.group_tool.specs.declared.stop.Limit.TheVariants.{FileTooLarge}
 use Rattle.group_tool.specs.Say.{SaidIs, TookPart}
 use Rattle.group_tool.specs.Sink.{PutIs, FlushIs}
-use Rattle.group_tool.specs.Answer.{IsAnswer}
-use Rattle.group_tool.specs.End.{faults, unread, report}
-use Rattle.group_tool.specs.Words.{IsLawful, HasNoOptions, is_word_byte, one_file}
+use Rattle.group_tool.specs.Lines.{fault_line, fault_lines, limit_line}
+use Rattle.group_tool.specs.Answer.{ComesTo, IsAnswer}
+use Rattle.group_tool.specs.End.{unread}
+use Rattle.group_tool.specs.Words.{IsFileWord, IsLawful, HasNoOptions, of_files}
 
--- one word that names a file; not none, not two, not one with a dash
+-- a word means a file with or without its ending; not one with a dash, and not the empty one
 
-letter : (k : ℕ) (d : ℕ) → k < 1 → IsTrue (is_word_byte (slice_index_or (codes "f") k d))
-letter zero d lt = refl
-letter (suc k) d lt = absurd (omega (arith, lt))
+means_file : IsFileWord (codes "./f") (codes "f.pl")
+means_file = record { no_option = refl; means = refl }
 
-file_word : IsLawful (codes "f.pl" ∷ []) (one_file (codes "f.pl"))
-file_word = record { name = codes "f.pl"; one = refl; file_word = record { stem = codes "f"; is = refl; plain = letter }; files = refl }
+with_dash : IsFileWord (codes "-f.pl") (codes "-f.pl") → ⊥
+with_dash is = let both : true ≡ false = is.no_option in cc
+
+empty_word : (name : List ℕ) → IsFileWord [] name → ⊥
+empty_word name is = let both : None ≡ Some name = is.means in cc
+
+-- two words may mean one file; where one means none, the words aren't lawful, nor are no words
+
+two_words : IsLawful (codes "f" ∷ codes "f.pl" ∷ []) (of_files (codes "f.pl" ∷ codes "f.pl" ∷ []))
+two_words = record { some = omega arith; files = (record { no_option = refl; means = refl }, (record { no_option = refl; means = refl }, tt)) }
+
+one_without_file : HasNoOptions (codes "f" ∷ codes ".." ∷ [])
+one_without_file options lawful = second options.files lawful.files
+  where
+    second : (names : List (List ℕ)) → AllZip IsFileWord (codes "f" ∷ codes ".." ∷ []) names → ⊥
+    second [] zip = zip
+    second (name ∷ []) zip = zip.1
+    second (name ∷ other ∷ names) zip = let both : None ≡ Some other = zip.1.0.means in cc
 
 no_words : HasNoOptions []
-no_words options lawful = omega (arith, ap length lawful.one)
+no_words options lawful = omega (arith, lawful.some)
 
-two_words : HasNoOptions (codes "f.pl" ∷ codes "g.pl" ∷ [])
-two_words options lawful = omega (arith, ap length lawful.one)
-
--- an absent file is told, and isn't reported
-
-absent_file : IsAnswer (codes "f.pl" ∷ []) (λ name. None) (faults (codes "f.pl: no such file\n"))
-absent_file = record { options = one_file (codes "f.pl"); lawful = file_word; is = record { name = codes "f.pl"; one = refl; is = refl } }
-
-absent_report : IsAnswer (codes "f.pl" ∷ []) (λ name. None) (report []) → ⊥
-absent_report is = is.is.is
-
-no_failed_read : IsAnswer (codes "f.pl" ∷ []) (λ name. None) (unread []) → ⊥
-no_failed_read is = is.is.is
-
--- the goals of clauses, and which clauses are plain
-
-abbrev at : Span
-at = record { from = 0; to = 1 }
-
-abbrev word : List ℕ → Tree
-word name = atom name at
-
-abbrev two : List ℕ → Tree → Tree → Tree
-two name left right = compound name (more left (more right none)) Infix at
-
-abbrev rule : Tree → Tree
-rule body = two (codes ":-") (word (codes "p")) body
-
-abbrev named : List ℕ → ℕ → PredName
-named name arity = record { «module» = codes "m"; name = name; arity = arity }
-
--- `p :- q, (X, r(a)).`
-joined_goals : clause_goals (codes "m") (rule (two (codes ",") (word (codes "q")) (paren (two (codes ",") (variable at) (compound (codes "r") (more (word (codes "a")) none) Functional at)) at)))
-    ≡ named (codes "q") 0 ∷ named (codes "r") 1 ∷ []
-joined_goals = refl
-
--- `p.` calls nothing, and what stands in a head doesn't
-fact_goals : clause_goals (codes "m") (word (codes "p")) ≡ []
-fact_goals = refl
-
-plain_rule : is_plain_clause (rule (two (codes ",") (word (codes "call")) (variable at))) ≡ true
-plain_rule = refl
-
-calls_a_goal : is_plain_clause (rule (compound (codes "call") (more (variable at) none) Functional at)) ≡ false
-calls_a_goal = refl
-
-curly_goal : is_plain_clause (rule (curly (word (codes "q")) at)) ≡ false
-curly_goal = refl
-
-grammar_rule : is_plain_clause (two (codes "-->") (word (codes "p")) (word (codes "q"))) ≡ false
-grammar_rule = refl
+-- that a file could not be read is no answer over a map
+no_failed_read : (words : List (List ℕ)) (files : Files) (name : List ℕ) → IsAnswer words files (unread name) → ⊥
+no_failed_read words files name is = undecided is.load is.decided is.comes
+  where
+    undecided : (load : LoadEnd) → IsDecided load → ComesTo load (unread name) → ⊥
+    undecided (loaded found) decided comes = comes
+    undecided (of_load.faults found) decided comes = cc
+    undecided (of_load.unread other) decided comes = decided
+    undecided too_many decided comes = cc
+    undecided (too_large other) decided comes = cc
+    undecided too_much decided comes = cc
+    undecided of_load.no_memory decided comes = decided
 
 -- lines
 
-abbrev level : ℕ → Bool → Level
-level height recursive = record { height = height; recursive = recursive }
-
-first_line : head_line ((0 ∷ []) ∷ (1 ∷ 2 ∷ []) ∷ []) (level 0 false ∷ level 1 true ∷ []) ≡ codes "predicates 3 groups 2 recursive 1 levels 2\n"
+with_its_place : fault_line (record { file = codes "f.pl"; offset = 7; place = record { line = 1; column = 8 }; cause = Stuck }) ≡ codes "f.pl:1:8: no clause goes on with this token\n"
 unfolding digits
-first_line = refl
+with_its_place = refl
 
-no_groups : head_line [] [] ≡ codes "predicates 0 groups 0 recursive 0 levels 0\n"
-unfolding digits
-no_groups = refl
+without_place : fault_lines (record { file = codes "f.pl"; offset = 0; place = record { line = 0; column = 0 }; cause = NoRoot } ∷ []) ≡ codes "f.pl: no such file\n"
+without_place = refl
 
-recursive_line : group_line (named (codes "a") 0 ∷ named (codes "b") 12 ∷ []) (0 ∷ 1 ∷ []) (level 3 true) ≡ codes "3 recursive m:a/0 m:b/12\n"
-unfolding spelled_name digits
-recursive_line = refl
-
-told_with_its_place : fault_line (codes "f.pl") (record { line = 1; column = 8 }) Stuck ≡ codes "f.pl:1:8: no clause goes on with this token\n"
-unfolding digits
-told_with_its_place = refl
+too_large_line : limit_line (FileTooLarge (codes "f.pl")) ≡ codes "groups: f.pl is larger than 8388608 bytes\n"
+too_large_line = refl
 
 -- a sink takes some of the bytes, from the first on; never none, and no more than there are
 

@@ -1,29 +1,33 @@
--- Words that end with `.pl`.
-use Rattle.std.proofs.Common.{◌≡◌, ℕ, ◌+◌, ◌-◌, List, ◌++◌, All, IsTrue, codes, length, take, drop, ap, sym, ◌∙◌, subst, arith, length-append}
-use Rattle.std.proofs.lemmas.List.{take-append-drop, take-append-le, take_all}
-use Rattle.std.proofs.Math.Seq.{drop-append_seam}
-use Rattle.group_tool.specs.Words.{IsFileWord, is_word_byte}
+-- Words that mean files.
+use Rattle.std.proofs.Common.{◌≡◌, ℕ, ◌+◌, ◌<◌, ◌≤◌, List, [], ◌∷◌, ◌++◌, Some, Contains, length, take, get_or, ap, sym, ◌∙◌, subst, arith}
+use Rattle.std.specs.List.{AllZip}
+use Rattle.std.proofs.lemmas.List.{take_more, take_all}
+use Rattle.std.proofs.lemmas.List.Elements.{AllZip-push, Contains-get_or}
+use Rattle.file_library.proofs.NameLists.{zip_once, zip_partner}
+use Rattle.group_tool.specs.Words.{IsFileWord, Options, IsLawful, HasNoOptions, of_files}
 
-pub file_word : (word : List ℕ) (n : ℕ) → drop n word ≡ codes ".pl" → All (λ b. IsTrue (is_word_byte b)) (take n word) → IsFileWord word
-file_word word n ending plain = record {
-  stem = take n word;
-  is = sym (take-append-drop n word) ∙ ap (λ xs. take n word ++ xs) ending;
-  plain = plain;
-}
+-- one word more
+pub one_more : (words names : List (List ℕ)) (i : ℕ) (word name : List ℕ) → i < length words → word ≡ get_or words i word → AllZip IsFileWord (take i words) names
+    → IsFileWord word name → AllZip IsFileWord (take (i + 1) words) (names ++ name ∷ [])
+one_more words names i word name less is so_far means =
+    let behind : take (i + 1) words ≡ take i words ++ word ∷ [] = take_more words i word less ∙ ap (λ w. take i words ++ w ∷ []) (sym is) in
+    subst (λ ws. AllZip IsFileWord ws (names ++ name ∷ [])) (sym behind) (AllZip-push IsFileWord (take i words) names word name so_far means)
 
-pub ending_of : (word : List ℕ) (n : ℕ) → n ≡ length word - 3 → IsFileWord word → drop n word ≡ codes ".pl"
-ending_of word n is w =
-    let long : length word ≡ length w.stem + 3 = ap length w.is ∙ length-append w.stem (codes ".pl") in
-    let count : n ≡ length w.stem = omega (arith, long, is) in
-    ap (λ k. drop k word) count ∙ (ap (drop (length w.stem)) w.is ∙ drop-append_seam w.stem (codes ".pl"))
+-- all words
+pub all_lawful : (words names : List (List ℕ)) (i : ℕ) → length words ≤ i → 0 < length words → AllZip IsFileWord (take i words) names → IsLawful words (of_files names)
+all_lawful words names i whole some zip = record { some = some; files = subst (λ ws. AllZip IsFileWord ws names) (take_all i words whole) zip }
 
-pub stem_of : (word : List ℕ) (n : ℕ) → n ≡ length word - 3 → (w : IsFileWord word) → All (λ b. IsTrue (is_word_byte b)) (take n word)
-stem_of word n is w =
-    let long : length word ≡ length w.stem + 3 = ap length w.is ∙ length-append w.stem (codes ".pl") in
-    let count : n ≡ length w.stem = omega (arith, long, is) in
-    let same : take n word ≡ w.stem =
-    ap (λ k. take k word) count
-    ∙ (ap (take (length w.stem)) w.is
-    ∙ (take-append-le (length w.stem) w.stem (codes ".pl") (omega arith) ∙ take_all (length w.stem) w.stem (omega arith))) in
-    let P : List ℕ → Type 0 = λ xs. All (λ b. IsTrue (is_word_byte b)) xs in
-    subst P (sym same) w.plain
+-- a word that means no file
+pub one_unlawful : (words : List (List ℕ)) (i : ℕ) (word : List ℕ) → i < length words → word ≡ get_or words i word → ((name : List ℕ) → IsFileWord word name → ⊥) → HasNoOptions words
+one_unlawful words i word less is none options lawful =
+    let has : Contains words word = subst (Contains words) (sym is) (Contains-get_or words i word less) in
+    let partner = zip_partner IsFileWord words options.files word lawful.files has in
+    none partner.0 partner.1
+
+some_once : (x y : List ℕ) → Some x ≡ Some y → x ≡ y
+some_once x y is = cc
+
+-- words ask for the same files
+pub one_options : (words : List (List ℕ)) (options other : Options) → IsLawful words options → IsLawful words other → options.files ≡ other.files
+one_options words options other is also =
+    zip_once IsFileWord (λ word x y means too. some_once x y (sym means.means ∙ too.means)) words options.files other.files is.files also.files

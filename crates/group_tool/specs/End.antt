@@ -1,10 +1,14 @@
 -- How a run ends, with its status and its bytes.
-use Rattle.std.specs.Prelude.{ℕ, List, [], ◌++◌, codes}
+use Rattle.std.specs.Prelude.{ℕ, List, [], codes}
+use Rattle.file_library.specs.declared.fault.Fault.{Fault}
+use Rattle.group_tool.specs.declared.stop.Limit.{Limit}
+use Rattle.group_tool.specs.Lines.{fault_lines, unread_line, limit_line}
 
 pub data End : Type 0 where
   usage : End
-  faults : List ℕ → End
+  faults : List Fault → End
   unread : List ℕ → End
+  limit : Limit → End
   report : List ℕ → End
   no_memory : End
 
@@ -15,19 +19,11 @@ usage_line =
 abbrev pub memory_line : List ℕ
 memory_line = codes "groups: out of memory\n"
 
-abbrev pub absent_line : List ℕ → List ℕ
-absent_line name = name ++ codes ": no such file\n"
-
-abbrev pub not_built_line : List ℕ → List ℕ
-not_built_line name = name ++ codes ": text is outside the built form\n"
-
-abbrev pub unread_line : List ℕ → List ℕ
-unread_line name = codes "groups: cannot read " ++ (name ++ codes "\n")
-
 abbrev pub status_of : End → ℕ
 status_of usage = 2
-status_of (faults lines) = 3
-status_of (unread line) = 4
+status_of (faults found) = 3
+status_of (unread name) = 4
+status_of (limit passed) = 6
 status_of (report bytes) = 0
 status_of no_memory = 7
 
@@ -39,7 +35,8 @@ out_of end = []
 -- the bytes for `err`
 abbrev pub err_of : End → List ℕ
 err_of usage = usage_line
-err_of (faults lines) = lines
-err_of (unread line) = line
+err_of (faults found) = fault_lines found
+err_of (unread name) = unread_line name
+err_of (limit passed) = limit_line passed
 err_of (report bytes) = []
 err_of no_memory = memory_line

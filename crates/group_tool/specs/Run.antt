@@ -1,48 +1,57 @@
 -- How a run ends over any library, and what its sinks have taken.
-use Rattle.std.specs.Prelude.{◌≡◌, ◌≢◌, ℕ, ◌⊎◌, List, [], ◌∷◌, ◌++◌, Option, Some, None, Bool, true, Contains}
+use Rattle.std.specs.Prelude.{◌≡◌, ◌≢◌, ℕ, ◌⊎◌, List, [], ◌∷◌, ◌++◌, Option, Some, Bool, true, AllPairs}
+use Rattle.file_library.specs.declared.fault.Fault.{Fault}
 use Rattle.file_library.specs.Counts.{Rose}
 use Rattle.file_library.specs.Library.{Files}
-use Rattle.group_tool.specs.Words.{Options, IsLawful}
-use Rattle.group_tool.specs.End.{End, faults, unread, report, no_memory, unread_line, memory_line, status_of, out_of, err_of}
-use Rattle.group_tool.specs.Answer.{IsAnswer}
+use Rattle.file_library.specs.Asking.{LoadEnd, HasEnded, IsDecided, AreFirst, AreAll}
+use Rattle.file_library.specs.Asking as of_load
+use Rattle.group_tool.specs.declared.stop.Limit.{Limit}
+use Rattle.group_tool.specs.Words.{Options, IsLawful, HasNoOptions}
+use Rattle.group_tool.specs.Lines.{fault_lines, unread_line, limit_line}
+use Rattle.group_tool.specs.End.{End, usage, faults, unread, limit, report, no_memory, memory_line, status_of, out_of, err_of}
+use Rattle.group_tool.specs.Answer.{IsLawfulAnswer, IsAnswer, ComesTo}
 use Rattle.group_tool.specs.Say.{TookAll, TookPart}
 use Rattle.group_tool.specs.Sink.{more_taken}
 
--- the end is the answer over files that a library showed, and over its map where it tells that
-pub record IsShown (words : List (List ℕ)) (told : Option Files) (shown : Files) (end : End) : Type 0 where
-  pub is : IsAnswer words shown end
-  pub told_too : (files : Files) → told ≡ Some files → IsAnswer words files end
+-- how a library was asked in a run: its map, where it tells that, and its names, faults and misses before and after
+pub record Asking : Type 0 where
+  pub told : Option Files
+  pub asked : List (List ℕ)
+  pub asked' : List (List ℕ)
+  pub faults : ℕ
+  pub faults' : ℕ
+  pub misses : ℕ
+  pub misses' : ℕ
 
--- a file that was asked for isn't among these
-pub record IsMissing (words : List (List ℕ)) (files : Files) : Type 0 where
+-- where a file could not be read, the count of faults rose
+abbrev pub IsCounted : ℕ → ℕ → LoadEnd → Type 0
+IsCounted before after (of_load.unread name) = Rose before after
+IsCounted before after end = Unit {0}
+
+-- the asking for these files ended so
+pub record EndsAsking (library : Asking) (roots : List (List ℕ)) (load : LoadEnd) : Type 0 where
+  pub ended : HasEnded library.told roots library.asked library.asked' library.misses library.misses' load
+  pub counted : IsCounted library.faults library.faults' load
+
+-- the run ends by what the asking for the files of lawful words comes to; over the library's map, where it tells that, this is the answer
+pub record IsLawfulEnd (words : List (List ℕ)) (library : Asking) (end : End) : Type 0 where
   pub options : Options
   pub lawful : IsLawful words options
-  pub name : List ℕ
-  pub asked : Contains options.files name
-  pub none : files name ≡ None
+  pub load : LoadEnd
+  pub asking : EndsAsking library options.files load
+  pub comes : ComesTo load end
+  pub told_too : (files : Files) → library.told ≡ Some files → IsDecided load → IsLawfulAnswer words files end
 
--- the end is the answer over what a library showed; a file was missing only where its count of misses rose
-pub record IsAnswered (words : List (List ℕ)) (told : Option Files) (misses misses' : ℕ) (end : End) : Type 0 where
-  pub shown : Files
-  pub is : IsShown words told shown end
-  pub missed : IsMissing words shown → Rose misses misses'
+-- what was asked for where memory was wanting: files of lawful words as far as the asking went, and else nothing
+pub record IsAsked (words : List (List ℕ)) (library : Asking) : Type 0 where
+  pub lawful : (options : Options) → IsLawful words options → (load : LoadEnd) × EndsAsking library options.files load
+  pub none : HasNoOptions words → library.asked' ≡ library.asked
 
--- a read of a file that was asked for failed, and it is the last that the library was asked for
-pub record IsUnread (words : List (List ℕ)) (asked' : List (List ℕ)) (faults faults' : ℕ) (line : List ℕ) : Type 0 where
-  pub options : Options
-  pub lawful : IsLawful words options
-  pub name : List ℕ
-  pub asked : Contains options.files name
-  pub before : List (List ℕ)
-  pub last : asked' ≡ before ++ name ∷ []
-  pub rose : Rose faults faults'
-  pub is : line ≡ unread_line name
-
--- why a run ends so: by the answer, by a read that failed, or by want of memory
-abbrev pub EndIs : List (List ℕ) → Option Files → List (List ℕ) → ℕ → ℕ → ℕ → ℕ → End → Type 0
-EndIs words told asked' f f' m m' (unread line) = IsUnread words asked' f f' line
-EndIs words told asked' f f' m m' no_memory = Unit {0}
-EndIs words told asked' f f' m m' end = IsAnswered words told m m' end
+-- why a run ends so
+abbrev pub EndIs : List (List ℕ) → Asking → End → Type 0
+EndIs words library usage = HasNoOptions words × (library.asked' ≡ library.asked)
+EndIs words library no_memory = IsAsked words library
+EndIs words library end = IsLawfulEnd words library end
 
 -- a sink's view before and after a run
 pub record Taking : Type 0 where
@@ -56,6 +65,11 @@ pub record Taking : Type 0 where
 abbrev pub SaidWith : List ℕ → ℕ → ℕ → Option (List ℕ) → Option (List ℕ) → ℕ → ℕ → Bool → Type 0
 SaidWith bytes status result taken taken' f f' settled' =
     ((result ≡ status) × TookAll bytes taken taken' settled') ⊎ ((result ≡ 5) × TookPart bytes taken taken' f f')
+
+-- the sink for lines took those of the end, or those of want of memory
+abbrev pub SaidEnd : End → ℕ → Option (List ℕ) → Option (List ℕ) → ℕ → ℕ → Bool → Type 0
+SaidEnd end result taken taken' f f' settled' =
+    SaidWith (err_of end) (status_of end) result taken taken' f f' settled' ⊎ SaidWith memory_line 7 result taken taken' f f' settled'
 
 -- one sink took the bytes, the other took nothing
 abbrev pub IsWritten : List ℕ → ℕ → ℕ → Taking → Taking → Type 0
@@ -75,10 +89,10 @@ abbrev pub CutBy : Taking → Taking → End → Type 0
 CutBy out err (report bytes) = IsCutShort bytes out err
 CutBy out err end = IsCutShort (err_of end) err out
 
--- the run ends in one of these ways
-pub record IsRun (words : List (List ℕ)) (told : Option Files) (asked' : List (List ℕ)) (faults faults' misses misses' : ℕ) (out err : Taking) (result : ℕ) : Type 0 where
+-- the run ends so, and its bytes are put
+pub record IsRun (words : List (List ℕ)) (library : Asking) (out err : Taking) (result : ℕ) : Type 0 where
   pub end : End
-  pub cause : EndIs words told asked' faults faults' misses misses' end
+  pub cause : EndIs words library end
   pub written : EndsBy result out err end
 
 -- the sinks have taken the bytes of the right answer, and nothing else
@@ -97,33 +111,54 @@ pub record SaysNoMemory (before_out before_err after_out after_err : Option (Lis
 
 -- the report of the files of the words is on `out`, and nothing on `err`
 pub record HasReported (words : List (List ℕ)) (told : Option Files) (before_out before_err after_out after_err : Option (List ℕ)) : Type 0 where
-  pub shown : Files
   pub bytes : List ℕ
-  pub cause : IsShown words told shown (report bytes)
+  pub library : Asking
+  pub cause : IsLawfulEnd words (record library { told = told }) (report bytes)
   pub on_out : after_out ≡ more_taken before_out bytes
   pub on_err : after_err ≡ before_err
 
 -- the files of the words have no report, and the lines on `err` say why
 pub record HasFaults (words : List (List ℕ)) (told : Option Files) (misses misses' : ℕ) (before_err after_err : Option (List ℕ)) : Type 0 where
-  pub lines : List ℕ
-  pub cause : IsAnswered words told misses misses' (faults lines)
-  pub on_err : after_err ≡ more_taken before_err lines
+  pub found : List Fault
+  pub library : Asking
+  pub cause : IsLawfulEnd words (record library { told = told; misses = misses; misses' = misses' }) (faults found)
+  pub on_err : after_err ≡ more_taken before_err (fault_lines found)
+
+-- the files of the words pass a limit, and the line on `err` says which
+pub record HasPassed (words : List (List ℕ)) (library : Asking) (before_err after_err : Option (List ℕ)) : Type 0 where
+  pub passed : Limit
+  pub cause : IsLawfulEnd words library (limit passed)
+  pub on_err : after_err ≡ more_taken before_err (limit_line passed)
+
+-- a read failed, and it is the last that the library was asked for
+pub record IsUnread (words : List (List ℕ)) (asked' : List (List ℕ)) (faults faults' : ℕ) (name : List ℕ) : Type 0 where
+  pub options : Options
+  pub lawful : IsLawful words options
+  pub before : List (List ℕ)
+  pub last : asked' ≡ before ++ name ∷ []
+  pub rose : Rose faults faults'
 
 -- a read of the library failed
 pub record HasUnread (words : List (List ℕ)) (asked' : List (List ℕ)) (faults_before faults_after : ℕ) (before_err after_err : Option (List ℕ)) : Type 0 where
-  pub line : List ℕ
-  pub cause : IsUnread words asked' faults_before faults_after line
-  pub on_err : after_err ≡ more_taken before_err line
+  pub name : List ℕ
+  pub cause : IsUnread words asked' faults_before faults_after name
+  pub on_err : after_err ≡ more_taken before_err (unread_line name)
 
 -- the sink to which the run's bytes go took a part of them, and its count of faults rose; the other took nothing
 pub record IsCutOff (words : List (List ℕ)) (told : Option Files) (asked' : List (List ℕ)) (f f' m m' : ℕ) (out err : Taking) : Type 0 where
   pub end : End
-  pub cause : EndIs words told asked' f f' m m' end
+  pub asked : List (List ℕ)
+  pub cause : EndIs words (record { told = told; asked = asked; asked' = asked'; faults = f; faults' = f'; misses = m; misses' = m' }) end
   pub cut : CutBy out err end
 
--- the library was asked for these files, each once; or, where memory was wanting, for none
-abbrev pub AreAskedFor : List (List ℕ) → List (List ℕ) → List (List ℕ) → ℕ → Type 0
-AreAskedFor names asked asked' result = (asked' ≡ asked ++ names) ⊎ ((asked' ≡ asked) × ((result ≡ 5) ⊎ (result ≡ 7)))
+-- the library was asked for the first of the names that these files lead to over some map, each once; for all of them where there is a report or a fault
+pub record AreAskedFor (roots asked asked' : List (List ℕ)) (result : ℕ) : Type 0 where
+  pub seen : Files
+  pub names : List (List ℕ)
+  pub put : asked' ≡ asked ++ names
+  pub first : AreFirst seen roots names
+  pub once : AllPairs (λ a b. a ≡ b → ⊥) names
+  pub whole : (result ≡ 0) ⊎ (result ≡ 3) → AreAll seen roots names
 
 -- the sink of the run's bytes is settled
 abbrev pub IsSettled : ℕ → Bool → Bool → Type 0

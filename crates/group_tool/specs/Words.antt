@@ -1,30 +1,25 @@
 -- The words of the command line.
-use Rattle.std.specs.Prelude.{◌≡◌, ℕ, List, [], ◌∷◌, ◌++◌, Bool, ◌==◌, ◌&&◌, ◌||◌, nat_le, All, IsTrue, codes}
+use Rattle.std.specs.Prelude.{◌≡◌, ℕ, ◌<◌, List, [], Some, false, length, nat_eq, codes}
+use Rattle.std.specs.List.{AllZip, starts_with}
+use Rattle.module_table.specs.FileName.{resolved}
 
--- an ASCII letter or digit, or `_`
-abbrev pub is_word_byte : ℕ → Bool
-is_word_byte b = (nat_le 97 b && nat_le b 122) || (nat_le 65 b && nat_le b 90) || (nat_le 48 b && nat_le b 57) || (b == 95)
+-- the word means the file of that name: it doesn't begin with `-`, and leads to the name; the empty word leads to none
+pub record IsFileWord (word name : List ℕ) : Type 0 where
+  pub no_option : starts_with nat_eq word (codes "-") ≡ false
+  pub means : resolved [] word ≡ Some name
 
--- letters, digits and `_`, and `.pl` behind them
-pub record IsFileWord (word : List ℕ) : Type 0 where
-  pub stem : List ℕ
-  pub is : word ≡ stem ++ codes ".pl"
-  pub plain : All (λ b. IsTrue (is_word_byte b)) stem
-
--- what lawful words ask for
+-- what lawful words ask for: the names of files, in the order of the words; a name stands twice where two words mean it
 pub record Options : Type 0 where
   pub files : List (List ℕ)
 
--- the words are one word that names a file, which is asked for
+-- the words are one or more, each of which means a file
 pub record IsLawful (words : List (List ℕ)) (options : Options) : Type 0 where
-  pub name : List ℕ
-  pub one : words ≡ name ∷ []
-  pub file_word : IsFileWord name
-  pub files : options.files ≡ name ∷ []
+  pub some : 0 < length words
+  pub files : AllZip IsFileWord words options.files
 
--- one file is asked for
-abbrev pub one_file : List ℕ → Options
-one_file name = record { files = name ∷ [] }
+-- these files are asked for
+abbrev pub of_files : List (List ℕ) → Options
+of_files names = record { files = names }
 
 -- the words are not lawful
 abbrev pub HasNoOptions : List (List ℕ) → Type 0

@@ -1,19 +1,23 @@
-ghost use Rattle.std.specs.Prelude.{◌≡◌, ◌≢◌, ◌⊎◌, Some};
+ghost use Rattle.std.specs.Prelude.{◌≡◌, ◌≢◌, ◌⊎◌, MatchResult, Some};
+ghost use Rattle.std.specs.String.{string_bytes};
 ghost use Rattle.file_library.specs.Counts.{Rose};
+ghost use Rattle.file_library.specs.Asking.{LoadEnd};
 ghost use Rattle.file_library.specs.Library.{Files};
-ghost use Rattle.group_tool.specs.End.{usage_line};
+ghost use Rattle.group_tool.specs.End.{usage_line, err_of, status_of, memory_line};
 ghost use Rattle.group_tool.specs.Sink.{more_taken};
+ghost use Rattle.group_tool.specs.Stop.{end_of_stop};
 ghost use Rattle.group_tool.specs.Words.{HasNoOptions, IsLawful, Options};
-ghost use Rattle.group_tool.specs.Run.{IsRun, IsSettled, AreAskedFor, SaysAnswer, SaysNoMemory, SaidWith, HasReported, HasFaults, HasUnread, IsCutOff};
+ghost use Rattle.group_tool.specs.Run.{EndsAsking, IsRun, IsSettled, AreAskedFor, SaysAnswer, SaysNoMemory, SaidWith, SaidEnd, HasReported, HasFaults, HasPassed, HasUnread, IsCutOff};
 
-use crate::answer::answer_words;
+use crate::answer::report_words;
 use crate::gate::Gate;
-use crate::outcome::Outcome;
+use crate::lines::{fault_lines, limit_line, unread_line};
 use crate::say::say;
 use crate::sink::Sink;
+use crate::stop::Stop;
 use file_library::Library;
 use prolog_tokens::Text;
-use std::alloc::Global;
+use std::alloc::{AllocError, Global};
 use std::sync::Wait;
 use std::thread::Threads;
 
@@ -23,47 +27,70 @@ const USAGE: &str =
 const OUT_OF_MEMORY: &str = "groups: out of memory\n";
 
 /// Says the bytes and answers the status, or 5 where the sink failed.
-fn say_with<S: Sink>(sink: &mut S, text: &str, status: u8) -> u8
-    ensures { SaidWith text.now status result (S.taken sink.old) (S.taken sink.new) (S.faults sink.old) (S.faults sink.new) (S.settled sink.new) }
+fn say_with<S: Sink>(sink: &mut S, bytes: &[u8], status: u8) -> u8
+    ensures { SaidWith bytes.now status result (S.taken sink.old) (S.taken sink.new) (S.faults sink.old) (S.faults sink.new) (S.settled sink.new) }
 {
-    if say(sink, text.as_bytes()) {
+    if say(sink, bytes) {
         return status;
     }
     5
 }
 
-/// Puts what the words come out as on the sink that it goes to.
-fn run<L: Library, O: Sink, E: Sink>(
+/// Says the lines, or that there was no memory for them.
+fn say_lines<S: Sink>(sink: &mut S, lines: Result<String, AllocError>, status: u8) -> u8
+    ensures { MatchResult lines
+        (λ text. SaidWith (string_bytes text) status result (S.taken sink.old) (S.taken sink.new) (S.faults sink.old) (S.faults sink.new) (S.settled sink.new))
+        (λ _. SaidWith memory_line 7 result (S.taken sink.old) (S.taken sink.new) (S.faults sink.old) (S.faults sink.new) (S.settled sink.new)) }
+{
+    match lines {
+        Ok(text) => say_with(sink, text.as_bytes(), status),
+        Err(_) => say_with(sink, OUT_OF_MEMORY.as_bytes(), 7),
+    }
+}
+
+/// Says why there is no report, and answers the status of that.
+fn say_stop<S: Sink>(alloc: Global, sink: &mut S, stop: &Stop) -> u8
+    ensures { SaidEnd (end_of_stop stop.now) result (S.taken sink.old) (S.taken sink.new) (S.faults sink.old) (S.faults sink.new) (S.settled sink.new) }
+{
+    match stop {
+        Stop::Usage => say_with(sink, USAGE.as_bytes(), 2),
+        Stop::Faults(faults) => say_lines(sink, fault_lines(alloc, faults), 3),
+        Stop::ReadFault(name) => say_lines(sink, unread_line(alloc, name), 4),
+        Stop::Passed(limit) => say_lines(sink, limit_line(alloc, limit), 6),
+        Stop::NoMemory => say_with(sink, OUT_OF_MEMORY.as_bytes(), 7),
+    }
+}
+
+/// Puts what the words come to on the sink that it goes to.
+fn run<R: Threads + Sync, L: Library, O: Sink, E: Sink>(
+    rt: &R,
     alloc: Global,
     words: &[Text],
     library: &mut L,
     out: &mut O,
     err: &mut E,
 ) -> u8
-    ensures run { IsRun words.now (L.files library.old) (L.asked library.new) (L.faults library.old) (L.faults library.new) (L.misses library.old) (L.misses library.new)
+    ensures run { IsRun words.now
+        (record { told = L.files library.old; asked = L.asked library.old; asked' = L.asked library.new; faults = L.faults library.old; faults' = L.faults library.new; misses = L.misses library.old; misses' = L.misses library.new })
         (record { taken = O.taken out.old; taken' = O.taken out.new; faults = O.faults out.old; faults' = O.faults out.new; settled' = O.settled out.new })
         (record { taken = E.taken err.old; taken' = E.taken err.new; faults = E.faults err.old; faults' = E.faults err.new; settled' = E.settled err.new })
         result }
-    ensures asked { (options : Options) → IsLawful words.now options → AreAskedFor options.files (L.asked library.old) (L.asked library.new) result }
-    ensures unasked { HasNoOptions words.now → L.asked library.new ≡ L.asked library.old }
     ensures err_left { result ≡ 0 → err.new ≡ err.old }
     ensures out_left { result ≢ 0 → result ≢ 5 → out.new ≡ out.old }
     ensures one_left { (out.new ≡ out.old) ⊎ (err.new ≡ err.old) }
 {
-    match answer_words(alloc, words, library) {
-        Outcome::Usage => say_with(err, USAGE, 2),
-        Outcome::Faults(lines) => say_with(err, &lines, 3),
-        Outcome::Unread(line) => say_with(err, &line, 4),
-        Outcome::Report(report) => say_with(out, &report, 0),
-        Outcome::NoMemory => say_with(err, OUT_OF_MEMORY, 7),
+    match report_words(rt, alloc, words, library) {
+        Ok(report) => say_with(out, &report, 0),
+        Err(stop) => say_stop(alloc, err, &stop),
     }
 }
 
 /// Answers the words over the library: a report on `out`, or lines on `err` that say why there is
-/// none, and the status of the run: 0 for a report, 2 for wrong words, 3 for faults of the texts,
-/// 4 where the library could not read a file, 5 where a sink failed, 7 where memory was wanting.
+/// none, and the status of the run: 0 for a report, 2 for wrong words, 3 for faults of the files,
+/// 4 where the library could not read a file, 5 where a sink failed, 6 where a limit was passed,
+/// 7 where memory was wanting.
 pub fn run_groups<R: Threads + Wait + Sync, L: Library, O: Sink, E: Sink, G: Gate>(
-    _rt: &R,
+    rt: &R,
     alloc: Global,
     words: &[Text],
     library: &mut L,
@@ -79,20 +106,34 @@ pub fn run_groups<R: Threads + Wait + Sync, L: Library, O: Sink, E: Sink, G: Gat
         ⊎ SaysNoMemory (O.taken out.old) (E.taken err.old) (O.taken out.new) (E.taken err.new) result }
 
     // Over any library and sinks, what each status says.
-    ensures statuses { (result ≡ 0) ⊎ ((result ≡ 2) ⊎ ((result ≡ 3) ⊎ ((result ≡ 4) ⊎ ((result ≡ 5) ⊎ (result ≡ 7))))) }
+    ensures statuses { (result ≡ 0) ⊎ ((result ≡ 2) ⊎ ((result ≡ 3) ⊎ ((result ≡ 4) ⊎ ((result ≡ 5) ⊎ ((result ≡ 6) ⊎ (result ≡ 7)))))) }
     ensures report { result ≡ 0 → HasReported words.now (L.files library.old) (O.taken out.old) (E.taken err.old) (O.taken out.new) (E.taken err.new) }
     ensures usage { result ≡ 2 → HasNoOptions words.now × ((O.taken out.new ≡ O.taken out.old) × (E.taken err.new ≡ more_taken (E.taken err.old) usage_line)) }
     ensures lawful { HasNoOptions words.now → (result ≡ 2) ⊎ ((result ≡ 5) ⊎ (result ≡ 7)) }
     ensures faults { result ≡ 3 → HasFaults words.now (L.files library.old) (L.misses library.old) (L.misses library.new) (E.taken err.old) (E.taken err.new) × (O.taken out.new ≡ O.taken out.old) }
     ensures unread { result ≡ 4 → HasUnread words.now (L.asked library.new) (L.faults library.old) (L.faults library.new) (E.taken err.old) (E.taken err.new) × (O.taken out.new ≡ O.taken out.old) }
+    ensures limit { result ≡ 6 → HasPassed words.now
+        (record { told = L.files library.old; asked = L.asked library.old; asked' = L.asked library.new; faults = L.faults library.old; faults' = L.faults library.new; misses = L.misses library.old; misses' = L.misses library.new })
+        (E.taken err.old) (E.taken err.new) × (O.taken out.new ≡ O.taken out.old) }
     ensures cut_off { result ≡ 5 → IsCutOff words.now (L.files library.old) (L.asked library.new) (L.faults library.old) (L.faults library.new) (L.misses library.old) (L.misses library.new)
         (record { taken = O.taken out.old; taken' = O.taken out.new; faults = O.faults out.old; faults' = O.faults out.new; settled' = O.settled out.new })
         (record { taken = E.taken err.old; taken' = E.taken err.new; faults = E.faults err.old; faults' = E.faults err.new; settled' = E.settled err.new }) }
     ensures no_memory { result ≡ 7 → SaysNoMemory (O.taken out.old) (E.taken err.old) (O.taken out.new) (E.taken err.new) result }
     ensures settled { result ≢ 5 → IsSettled result (O.settled out.new) (E.settled err.new) }
 
-    // The library is asked for the files of the words alone, each once; with wrong words for none.
+    // How the run ends, why, and what the sinks have taken: the other clauses follow from it.
+    ensures run { IsRun words.now
+        (record { told = L.files library.old; asked = L.asked library.old; asked' = L.asked library.new; faults = L.faults library.old; faults' = L.faults library.new; misses = L.misses library.old; misses' = L.misses library.new })
+        (record { taken = O.taken out.old; taken' = O.taken out.new; faults = O.faults out.old; faults' = O.faults out.new; settled' = O.settled out.new })
+        (record { taken = E.taken err.old; taken' = E.taken err.new; faults = E.faults err.old; faults' = E.faults err.new; settled' = E.settled err.new })
+        result }
+
+    // The library is asked for the files of the words and those that they lead to, each once, until
+    // that ends; with wrong words for none.
     ensures asked { (options : Options) → IsLawful words.now options → AreAskedFor options.files (L.asked library.old) (L.asked library.new) result }
+    ensures asking { (options : Options) → IsLawful words.now options → (load : LoadEnd) × EndsAsking
+        (record { told = L.files library.old; asked = L.asked library.old; asked' = L.asked library.new; faults = L.faults library.old; faults' = L.faults library.new; misses = L.misses library.old; misses' = L.misses library.new })
+        options.files load }
     ensures unasked { HasNoOptions words.now → L.asked library.new ≡ L.asked library.old }
 
     // The sink that the run's bytes don't go to is left as it was.
@@ -100,5 +141,5 @@ pub fn run_groups<R: Threads + Wait + Sync, L: Library, O: Sink, E: Sink, G: Gat
     ensures out_left { result ≢ 0 → result ≢ 5 → out.new ≡ out.old }
     ensures one_left { (out.new ≡ out.old) ⊎ (err.new ≡ err.old) }
 {
-    run(alloc, words, library, out, err)
+    run(rt, alloc, words, library, out, err)
 }

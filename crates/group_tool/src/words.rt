@@ -1,46 +1,35 @@
-ghost use Rattle.std.specs.Prelude.{◌≡◌, ◌↔◌, All, IsTrue, MatchOption, codes};
-ghost use Rattle.group_tool.specs.Words.{HasNoOptions, IsLawful, IsFileWord, is_word_byte, one_file};
+ghost use Rattle.std.specs.Prelude.{ℕ, List, IfOk, MatchOption};
+ghost use Rattle.group_tool.specs.Words.{HasNoOptions, IsFileWord, IsLawful, of_files};
 
+use module_table::resolve_name;
 use prolog_tokens::Text;
+use std::alloc::{AllocError, Global};
 
-fn is_word(byte: u8) -> bool
-    ensures { result ≡ is_word_byte byte }
+/// The names of the files that lawful words mean, in the order of the words, or `None` where the
+/// words aren't lawful. Words that mean one file give its name twice.
+pub fn file_names(alloc: Global, words: &[Text]) -> Result<Option<Vec<Text>>, AllocError>
+    ensures { IfOk result (λ found. MatchOption found (HasNoOptions words.now) (λ names. IsLawful words.now (of_files names.items))) }
 {
-    byte.is_ascii_alphanumeric() || byte == b'_'
-}
-
-fn is_stem(stem: &[u8]) -> bool
-    ensures { IsTrue result ↔ All (λ b. IsTrue (is_word_byte b)) stem.now }
-{
-    stem.iter().all(|byte| is_word(*byte))
-}
-
-fn is_ending(bytes: &[u8]) -> bool
-    ensures { IsTrue result ↔ (bytes.now ≡ codes ".pl") }
-{
-    bytes == b".pl".as_slice()
-}
-
-/// Whether the word is letters, digits and `_`, and `.pl` behind them.
-fn is_file_word(word: &[u8]) -> bool
-    ensures { IsTrue result ↔ IsFileWord word.now }
-{
-    if word.len() < 3 {
-        return false;
+    if words.is_empty() {
+        return Ok(None);
     }
-    let (stem, ending) = word.split_at(word.len() - 3);
-    if !is_ending(ending) {
-        return false;
+    let mut names = Vec::new(alloc);
+    for word in words {
+        let Some(name) = file_name(alloc, word.as_str())? else {
+            return Ok(None);
+        };
+        names.push(name)?;
     }
-    is_stem(stem)
+    Ok(Some(names))
 }
 
-/// The name of the file in lawful words.
-pub fn file_name(words: &[Text]) -> Option<&Text>
-    ensures { MatchOption result (HasNoOptions words.now) (λ name. IsLawful words.now (one_file name.now)) }
+/// The name of the file that a word means, or `None` where it means none: it begins with `-`, or
+/// leads to no file's name.
+fn file_name(alloc: Global, word: &str) -> Result<Option<Text>, AllocError>
+    ensures { IfOk result (λ found. MatchOption found ((name : List ℕ) → IsFileWord word.now name → ⊥) (λ name. IsFileWord word.now name)) }
 {
-    match words {
-        [word] if is_file_word(word.as_str().as_bytes()) => Some(word),
-        _ => None,
+    if word.starts_with("-") {
+        return Ok(None);
     }
+    resolve_name(alloc, "", word)
 }

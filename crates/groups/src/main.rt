@@ -1,4 +1,4 @@
-//! `groups FILE`: hands the words, the disk and the standard streams to `run_groups`, and ends with
+//! `groups FILE..`: hands the words, the disk and the standard streams to `run_groups`, and ends with
 //! its status.
 #![tactic(auto)]
 

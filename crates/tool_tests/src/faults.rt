@@ -5,7 +5,7 @@ use std::alloc::{AllocError, Global};
 use std::test::Fail;
 
 /// Texts, and the lines of their faults.
-static FAULTY: [TextRun; 23] = [
+static FAULTY: [TextRun; 26] = [
     ("/* open", 3, "", "f.pl:1:1: comment is not closed\n"),
     ("p('a", 3, "", "f.pl:1:3: quoted item is not closed\n"),
     ("p('\\q').", 3, "", "f.pl:1:4: escape is not known\n"),
@@ -109,69 +109,24 @@ static FAULTY: [TextRun; 23] = [
         "",
         "f.pl:2:1: clause head is not an atom or a compound term\n",
     ),
+    ("p :- 3.\n", 3, "", "f.pl:1:6: goal is not callable\n"),
+    (
+        "p :- q, ((3), [4]), call((5, r)).\nq --> {6}, 7.\n:- X, m:8.\n",
+        3,
+        "",
+        "f.pl:1:11: goal is not callable\nf.pl:1:27: goal is not callable\nf.pl:2:8: goal is not callable\nf.pl:2:12: goal is not callable\nf.pl:3:9: goal is not callable\n",
+    ),
+    (
+        ":- module(m, [p/0, 'q r'/2]).\np.\n",
+        3,
+        "",
+        "f.pl:1:20: exported predicate is not defined\n",
+    ),
 ];
 
 #[test]
 fn tells_faults_with_their_places(rt: HostRuntime) -> Result<(), Fail> {
     expect_texts(&rt, rt.alloc(), &FAULTY)
-}
-
-/// Texts outside the built form.
-static OUTSIDE: [&str; 39] = [
-    ":- use_module(b).",
-    ":- [b].",
-    ":- foo.",
-    "?- p.",
-    "(:- p).",
-    "(a --> b).",
-    ":- module(m, [p/0]).",
-    ":- module(m, [p/0, q/1]).\np.\nq(X, Y).",
-    "a --> b.",
-    "p :- 7.",
-    "p :- (3).",
-    "p :- \"s\".",
-    "p :- q, (r, [a]).",
-    "p :- {a}.",
-    "p :- m:q.",
-    "p :- a, b ; c.",
-    "p :- (q | r).",
-    "p :- (q -> r).",
-    "p :- \\+ q.",
-    "p :- \\+ (a, b).",
-    "p :- call(q).",
-    "p :- call(q, 1, 2, 3).",
-    "p :- once(q).",
-    "p :- ignore(q).",
-    "p :- not(q).",
-    "p :- initialization(q).",
-    "p :- initialization q.",
-    "p :- initialization(q, main).",
-    "p :- findall(X, q, L).",
-    "p :- findall(X, q, L, M).",
-    "p :- bagof(X, q, L).",
-    "p :- setof(X, q, L).",
-    "p :- forall(q, r).",
-    "p :- catch(q, X, r).",
-    "p :- maplist(q, L).",
-    "p :- maplist(q, L, M, N).",
-    "p :- phrase(q, L).",
-    "p :- phrase(q, L, M).",
-    "p.\nq :- p.\nr :- s, ((call(q))).",
-];
-
-#[test]
-fn refuses_forms_that_are_not_built(rt: HostRuntime) -> Result<(), Fail> {
-    for text in &OUTSIDE {
-        expect_text(
-            &rt,
-            rt.alloc(),
-            text,
-            3,
-            "",
-            "f.pl: text is outside the built form\n",
-        )?;
-    }
-    Ok(())
 }
 
 /// A fact whose term is so deep: `p(f(f(..f(a)..))).`

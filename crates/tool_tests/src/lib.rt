@@ -6,9 +6,11 @@ mod faults;
 #[cfg(test)]
 mod libraries;
 #[cfg(test)]
-mod load_limits;
+mod limits;
 #[cfg(test)]
 mod loads;
+#[cfg(test)]
+mod programs;
 #[cfg(test)]
 mod reports;
 #[cfg(test)]

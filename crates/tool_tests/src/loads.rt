@@ -1,6 +1,6 @@
 //! Files that are asked for on demand: in which order, and how that ends.
 
-use crate::runs::{library_of, words_of};
+use crate::runs::{library_of, push_names, words_of};
 use file_library::{Fault, LoadStop, Loaded, MemoryLibrary, load_all};
 use prolog_tokens::Text;
 use std::alloc::{AllocError, Global};
@@ -17,15 +17,6 @@ type LoadRun = (
     &'static str,
     &'static str,
 );
-
-/// Adds the names, each behind a space.
-fn push_names(out: &mut String, names: &[Text]) -> Result<(), AllocError> {
-    for name in names {
-        out.push_str(" ")?;
-        out.push_str(name.as_str())?;
-    }
-    Ok(())
-}
 
 /// The names of the roots, of the files with facts, of the texts, each with its number of bytes, and
 /// of the files that aren't there.

@@ -3,7 +3,7 @@
 use crate::runs::{TextRun, expect_texts};
 use std::test::Fail;
 
-static REPORTS: [TextRun; 22] = [
+static REPORTS: [TextRun; 27] = [
     ("", 0, "predicates 0 groups 0 recursive 0 levels 0\n", ""),
     (
         "p :- p.\n",
@@ -129,6 +129,36 @@ static REPORTS: [TextRun; 22] = [
         ":- dynamic d/1.\np :- d(1).\n",
         0,
         "predicates 2 groups 2 recursive 0 levels 2\n0 plain user:d/1\n1 plain user:p/0\n",
+        "",
+    ),
+    (
+        "greeting --> [hello], name, { log(x) }.\nname --> [bob].\nlog(_).\n",
+        0,
+        "predicates 3 groups 3 recursive 0 levels 2\n0 plain user:log/1\n0 plain user:name/2\n1 plain user:greeting/2\n",
+        "",
+    ),
+    (
+        ":- module(m, []).\n:- initialization(main).\nmain :- w.\nw.\nx.\n",
+        0,
+        "predicates 2 groups 2 recursive 0 levels 2\n0 plain m:w/0\n1 plain m:main/0\n",
+        "",
+    ),
+    (
+        "p :- maplist(q, [a]), setof(X, Y^r(X, Y), L), M:s, m:s.\nq(_).\nr(_, _).\n",
+        0,
+        "predicates 3 groups 3 recursive 0 levels 2\n0 plain user:q/1\n0 plain user:r/2\n1 plain user:p/0\n",
+        "",
+    ),
+    (
+        "#!/usr/bin/swipl\n:- initialization(main, main).\n:- table p/1.\nmain :- p(_).\np(X) :- p(X).\n",
+        0,
+        "predicates 2 groups 2 recursive 1 levels 2\n0 recursive user:p/1\n1 plain user:main/0\n",
+        "",
+    ),
+    (
+        "p :- (a -> b ; \\+ c), catch(d, X, e), call(f, 1), phrase(g, L), once((h, call(call(i), X))).\na. b. c. d. e. f(_).\ng --> \"s\", !, ({j} | []), k.\nh :- p.\ni(_).\nj :- l.\nk(A, B).\nl.\n",
+        0,
+        "predicates 13 groups 12 recursive 1 levels 4\n0 plain user:a/0\n0 plain user:b/0\n0 plain user:c/0\n0 plain user:d/0\n0 plain user:e/0\n0 plain user:f/1\n0 plain user:i/1\n0 plain user:k/2\n0 plain user:l/0\n1 plain user:j/0\n2 plain user:g/2\n3 recursive user:h/0 user:p/0\n",
         "",
     ),
 ];

@@ -13,6 +13,18 @@ use std::thread::Threads;
 /// A text, and of the run on it as the one file the wanted status and bytes on both sinks.
 pub type TextRun = (&'static str, u8, &'static str, &'static str);
 
+/// Words, files and the reads that fail; and the wanted names in the order in which they are asked
+/// for, each behind a space, the status and the bytes on both sinks.
+pub type FilesRun = (
+    &'static [&'static str],
+    &'static [(&'static str, &'static [u8])],
+    &'static [u32],
+    &'static str,
+    u8,
+    &'static str,
+    &'static str,
+);
+
 /// The words of a command line.
 pub fn words_of(alloc: Global, words: &[&str]) -> Result<Vec<Text>, AllocError> {
     let mut found = Vec::new(alloc);
@@ -35,6 +47,15 @@ pub fn library_of(
     MemoryLibrary::new(alloc, map, failing.to_vec(alloc)?)
 }
 
+/// Adds the names, each behind a space.
+pub fn push_names(out: &mut String, names: &[Text]) -> Result<(), AllocError> {
+    for name in names {
+        out.push_str(" ")?;
+        out.push_str(name.as_str())?;
+    }
+    Ok(())
+}
+
 /// The bytes that the sink has taken as text, or no text.
 pub fn shown(sink: &MemorySink) -> &str {
     match str::from_utf8(sink.taken()) {
@@ -55,6 +76,23 @@ pub fn expect_run<R: Threads + Wait + Sync + Abort>(
     let mut err = MemorySink::with_room(alloc, 1000)?;
     let status = run_groups(rt, alloc, words, library, &mut out, &mut err, &OpenGate);
     assert_eq!(rt; (status, shown(&out), shown(&err)), wanted);
+    Ok(())
+}
+
+/// Runs on the words of each row over its files.
+pub fn expect_files<R: Threads + Wait + Sync + Abort>(
+    rt: &R,
+    alloc: Global,
+    rows: &[FilesRun],
+) -> Result<(), Fail> {
+    for (words, files, failing, asked, status, on_out, on_err) in rows {
+        let mut library = library_of(alloc, files, failing)?;
+        let words = words_of(alloc, words)?;
+        expect_run(rt, &words, &mut library, alloc, (*status, on_out, on_err))?;
+        let mut names = String::new(alloc);
+        push_names(&mut names, library.asked())?;
+        assert_eq!(rt; names.as_str(), *asked);
+    }
     Ok(())
 }
 

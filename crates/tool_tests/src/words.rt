@@ -1,56 +1,107 @@
-//! Words, and files that aren't there, can't be read or aren't text.
+//! Words, and the files that they mean.
 
-use crate::runs::{expect_run, library_of, words_of};
+use crate::runs::{FilesRun, expect_files};
 use std::test::Fail;
 
 const USAGE: &str =
     "usage: groups [--jobs N | --searches K --seed S] [--roots LIST] [--order] [--unreached] FILE... | groups --make N [--jobs N | --searches K --seed S]\n";
 
-const LOOP: &[u8] = b"p :- p.\n";
+const LOOP: &[(&str, &[u8])] = &[("f.pl", b"p :- p.\n")];
 
 const REPORT: &str = "predicates 1 groups 1 recursive 1 levels 1\n0 recursive user:p/0\n";
 
-/// Words, the file, the reads that fail, and the wanted status and bytes on both sinks.
-type WordRun = (
-    &'static [&'static str],
-    (&'static str, &'static [u8]),
-    &'static [u32],
-    u8,
-    &'static str,
-    &'static str,
-);
+const EMPTY: &str = "predicates 0 groups 0 recursive 0 levels 0\n";
 
-static RUNS: [WordRun; 13] = [
-    (&["f.pl"], ("f.pl", LOOP), &[], 0, REPORT, ""),
-    (&["f.pl"], ("f.pl", LOOP), &[2], 0, REPORT, ""),
-    (&[], ("f.pl", LOOP), &[], 2, "", USAGE),
-    (&[""], ("f.pl", LOOP), &[], 2, "", USAGE),
-    (&["f"], ("f.pl", LOOP), &[], 2, "", USAGE),
-    (&["f.pl."], ("f.pl", LOOP), &[], 2, "", USAGE),
-    (&["d/f.pl"], ("f.pl", LOOP), &[], 2, "", USAGE),
-    (&["--help"], ("f.pl", LOOP), &[], 2, "", USAGE),
-    (&["é.pl"], ("f.pl", LOOP), &[], 2, "", USAGE),
-    (&["f.pl", "f.pl"], ("f.pl", LOOP), &[], 2, "", USAGE),
+static RUNS: [FilesRun; 21] = [
+    (&["f.pl"], LOOP, &[], " f.pl", 0, REPORT, ""),
+    (&["f.pl"], LOOP, &[2], " f.pl", 0, REPORT, ""),
+    (&["f"], LOOP, &[], " f.pl", 0, REPORT, ""),
     (
-        &["g.pl"],
-        ("f.pl", LOOP),
+        &["f", "./f.pl", "x/..//f"],
+        LOOP,
         &[],
+        " f.pl",
+        0,
+        REPORT,
+        "",
+    ),
+    (
+        &["f.pl."],
+        &[("f.pl..pl", b"")],
+        &[],
+        " f.pl..pl",
+        0,
+        EMPTY,
+        "",
+    ),
+    (
+        &["/t/../b", ".pl", "\u{E9}.pl"],
+        &[("/b.pl", b""), (".pl", b""), ("\u{E9}.pl", b"")],
+        &[],
+        " .pl /b.pl \u{E9}.pl",
+        0,
+        EMPTY,
+        "",
+    ),
+    (
+        &["f", "d/f"],
+        &[("d/f.pl", b"q :- p.\n"), ("f.pl", b"p :- q.\n")],
+        &[],
+        " d/f.pl f.pl",
+        0,
+        "predicates 2 groups 1 recursive 1 levels 1\n0 recursive user:p/0 user:q/0\n",
+        "",
+    ),
+    (&[], LOOP, &[], "", 2, "", USAGE),
+    (&[""], LOOP, &[], "", 2, "", USAGE),
+    (&["-"], LOOP, &[], "", 2, "", USAGE),
+    (&["-f.pl"], LOOP, &[], "", 2, "", USAGE),
+    (&["--help"], LOOP, &[], "", 2, "", USAGE),
+    (&[".."], LOOP, &[], "", 2, "", USAGE),
+    (&["f.pl", "x/.."], LOOP, &[], "", 2, "", USAGE),
+    (&["f.pl", "--order"], LOOP, &[], "", 2, "", USAGE),
+    (&["g.pl"], LOOP, &[], " g.pl", 3, "", "g.pl: no such file\n"),
+    (
+        &["g", "f", "e"],
+        LOOP,
+        &[],
+        " e.pl f.pl g.pl",
         3,
         "",
-        "g.pl: no such file\n",
+        "e.pl: no such file\ng.pl: no such file\n",
     ),
     (
         &["f.pl"],
-        ("f.pl", b"'\\q.\n\xFF"),
+        &[("f.pl", b"'\\q.\n\xFF")],
         &[],
+        " f.pl",
         3,
         "",
         "f.pl:2:1: byte is not UTF-8\n",
     ),
     (
         &["f.pl"],
-        ("f.pl", LOOP),
+        LOOP,
         &[1],
+        " f.pl",
+        4,
+        "",
+        "groups: cannot read f.pl\n",
+    ),
+    (
+        &["g", "f"],
+        LOOP,
+        &[2],
+        " f.pl g.pl",
+        4,
+        "",
+        "groups: cannot read g.pl\n",
+    ),
+    (
+        &["g", "f"],
+        LOOP,
+        &[1],
+        " f.pl",
         4,
         "",
         "groups: cannot read f.pl\n",
@@ -59,11 +110,5 @@ static RUNS: [WordRun; 13] = [
 
 #[test]
 fn takes_words(rt: HostRuntime) -> Result<(), Fail> {
-    let alloc = rt.alloc();
-    for (words, file, failing, status, on_out, on_err) in &RUNS {
-        let mut library = library_of(alloc, &[*file], failing)?;
-        let words = words_of(alloc, words)?;
-        expect_run(&rt, &words, &mut library, alloc, (*status, on_out, on_err))?;
-    }
-    Ok(())
+    expect_files(&rt, rt.alloc(), &RUNS)
 }

@@ -1,0 +1,122 @@
+-- How many arguments are added at most, and that an argument weighs that much less.
+use Rattle.std.proofs.Common.{◌≡◌, ℕ, zero, suc, ◌+◌, ◌-◌, ◌≤◌, ◌==◌, Bool, true, false, List, [], ◌∷◌, Option, Some, None, length, slice_get, if◌then◌else◌, codes, ap, sym, subst, refl, arith}
+use Rattle.std.specs.Str.{bytes_eq}
+use Rattle.std.proofs.lemmas.Bool.{eqb-true}
+use Rattle.std.proofs.lemmas.Option.{same_Some}
+use Rattle.prolog_terms.specs.Tree.{Tree, trees_from}
+use Rattle.prolog_terms.specs.Views.{atom_name}
+use Rattle.prolog_terms.specs.Weight.{weight, weights}
+use Rattle.module_table.specs.Heads.{is_among}
+use Rattle.call_edges.specs.declared.role.Role.{Role}
+use Rattle.call_edges.specs.declared.role.Role.TheVariants.{Plain, Goal, Caret, Grammar}
+use Rattle.call_edges.specs.declared.role.Row.{Row}
+use Rattle.call_edges.specs.declared.role.Way.{Way}
+use Rattle.call_edges.specs.declared.role.Way.TheVariants.{Silent, Behind, Control, Qualified, Calling}
+use Rattle.call_edges.specs.Goals.{added, first_only, second_only, first_two, first_and_third, adding_row, one_row, two_row, three_row, four_row, row, Rows, plain_rows, way, settled, goal_named, qualified_taken, taken_by, taken, role_at}
+
+-- no argument gets more than n
+pub record IsRowWithin (n : ℕ) (row : Option Row) : Type 0 where
+  pub each : (i : ℕ) → added (role_at row i) ≤ n
+
+pub record RowsWithin (T : Rows) : Type 0 where
+  pub each : (owner name : List ℕ) (n : ℕ) → IsRowWithin n (T owner name n)
+
+chosen : {X : Type 0} (P : X → Type 0) (test : Bool) (x y : X) → (test ≡ true → P x) → (test ≡ false → P y) → P (if test then x else y)
+chosen P true x y here there = here refl
+chosen P false x y here there = there refl
+
+none_within : (n : ℕ) → IsRowWithin n None
+none_within n = record { each = λ i. omega arith }
+
+role_within : (n : ℕ) (row : Row) → added row.first ≤ n → added row.second ≤ n → added row.third ≤ n → IsRowWithin n (Some row)
+role_within n row first second third = record {
+  each = λ i.
+      let P : Role → Type 0 = λ role. added role ≤ n in
+      chosen P (i == 0) row.first (if i == 1 then row.second else if i == 2 then row.third else Plain) (λ _. first)
+      (λ _. chosen P (i == 1) row.second (if i == 2 then row.third else Plain) (λ _. second) (λ _. chosen P (i == 2) row.third Plain (λ _. third) (λ _. omega arith)));
+}
+
+first_within : (n : ℕ) (role : Role) → added role ≤ n → IsRowWithin n (Some (first_only role))
+first_within n role small = role_within n (first_only role) small (omega arith) (omega arith)
+
+second_within : (n : ℕ) (role : Role) → added role ≤ n → IsRowWithin n (Some (second_only role))
+second_within n role small = role_within n (second_only role) (omega arith) small (omega arith)
+
+adding_within : (name : List ℕ) (n : ℕ) → IsRowWithin n (adding_row name n)
+adding_within name n =
+    chosen (IsRowWithin n) (is_among (codes "call" ∷ codes "maplist" ∷ []) name) (Some (first_only (Goal (n - 1)))) None
+    (λ _. first_within n (Goal (n - 1)) (omega arith)) (λ _. none_within n)
+
+one_within : (name : List ℕ) (n : ℕ) → IsRowWithin n (one_row name)
+one_within name n =
+    chosen (IsRowWithin n) (is_among (codes "call" ∷ codes "once" ∷ codes "ignore" ∷ codes "not" ∷ codes "initialization" ∷ []) name) (Some (first_only (Goal 0))) None
+    (λ _. first_within n (Goal 0) (omega arith)) (λ _. none_within n)
+
+two_within : (name : List ℕ) → IsRowWithin 2 (two_row name)
+two_within name =
+    chosen (IsRowWithin 2) (bytes_eq name (codes "forall")) _ _ (λ _. role_within 2 (first_two (Goal 0)) (omega arith) (omega arith) (omega arith))
+    (λ _. chosen (IsRowWithin 2) (bytes_eq name (codes "initialization")) _ _ (λ _. first_within 2 (Goal 0) (omega arith))
+    (λ _. chosen (IsRowWithin 2) (bytes_eq name (codes "phrase")) _ _ (λ _. first_within 2 Grammar (omega arith)) (λ _. adding_within name 2)))
+
+three_within : (name : List ℕ) → IsRowWithin 3 (three_row name)
+three_within name =
+    chosen (IsRowWithin 3) (bytes_eq name (codes "findall")) _ _ (λ _. second_within 3 (Goal 0) (omega arith))
+    (λ _. chosen (IsRowWithin 3) (is_among (codes "bagof" ∷ codes "setof" ∷ []) name) _ _ (λ _. second_within 3 Caret (omega arith))
+    (λ _. chosen (IsRowWithin 3) (bytes_eq name (codes "catch")) _ _ (λ _. role_within 3 (first_and_third (Goal 0)) (omega arith) (omega arith) (omega arith))
+    (λ _. chosen (IsRowWithin 3) (bytes_eq name (codes "phrase")) _ _ (λ _. first_within 3 Grammar (omega arith)) (λ _. adding_within name 3))))
+
+four_within : (name : List ℕ) → IsRowWithin 4 (four_row name)
+four_within name =
+    chosen (IsRowWithin 4) (bytes_eq name (codes "findall")) _ _ (λ _. second_within 4 (Goal 0) (omega arith)) (λ _. adding_within name 4)
+
+pub row_within : (name : List ℕ) (n : ℕ) → IsRowWithin n (row name n)
+row_within name n =
+    chosen (IsRowWithin n) (n == 0) _ _ (λ _. none_within n)
+    (λ _. chosen (IsRowWithin n) (n == 1) _ _ (λ _. one_within name n)
+    (λ _. chosen (IsRowWithin n) (n == 2) _ _ (λ is. subst (λ k. IsRowWithin k (two_row name)) (sym (eqb-true n 2 is)) (two_within name))
+    (λ _. chosen (IsRowWithin n) (n == 3) _ _ (λ is. subst (λ k. IsRowWithin k (three_row name)) (sym (eqb-true n 3 is)) (three_within name))
+    (λ _. chosen (IsRowWithin n) (n == 4) _ _ (λ is. subst (λ k. IsRowWithin k (four_row name)) (sym (eqb-true n 4 is)) (four_within name)) (λ _. adding_within name n)))))
+
+pub plain_within : RowsWithin plain_rows
+plain_within = record { each = λ owner name n. row_within name n }
+
+settled_within : (role : Role) → added (settled role) ≤ added role
+settled_within Plain = omega arith
+settled_within (Goal e) = omega arith
+settled_within Caret = omega arith
+settled_within Grammar = omega arith
+
+-- a compound has no more arguments than it weighs
+pub arguments_within : (args : List Tree) → length args ≤ weights (trees_from args)
+arguments_within [] = omega arith
+arguments_within (tree ∷ args) = omega (arith, arguments_within args)
+
+part_count : (args : List Tree) (i : ℕ) (tree : Tree) → slice_get args i ≡ Some tree → weight tree + length args ≤ weights (trees_from args)
+part_count [] i tree is = let both : None ≡ Some tree = is in absurd (cc)
+part_count (first ∷ args) zero tree is = omega (arith, ap weight (same_Some first tree is), arguments_within args)
+part_count (first ∷ args) (suc i) tree is = omega (arith, part_count args i tree is)
+
+module _ (T : Rows) (within : RowsWithin T) where
+  named_within : (owner : List ℕ) (role : Role) (tree : Tree) (found : Option (List ℕ)) (n : ℕ) → added role ≤ n → IsRowWithin n (goal_named owner role tree found).row
+  named_within owner role tree (Some name) n small = second_within n (settled role) (omega (arith, settled_within role, small))
+  named_within owner role tree None n small = none_within n
+
+  qualified_within : (owner : List ℕ) (role : Role) (args : List Tree) (n : ℕ) → added role ≤ n → IsRowWithin n (qualified_taken owner role args).row
+  qualified_within owner role [] n small = none_within n
+  qualified_within owner role (tree ∷ trees) n small = named_within owner role tree (atom_name tree) n small
+
+  by_within : (w : Way) (owner : List ℕ) (role : Role) (name : List ℕ) (args : List Tree) → IsRowWithin (length args + added role) (taken_by T w owner role name args).row
+  by_within Silent owner role name args = none_within (length args + added role)
+  by_within Behind owner role name args = second_within (length args + added role) Caret (omega arith)
+  by_within Control owner role name args =
+      let small : added (settled role) ≤ length args + added role = omega (arith, settled_within role) in
+      role_within (length args + added role) (first_two (settled role)) small small (omega arith)
+  by_within Qualified owner role name args = qualified_within owner role args (length args + added role) (omega arith)
+  by_within Calling owner role name args = within.each owner name (length args + added role)
+
+  -- what is added to an argument and the argument weigh no more than what is added to the compound and all its arguments
+  pub argument_within : (owner : List ℕ) (role : Role) (name : List ℕ) (args : List Tree) (i : ℕ) (tree : Tree) → slice_get args i ≡ Some tree
+      → added (role_at (taken T owner role name args).row i) + weight tree ≤ added role + weights (trees_from args)
+  argument_within owner role name args i tree is =
+      let few = (by_within (way role name (length args)) owner role name args).each i in
+      omega (arith, few, part_count args i tree is)

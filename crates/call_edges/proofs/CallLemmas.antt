@@ -1,0 +1,116 @@
+-- Where what is met goes to.
+use Rattle.std.proofs.Common.{◌≡◌, ◌↔◌, inl, inr, ℕ, nat_eq, List, [], ◌∷◌, ◌++◌, Option, Some, None, Result, Ok, Err, OnOk, map, ap, sym, ◌∙◌, subst, refl}
+use Rattle.std.specs.Prelude.{Contains}
+use Rattle.std.specs.List.Retain.{IsFiltered, DiffersFromLast}
+use Rattle.std.specs.List.Sorted.{IsSorted, IsPermutation, IsStrictlyIncreasing}
+use Rattle.std.specs.Ordering.{nat_cmp}
+use Rattle.std.proofs.lemmas.List.Filters.{dedup_is}
+use Rattle.std.proofs.lemmas.List.Kept.{Contains-from_dedup, Contains-dedup_nat}
+use Rattle.std.proofs.lemmas.List.Sorted.{Contains-permutation, IsPermutation-sym}
+use Rattle.std.proofs.lemmas.Map.Keys.{IsStrictlyIncreasing-dedup}
+use Rattle.std.proofs.lemmas.Option.{none-some}
+use Rattle.import_rules.specs.Program.{Seen}
+use Rattle.call_edges.specs.declared.role.Met.{Met as MetKept}
+use Rattle.call_edges.specs.declared.body.Body.{Body as BodyKept}
+use Rattle.call_edges.specs.Goals.{Met, plain_rows, Adds, AddsMet}
+use Rattle.call_edges.specs.Seen.{see_met, see_mets}
+use Rattle.call_edges.specs.Calls.{IsAmong, target, GoesTo, IsMetIn, NodeCalls}
+use Rattle.call_edges.specs.Bodies.{Body, see_body, bodies_in, IsMetInBody}
+use Rattle.call_edges.proofs.AddsLemmas.{none_in, adds_as, adds_option, adds_nothing}
+use Rattle.call_edges.proofs.AmongLemmas.{among_map, map_has}
+use Rattle.call_edges.proofs.BodyLemmas.{node_met}
+
+-- what is pushed where an option has something
+pub adds_given : {M : Type 0} (o : Option M) (x : M) (old : List M) → o ≡ Some x → Adds (λ y. o ≡ Some y) old (old ++ x ∷ [])
+adds_given o x old is =
+    adds_option (λ y. o ≡ Some y) (Some x) old (old ++ x ∷ []) (λ y same. sym is ∙ same) (λ y same. is ∙ same) refl
+
+pub adds_not : {M : Type 0} (o : Option M) (old : List M) → o ≡ None → Adds (λ y. o ≡ Some y) old old
+adds_not o old is = adds_nothing (λ y. o ≡ Some y) old (λ y same. none-some y (sym is ∙ same))
+
+-- from nothing
+pub adds_from_none : {M : Type 0} (P : M → Type 0) (old new : List M) → old ≡ [] → Adds P old new → (m : M) → Contains new m ↔ P m
+adds_from_none P old new none adds m = (
+  λ has. elim ((adds.each m).0 has) [ inl before ↦ absurd (none_in m (subst (λ xs. Contains xs m) none before)) | inr is ↦ is ],
+  λ is. (adds.each m).1 (inr is),
+)
+
+module _ (seen : Seen) where
+  abbrev pub HasTarget : MetKept → ℕ → Type 0
+  HasTarget one q = target seen (see_met one) ≡ Some q
+
+  -- targets of what is kept
+  pub kept_go : (met : List MetKept) (old new : List ℕ) → Adds (IsAmong HasTarget met) old new → Adds (GoesTo seen (Contains (see_mets met))) old new
+  kept_go met old new adds =
+      adds_as (IsAmong HasTarget met) (GoesTo seen (Contains (see_mets met))) old new
+      (λ q among.
+      record {
+        met = see_met among.one;
+        is = (map_has see_met met (see_met among.one)).1 (record { one = among.one; has = among.has; is = refl });
+        goes = among.is;
+      })
+      (λ q goes.
+      let kept = (map_has see_met met goes.met).0 goes.is in
+      record { one = kept.one; has = kept.has; is = ap (target seen) kept.is ∙ goes.goes })
+      adds
+
+  pub goes_as : (P Q : Met → Type 0) (q : ℕ) → ((m : Met) → P m → Q m) → GoesTo seen P q → GoesTo seen Q q
+  goes_as P Q q to goes = record { met = goes.met; is = to goes.met goes.is; goes = goes.goes }
+
+  -- the calls of a body
+  pub body_goes : (body : Body) (met : List MetKept) (none : List Met) (old new : List ℕ) → none ≡ [] → AddsMet plain_rows body.at none (see_mets met)
+      → Adds (GoesTo seen (Contains (see_mets met))) old new → Adds (GoesTo seen (IsMetInBody body)) old new
+  body_goes body met none old new empty walked adds =
+      let has = adds_from_none (IsMetInBody body) none (see_mets met) empty walked in
+      adds_as (GoesTo seen (Contains (see_mets met))) (GoesTo seen (IsMetInBody body)) old new (λ q. goes_as (Contains (see_mets met)) (IsMetInBody body) q (λ m. (has m).0))
+      (λ q. goes_as (IsMetInBody body) (Contains (see_mets met)) q (λ m. (has m).1)) adds
+
+  abbrev pub IsCalledIn : BodyKept → ℕ → Type 0
+  IsCalledIn body q = GoesTo seen (IsMetInBody (see_body body)) q
+
+  -- the calls of bodies
+  pub bodies_go : (bodies : List BodyKept) (old new : List ℕ) → Adds (IsAmong IsCalledIn bodies) old new → Adds (GoesTo seen (IsAmong IsMetInBody (map see_body bodies))) old new
+  bodies_go bodies old new adds =
+      adds_as (IsAmong IsCalledIn bodies) (GoesTo seen (IsAmong IsMetInBody (map see_body bodies))) old new
+      (λ q among.
+      record {
+        met = among.is.met;
+        is =
+            (among_map IsMetInBody see_body bodies among.is.met).1
+            (record { one = among.one; has = among.has; is = among.is.is });
+        goes = among.is.goes;
+      })
+      (λ q goes.
+      let kept = (among_map IsMetInBody see_body bodies goes.met).0 goes.is in
+      record { one = kept.one; has = kept.has; is = record { met = goes.met; is = kept.is; goes = goes.goes } })
+      adds
+
+  -- the calls of a predicate
+  pub node_goes : (node : ℕ) (bodies : List Body) (old new : List ℕ) → bodies ≡ bodies_in seen node → old ≡ [] → Adds (GoesTo seen (IsAmong IsMetInBody bodies)) old new
+      → (q : ℕ) → Contains new q ↔ NodeCalls seen node q
+  node_goes node bodies old new are none adds q =
+      let here : Adds (GoesTo seen (IsAmong IsMetInBody (bodies_in seen node))) old new = subst (λ (bs : List Body). Adds (GoesTo seen (IsAmong IsMetInBody bs)) old new) are adds in
+      let has = adds_from_none (GoesTo seen (IsAmong IsMetInBody (bodies_in seen node))) old new none here q in (
+        λ in_new. goes_as (IsAmong IsMetInBody (bodies_in seen node)) (IsMetIn seen node) q (λ m. (node_met seen node m).0) (has.0 in_new),
+        λ calls. has.1 (goes_as (IsMetIn seen node) (IsAmong IsMetInBody (bodies_in seen node)) q (λ m. (node_met seen node m).1) calls),
+      )
+
+-- numbers that are sorted, each once
+
+pub sorted_rises : (sorted kept : List ℕ) → IsSorted nat_cmp sorted → IsFiltered (DiffersFromLast nat_eq) [] sorted kept → IsStrictlyIncreasing kept
+sorted_rises sorted kept in_order filtered =
+    let is = dedup_is nat_eq sorted kept filtered in
+    let P : List ℕ → Type 0 = λ xs. IsStrictlyIncreasing xs in
+    subst P (sym is) (IsStrictlyIncreasing-dedup sorted in_order)
+
+pub sorted_has : (xs sorted kept : List ℕ) (q : ℕ) → IsPermutation xs sorted → IsFiltered (DiffersFromLast nat_eq) [] sorted kept → Contains kept q ↔ Contains xs q
+sorted_has xs sorted kept q moved filtered =
+    let is = dedup_is nat_eq sorted kept filtered in (
+      λ has.
+          Contains-permutation sorted xs q (IsPermutation-sym xs sorted moved) (Contains-from_dedup nat_eq sorted q (subst (λ (ys : List ℕ). Contains ys q) is has)),
+      λ has. subst (λ (ys : List ℕ). Contains ys q) (sym is) (Contains-dedup_nat sorted q (Contains-permutation xs sorted q moved has)),
+    )
+
+pub on_ok_both : {X E : Type 0} {P Q R : Type 0} (r : Result X E) → OnOk r P → OnOk r Q → (P → Q → R) → OnOk r R
+on_ok_both (Ok x) p q then = then p q
+on_ok_both (Err e) p q then = tt

@@ -1,0 +1,268 @@
+-- The places of all goals that aren't callable, from those of predicates and of directives.
+use Rattle.std.proofs.Common.{◌≡◌, ◌⊎◌, ◌↔◌, inl, inr, ℕ, ◌+◌, ◌<◌, Bool, true, false, ◌&&◌, nat_eq, List, [], ◌++◌, Option, Some, Result, Ok, Err, IfOk, Vec, Global, All, AllPairs, length, get_or, slice_get, ap, sym, ◌∙◌, subst, refl, arith}
+use Rattle.std.specs.Prelude.{Contains, IsOk, alloc_error}
+use Rattle.std.specs.List.{AllZip, range_with_len, enumerate_from, dedup}
+use Rattle.std.specs.List.Retain.{IsFiltered, DiffersFromLast}
+use Rattle.std.specs.List.Sorted.{IsSorted, IsPermutation}
+use Rattle.std.specs.Cmp.{IsTotalOrder, IsEquivalence, both_tied, unsigned_ties}
+use Rattle.std.specs.Ordering.{eq_by_cmp}
+use Rattle.std.specs.declared.alloc.AllocError.{AllocError}
+use Rattle.std.specs.declared.cmp.Ordering.TheVariants.{Less}
+use Rattle.std.proofs.lemmas.Bool.{and_parts, eqb-true}
+use Rattle.std.proofs.lemmas.Cmp.{then_total, on_total, nat_cmp_total, and_equiv, on_equiv, nat_eq_equiv}
+use Rattle.std.proofs.lemmas.List.Elements.{Contains-append_left, Contains-append_right, Contains-append_cases, Contains-get_or, All-contains}
+use Rattle.std.proofs.lemmas.List.Filters.{dedup_is}
+use Rattle.std.proofs.lemmas.List.FromFn.{length-range_with_len, get_or-range_with_len}
+use Rattle.std.proofs.lemmas.List.Kept.{Contains-dedup, Contains-from_dedup, IsStrictlySortedBy-dedup}
+use Rattle.std.proofs.lemmas.List.Sorted.{Contains-permutation, IsPermutation-sym}
+use Rattle.std.proofs.lemmas.Map.Keys.{Less-from_sorted}
+use Rattle.std.proofs.lemmas.Option.{slice_get-get_or, slice_get_within, get_or_from_slice_get}
+use Rattle.module_table.specs.Defined.{Predicate}
+use Rattle.module_table.specs.Facts.{Facts}
+use Rattle.import_rules.specs.declared.names.PredName.{PredName}
+use Rattle.import_rules.specs.Files.{pair_cmp, name_in, defined_in, all_defined, IsDefinedAt}
+use Rattle.import_rules.specs.Numbers.{places_for, parts_in}
+use Rattle.import_rules.specs.Program.{Seen, places_in, places_at, IsKnown}
+use Rattle.call_edges.specs.declared.role.Role.TheVariants.{Goal}
+use Rattle.call_edges.specs.Goals.{fault, place, plain_rows, IsMet, Adds}
+use Rattle.call_edges.specs.Calls.{IsAmong, IsMetInClause, IsMetAt}
+use Rattle.call_edges.specs.Bodies.{body_in, bodies_at, bodies_in, goals_of_file, goals_in}
+use Rattle.call_edges.specs.FaultPlaces.{HasPlace, IsFaultIn, AreFaultsIn, IsFaultPlace, AreFaultPlaces}
+use Rattle.call_edges.proofs.AmongLemmas.{among_flat, among_map, flat_has, map_has}
+use Rattle.call_edges.proofs.PlaceLemmas.{enumerated, numbered, stands_place}
+use Rattle.call_edges.proofs.BodyLemmas.{place_met, body_file}
+use Rattle.call_edges.proofs.ZipLemmas.{zip_at, zip_count}
+
+pub adds_append : {M : Type 0} (old more : List M) → Adds (Contains more) old (old ++ more)
+adds_append old more = record {
+  each = λ m. (
+    Contains-append_cases old more m,
+    λ either. elim either [ inl before ↦ Contains-append_left old more m before | inr later ↦ Contains-append_right old more m later ],
+  );
+}
+
+abbrev pub Places : Type 0
+Places = Result (Vec (ℕ × ℕ) Global) AllocError
+
+pub list_adds : (list : Places) (more : Vec (ℕ × ℕ) Global) (old new : List (ℕ × ℕ)) → list ≡ Ok more → new ≡ old ++ more.items → Adds (HasPlace list) old new
+list_adds list more old new is same =
+    let P : Places → Type 0 = λ one. Adds (HasPlace one) old new in
+    let Q : List (ℕ × ℕ) → Type 0 = λ xs. Adds (HasPlace (Ok more)) old xs in
+    subst P (sym is) (subst Q (sym same) (adds_append old more.items))
+
+-- elements by their places
+
+pub stands_in : {X : Type 0} (xs : List X) (k : ℕ) (x : X) → slice_get xs k ≡ Some x → Contains xs x
+stands_in xs k x is = (k, slice_get_within xs k x is, get_or_from_slice_get xs k x x is)
+
+pub place_in : {X : Type 0} (xs : List X) (x : X) → Contains xs x → (k : ℕ) × (slice_get xs k ≡ Some x)
+place_in xs x (k, lt, is) = (k, slice_get-get_or xs k x lt ∙ ap (λ y. Some y) is)
+
+-- the places of predicates
+
+abbrev pub AreOf : Seen → ℕ → Places → Type 0
+AreOf seen node one = IfOk one (λ (faults : Vec (ℕ × ℕ) Global). AreFaultsIn (bodies_in seen node) faults.items)
+
+-- a goal of a predicate isn't callable, there
+pub record IsNodeFault (seen : Seen) (p : ℕ × ℕ) : Type 0 where
+  pub node : ℕ
+  pub below : node < length seen.predicates
+  pub is : IsAmong IsFaultIn (bodies_in seen node) p
+
+has_of : (seen : Seen) (node : ℕ) (one : Places) (p : ℕ × ℕ) → AreOf seen node one → HasPlace one p → IsAmong IsFaultIn (bodies_in seen node) p
+has_of seen node (Ok faults) p are has = (are.each p).0 has
+has_of seen node (Err error) p are has = absurd has
+
+of_has : (seen : Seen) (node : ℕ) (one : Places) (p : ℕ × ℕ) → IsOk one → AreOf seen node one → IsAmong IsFaultIn (bodies_in seen node) p → HasPlace one p
+of_has seen node (Ok faults) p ok are is = (are.each p).1 is
+of_has seen node (Err error) p ok are is = let both : false ≡ true = ok in absurd (cc)
+
+pub each_faults : (seen : Seen) (each : List Places) (p : ℕ × ℕ) → AllZip (AreOf seen) (range_with_len 0 (length seen.predicates)) each → All IsOk each
+    → IsAmong HasPlace each p ↔ IsNodeFault seen p
+each_faults seen each p zip whole =
+    let n = length seen.predicates in
+    let nodes = range_with_len 0 n in
+    let count : length each ≡ n = sym (zip_count (AreOf seen) nodes each zip) ∙ length-range_with_len 0 n in
+    let at : (k : ℕ) (d : Places) → k < n → AreOf seen k (get_or each k d) = λ k d lt.
+    let count_up : 0 + k ≡ k = omega arith in
+    let here : get_or nodes k 0 ≡ k = get_or-range_with_len 0 n k 0 lt ∙ count_up in
+    subst (λ (node : ℕ). AreOf seen node (get_or each k d)) here (zip_at (AreOf seen) nodes each k 0 d zip (omega (arith, lt, length-range_with_len 0 n))) in (
+      λ among.
+          let k = among.has.0 in
+          let lt : k < n = omega (arith, among.has.1, count) in
+          let are : AreOf seen k among.one = subst (AreOf seen k) among.has.2 (at k among.one lt) in
+          record { node = k; below = lt; is = has_of seen k among.one p are among.is },
+      λ fault.
+          let k = fault.node in
+          let within : k < length each = omega (arith, fault.below, count) in
+          let d : Places = Err alloc_error in
+          record {
+            one = get_or each k d;
+            has = Contains-get_or each k d within;
+            is = of_has seen k (get_or each k d) p (whole k d within) (at k d fault.below) fault.is;
+          },
+    )
+
+-- a goal of a clause of the predicate at a place
+
+pub fault_at_place : (files : List Facts) (at p : ℕ × ℕ) → IsAmong IsFaultIn (bodies_at files at) p ↔ ((p.0 ≡ at.0) × IsMetAt files at (fault p.1))
+fault_at_place files at p =
+    let met = place_met files at (fault p.1) in (
+      λ among. (
+        among.is.in_file ∙ body_file files at among.one among.has,
+        met.0 (record { one = among.one; has = among.has; is = among.is.met }),
+      ),
+      λ both.
+          let among = met.1 both.1 in
+          record { one = among.one; has = among.has; is = record { in_file = both.0 ∙ sym (body_file files at among.one among.has); met = among.is } },
+    )
+
+-- a clause of a predicate of a file is one of a node
+
+node_of : (seen : Seen) (p : PredName) → IsKnown seen → Contains (all_defined seen.loaded.files) p → (n : ℕ) × (slice_get seen.predicates n ≡ Some p)
+node_of seen p known has = place_in seen.predicates p (All-contains (Contains seen.predicates) (all_defined seen.loaded.files) p known.numbered.all has)
+
+defined_there : (files : List Facts) (file : Facts) (k part : ℕ) (predicate : Predicate) → slice_get files k ≡ Some file → slice_get file.defined part ≡ Some predicate
+    → Contains (all_defined files) (name_in file predicate)
+defined_there files file k part predicate here there =
+    (flat_has defined_in files (name_in file predicate)).1
+    (record {
+      one = file;
+      has = stands_in files k file here;
+      is =
+          (map_has (name_in file) file.defined (name_in file predicate)).1
+          (record { one = predicate; has = stands_in file.defined part predicate there; is = refl });
+    })
+
+place_of_node : (seen : Seen) (n : ℕ) (p : PredName) (at : ℕ × ℕ) → slice_get seen.predicates n ≡ Some p → Contains (places_for (parts_in seen.loaded.files) p) at
+    → Contains (places_in seen n) at
+unfolding places_in
+place_of_node seen n p at is has = subst (λ (o : Option PredName). Contains (places_at seen.loaded.files o) at) (sym is) has
+
+met_node : (seen : Seen) (p : ℕ × ℕ) (file : Facts) → IsKnown seen → slice_get seen.loaded.files p.0 ≡ Some file
+    → IsAmong (λ (predicate : Predicate). IsAmong (IsMetInClause file.module_) predicate.clauses) file.defined (fault p.1) → IsNodeFault seen p
+met_node seen p file known here among =
+    let files = seen.loaded.files in
+    let predicate = among.one in
+    let part = place_in file.defined predicate among.has in
+    let name = name_in file predicate in
+    let node = node_of seen name known (defined_there files file p.0 part.0 predicate here part.1) in
+    let at : ℕ × ℕ = (p.0, part.0) in
+    let stands : IsDefinedAt files name p.0 part.0 = record { file = file; predicate = predicate; at_place = here; at_part = part.1; is = refl } in
+    let met : IsMetAt files at (fault p.1) = record { file = file; file_is = here; predicate = predicate; predicate_is = part.1; among = among.is } in
+    record {
+      node = node.0;
+      below = slice_get_within seen.predicates node.0 name node.1;
+      is =
+          (among_flat IsFaultIn (bodies_at files) (places_in seen node.0) p).1
+          (record { one = at; has = place_of_node seen node.0 name at node.1 (stands_place files name p.0 part.0 stands); is = (fault_at_place files at p).1 (refl, met) });
+    }
+
+node_met_there : (seen : Seen) (p : ℕ × ℕ) → IsNodeFault seen p → IsFaultPlace seen p
+node_met_there seen p wrong =
+    let files = seen.loaded.files in
+    let among = (among_flat IsFaultIn (bodies_at files) (places_in seen wrong.node) p).0 wrong.is in
+    let both = (fault_at_place files among.one p).0 among.is in
+    let met = both.1 in
+    record {
+      file = met.file;
+      is = ap (slice_get files) both.0 ∙ met.file_is;
+      met = inl (record { one = met.predicate; has = stands_in met.file.defined among.one.1 met.predicate met.predicate_is; is = met.among });
+    }
+
+-- goals of directives
+
+goal_met_there : (seen : Seen) (p : ℕ × ℕ) → IsAmong IsFaultIn (goals_in seen.loaded.files) p → IsFaultPlace seen p
+goal_met_there seen p among =
+    let files = seen.loaded.files in
+    let of_file = (among_flat IsFaultIn goals_of_file (enumerate_from 0 files) p).0 among in
+    let at = of_file.one in
+    let of_goal = (among_map IsFaultIn (λ goal. body_in at.0 (place at.1.module_ (Goal 0) goal)) at.1.goals p).0 of_file.is in
+    record {
+      file = at.1;
+      is = ap (slice_get files) of_goal.is.in_file ∙ enumerated files at of_file.has;
+      met = inr (record { one = of_goal.one; has = of_goal.has; is = of_goal.is.met });
+    }
+
+met_goal : (seen : Seen) (p : ℕ × ℕ) (file : Facts) → slice_get seen.loaded.files p.0 ≡ Some file
+    → IsAmong (λ goal. IsMet plain_rows (place file.module_ (Goal 0) goal)) file.goals (fault p.1) → IsAmong IsFaultIn (goals_in seen.loaded.files) p
+met_goal seen p file here among =
+    let files = seen.loaded.files in
+    (among_flat IsFaultIn goals_of_file (enumerate_from 0 files) p).1
+    (record {
+      one = (p.0, file);
+      has = numbered files p.0 file here;
+      is =
+          (among_map IsFaultIn (λ goal. body_in p.0 (place file.module_ (Goal 0) goal)) file.goals p).1
+          (record { one = among.one; has = among.has; is = record { in_file = refl; met = among.is } });
+    })
+
+-- all places
+
+pub there_is : (seen : Seen) (p : ℕ × ℕ) → IsKnown seen → (IsNodeFault seen p ⊎ IsAmong IsFaultIn (goals_in seen.loaded.files) p) ↔ IsFaultPlace seen p
+there_is seen p known = (
+  λ either. elim either [ inl node ↦ node_met_there seen p node | inr goal ↦ goal_met_there seen p goal ],
+  λ is. elim is.met [ inl among ↦ inl (met_node seen p is.file known is.is among) | inr goal ↦ inr (met_goal seen p is.file is.is goal) ],
+)
+
+-- pairs of numbers that are sorted, each once
+
+pub pair_cmp_total : IsTotalOrder pair_cmp
+pair_cmp_total = then_total (on_total (λ (t : ℕ × ℕ). t.0) nat_cmp_total) (on_total (λ (t : ℕ × ℕ). t.1) nat_cmp_total)
+
+abbrev pub pair_eq : ℕ × ℕ → ℕ × ℕ → Bool
+pair_eq a b = nat_eq a.0 b.0 && nat_eq a.1 b.1
+
+pair_ties : (a b : ℕ × ℕ) → pair_eq a b ≡ eq_by_cmp pair_cmp a b
+pair_ties a b = both_tied _ _ _ _ (unsigned_ties a.0 b.0) (unsigned_ties a.1 b.1)
+
+pair_equiv : IsEquivalence pair_eq
+pair_equiv = and_equiv (on_equiv (λ (t : ℕ × ℕ). t.0) nat_eq_equiv) (on_equiv (λ (t : ℕ × ℕ). t.1) nat_eq_equiv)
+
+pair_same : (a b : ℕ × ℕ) → pair_eq a b ≡ true → a ≡ b
+pair_same a b is =
+    let both = and_parts (nat_eq a.0 b.0) (nat_eq a.1 b.1) is in
+    let first : a.0 ≡ b.0 = eqb-true a.0 b.0 both.0 in
+    let second : a.1 ≡ b.1 = eqb-true a.1 b.1 both.1 in
+    λ i. (first i, second i)
+
+pairs_rise : (sorted kept : List (ℕ × ℕ)) → IsSorted pair_cmp sorted → IsFiltered (DiffersFromLast pair_eq) [] sorted kept → AllPairs (λ a b. pair_cmp a b ≡ Less) kept
+pairs_rise sorted kept in_order filtered =
+    let rises = IsStrictlySortedBy-dedup pair_cmp_total pair_ties sorted in_order in
+    let P : List (ℕ × ℕ) → Type 0 = λ xs. AllPairs (λ a b. pair_cmp a b ≡ Less) xs in
+    subst P (sym (dedup_is pair_eq sorted kept filtered)) (λ i j d before lt. Less-from_sorted pair_cmp (dedup pair_eq sorted) i j d rises before lt)
+
+pairs_have : (xs sorted kept : List (ℕ × ℕ)) (p : ℕ × ℕ) → IsPermutation xs sorted → IsFiltered (DiffersFromLast pair_eq) [] sorted kept → Contains kept p ↔ Contains xs p
+pairs_have xs sorted kept p moved filtered =
+    let is = dedup_is pair_eq sorted kept filtered in (
+      λ has.
+          Contains-permutation sorted xs p (IsPermutation-sym xs sorted moved) (Contains-from_dedup pair_eq sorted p (subst (λ (ys : List (ℕ × ℕ)). Contains ys p) is has)),
+      λ has. subst (λ (ys : List (ℕ × ℕ)). Contains ys p) (sym is) (Contains-dedup pair_equiv pair_same sorted p (Contains-permutation xs sorted p moved has)),
+    )
+
+-- the places of all, sorted and each once
+pub all_places : (seen : Seen) (each : List Places) (lists others all sorted kept : List (ℕ × ℕ)) → IsKnown seen
+    → AllZip (AreOf seen) (range_with_len 0 (length seen.predicates)) each → All IsOk each → ((p : ℕ × ℕ) → Contains lists p ↔ IsAmong HasPlace each p)
+    → AreFaultsIn (goals_in seen.loaded.files) others → all ≡ lists ++ others
+    → IsPermutation all sorted → IsSorted pair_cmp sorted → IsFiltered (DiffersFromLast pair_eq) [] sorted kept → AreFaultPlaces seen kept
+all_places seen each lists others all sorted kept known zip whole told goals joins moved in_order filtered = record {
+  ordered = pairs_rise sorted kept in_order filtered;
+  each = λ p.
+      let has = pairs_have all sorted kept p moved filtered in
+      let node = each_faults seen each p zip whole in
+      let is = there_is seen p known in (
+        λ in_kept.
+            is.0
+            (elim (Contains-append_cases lists others p (subst (λ (xs : List (ℕ × ℕ)). Contains xs p) joins (has.0 in_kept))) [
+              | inl listed ↦ inl (node.0 ((told p).0 listed))
+              | inr other ↦ inr ((goals.each p).0 other)
+            ]),
+        λ there.
+            has.1
+            (subst (λ (xs : List (ℕ × ℕ)). Contains xs p) (sym joins)
+            (elim (is.1 there) [
+              | inl of_node ↦ Contains-append_left lists others p ((told p).1 (node.1 of_node))
+              | inr goal ↦ Contains-append_right lists others p ((goals.each p).1 goal)
+            ])),
+      );
+}

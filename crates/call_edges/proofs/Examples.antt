@@ -1,0 +1,226 @@
+-- What is met in bodies, on cases worked out by hand.
+use Rattle.std.proofs.Common.{◌≡◌, ℕ, ◌+◌, List, [], ◌∷◌, Some, None, true, false, codes, refl}
+use Rattle.prolog_terms.specs.declared.term.Span.{Span}
+use Rattle.prolog_terms.specs.declared.term.Form.TheVariants.{Functional}
+use Rattle.prolog_terms.specs.declared.term.ConstKind.TheVariants.{Integer, Str, BackStr, Float}
+use Rattle.prolog_terms.specs.Tree.{Tree, variable, constant, atom, compound, listed, tailed, curly, paren, trees_from}
+use Rattle.call_edges.specs.declared.role.Role.TheVariants.{Plain, Goal, Caret, Grammar}
+use Rattle.call_edges.specs.Goals.{Met, call, fault, place, plain_rows, IsPart, IsMet}
+use Rattle.call_edges.specs.Listed.{mets_in}
+
+-- terms that stand at an offset
+
+abbrev at : ℕ → Span
+at n = record { from = n; to = n + 1 }
+
+abbrev var : Tree
+var = variable (at 90)
+
+abbrev number : ℕ → Tree
+number n = constant Integer false (Some 3) (at n)
+
+abbrev text : Tree
+text = constant Str false None (at 80)
+
+abbrev name : List ℕ → Tree
+name own = atom own (at 1)
+
+abbrev with : List ℕ → List Tree → Tree
+with own args = compound own (trees_from args) Functional (at 2)
+
+abbrev round : Tree → Tree
+round tree = paren tree (at 3)
+
+abbrev a : Tree
+a = name (codes "a")
+
+abbrev b : Tree
+b = name (codes "b")
+
+abbrev d : Tree
+d = name (codes "d")
+
+-- what is met in a goal, and in a grammar body, of `user`
+
+abbrev goals : Tree → List Met
+goals tree = mets_in plain_rows (codes "user") (Goal 0) tree
+
+abbrev grammar : Tree → List Met
+grammar tree = mets_in plain_rows (codes "user") Grammar tree
+
+abbrev calls : List ℕ → ℕ → Met
+calls own arity = call (codes "user") own arity
+
+-- atoms, compounds and terms that call nothing
+
+an_atom : goals a ≡ calls (codes "a") 0 ∷ []
+an_atom = refl
+
+a_compound : goals (with (codes "p") (a ∷ b ∷ [])) ≡ calls (codes "p") 2 ∷ []
+a_compound = refl
+
+a_variable : goals var ≡ []
+a_variable = refl
+
+a_list : goals (listed (trees_from (a ∷ [])) (at 4)) ≡ []
+a_list = refl
+
+a_list_with_a_tail : goals (tailed (trees_from (a ∷ [])) b (at 4)) ≡ []
+a_list_with_a_tail = refl
+
+curly_brackets : goals (curly a (at 4)) ≡ []
+curly_brackets = refl
+
+empty_brackets : goals (name (codes "[]")) ≡ calls (codes "[]") 0 ∷ []
+empty_brackets = refl
+
+-- constants aren't callable, also in brackets, where they themselves stand
+
+a_number : goals (number 7) ≡ fault 7 ∷ []
+a_number = refl
+
+a_number_in_brackets : goals (round (round (number 7))) ≡ fault 7 ∷ []
+a_number_in_brackets = refl
+
+a_text : goals text ≡ fault 80 ∷ []
+a_text = refl
+
+-- control constructs
+
+joined_goals : goals (with (codes ",") (a ∷ with (codes ";") (with (codes "->") (b ∷ d ∷ []) ∷ with (codes "|") (a ∷ b ∷ []) ∷ []) ∷ []))
+    ≡ calls (codes "a") 0 ∷ calls (codes "b") 0 ∷ calls (codes "d") 0 ∷ calls (codes "a") 0 ∷ calls (codes "b") 0 ∷ []
+joined_goals = refl
+
+negated_goal : goals (with (codes "\\+") (round a ∷ [])) ≡ calls (codes "a") 0 ∷ []
+negated_goal = refl
+
+a_comma_of_three : goals (with (codes ",") (a ∷ b ∷ d ∷ [])) ≡ calls (codes ",") 3 ∷ []
+a_comma_of_three = refl
+
+-- goals with added arguments
+
+call_with_one : goals (with (codes "call") (a ∷ [])) ≡ calls (codes "call") 1 ∷ calls (codes "a") 0 ∷ []
+call_with_one = refl
+
+call_with_three : goals (with (codes "call") (with (codes "p") (a ∷ []) ∷ b ∷ d ∷ [])) ≡ calls (codes "call") 3 ∷ calls (codes "p") 3 ∷ []
+call_with_three = refl
+
+call_of_a_comma : goals (with (codes "call") (round (with (codes ",") (a ∷ b ∷ [])) ∷ d ∷ [])) ≡ calls (codes "call") 2 ∷ calls (codes ",") 3 ∷ []
+call_of_a_comma = refl
+
+call_of_a_number : goals (with (codes "call") (number 9 ∷ a ∷ [])) ≡ calls (codes "call") 2 ∷ fault 9 ∷ []
+call_of_a_number = refl
+
+maplist_over_a_list : goals (with (codes "maplist") (a ∷ var ∷ var ∷ [])) ≡ calls (codes "maplist") 3 ∷ calls (codes "a") 2 ∷ []
+maplist_over_a_list = refl
+
+call_of_a_maplist : goals (with (codes "call") (with (codes "maplist") (a ∷ []) ∷ var ∷ [])) ≡ calls (codes "call") 2 ∷ calls (codes "maplist") 2 ∷ calls (codes "a") 1 ∷ []
+call_of_a_maplist = refl
+
+-- the first argument of `maplist` isn't written there
+call_of_the_name : goals (with (codes "call") (name (codes "maplist") ∷ a ∷ var ∷ [])) ≡ calls (codes "call") 3 ∷ calls (codes "maplist") 2 ∷ []
+call_of_the_name = refl
+
+-- other predicates that take goals
+
+find_all : goals (with (codes "findall") (a ∷ b ∷ d ∷ [])) ≡ calls (codes "findall") 3 ∷ calls (codes "b") 0 ∷ []
+find_all = refl
+
+find_all_with_a_tail : goals (with (codes "findall") (a ∷ b ∷ d ∷ var ∷ [])) ≡ calls (codes "findall") 4 ∷ calls (codes "b") 0 ∷ []
+find_all_with_a_tail = refl
+
+bag_of : goals (with (codes "bagof") (var ∷ with (codes "^") (var ∷ round (with (codes "^") (var ∷ with (codes "p") (var ∷ []) ∷ [])) ∷ []) ∷ var ∷ []))
+    ≡ calls (codes "bagof") 3 ∷ calls (codes "p") 1 ∷ []
+bag_of = refl
+
+set_of_a_comma : goals (with (codes "setof") (var ∷ round (with (codes "^") (var ∷ round (with (codes ",") (a ∷ b ∷ [])) ∷ [])) ∷ var ∷ []))
+    ≡ calls (codes "setof") 3 ∷ calls (codes "a") 0 ∷ calls (codes "b") 0 ∷ []
+set_of_a_comma = refl
+
+-- behind a goal `^` is a predicate
+set_of_another_module : goals (with (codes "setof") (var ∷ with (codes ":") (name (codes "m") ∷ with (codes "^") (var ∷ a ∷ []) ∷ []) ∷ var ∷ []))
+    ≡ calls (codes "setof") 3 ∷ call (codes "m") (codes "^") 2 ∷ []
+set_of_another_module = refl
+
+for_all : goals (with (codes "forall") (a ∷ b ∷ [])) ≡ calls (codes "forall") 2 ∷ calls (codes "a") 0 ∷ calls (codes "b") 0 ∷ []
+for_all = refl
+
+catch_goals : goals (with (codes "catch") (a ∷ b ∷ d ∷ [])) ≡ calls (codes "catch") 3 ∷ calls (codes "a") 0 ∷ calls (codes "d") 0 ∷ []
+catch_goals = refl
+
+phrase_of_two : goals (with (codes "phrase") (a ∷ var ∷ [])) ≡ calls (codes "phrase") 2 ∷ calls (codes "a") 2 ∷ []
+phrase_of_two = refl
+
+phrase_of_three : goals (with (codes "phrase") (curly a (at 4) ∷ var ∷ var ∷ [])) ≡ calls (codes "phrase") 3 ∷ calls (codes "a") 0 ∷ []
+phrase_of_three = refl
+
+initial_goal : goals (with (codes "initialization") (a ∷ [])) ≡ calls (codes "initialization") 1 ∷ calls (codes "a") 0 ∷ []
+initial_goal = refl
+
+initial_goal_when : goals (with (codes "initialization") (a ∷ a ∷ [])) ≡ calls (codes "initialization") 2 ∷ calls (codes "a") 0 ∷ []
+initial_goal_when = refl
+
+-- goals of other modules
+
+goal_of_a_module : goals (with (codes ":") (name (codes "m") ∷ with (codes ",") (a ∷ with (codes "call") (b ∷ var ∷ []) ∷ []) ∷ []))
+    ≡ call (codes "m") (codes "a") 0 ∷ call (codes "m") (codes "call") 2 ∷ call (codes "m") (codes "b") 1 ∷ []
+goal_of_a_module = refl
+
+goal_of_a_module_in_brackets : goals (with (codes ":") (round (name (codes "m")) ∷ round a ∷ [])) ≡ call (codes "m") (codes "a") 0 ∷ []
+goal_of_a_module_in_brackets = refl
+
+goal_of_a_variable : goals (with (codes ":") (round var ∷ number 7 ∷ [])) ≡ []
+goal_of_a_variable = refl
+
+goal_of_a_number : goals (with (codes ":") (round (number 5) ∷ number 7 ∷ [])) ≡ fault 5 ∷ []
+goal_of_a_number = refl
+
+added_to_a_module : goals (with (codes "call") (with (codes ":") (name (codes "m") ∷ a ∷ []) ∷ var ∷ [])) ≡ calls (codes "call") 2 ∷ call (codes "m") (codes "a") 1 ∷ []
+added_to_a_module = refl
+
+-- grammar bodies
+
+silent_parts : grammar (with (codes ",") (text ∷ with (codes ",") (name (codes "[]") ∷ with (codes ";") (name (codes "{}") ∷ name (codes "!") ∷ []) ∷ []) ∷ [])) ≡ []
+silent_parts = refl
+
+terminals : grammar (with (codes "|") (listed (trees_from (a ∷ [])) (at 4) ∷ constant BackStr false None (at 5) ∷ [])) ≡ []
+terminals = refl
+
+a_grammar_number : grammar (round (number 6)) ≡ fault 6 ∷ []
+a_grammar_number = refl
+
+a_grammar_float : grammar (constant Float true None (at 8)) ≡ fault 8 ∷ []
+a_grammar_float = refl
+
+two_added : grammar (with (codes "->") (a ∷ with (codes "p") (var ∷ []) ∷ [])) ≡ calls (codes "a") 2 ∷ calls (codes "p") 3 ∷ []
+two_added = refl
+
+negated_body : grammar (with (codes "\\+") (a ∷ [])) ≡ calls (codes "a") 2 ∷ []
+negated_body = refl
+
+goal_in_a_body : grammar (curly (with (codes ",") (a ∷ number 6 ∷ [])) (at 4)) ≡ calls (codes "a") 0 ∷ fault 6 ∷ []
+goal_in_a_body = refl
+
+body_of_a_module : grammar (with (codes ":") (name (codes "m") ∷ with (codes ",") (a ∷ text ∷ []) ∷ [])) ≡ call (codes "m") (codes "a") 2 ∷ []
+body_of_a_module = refl
+
+call_in_a_body : grammar (with (codes "call") (a ∷ b ∷ [])) ≡ calls (codes "call") 4 ∷ calls (codes "a") 3 ∷ []
+call_in_a_body = refl
+
+phrase_in_a_body : grammar (with (codes "phrase") (text ∷ [])) ≡ calls (codes "phrase") 3 ∷ []
+phrase_in_a_body = refl
+
+-- places by themselves: a part of a goal, and no part of a variable
+
+second_side : IsPart plain_rows (codes "user") (Goal 0) (with (codes ",") (a ∷ b ∷ [])) (place (codes "user") (Goal 0) b)
+second_side = record { i = 1; argument = refl; in_module = refl; stands = refl }
+
+plain_argument : IsPart plain_rows (codes "user") (Goal 0) (with (codes "p") (a ∷ [])) (place (codes "user") Plain a)
+plain_argument = record { i = 0; argument = refl; in_module = refl; stands = refl }
+
+met_behind_a_caret : IsMet plain_rows (place (codes "user") Caret (with (codes "^") (var ∷ a ∷ []))) (calls (codes "a") 0)
+met_behind_a_caret = record {
+  at = place (codes "user") Caret a;
+  stands = record { path = place (codes "user") Caret a ∷ []; leads = (record { i = 1; argument = refl; in_module = refl; stands = refl }, refl) };
+  met = refl;
+}

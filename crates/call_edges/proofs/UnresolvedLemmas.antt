@@ -1,0 +1,139 @@
+-- Calls that go to no predicate.
+use Rattle.std.proofs.Common.{◌≡◌, ◌↔◌, ℕ, Bool, List, [], Option, Some, None, map, ap, sym, ◌∙◌, subst, refl}
+use Rattle.std.specs.Prelude.{Contains}
+use Rattle.std.specs.List.{dedup}
+use Rattle.std.specs.List.Retain.{IsFiltered, DiffersFromLast}
+use Rattle.std.specs.List.Sorted.{IsSorted, IsPermutation}
+use Rattle.std.specs.declared.cmp.Ordering.TheVariants.{Less}
+use Rattle.std.specs.Cmp.{IsEquivalence}
+use Rattle.std.specs.declared.cmp.Ordering.{Ordering}
+use Rattle.std.proofs.lemmas.Cmp.{on_total, and_equiv, on_equiv, nat_list_eq_equiv, nat_eq_equiv}
+use Rattle.std.proofs.lemmas.List.Filters.{dedup_is}
+use Rattle.std.proofs.lemmas.List.Kept.{Any-dedup, Contains-from_dedup, IsStrictlySortedBy-dedup}
+use Rattle.std.proofs.lemmas.List.Sorted.{Contains-permutation, IsPermutation-sym}
+use Rattle.std.proofs.lemmas.Map.Keys.{Less-from_sorted}
+use Rattle.std.proofs.lemmas.Option.{none-some, same_Some}
+use Rattle.import_rules.specs.declared.names.PredName.{PredName}
+use Rattle.import_rules.specs.Names.{pred_cmp, is_same, pred_name}
+use Rattle.import_rules.specs.Program.{Seen, found}
+use Rattle.import_rules.proofs.Lists.{all_pairs_map}
+use Rattle.import_rules.proofs.NameOrder.{pred_cmp_total, same_ties, same_parts}
+use Rattle.call_edges.specs.declared.role.Met.{Met as MetKept}
+use Rattle.call_edges.specs.declared.body.Body.{Body as BodyKept}
+use Rattle.call_edges.specs.declared.unresolved.Called.{Called}
+use Rattle.call_edges.specs.Goals.{Met, call, fault, plain_rows, Adds, AddsMet}
+use Rattle.call_edges.specs.Seen.{see_met, see_mets}
+use Rattle.call_edges.specs.Calls.{IsAmong}
+use Rattle.call_edges.specs.Bodies.{Body, see_body, bodies_in, IsMetInBody}
+use Rattle.call_edges.specs.Called.{see_called, unless_found, unresolved}
+use Rattle.call_edges.specs.Unresolved.{IsUnresolvedOf, IsUnresolvedIn, IsUnresolved, AreUnresolved}
+use Rattle.call_edges.proofs.AddsLemmas.{adds_as}
+use Rattle.call_edges.proofs.AmongLemmas.{among_map, map_has}
+use Rattle.call_edges.proofs.BodyLemmas.{node_met}
+use Rattle.call_edges.proofs.CallLemmas.{adds_from_none}
+use Rattle.call_edges.proofs.LightLemmas.{all_of}
+
+module _ (seen : Seen) where
+  abbrev pub IsKeptName : MetKept → PredName → Type 0
+  IsKeptName one name = unresolved seen (see_met one) ≡ Some name
+
+  abbrev pub IsSeenName : BodyKept → PredName → Type 0
+  IsSeenName body name = IsUnresolvedIn seen (see_body body) name
+
+  call_found : (owner name : List ℕ) (arity : ℕ) (wanted : PredName) (o : Option ℕ) → found seen owner name arity ≡ o → unless_found (pred_name owner name arity) o ≡ Some wanted
+      → (call owner name arity ≡ call wanted.module wanted.name wanted.arity) × (found seen wanted.module wanted.name wanted.arity ≡ None)
+  call_found owner name arity wanted (Some n) here is = absurd (none-some wanted is)
+  call_found owner name arity wanted None here is =
+      let same : pred_name owner name arity ≡ wanted = same_Some (pred_name owner name arity) wanted is in (
+        ap (λ (p : PredName). call p.module p.name p.arity) same,
+        subst (λ (p : PredName). found seen p.module p.name p.arity ≡ None) same here,
+      )
+
+  -- what it says that a call has no predicate
+  kept_name : (m : Met) (wanted : PredName) → unresolved seen m ≡ Some wanted
+      → (m ≡ call wanted.module wanted.name wanted.arity) × (found seen wanted.module wanted.name wanted.arity ≡ None)
+  kept_name (call owner name arity) wanted is = call_found owner name arity wanted (found seen owner name arity) refl is
+  kept_name (fault at) wanted is = absurd (none-some wanted is)
+
+  name_kept : (m : Met) (wanted : PredName) → m ≡ call wanted.module wanted.name wanted.arity → found seen wanted.module wanted.name wanted.arity ≡ None
+      → unresolved seen m ≡ Some wanted
+  name_kept m wanted same none = ap (unresolved seen) same ∙ ap (unless_found wanted) none
+
+  pub names_kept : (met : List MetKept) (old new : List PredName) → Adds (IsAmong IsKeptName met) old new → Adds (IsUnresolvedOf seen (Contains (see_mets met))) old new
+  names_kept met old new adds =
+      adds_as (IsAmong IsKeptName met) (IsUnresolvedOf seen (Contains (see_mets met))) old new
+      (λ name among.
+      let both = kept_name (see_met among.one) name among.is in
+      record {
+        met = (map_has see_met met (call name.module name.name name.arity)).1 (record { one = among.one; has = among.has; is = both.0 });
+        means_none = both.1;
+      })
+      (λ name is.
+      let kept = (map_has see_met met (call name.module name.name name.arity)).0 is.met in
+      record { one = kept.one; has = kept.has; is = name_kept (see_met kept.one) name kept.is is.means_none })
+      adds
+
+  -- the names of a body
+  pub body_names : (body : Body) (met : List MetKept) (none : List Met) (old new : List PredName) → none ≡ [] → AddsMet plain_rows body.at none (see_mets met)
+      → Adds (IsUnresolvedOf seen (Contains (see_mets met))) old new → Adds (IsUnresolvedIn seen body) old new
+  body_names body met none old new empty walked adds =
+      let has = adds_from_none (IsMetInBody body) none (see_mets met) empty walked in
+      adds_as (IsUnresolvedOf seen (Contains (see_mets met))) (IsUnresolvedIn seen body) old new
+      (λ name is. record { met = (has (call name.module name.name name.arity)).0 is.met; means_none = is.means_none })
+      (λ name is. record { met = (has (call name.module name.name name.arity)).1 is.met; means_none = is.means_none }) adds
+
+  pub bodies_names : (bodies : List BodyKept) (new : List PredName) → Adds (IsAmong IsSeenName bodies) [] new
+      → (name : PredName) → Contains new name ↔ IsAmong (IsUnresolvedIn seen) (map see_body bodies) name
+  bodies_names bodies new adds name =
+      let has = adds_from_none (IsAmong IsSeenName bodies) [] new refl adds name in
+      let among = among_map (IsUnresolvedIn seen) see_body bodies name in
+      (λ there. among.1 (has.0 there), λ is. has.1 (among.0 is))
+
+  -- those of a predicate
+  pub node_names : (node : ℕ) (bodies : List Body) (name : PredName) → bodies ≡ bodies_in seen node → IsAmong (IsUnresolvedIn seen) bodies name ↔ IsUnresolved seen node name
+  node_names node bodies name are =
+      let m = call name.module name.name name.arity in
+      let met = node_met seen node m in
+      let P : List Body → Type 0 = λ bs. IsAmong (IsUnresolvedIn seen) bs name in (
+        λ among.
+            let here = subst P are among in
+            record { met = met.0 (record { one = here.one; has = here.has; is = here.is.met }); means_none = here.is.means_none },
+        λ is.
+            let here = met.1 is.met in
+            subst P (sym are) (record { one = here.one; has = here.has; is = record { met = here.is; means_none = is.means_none } }),
+      )
+
+-- names that are called, sorted and each once
+
+abbrev pub called_cmp : Called → Called → Ordering
+called_cmp a b = pred_cmp (see_called a) (see_called b)
+
+abbrev pub called_eq : Called → Called → Bool
+called_eq a b = is_same (see_called a) (see_called b)
+
+same_equiv : IsEquivalence is_same
+same_equiv =
+    and_equiv (on_equiv (λ (p : PredName). p.module) nat_list_eq_equiv)
+    (and_equiv (on_equiv (λ (p : PredName). p.name) nat_list_eq_equiv) (on_equiv (λ (p : PredName). p.arity) nat_eq_equiv))
+
+pub all_names : (seen : Seen) (node : ℕ) (called sorted kept : List Called) (names : List PredName)
+    → ((name : PredName) → Contains (map see_called called) name ↔ IsUnresolved seen node name)
+    → IsPermutation called sorted → IsSorted called_cmp sorted → IsFiltered (DiffersFromLast called_eq) [] sorted kept → names ≡ map see_called kept → AreUnresolved seen node names
+all_names seen node called sorted kept names told moved in_order filtered are =
+    let is = dedup_is called_eq sorted kept filtered in
+    let once = dedup called_eq sorted in
+    let rises = IsStrictlySortedBy-dedup (on_total see_called pred_cmp_total) (λ a b. same_ties (see_called a) (see_called b)) sorted in_order in
+    let P : List PredName → Type 0 = λ xs. AreUnresolved seen node xs in
+    subst P (sym (are ∙ ap (map see_called) is))
+    (record {
+      ordered = all_pairs_map (λ p q. pred_cmp p q ≡ Less) see_called once (λ i j d before lt. Less-from_sorted called_cmp once i j d rises before lt);
+      sound = all_of (IsUnresolved seen node) (map see_called once) (λ name has.
+          let one = (map_has see_called once name).0 has in
+          let there = Contains-permutation sorted called one.one (IsPermutation-sym called sorted moved) (Contains-from_dedup called_eq sorted one.one one.has) in
+          (told name).0 ((map_has see_called called name).1 (record { one = one.one; has = there; is = one.is })));
+      all = λ name un.
+          let one = (map_has see_called called name).0 ((told name).1 un) in
+          let found_one = Any-dedup (on_equiv see_called same_equiv) sorted one.one (Contains-permutation called sorted one.one moved one.has) in
+          let same : see_called one.one ≡ see_called found_one.1 = same_parts (see_called one.one) (see_called found_one.1) found_one.4 in
+          (map_has see_called once name).1 (record { one = found_one.1; has = (found_one.0, found_one.2, found_one.3); is = sym same ∙ one.is });
+    })

@@ -1,0 +1,35 @@
+use Rattle.std.proofs.Common.{◌++◌, ◌∷◌, [], None, Some, map, take, ap, sym, ◌∙◌, append_assoc, append-nil}
+use Rattle.std.specs.Option.{option_map}
+use Rattle.std.proofs.lemmas.List.{map-append}
+use Rattle.module_table.specs.Defined.{clause_tree}
+use Rattle.call_edges.specs.Calls.{body_of}
+use Rattle.call_edges.specs.Bodies.{see_body, body_in, clause_bodies}
+use Rattle.call_edges.proofs.BodyLemmas.{given_more}
+use Rattle.call_edges.proofs.body.push_bodies.Goals as goal
+
+pub loop-clause-preserved-in_default : goal.loop-clause-preserved-in_default
+loop-clause-preserved-in_default c =
+    let owner = c.args.owner.now in
+    let clauses = c.args.clauses.now in
+    let k = c.loop-clause.clause-index in
+    let before = map see_body c.args.bodies.now.items in
+    let more =
+    given_more (λ clause. option_map (body_in c.args.file) (body_of owner clause)) clause_tree clauses k c.clause-item.result None c.loop-clause-test.true c.clause-item.is
+    (sym c.in_default.ensures) in
+    c.loop-clause.invariant
+    ∙ ap (λ xs. before ++ xs) (sym (append-nil (clause_bodies c.args.file owner (map clause_tree (take k clauses)))) ∙ sym more)
+
+pub loop-clause-preserved : goal.loop-clause-preserved
+loop-clause-preserved c =
+    let owner = c.args.owner.now in
+    let clauses = c.args.clauses.now in
+    let k = c.loop-clause.clause-index in
+    let before = map see_body c.args.bodies.now.items in
+    let one = see_body c.in-Some.body in
+    let sofar = clause_bodies c.args.file owner (map clause_tree (take k clauses)) in
+    let more =
+    given_more (λ clause. option_map (body_in c.args.file) (body_of owner clause)) clause_tree clauses k c.clause-item.result (Some one) c.loop-clause-test.true c.clause-item.is
+    (sym c.in-Some.ensures) in
+    ap (map see_body) c.in_ok-push.ensures.items
+    ∙ (map-append see_body c.loop-clause.bodies.items (c.in-Some.body ∷ [])
+    ∙ (ap (λ xs. xs ++ one ∷ []) c.loop-clause.invariant ∙ (append_assoc before sofar (one ∷ []) ∙ ap (λ xs. before ++ xs) (sym more))))

@@ -1,0 +1,12 @@
+use Rattle.std.proofs.Common.{◌≡◌, List, All, map, ap, sym, ◌∙◌, subst}
+use Rattle.import_rules.specs.Program.{see_program}
+use Rattle.call_edges.specs.Bodies.{Body, see_body, bodies_in, IsLight}
+use Rattle.call_edges.proofs.LightLemmas.{bodies_light}
+use Rattle.call_edges.proofs.faults.predicate_faults.Goals as goal
+
+pub faults_in-requires : goal.faults_in-requires
+faults_in-requires c =
+    let seen = see_program c.args.program.now in
+    let are : map see_body c.deref.result.now ≡ bodies_in seen c.args.node = ap (map see_body) c.deref.ensures.value ∙ c.in_ok-bodies.ensures in
+    let P : List Body → Type 0 = λ bodies. All IsLight bodies in
+    subst P (sym are) (bodies_light seen c.args.node c.is_known.ensures)

@@ -1,0 +1,59 @@
+-- The bodies of a program, as lists.
+use Rattle.std.specs.Prelude.{ℕ, ◌+◌, ◌≤◌, List, [], Option, Some, None, map, slice_get, option_map}
+use Rattle.std.specs.List.{flat_map, filter_map, enumerate_from}
+use Rattle.prolog_terms.specs.Tree.{Tree, tree_of}
+use Rattle.prolog_terms.specs.Weight.{weight}
+use Rattle.module_table.specs.Defined.{Predicate}
+use Rattle.module_table.specs.Facts.{Facts}
+use Rattle.import_rules.specs.Program.{Seen, places_in}
+use Rattle.call_edges.specs.declared.role.Role.TheVariants.{Goal}
+use Rattle.call_edges.specs.declared.body.Body.{Body as BodyKept}
+use Rattle.call_edges.specs.Goals.{Met, Place, place, added, plain_rows, IsMet}
+use Rattle.call_edges.specs.Calls.{body_of}
+
+-- a body, and the place of its file
+pub record Body : Type 0 where
+  pub file : ℕ
+  pub at : Place
+
+abbrev pub see_body : BodyKept → Body
+see_body b = record { file = b.file; at = place b.owner.now b.role (tree_of b.term.now) }
+
+abbrev pub body_in : ℕ → Place → Body
+body_in file at = record { file = file; at = at }
+
+-- the bodies of clauses of a module
+abbrev pub clause_bodies : ℕ → List ℕ → List Tree → List Body
+clause_bodies file owner clauses = filter_map (λ clause. option_map (body_in file) (body_of owner clause)) clauses
+
+abbrev pub part_bodies : ℕ → List ℕ → Option Predicate → List Body
+part_bodies file owner (Some predicate) = clause_bodies file owner predicate.clauses
+part_bodies file owner None = []
+
+abbrev pub file_bodies : ℕ → ℕ → Option Facts → List Body
+file_bodies file part (Some facts) = part_bodies file facts.module_ (slice_get facts.defined part)
+file_bodies file part None = []
+
+-- the bodies of the predicate that stands there
+abbrev pub bodies_at : List Facts → ℕ × ℕ → List Body
+bodies_at files at = file_bodies at.0 at.1 (slice_get files at.0)
+
+-- the bodies of the predicate of that number
+abbrev pub bodies_in : Seen → ℕ → List Body
+bodies_in seen node = flat_map (bodies_at seen.loaded.files) (places_in seen node)
+
+-- the goals of directives of a file are bodies too
+abbrev pub goals_of_file : ℕ × Facts → List Body
+goals_of_file at = map (λ goal. body_in at.0 (place at.1.module_ (Goal 0) goal)) at.1.goals
+
+-- all goals of directives
+abbrev pub goals_in : List Facts → List Body
+goals_in files = flat_map goals_of_file (enumerate_from 0 files)
+
+-- this is met in the body
+abbrev pub IsMetInBody : Body → Met → Type 0
+IsMetInBody body m = IsMet plain_rows body.at m
+
+-- it weighs so little that the number of arguments of each call in it fits
+abbrev pub IsLight : Body → Type 0
+IsLight body = added body.at.role + weight body.at.tree ≤ 4294967295

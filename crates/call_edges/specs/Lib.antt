@@ -1,0 +1,13 @@
+pub mod Goals
+pub mod Seen
+pub mod Listed
+pub mod Calls
+pub mod Bodies
+pub mod Successors
+pub mod Opened
+pub mod GoalFaults
+pub mod FaultPlaces
+pub mod Roots
+pub mod Unresolved
+pub mod Called
+pub mod Placing

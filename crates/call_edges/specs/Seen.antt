@@ -1,0 +1,16 @@
+-- What the code keeps of what is met, as it is seen.
+use Rattle.std.specs.Prelude.{List, option_map, map}
+use Rattle.call_edges.specs.declared.role.Met.{Met as MetKept}
+use Rattle.call_edges.specs.declared.role.Met.TheVariants as kept
+use Rattle.call_edges.specs.declared.role.Taken.{Taken as TakenKept}
+use Rattle.call_edges.specs.Goals.{Met, call, fault, Taken}
+
+abbrev pub see_met : MetKept → Met
+see_met (kept.Call owner name arity) = call owner.now name.now arity
+see_met (kept.Fault at) = fault at
+
+abbrev pub see_mets : List MetKept → List Met
+see_mets mets = map see_met mets
+
+abbrev pub see_taken : TakenKept → Taken
+see_taken t = record { met = option_map see_met t.met; module_ = t.module.now; row = t.row }

@@ -1,0 +1,123 @@
+//! The bodies of a program: those of clauses, and the goals of directives.
+
+ghost use Rattle.std.specs.Prelude.{◌≡◌, ◌<◌, ◌++◌, map, length, option_map, IfOk, OnOk};
+ghost use Rattle.prolog_terms.specs.Tree.{tree_of};
+ghost use Rattle.module_table.specs.Defined.{clause_tree};
+ghost use Rattle.module_table.specs.Facts.{see_facts};
+ghost use Rattle.import_rules.specs.Program.{see_program};
+ghost use Rattle.call_edges.specs.Calls.{body_of};
+ghost use Rattle.call_edges.specs.Bodies.{see_body, body_in, clause_bodies, bodies_in, goals_of_file, goals_in};
+
+use crate::role::Role;
+use clause_text::Clause;
+use import_rules::Program;
+use module_table::FileFacts;
+use prolog_terms::{Term, binary};
+use std::alloc::{AllocError, Global};
+
+/// A body of a module: the place of its file among the files, the module, how the term stands, and
+/// the term.
+#[derive(Clone, Copy)]
+pub struct Body<'a> {
+    pub file: u32,
+    pub owner: &'a str,
+    pub role: Role,
+    pub term: &'a Term,
+}
+
+/// The body of a clause: of a rule a goal, and of a grammar rule a grammar body
+/// (ISO/IEC 13211-1, 7.4.3).
+fn body_of<'a>(file: u32, owner: &'a str, clause: &'a Term) -> Option<Body<'a>>
+    ensures { option_map see_body result ≡ option_map (body_in file) (body_of owner.now (tree_of clause.now)) }
+{
+    let pair = binary(clause)?;
+    if pair.name == ":-" {
+        return Some(Body {
+            file,
+            owner,
+            role: Role::Goal(0),
+            term: pair.right,
+        });
+    }
+    if pair.name == "-->" {
+        return Some(Body {
+            file,
+            owner,
+            role: Role::Grammar,
+            term: pair.right,
+        });
+    }
+    None
+}
+
+/// Adds the bodies of clauses of a module.
+fn push_bodies<'a>(
+    file: u32,
+    owner: &'a str,
+    clauses: &'a [Clause],
+    bodies: &mut Vec<Body<'a>>,
+) -> Result<(), AllocError>
+    ensures { OnOk result (map see_body bodies.new.items ≡ map see_body bodies.old.items ++ clause_bodies file owner.now (map clause_tree clauses.now)) }
+{
+    for clause in clauses {
+        let Some(body) = body_of(file, owner, &clause.term) else {
+            continue;
+        };
+        bodies.push(body)?;
+    }
+    Ok(())
+}
+
+/// The bodies of the clauses of a predicate.
+pub fn bodies_of<'a>(
+    alloc: Global,
+    program: &'a Program,
+    node: u32,
+) -> Result<Vec<Body<'a>>, AllocError>
+    requires { node < length (see_program program.now).predicates }
+    ensures { IfOk result (λ bodies. map see_body bodies.items ≡ bodies_in (see_program program.now) node) }
+{
+    let files = &program.loaded().files;
+    let mut bodies = Vec::new(alloc);
+    for place in program.places_of(node) {
+        let file = &files[place.0 as usize];
+        let predicate = &file.defined[place.1 as usize];
+        push_bodies(
+            place.0,
+            file.module.as_str(),
+            &predicate.clauses,
+            &mut bodies,
+        )?;
+    }
+    Ok(bodies)
+}
+
+/// Adds the goals of the directives of a file.
+fn push_goals<'a>(
+    place: u32,
+    file: &'a FileFacts,
+    bodies: &mut Vec<Body<'a>>,
+) -> Result<(), AllocError>
+    ensures { OnOk result (map see_body bodies.new.items ≡ map see_body bodies.old.items ++ goals_of_file (place, see_facts file.now)) }
+{
+    for goal in &file.goals {
+        bodies.push(Body {
+            file: place,
+            owner: file.module.as_str(),
+            role: Role::Goal(0),
+            term: goal,
+        })?;
+    }
+    Ok(())
+}
+
+/// The goals of all directives, file by file.
+pub fn goals_of<'a>(alloc: Global, program: &'a Program) -> Result<Vec<Body<'a>>, AllocError>
+    ensures { IfOk result (λ bodies. map see_body bodies.items ≡ goals_in (see_program program.now).loaded.files) }
+{
+    let mut bodies = Vec::new(alloc);
+    for (place, file) in program.loaded().files.iter().enumerate() {
+        push_goals(place as u32, file, &mut bodies)?;
+    }
+    Ok(bodies)
+}

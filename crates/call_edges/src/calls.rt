@@ -1,0 +1,122 @@
+//! What the predicates of a program call.
+
+ghost use Rattle.std.specs.Prelude.{◌≡◌, ◌<◌, ◌↔◌, ℕ, [], All, Contains, length, map, OnOk, OnErr};
+ghost use Rattle.std.specs.List.Sorted.{IsStrictlyIncreasing};
+ghost use Rattle.import_rules.specs.Program.{see_program};
+ghost use Rattle.call_edges.specs.Goals.{Adds};
+ghost use Rattle.call_edges.specs.Seen.{see_met, see_mets};
+ghost use Rattle.call_edges.specs.Calls.{GoesTo, IsAmong, NodeCalls, target};
+ghost use Rattle.call_edges.specs.Bodies.{see_body, IsMetInBody, IsLight};
+
+use crate::body::{Body, bodies_of};
+use crate::role::Met;
+use crate::walking::walk;
+use graph_law::Opener;
+use import_rules::Program;
+use std::alloc::AllocError;
+
+/// The predicate that a call goes to.
+fn target(program: &Program, met: Met) -> Option<u32>
+    ensures { result ≡ target (see_program program.now) (see_met met.entry) }
+{
+    match met {
+        Met::Call {
+            module,
+            name,
+            arity,
+        } => program.find(module, name, arity),
+        Met::Fault(_) => None,
+    }
+}
+
+/// Adds the predicates that calls go to.
+fn push_targets(program: &Program, met: &[Met], out: &mut Vec<u32>) -> Result<(), AllocError>
+    ensures { OnOk result (Adds (GoesTo (see_program program.now) (Contains (see_mets met.now))) out.old.items out.new.items) }
+{
+    for one in met {
+        let Some(callee) = target(program, *one) else {
+            continue;
+        };
+        out.push(callee)?;
+    }
+    Ok(())
+}
+
+/// Adds the predicates that are called in bodies.
+pub fn push_called(program: &Program, bodies: &[Body], out: &mut Vec<u32>) -> Result<(), AllocError>
+    requires { All IsLight (map see_body bodies.now) }
+    ensures { OnOk result (Adds (GoesTo (see_program program.now) (IsAmong IsMetInBody (map see_body bodies.now))) out.old.items out.new.items) }
+{
+    let mut met = Vec::new(*out.allocator());
+    for body in bodies {
+        met.clear();
+        walk(body.term, body.owner, body.role, &mut met)?;
+        push_targets(program, &met, out)?;
+    }
+    Ok(())
+}
+
+/// Adds the predicates that a predicate calls to `out`, which is empty.
+fn push_callees(program: &Program, node: u32, out: &mut Vec<u32>) -> Result<(), AllocError>
+    requires below { node < length (see_program program.now).predicates }
+    requires empty { out.old.items ≡ [] }
+    ensures { OnOk result ((q : ℕ) → Contains out.new.items q ↔ NodeCalls (see_program program.now) node q) }
+{
+    program.is_known();
+    let bodies = bodies_of(*out.allocator(), program, node)?;
+    push_called(program, &bodies, out)
+}
+
+/// Puts the predicates that a predicate calls into `out`, which is empty, ascending and each once.
+/// Where memory is wanting, `out` stays empty.
+fn callees(program: &Program, node: u32, out: &mut Vec<u32>) -> Result<(), AllocError>
+    requires below { node < length (see_program program.now).predicates }
+    requires empty { out.old.items ≡ [] }
+    ensures ascending { OnOk result (IsStrictlyIncreasing out.new.items) }
+    ensures calls { OnOk result ((q : ℕ) → Contains out.new.items q ↔ NodeCalls (see_program program.now) node q) }
+    ensures err { OnErr result (out.new.items ≡ []) }
+{
+    match push_callees(program, node, out) {
+        Ok(()) => {
+            out.sort_unstable();
+            out.dedup();
+            Ok(())
+        }
+        Err(error) => {
+            out.clear();
+            Err(error)
+        }
+    }
+}
+
+/// What the predicates of a program call, as a graph: its nodes are the numbers of the predicates.
+#[derive(Clone, Copy)]
+pub struct Calls<'a> {
+    program: &'a Program,
+}
+
+impl<'a> Calls<'a> {
+    ghost use Rattle.call_edges.specs.Opened.{see_calls};
+
+    /// The calls of this program. It takes no memory.
+    pub fn new(program: &'a Program) -> Calls<'a>
+        ensures { see_calls result ≡ see_program program.now }
+    {
+        Calls { program }
+    }
+}
+
+impl Opener for Calls<'_> {
+    ghost use Rattle.call_edges.specs.Opened.{see_calls};
+    ghost use Rattle.call_edges.specs.Successors.{successor_lists};
+
+    ghost lists = { λ calls. successor_lists (see_calls calls) };
+
+    fn count(&self) -> u32 {
+        self.program.count()
+    }
+
+    fn expand(&self, node: u32, out: &mut Vec<u32>) -> Result<(), AllocError> {
+        callees(self.program, node, out)
+    }
+}

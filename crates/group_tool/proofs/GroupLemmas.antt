@@ -1,0 +1,78 @@
+-- The groups of a program: what holds of its successor lists holds of its calls.
+use Rattle.std.proofs.Common.{◌≡◌, ◌<◌, ◌≤◌, ℕ, List, [], None, All, Contains, length, slice_get, refl, ap, sym, ◌∙◌, subst, inl, inr, arith}
+use Rattle.std.proofs.lemmas.Bool.{cases_lt}
+use Rattle.std.proofs.lemmas.List.{get_or_past}
+use Rattle.std.proofs.lemmas.List.Elements.{All-contains}
+use Rattle.std.proofs.lemmas.Option.{slice_get_past}
+use Rattle.order_law.proofs.OneOrder.{nothing_in}
+use Rattle.graph_law.specs.Reach.{Agree}
+use Rattle.graph_law.specs.Graph.{Calls, IsClosed}
+use Rattle.graph_law.specs.Classes.{HasMember, group_at}
+use Rattle.graph_law.proofs.ReachLaws.{along_walk, is_reached_along}
+use Rattle.graph_law.proofs.Transport.{Agree-sym, IsLegalOrder-agree, HaveHeights-agree, IsRecursive-agree}
+use Rattle.group_release.specs.declared.level.Level.{Level}
+use Rattle.group_release.specs.Level.{AreLevels}
+use Rattle.import_rules.specs.Program.{Seen, places_in, places_at}
+use Rattle.call_edges.specs.Calls.{NodeCalls}
+use Rattle.call_edges.specs.Successors.{successor_lists}
+use Rattle.call_edges.proofs.SuccessorLemmas.{lists_count, list_has, lists_closed}
+use Rattle.loop_report.specs.Reportable.{AreGroups, AreLeveled}
+
+-- what has no number is defined nowhere
+no_places : (seen : Seen) (p : ℕ) → length seen.predicates ≤ p → places_in seen p ≡ []
+unfolding places_in
+no_places seen p over = ap (places_at seen.loaded.files) (slice_get_past seen.predicates p over)
+
+-- the successor lists are what the predicates call
+pub lists_agree : (seen : Seen) → Agree (Calls (successor_lists seen)) (NodeCalls seen)
+lists_agree seen = record {
+  to = λ p q listed.
+      elim (cases_lt p (length seen.predicates)) [
+        | inl below ↦ (list_has seen p q below).0 listed
+        | inr over ↦
+            let none = get_or_past (successor_lists seen) p [] (omega (arith, over, lists_count seen)) in
+            absurd (nothing_in q (subst (λ list. Contains list q) none listed))
+      ];
+  from = λ p q call.
+      elim (cases_lt p (length seen.predicates)) [
+        | inl below ↦ (list_has seen p q below).1 call
+        | inr over ↦ absurd (nothing_in call.is.one (subst (λ places. Contains places call.is.one) (no_places seen p over) call.is.has))
+      ];
+}
+
+pub AreGroups-agree : {c d : ℕ → ℕ → Type 0} {starts : List ℕ} {groups : List (List ℕ)} → Agree c d → AreGroups c starts groups → AreGroups d starts groups
+AreGroups-agree {c} {d} {starts} {groups} agree are = record {
+  legal = IsLegalOrder-agree agree are.legal;
+  complete = are.complete;
+  reached = λ p has. is_reached_along c d agree.to starts p (are.reached p has);
+}
+
+pub AreLevels-agree : {c d : ℕ → ℕ → Type 0} {groups : List (List ℕ)} {levels : List Level} → Agree c d → AreLevels c groups levels → AreLevels d groups levels
+AreLevels-agree {c} {d} {groups} {levels} agree are = record {
+  heights = HaveHeights-agree agree are.heights;
+  marks = λ i lt. (
+    (λ marked. IsRecursive-agree (group_at groups i) agree ((are.marks i lt).0 marked)),
+    (λ recursive. (are.marks i lt).1 (IsRecursive-agree (group_at groups i) (Agree-sym agree) recursive)),
+  );
+}
+
+pub leveled_calls : (seen : Seen) (roots : List ℕ) (groups : List (List ℕ)) (levels : List Level) → AreGroups (Calls (successor_lists seen)) roots groups
+    → AreLevels (Calls (successor_lists seen)) groups levels → AreLeveled (NodeCalls seen) roots groups levels
+leveled_calls seen roots groups levels are leveled = record { are = AreGroups-agree (lists_agree seen) are; leveled = AreLevels-agree (lists_agree seen) leveled }
+
+-- the roots have successor lists
+pub roots_listed : (seen : Seen) (roots : List ℕ) → All (λ q. q < length seen.predicates) roots → All (λ root. root < length (successor_lists seen)) roots
+roots_listed seen roots below k d less = omega (arith, below k d less, lists_count seen)
+
+-- and so have the members of groups that they reach
+pub members_listed : (seen : Seen) (roots : List ℕ) (groups : List (List ℕ)) → All (λ q. q < length seen.predicates) roots → AreGroups (Calls (successor_lists seen)) roots groups
+    → (p : ℕ) → HasMember groups p → p < length (successor_lists seen)
+members_listed seen roots groups below are p has =
+    let lists = successor_lists seen in
+    let reached = are.reached p has in
+    along_walk (Calls lists) (λ q. q < length lists) (λ q r lt call. lists_closed seen q r call) reached.start reached.reaches.path p reached.reaches.walk
+    (All-contains (λ q. q < length lists) roots reached.start (roots_listed seen roots below) reached.is_start)
+
+pub members_numbered : (seen : Seen) (roots : List ℕ) (groups : List (List ℕ)) → All (λ q. q < length seen.predicates) roots → AreGroups (Calls (successor_lists seen)) roots groups
+    → (p : ℕ) → HasMember groups p → p < length seen.predicates
+members_numbered seen roots groups below are p has = omega (arith, members_listed seen roots groups below are p has, lists_count seen)

@@ -1,0 +1,29 @@
+use Rattle.std.proofs.Common.{◌≡◌, ℕ, ◌⊎◌, List, IfOk, MatchResult, Result, Ok, Err, inl, inr, subst}
+use Rattle.std.specs.String.{string_bytes}
+use Rattle.group_tool.specs.End.{memory_line}
+use Rattle.group_tool.specs.Lines.{unread_line}
+use Rattle.group_tool.specs.Run.{SaidWith}
+use Rattle.group_tool.proofs.run.say_stop.Goals as goal
+
+pub returns-in-Usage : goal.returns-in-Usage
+returns-in-Usage g c = rw c.in-Usage.is (inl (rw c.as_bytes.ensures.value at c.say_with.ensures))
+
+-- the lines are said, or that there was no memory for them
+lines_or_wanting : {T E : Type 0} (r : Result T E) (bytes : T → List ℕ) (line : List ℕ) (Said : List ℕ → Type 0) (Wanting : Type 0) → IfOk r (λ text. bytes text ≡ line)
+    → MatchResult r (λ text. Said (bytes text)) (λ _. Wanting) → Said line ⊎ Wanting
+lines_or_wanting {T} {E} (Ok text) bytes line Said Wanting is said = inl (subst Said is said)
+lines_or_wanting {T} {E} (Err error) bytes line Said Wanting is said = inr said
+
+pub returns-in-ReadFault : goal.returns-in-ReadFault
+returns-in-ReadFault g c =
+    let before = g.S.Sink.taken c.args.sink.now in
+    let after = g.S.Sink.taken c.say_lines-in-ReadFault.new.sink in
+    let f = g.S.Sink.faults c.args.sink.now in
+    let f' = g.S.Sink.faults c.say_lines-in-ReadFault.new.sink in
+    let settled' = g.S.Sink.settled c.say_lines-in-ReadFault.new.sink in
+    rw c.in-ReadFault.is
+    (lines_or_wanting c.unread_line.result string_bytes (unread_line c.in-ReadFault.name) (λ bytes. SaidWith bytes 4 c.say_lines-in-ReadFault.result before after f f' settled')
+    (SaidWith memory_line 7 c.say_lines-in-ReadFault.result before after f f' settled') c.unread_line.ensures c.say_lines-in-ReadFault.ensures)
+
+pub returns-in-NoMemory : goal.returns-in-NoMemory
+returns-in-NoMemory g c = rw c.in-NoMemory.is (inl (rw c.as_bytes-in-NoMemory.ensures.value at c.say_with-in-NoMemory.ensures))

@@ -1,0 +1,141 @@
+-- Chains of names in buckets: how one is followed, and how a place is added.
+use Rattle.std.proofs.Common.{◌≡◌, ◌≢◌, ℕ, zero, suc, ◌+◌, ◌-◌, ◌<◌, ◌≤◌, inl, inr, List, [], ◌∷◌, ◌++◌, length, get_or, set, false, refl, sym, ap, subst, ◌∙◌, arith, replicate}
+use Rattle.std.specs.List.{list_any}
+use Rattle.std.proofs.lemmas.Bool.{cases_eq, cases_order, cases_lt, false_from_ne_true}
+use Rattle.std.proofs.Math.ListN.{length-set}
+use Rattle.std.proofs.lemmas.List.{get_or-map, get_or-set_same, get_or-set_other, get_or_append_left, get_or_push, get_or-replicate, length_push}
+use Rattle.std.proofs.lemmas.List.Elements.{All-from_get_or}
+use Rattle.std.proofs.lemmas.List.Folds.{list_any_none}
+use Rattle.import_rules.specs.declared.names.PredName.{PredName}
+use Rattle.import_rules.specs.Names.{is_same}
+use Rattle.import_rules.specs.NameTable.{bucket_of, buckets_of, bucket_at, IsLast, AreChains, IsChained}
+use Rattle.import_rules.proofs.NameOrder.{same_parts}
+
+-- the name doesn't stand at the place or behind it, and the place before is in its bucket
+pub record IsPassed (names : List PredName) (size : ℕ) (wanted : PredName) (at : ℕ) : Type 0 where
+  pub within : at ≤ length names
+  pub none : (m : ℕ) → at ≤ m → m < length names → is_same wanted (get_or names m wanted) ≡ false
+  pub before : 0 < at → bucket_at (buckets_of size names) (at - 1) ≡ bucket_of size wanted
+
+-- a name of another bucket is another one
+other_bucket : (names : List PredName) (size : ℕ) (wanted : PredName) (m : ℕ) → m < length names
+    → bucket_at (buckets_of size names) m ≢ bucket_of size wanted → is_same wanted (get_or names m wanted) ≡ false
+other_bucket names size wanted m within apart =
+    false_from_ne_true (is_same wanted (get_or names m wanted))
+    (λ is. apart
+    (get_or-map (bucket_of size) names m wanted 0 within ∙ ap (bucket_of size) (sym (same_parts wanted (get_or names m wanted) is))))
+
+pub from_head : (names : List PredName) (heads next : List ℕ) (wanted : PredName) → IsChained names heads next
+    → bucket_of (length heads) wanted < length heads → IsPassed names (length heads) wanted (get_or heads (bucket_of (length heads) wanted) 0)
+from_head names heads next wanted chained below =
+    let last = chained.chains.last (bucket_of (length heads) wanted) below in record {
+      within = last.within;
+      none = λ m from within. other_bucket names (length heads) wanted m within (last.none_behind m from within);
+      before = last.is;
+    }
+
+-- the place before is not that of the name
+pub from_next : (names : List PredName) (heads next : List ℕ) (wanted : PredName) (at : ℕ) → IsChained names heads next
+    → IsPassed names (length heads) wanted at → 0 < at → is_same wanted (get_or names (at - 1) wanted) ≡ false
+    → IsPassed names (length heads) wanted (get_or next (at - 1) 0)
+from_next names heads next wanted at chained passed some other =
+    let below : at - 1 < length names = omega (arith, passed.within, some) in
+    let last = chained.chains.earlier (at - 1) below in record {
+      within = omega (arith, last.within, below);
+      none = λ m from within.
+          elim (cases_order m (at - 1)) [
+            | inl is ↦ subst (λ k. is_same wanted (get_or names k wanted) ≡ false) (sym is) other
+            | inr (inl before) ↦
+                other_bucket names (length heads) wanted m within
+                (subst (λ b. bucket_at (buckets_of (length heads) names) m ≢ b) (passed.before some) (last.none_behind m from before))
+            | inr (inr behind) ↦ passed.none m (omega (arith, behind, some)) within
+          ];
+      before = λ more. last.is more ∙ passed.before some;
+    }
+
+-- the next place is an earlier one
+pub next_falls : (names : List PredName) (heads next : List ℕ) (at : ℕ) → IsChained names heads next → 0 < at → at ≤ length names
+    → get_or next (at - 1) 0 < at
+next_falls names heads next at chained some within =
+    omega (arith, (chained.chains.earlier (at - 1) (omega (arith, some, within))).within, some)
+
+pub none_named : (names : List PredName) (size : ℕ) (wanted : PredName) (at : ℕ) → at ≡ 0 → IsPassed names size wanted at
+    → list_any (is_same wanted) names ≡ false
+none_named names size wanted at end passed =
+    list_any_none (is_same wanted) names
+    (All-from_get_or (λ p. is_same wanted p ≡ false) names wanted (λ m within. passed.none m (omega (arith, end)) within))
+
+abbrev zeros : ℕ → List ℕ
+zeros n = replicate n 0
+
+-- no place yet
+pub no_chains : (buckets : List ℕ) (size : ℕ) → AreChains buckets 0 (zeros size) []
+no_chains buckets size = record {
+  as_many = none;
+  last = λ b below. subst (IsLast buckets 0 b) (sym (head b)) empty_chain;
+  earlier = λ n below. absurd (omega (arith, below));
+}
+  where
+    none : length {A = ℕ} [] ≡ 0
+    none = refl
+
+    head : (b : ℕ) → get_or (zeros size) b 0 ≡ 0
+    head b = elim (cases_lt b size) [ inl within ↦ get_or-replicate size b 0 0 within | inr past ↦ past_end size b past ]
+      where
+        past_end : (n b : ℕ) → n ≤ b → get_or (zeros n) b 0 ≡ 0
+        past_end zero b le = refl
+        past_end (suc n) zero le = refl
+        past_end (suc n) (suc b) le = past_end n b (omega (arith, le))
+
+    empty_chain : {b : ℕ} → IsLast buckets 0 b 0
+    empty_chain {b} = record {
+      within = omega arith;
+      none_behind = λ m from below. absurd (omega (arith, below));
+      is = λ some. absurd (omega (arith, some));
+    }
+
+-- the next place is put in front of its chain
+pub add_place : (buckets heads next : List ℕ) (n b : ℕ) → b ≡ bucket_at buckets n → b < length heads → AreChains buckets n heads next
+    → AreChains buckets (n + 1) (set heads b (n + 1)) (next ++ get_or heads b 0 ∷ [])
+add_place buckets heads next n b is below chains = record {
+  as_many = length_push next (get_or heads b 0) ∙ ap (λ k. k + 1) chains.as_many;
+  last = λ c within.
+      elim (cases_eq c b) [
+        | inl same ↦ subst (λ d. IsLast buckets (n + 1) d (get_or (set heads b (n + 1)) d 0)) (sym same)
+            (subst (IsLast buckets (n + 1) b) (sym (get_or-set_same heads b (n + 1) 0 below)) newest)
+        | inr other ↦
+            subst (IsLast buckets (n + 1) c) (sym (get_or-set_other heads b c (n + 1) 0 other))
+            (kept c other (chains.last c (omega (arith, within, length-set heads b (n + 1)))))
+      ];
+  earlier = λ k within.
+      elim (cases_lt k n) [
+        | inl before ↦
+            subst (IsLast buckets k (bucket_at buckets k))
+            (sym (get_or_append_left next (get_or heads b 0 ∷ []) 0 k (omega (arith, before, chains.as_many)))) (chains.earlier k before)
+        | inr from ↦
+            let here : n ≡ k = omega (arith, within, from) in
+            subst (λ j. IsLast buckets j (bucket_at buckets j) (get_or (next ++ get_or heads b 0 ∷ []) j 0)) here
+            (subst (IsLast buckets n (bucket_at buckets n)) (sym (get_or_push next (get_or heads b 0) 0 n chains.as_many))
+            (subst (λ c. IsLast buckets n c (get_or heads b 0)) is (chains.last b below)))
+      ];
+}
+  where
+    newest : IsLast buckets (n + 1) b (n + 1)
+    newest = record {
+      within = omega arith;
+      none_behind = λ m from under. absurd (omega (arith, from, under));
+      is = λ some. let back : (n + 1) - 1 ≡ n = omega arith in ap (bucket_at buckets) back ∙ sym is;
+    }
+
+    kept : (c : ℕ) → c ≢ b → {x : ℕ} → IsLast buckets n c x → IsLast buckets (n + 1) c x
+    kept c other {x} last = record {
+      within = omega (arith, last.within);
+      none_behind = λ m from under.
+          elim (cases_lt m n) [
+            | inl before ↦ last.none_behind m from before
+            | inr at ↦
+                let here : m ≡ n = omega (arith, under, at) in
+                λ e. other (sym e ∙ ap (bucket_at buckets) here ∙ sym is)
+          ];
+      is = last.is;
+    }

@@ -1,0 +1,86 @@
+-- What is known of files that were loaded together.
+use Rattle.std.proofs.Common.{◌≡◌, ℕ, suc, ◌≤◌, List, [], ◌∷◌, All, length, map, option_map, refl, ap, arith}
+use Rattle.std.specs.Prelude.{unwrap_or}
+use Rattle.std.specs.List.{AllZip}
+use Rattle.std.proofs.lemmas.List.Elements.{All-head, All-tail, All-nil, All-cons}
+use Rattle.prolog_terms.specs.Tree.{Tree}
+use Rattle.prolog_terms.specs.Weight.{weight}
+use Rattle.prolog_tokens.proofs.Lookups.{cut_fewer}
+use Rattle.clause_text.specs.Clauses.{ReadsAs, total_weight, opening_ops}
+use Rattle.clause_text.proofs.Offsets.{reading_placed}
+use Rattle.clause_text.proofs.TextLemmas.{clauses_weigh, each_light}
+use Rattle.module_table.specs.Facts.{Facts}
+use Rattle.module_table.specs.FileText.{HasFacts}
+use Rattle.module_table.proofs.FactOffsets.{facts_placed}
+use Rattle.module_table.proofs.FactWeights.{clauses_light, goals_light}
+use Rattle.module_table.proofs.FewDefined.{few_defined}
+use Rattle.file_library.specs.Library.{Files}
+use Rattle.file_library.specs.Loaded.{LoadedFiles, NamedText, IsTextOf, size_of, most_bytes, most_files}
+use Rattle.import_rules.specs.Loaded.{WasLoaded}
+use Rattle.import_rules.specs.Program.{IsReadFrom}
+
+-- the clauses of a text weigh no more than it is long
+text_light : (text : List ℕ) (trees : List Tree) → ReadsAs text trees → total_weight trees ≤ length text
+text_light text trees reads =
+    omega (arith, clauses_weigh opening_ops text reads.tokens trees reads.clauses, cut_fewer text reads.tokens reads.cut)
+
+-- no more predicates than the text is long
+few_in : (text : NamedText) (facts : Facts) → HasFacts text.0 text.1 facts → length facts.defined ≤ length text.1
+few_in text facts has = omega (arith, few_defined text.0 has.trees facts has.are, text_light text.1 has.trees has.reads)
+
+read_from : (text : NamedText) (facts : Facts) → HasFacts text.0 text.1 facts → length text.1 ≤ most_bytes → IsReadFrom text facts
+read_from text facts has small =
+    let light : All (λ tree. weight tree ≤ most_bytes) has.trees = each_light has.trees most_bytes (omega (arith, text_light text.1 has.trees has.reads, small)) in record {
+      named = has.are.are.file;
+      small = small;
+      placed = facts_placed text.1 text.0 has.trees facts (reading_placed text.1 has.trees has.reads) has.are;
+      light_clauses = clauses_light most_bytes text.0 has.trees facts light has.are;
+      light_goals = goals_light most_bytes text.0 has.trees facts light has.are;
+    }
+
+size_of_text : (files : Files) (roots : List (List ℕ)) (text : NamedText) → IsTextOf files roots text → size_of files text.0 ≡ length text.1
+size_of_text files roots text is = ap (λ found. unwrap_or (option_map (λ (bytes : List ℕ). length bytes) found) 0) is.there
+
+-- what is said of each text and its facts, by what is known of texts that were loaded
+each_read : (P : NamedText → Facts → Type 0) (files : Files) (roots : List (List ℕ))
+    → ((text : NamedText) (facts : Facts) → HasFacts text.0 text.1 facts → length text.1 ≤ most_bytes → P text facts)
+    → (texts : List NamedText) (all : List Facts) → All (IsTextOf files roots) texts
+    → All (λ name. size_of files name ≤ most_bytes) (map (λ (text : NamedText). text.0) texts)
+    → AllZip (λ (text : NamedText) (facts : Facts). HasFacts text.0 text.1 facts) texts all → AllZip P texts all
+each_read P files roots holds [] [] are small has = tt
+each_read P files roots holds [] (f ∷ all) are small has = has
+each_read P files roots holds (t ∷ texts) [] are small has = has
+each_read P files roots holds (t ∷ texts) (f ∷ all) are small has =
+    let first : size_of files t.0 ≤ most_bytes = All-head (λ name. size_of files name ≤ most_bytes) t.0 (map (λ (text : NamedText). text.0) texts) small in
+    let long : size_of files t.0 ≡ length t.1 = size_of_text files roots t (All-head (IsTextOf files roots) t texts are) in (
+      holds t f has.0 (omega (arith, first, long)),
+      each_read P files roots holds texts all (All-tail (IsTextOf files roots) t texts are)
+          (All-tail (λ name. size_of files name ≤ most_bytes) t.0 (map (λ (text : NamedText). text.0) texts) small) has.1,
+    )
+
+pub was_read : (loaded : LoadedFiles) → WasLoaded loaded → AllZip IsReadFrom loaded.texts loaded.files
+was_read loaded was = each_read IsReadFrom was.files was.roots read_from loaded.texts loaded.files was.is.texts was.is.within.each was.is.facts
+
+-- there are as many texts as files
+pub zip_length : {A B : Type 0} (R : A → B → Type 0) (xs : List A) (ys : List B) → AllZip R xs ys → length xs ≡ length ys
+zip_length {A} {B} R [] [] all = refl
+zip_length {A} {B} R [] (y ∷ ys) all = absurd all
+zip_length {A} {B} R (x ∷ xs) [] all = absurd all
+zip_length {A} {B} R (x ∷ xs) (y ∷ ys) all = ap suc (zip_length R xs ys all.1)
+
+pub few_files : (loaded : LoadedFiles) → WasLoaded loaded → length loaded.files ≤ most_files
+few_files loaded was =
+    omega (arith, was.is.few, zip_length (λ (text : NamedText) (facts : Facts). HasFacts text.0 text.1 facts) loaded.texts loaded.files was.is.facts)
+
+-- what holds of each second one
+zip_right : {A B : Type 0} (P : B → Type 0) (xs : List A) (ys : List B) → AllZip (λ x y. P y) xs ys → All P ys
+zip_right {A} {B} P [] [] all = All-nil P
+zip_right {A} {B} P [] (y ∷ ys) all = absurd all
+zip_right {A} {B} P (x ∷ xs) [] all = absurd all
+zip_right {A} {B} P (x ∷ xs) (y ∷ ys) all = All-cons P y ys all.0 (zip_right P xs ys all.1)
+
+pub few_in_each : (loaded : LoadedFiles) → WasLoaded loaded → All (λ (file : Facts). length file.defined ≤ most_bytes) loaded.files
+few_in_each loaded was =
+    zip_right (λ (file : Facts). length file.defined ≤ most_bytes) loaded.texts loaded.files
+    (each_read (λ text file. length file.defined ≤ most_bytes) was.files was.roots
+    (λ text facts has small. omega (arith, few_in text facts has, small)) loaded.texts loaded.files was.is.texts was.is.within.each was.is.facts)

@@ -1,0 +1,50 @@
+use Rattle.std.proofs.Common.{◌≡◌, ◌++◌, ◌∙◌, All, map, sym, ap, subst}
+use Rattle.module_table.specs.Facts.{see_facts}
+use Rattle.file_library.specs.SortedOut.{see_loaded}
+use Rattle.import_rules.specs.Clashes.{AreClashes, see_item}
+use Rattle.import_rules.specs.Findings.{see_findings}
+use Rattle.import_rules.specs.Flaws.{clash_flaw}
+use Rattle.import_rules.specs.Items.{foreign_items}
+use Rattle.import_rules.specs.KnownFiles.{AreKnown, AreRising, see_known}
+use Rattle.import_rules.specs.PlacedFlaws.{ArePlacedFlaws, AreTexts, StandsIn, texts_of}
+use Rattle.import_rules.proofs.AllFound.{files_rise, texts_are, ready, found_in_all, all_in_texts, are_faults}
+use Rattle.import_rules.proofs.check.check_imports.Goals as goal
+
+pub known_files-requires : goal.known_files-requires
+known_files-requires c = subst (λ files. AreRising (map see_facts files)) (sym c.deref.ensures.value) (files_rise (see_loaded c.args.loaded.now) c.requires.loaded)
+
+pub gather-requires : goal.gather-requires
+gather-requires c =
+    ready (see_loaded c.args.loaded.now) c.requires.loaded (record { known = c.in_ok-known_files.field-0; absent = c.deref-2.result; predicates = c.args.predicates })
+    (subst (λ files. AreKnown (map see_facts files) c.in_ok-known_files.field-0.items) c.deref.ensures.value c.in_ok-known_files.ensures) c.deref-2.ensures.value c.requires.numbered
+
+pub placed-requires-clause-texts : goal.placed-requires-clause-texts
+placed-requires-clause-texts c = subst (λ texts. AreTexts (texts_of texts)) (sym c.deref-4.ensures.value) (texts_are (see_loaded c.args.loaded.now) c.requires.loaded)
+
+pub placed-requires-clause-stand : goal.placed-requires-clause-stand
+placed-requires-clause-stand c =
+    let loaded = see_loaded c.args.loaded.now in
+    let files : map see_known c.in_ok-known_files.field-0.items ≡ loaded.files = c.in_ok-known_files.ensures.are ∙ ap (map see_facts) c.deref.ensures.value in
+    let clashes = map see_item c.in_ok-imported.imported.clashes.items in
+    let are : AreClashes (foreign_items loaded.files) clashes =
+    subst (λ items. AreClashes items clashes) (c.in_ok-found.ensures.items ∙ ap foreign_items files) c.in_ok-imported.ensures.clashes in
+    let all =
+    found_in_all loaded c.requires.loaded (record { known = c.in_ok-known_files.field-0; absent = c.deref-2.result; predicates = c.args.predicates }) files c.deref-2.ensures.value
+    (see_findings c.in_ok-found.found.flaws.items) (see_findings c.in_ok-flaws.flaws.items) clashes c.in_ok-found.ensures.flaws
+    (c.in_ok-flaws.ensures ∙ ap (λ items. see_findings c.in_ok-found.found.flaws.items ++ map clash_flaw (map see_item items)) c.deref-3.ensures.value) in
+    subst (λ texts. All (StandsIn (texts_of texts)) (see_findings c.in_ok-flaws.flaws.items)) (sym c.deref-4.ensures.value)
+    (all_in_texts loaded c.requires.loaded (see_findings c.in_ok-flaws.flaws.items) clashes all are)
+
+pub returns-clause-faults : goal.returns-clause-faults
+returns-clause-faults c =
+    let loaded = see_loaded c.args.loaded.now in
+    let files : map see_known c.in_ok-known_files.field-0.items ≡ loaded.files = c.in_ok-known_files.ensures.are ∙ ap (map see_facts) c.deref.ensures.value in
+    let clashes = map see_item c.in_ok-imported.imported.clashes.items in
+    let are : AreClashes (foreign_items loaded.files) clashes =
+    subst (λ items. AreClashes items clashes) (c.in_ok-found.ensures.items ∙ ap foreign_items files) c.in_ok-imported.ensures.clashes in
+    let all =
+    found_in_all loaded c.requires.loaded (record { known = c.in_ok-known_files.field-0; absent = c.deref-2.result; predicates = c.args.predicates }) files c.deref-2.ensures.value
+    (see_findings c.in_ok-found.found.flaws.items) (see_findings c.in_ok-flaws.flaws.items) clashes c.in_ok-found.ensures.flaws
+    (c.in_ok-flaws.ensures ∙ ap (λ items. see_findings c.in_ok-found.found.flaws.items ++ map clash_flaw (map see_item items)) c.deref-3.ensures.value) in
+    are_faults loaded c.requires.loaded (see_findings c.in_ok-flaws.flaws.items) clashes c.in_ok-placed.field-0.items all are
+    (subst (λ texts. ArePlacedFlaws (texts_of texts) (see_findings c.in_ok-flaws.flaws.items) c.in_ok-placed.field-0.items) c.deref-4.ensures.value c.in_ok-placed.ensures)

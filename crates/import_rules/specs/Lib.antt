@@ -1,0 +1,16 @@
+pub mod Names
+pub mod Files
+pub mod Clashes
+pub mod Items
+pub mod Flaws
+pub mod Find
+pub mod Meanings
+pub mod Sources
+pub mod Numbers
+pub mod Parts
+pub mod NameTable
+pub mod Loaded
+pub mod Program
+pub mod Findings
+pub mod KnownFiles
+pub mod PlacedFlaws

@@ -1,0 +1,37 @@
+-- Names in chains, one for each bucket.
+use Rattle.std.specs.Prelude.{ℕ, ◌≡◌, ◌≢◌, ◌+◌, ◌-◌, ◌*◌, ◌/◌, ◌%◌, ◌^◌, ◌<◌, ◌≤◌, List, length, map, fold, slice_index_or}
+use Rattle.import_rules.specs.declared.names.PredName.{PredName}
+
+-- the hash of a text, begun with another one
+abbrev pub text_hash : ℕ → List ℕ → ℕ
+text_hash state text = fold (λ s b. (s * 1099511628211 % 2 ^ 64 + b) % 2 ^ 64) state text
+
+abbrev pub name_hash : PredName → ℕ
+name_hash p = text_hash (text_hash p.arity p.name) p.module
+
+-- the bucket of a name, of so many
+abbrev pub bucket_of : ℕ → PredName → ℕ
+bucket_of size p = name_hash p / 2 ^ 32 % size
+
+abbrev pub buckets_of : ℕ → List PredName → List ℕ
+buckets_of size names = map (bucket_of size) names
+
+abbrev pub bucket_at : List ℕ → ℕ → ℕ
+bucket_at buckets place = slice_index_or buckets place 0
+
+-- of the places below one, the last that is in the bucket stands before x; x is 0 where there is none
+pub record IsLast (buckets : List ℕ) (below bucket x : ℕ) : Type 0 where
+  pub within : x ≤ below
+  pub none_behind : (m : ℕ) → x ≤ m → m < below → bucket_at buckets m ≢ bucket
+  pub is : 0 < x → bucket_at buckets (x - 1) ≡ bucket
+
+-- for each bucket its last place, and for each place the last one before it in its bucket
+pub record AreChains (buckets : List ℕ) (count : ℕ) (heads next : List ℕ) : Type 0 where
+  pub as_many : length next ≡ count
+  pub last : (b : ℕ) → b < length heads → IsLast buckets count b (slice_index_or heads b 0)
+  pub earlier : (n : ℕ) → n < count → IsLast buckets n (bucket_at buckets n) (slice_index_or next n 0)
+
+-- the names stand in the chains of one bucket or more
+pub record IsChained (names : List PredName) (heads next : List ℕ) : Type 0 where
+  pub some : 0 < length heads
+  pub chains : AreChains (buckets_of (length heads) names) (length names) heads next

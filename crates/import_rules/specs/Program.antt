@@ -1,0 +1,76 @@
+-- A program: what was loaded, and its predicates with their numbers.
+use Rattle.std.specs.Prelude.{ℕ, ◌≡◌, ◌≢◌, ◌<◌, ◌≤◌, List, [], Option, Some, None, All, length, map, take, slice_get}
+use Rattle.std.specs.List.{AllZip}
+use Rattle.prolog_terms.specs.Tree.{Tree}
+use Rattle.prolog_terms.specs.Weight.{weight}
+use Rattle.module_table.specs.Defined.{Predicate}
+use Rattle.module_table.specs.Facts.{Facts}
+use Rattle.module_table.specs.Placed.{ArePlacedIn}
+use Rattle.file_library.specs.Asked.{AreInOrder}
+use Rattle.file_library.specs.Loaded.{LoadedFiles, NamedText, most_bytes}
+use Rattle.file_library.specs.SortedOut.{see_loaded}
+use Rattle.import_rules.specs.declared.names.PredName.{PredName}
+use Rattle.import_rules.specs.declared.program.Program.{Program}
+use Rattle.import_rules.specs.declared.stop.ImportStop.{ImportStop}
+use Rattle.import_rules.specs.declared.stop.ImportStop.TheVariants.{Faults, TooManyPredicates, NoMemory}
+use Rattle.import_rules.specs.Names.{pred_name}
+pub use Rattle.import_rules.specs.Files.{most_predicates}
+use Rattle.import_rules.specs.Files.{AreNumbered}
+use Rattle.import_rules.specs.Find.{found_in}
+use Rattle.import_rules.specs.Flaws.{AreFlaws, AreImportFaults}
+use Rattle.import_rules.specs.Numbers.{parts_in, places_for}
+
+-- a program as it is seen: what was loaded, and its predicates in the order of their numbers
+pub record Seen : Type 0 where
+  pub loaded : LoadedFiles
+  pub predicates : List PredName
+
+unfoldable pub see_program : Program → Seen
+see_program p = record { loaded = see_loaded p.loaded; predicates = take p.count p.names }
+
+abbrev pub places_at : List Facts → Option PredName → List (ℕ × ℕ)
+places_at files (Some p) = places_for (parts_in files) p
+places_at files None = []
+
+-- the places at which the predicate of that number is defined, ascending: of a file, and of a part of the file
+unfoldable pub places_in : Seen → ℕ → List (ℕ × ℕ)
+places_in seen node = places_at seen.loaded.files (slice_get seen.predicates node)
+
+-- the number of the local predicate of the module, else of the one that the module imports
+unfoldable pub found : Seen → List ℕ → List ℕ → ℕ → Option ℕ
+found seen owner name arity = found_in seen.loaded.files seen.predicates (pred_name owner name arity)
+
+-- the program of what was loaded: its predicates are numbered, they are few enough, and no import is at fault
+pub record IsProgram (loaded : LoadedFiles) (seen : Seen) : Type 0 where
+  pub is : seen.loaded ≡ loaded
+  pub numbered : AreNumbered loaded.files seen.predicates
+  pub few : length seen.predicates ≤ most_predicates
+  pub sound : AreFlaws loaded.files loaded.absent []
+
+-- what was loaded has so many predicates
+pub record HasPredicates (loaded : LoadedFiles) (many : ℕ → Type 0) : Type 0 where
+  pub predicates : List PredName
+  pub numbered : AreNumbered loaded.files predicates
+  pub many_are : many (length predicates)
+
+-- why there is no program: there are too many predicates; else the import faults, one at least
+abbrev pub IsImportStop : LoadedFiles → ImportStop → Type 0
+IsImportStop loaded TooManyPredicates = HasPredicates loaded (λ n. most_predicates < n)
+IsImportStop loaded (Faults faults) =
+    HasPredicates loaded (λ n. n ≤ most_predicates) × AreImportFaults loaded faults.items × (faults.items ≢ [])
+IsImportStop loaded NoMemory = Unit {0}
+
+-- the facts are those of a file with this text: they stand in it, and none of their terms is too heavy
+pub record IsReadFrom (text : NamedText) (facts : Facts) : Type 0 where
+  pub named : facts.file ≡ text.0
+  pub small : length text.1 ≤ most_bytes
+  pub placed : ArePlacedIn text.1 facts
+  pub light_clauses : All (λ (p : Predicate). All (λ (tree : Tree). weight tree ≤ most_bytes) p.clauses) facts.defined
+  pub light_goals : All (λ (tree : Tree). weight tree ≤ most_bytes) facts.goals
+
+-- what is known of each program: few predicates, and files in order of name, each read from its text
+pub record IsKnown (seen : Seen) : Type 0 where
+  pub numbered : AreNumbered seen.loaded.files seen.predicates
+  pub few : length seen.predicates ≤ most_predicates
+  pub ordered : AreInOrder (map (λ (text : NamedText). text.0) seen.loaded.texts)
+  pub read : AllZip IsReadFrom seen.loaded.texts seen.loaded.files

@@ -1,0 +1,88 @@
+//! What is wrong, and what modules import, file by file.
+
+ghost use Rattle.std.specs.Prelude.{◌≡◌, ◌++◌, map, filter, flat_map, IfOk, OnOk};
+ghost use Rattle.module_table.specs.Facts.{see_facts};
+ghost use Rattle.module_table.specs.Said.{see_load};
+ghost use Rattle.import_rules.specs.Clashes.{see_item};
+ghost use Rattle.import_rules.specs.Findings.{see_findings};
+ghost use Rattle.import_rules.specs.Flaws.{file_flaws, load_flaws};
+ghost use Rattle.import_rules.specs.Items.{foreign_items, is_foreign, items_of_load};
+ghost use Rattle.import_rules.specs.KnownFiles.{IsKnownIn, IsReady, absent_of, files_of, see_known};
+
+use crate::finding::Finding;
+use crate::flaws::{push_absent_flaws, push_export_flaws, push_module_flaws, push_use_flaws};
+use crate::item::Item;
+use crate::known_file::KnownFile;
+use crate::lookups::Lookups;
+use crate::taken::push_given;
+use module_table::{FileFacts, Load};
+use std::alloc::{AllocError, Global};
+
+/// What is wrong but for what is imported from two modules, and the import items whose predicates
+/// aren't local.
+#[derive(Drop)]
+pub(crate) struct Gathered<'a> {
+    pub flaws: Vec<Finding<'a>>,
+    pub items: Vec<Item<'a>>,
+}
+
+/// All that is found in the files, in the order of the files.
+pub(crate) fn gather<'a>(
+    alloc: Global,
+    lookups: &Lookups<'a, '_>,
+) -> Result<Gathered<'a>, AllocError>
+    requires { IsReady lookups.now }
+    ensures flaws { IfOk result (λ found. see_findings found.flaws.items ≡ flat_map (file_flaws (files_of lookups.now) (absent_of lookups.now)) (files_of lookups.now)) }
+    ensures items { IfOk result (λ found. map see_item found.items.items ≡ foreign_items (files_of lookups.now)) }
+{
+    let mut found = Gathered {
+        flaws: Vec::new(alloc),
+        items: Vec::new(alloc),
+    };
+    for file in &lookups.known {
+        push_file(lookups, file, &mut found)?;
+    }
+    Ok(found)
+}
+
+/// What is found in one file.
+fn push_file<'a>(
+    lookups: &Lookups<'a, '_>,
+    file: &KnownFile<'a>,
+    found: &mut Gathered<'a>,
+) -> Result<(), AllocError>
+    requires ready { IsReady lookups.now }
+    requires known { IsKnownIn (files_of lookups.now) file.now }
+    ensures flaws { OnOk result (see_findings found.new.flaws.items ≡ see_findings found.old.flaws.items
+        ++ file_flaws (files_of lookups.now) (absent_of lookups.now) (see_known file.now)) }
+    ensures items { OnOk result (map see_item found.new.items.items ≡ map see_item found.old.items.items
+        ++ filter (is_foreign (files_of lookups.now)) (flat_map (items_of_load (files_of lookups.now) (see_known file.now)) (see_known file.now).loads)) }
+{
+    push_module_flaws(file, &mut found.flaws)?;
+    push_export_flaws(lookups, file.facts, &mut found.flaws)?;
+    for load in &file.facts.loads {
+        push_load(lookups, file.facts, load, found)?;
+    }
+    Ok(())
+}
+
+/// What is found at one load.
+fn push_load<'a>(
+    lookups: &Lookups<'a, '_>,
+    user: &'a FileFacts,
+    load: &'a Load,
+    found: &mut Gathered<'a>,
+) -> Result<(), AllocError>
+    requires ready { IsReady lookups.now }
+    ensures flaws { OnOk result (see_findings found.new.flaws.items ≡ see_findings found.old.flaws.items
+        ++ load_flaws (files_of lookups.now) (absent_of lookups.now) (see_facts user.now) (see_load load.now)) }
+    ensures items { OnOk result (map see_item found.new.items.items ≡ map see_item found.old.items.items
+        ++ filter (is_foreign (files_of lookups.now)) (items_of_load (files_of lookups.now) (see_facts user.now) (see_load load.now))) }
+{
+    push_absent_flaws(lookups, user, load, &mut found.flaws)?;
+    let Some(file) = lookups.file(&load.file) else {
+        return Ok(());
+    };
+    push_use_flaws(user, load, file, &mut found.flaws)?;
+    push_given(lookups, user, load, file, &mut found.items)
+}

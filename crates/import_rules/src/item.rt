@@ -1,0 +1,34 @@
+//! Import items.
+
+ghost use Rattle.std.specs.Prelude.{◌≡◌};
+ghost use Rattle.import_rules.specs.Names.{pred_cmp, is_same};
+ghost use Rattle.import_rules.specs.Clashes.{see_item};
+
+use std::cmp::Ordering;
+
+/// A module gets a predicate, under that name, from a module; and where that stands: the file and the
+/// byte offset.
+#[derive(Clone, Copy)]
+pub(crate) struct Item<'a> {
+    pub module: &'a str,
+    pub name: &'a str,
+    pub arity: u32,
+    pub from_module: &'a str,
+    pub file: &'a str,
+    pub offset: u32,
+}
+
+/// The order of the names that the items give.
+pub(crate) fn compare(a: &Item<'_>, b: &Item<'_>) -> Ordering
+    ensures { result ≡ pred_cmp (see_item a.now).into (see_item b.now).into }
+{
+    let names = a.name.cmp(b.name).then(a.arity.cmp(&b.arity));
+    a.module.cmp(b.module).then(names)
+}
+
+/// Whether the items give the same name.
+pub(crate) fn is_same(a: &Item<'_>, b: &Item<'_>) -> bool
+    ensures { result ≡ is_same (see_item a.now).into (see_item b.now).into }
+{
+    a.module == b.module && a.name == b.name && a.arity == b.arity
+}

@@ -1,0 +1,48 @@
+//! What import rules look up.
+
+ghost use Rattle.std.specs.Prelude.{◌≡◌, IfSome, Contains, option_map};
+ghost use Rattle.std.specs.List.{list_any};
+ghost use Rattle.std.specs.Str.{bytes_eq};
+ghost use Rattle.import_rules.specs.Names.{pred_name};
+ghost use Rattle.import_rules.specs.Files.{file_named, is_local};
+ghost use Rattle.import_rules.specs.KnownFiles.{IsKnownIn, IsReady, absent_of, files_of, see_known};
+
+use crate::known_file::{KnownFile, file_at};
+use crate::name_table::NameTable;
+use prolog_tokens::Text;
+
+/// The loaded files in order of name, the names of absent files, and the predicates that the files
+/// define.
+#[derive(Drop)]
+pub(crate) struct Lookups<'a, 't> {
+    pub known: Vec<KnownFile<'a>>,
+    pub absent: &'a [Text],
+    pub predicates: &'t NameTable,
+}
+
+impl<'a> Lookups<'a, '_> {
+    /// Whether a file defines the predicate.
+    pub(crate) fn is_local(&self, module: &str, name: &str, arity: u32) -> bool
+        requires { IsReady self.now }
+        ensures { result ≡ is_local (files_of self.now) (pred_name module.now name.now arity) }
+    {
+        self.predicates.find(module, name, arity).is_some()
+    }
+
+    /// Whether a file of that name was asked for and isn't there.
+    pub(crate) fn is_absent(&self, name: &Text) -> bool
+        requires { IsReady self.now }
+        ensures { result ≡ list_any (bytes_eq name.now) (absent_of self.now) }
+    {
+        self.absent.binary_search(name).is_ok()
+    }
+
+    /// The file of that name.
+    pub(crate) fn file(&self, name: &Text) -> Option<&KnownFile<'a>>
+        requires { IsReady self.now }
+        ensures is { option_map (λ file. see_known file.now) result ≡ file_named (files_of self.now) name.now }
+        ensures known { IfSome result (λ file. IsKnownIn (files_of self.now) file.now) }
+    {
+        file_at(&self.known, name.as_str())
+    }
+}

@@ -1,0 +1,68 @@
+//! The predicates of files, numbered.
+
+ghost use Rattle.std.specs.Prelude.{◌≡◌, ◌++◌, IfOk, OnOk, map, option_map, option_to_list};
+ghost use Rattle.module_table.specs.Kinds.{first_of};
+ghost use Rattle.import_rules.specs.Numbers.{AreNumbers, lists_of};
+ghost use Rattle.import_rules.specs.Parts.{see_part, name_of_part, places_of_parts};
+
+use crate::names::PredName;
+use crate::part::{Part, compare, is_same};
+use prolog_tokens::Text;
+use std::alloc::{AllocError, Global};
+
+/// Predicates in the order of their numbers, each with the places at which it is defined.
+#[derive(Drop)]
+pub(crate) struct Numbered {
+    pub predicates: Vec<PredName>,
+    pub places: Vec<Vec<(u32, u32)>>,
+}
+
+/// The predicate of a part.
+fn name_of(alloc: Global, part: &Part<'_>) -> Result<PredName, AllocError>
+    ensures { IfOk result (λ name. name ≡ name_of_part part.now) }
+{
+    Ok(PredName {
+        module: Text::new(alloc, part.module)?,
+        name: Text::new(alloc, part.name)?,
+        arity: part.arity,
+    })
+}
+
+/// The places of the parts.
+fn places_of(alloc: Global, parts: &[Part<'_>]) -> Result<Vec<(u32, u32)>, AllocError>
+    ensures { IfOk result (λ places. places.items ≡ places_of_parts parts.now) }
+{
+    let mut places = Vec::with_capacity(alloc, parts.len())?;
+    for part in parts {
+        places.push((part.file, part.part))?;
+    }
+    Ok(places)
+}
+
+/// Adds the predicate whose places the parts are, of which there is one at least.
+fn add(alloc: Global, run: &[Part<'_>], made: &mut Numbered) -> Result<(), AllocError>
+    ensures predicates { OnOk result (made.new.predicates.items ≡ made.old.predicates.items ++ option_to_list (option_map name_of_part (first_of run.now))) }
+    ensures places { OnOk result (lists_of made.new.places.items ≡ lists_of made.old.places.items ++ option_to_list (option_map (λ first. places_of_parts run.now) (first_of run.now))) }
+{
+    let Some(first) = run.first() else {
+        return Ok(());
+    };
+    made.predicates.push(name_of(alloc, first)?)?;
+    made.places.push(places_of(alloc, run)?)?;
+    Ok(())
+}
+
+/// The predicates that the parts define, in order and each once, with their places.
+pub(crate) fn number(alloc: Global, mut parts: Vec<Part<'_>>) -> Result<Numbered, AllocError>
+    ensures { IfOk result (λ made. AreNumbers (map see_part parts.entry.items) made.predicates.items (lists_of made.places.items)) }
+{
+    parts.sort_by(|a, b| compare(a, b))?;
+    let mut made = Numbered {
+        predicates: Vec::new(alloc),
+        places: Vec::new(alloc),
+    };
+    for run in parts.chunk_by(|a, b| is_same(a, b)) {
+        add(alloc, run, &mut made)?;
+    }
+    Ok(made)
+}

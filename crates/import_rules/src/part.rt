@@ -1,0 +1,72 @@
+//! The predicates of files by the places at which they are defined.
+
+ghost use Rattle.std.specs.Prelude.{◌≡◌, ◌++◌, ◌≤◌, All, IfOk, OnOk, length, map};
+ghost use Rattle.module_table.specs.Facts.{Facts, see_facts};
+ghost use Rattle.import_rules.specs.Names.{pred_cmp, is_same};
+ghost use Rattle.import_rules.specs.Parts.{see_part};
+ghost use Rattle.import_rules.specs.Numbers.{parts_of_file, parts_in};
+
+use module_table::FileFacts;
+use std::alloc::{AllocError, Global};
+use std::cmp::Ordering;
+
+/// A predicate, and one place at which it is defined: the place of a file, and that of the predicate
+/// in the file's `defined`.
+#[derive(Clone, Copy)]
+pub(crate) struct Part<'a> {
+    pub module: &'a str,
+    pub name: &'a str,
+    pub arity: u32,
+    pub file: u32,
+    pub part: u32,
+}
+
+/// The order of predicates: by module, by name, by arity.
+pub(crate) fn compare(a: &Part<'_>, b: &Part<'_>) -> Ordering
+    ensures { result ≡ pred_cmp (see_part a.now).name (see_part b.now).name }
+{
+    a.module
+        .cmp(b.module)
+        .then(a.name.cmp(b.name).then(a.arity.cmp(&b.arity)))
+}
+
+/// Whether the parts are of one predicate.
+pub(crate) fn is_same(a: &Part<'_>, b: &Part<'_>) -> bool
+    ensures { result ≡ is_same (see_part a.now).name (see_part b.now).name }
+{
+    a.module == b.module && (a.name == b.name && a.arity == b.arity)
+}
+
+/// Adds what a file defines.
+fn push_parts<'a>(
+    place: u32,
+    file: &'a FileFacts,
+    parts: &mut Vec<Part<'a>>,
+) -> Result<(), AllocError>
+    requires { length file.now.defined.items ≤ 4294967295 }
+    ensures { OnOk result (map see_part parts.new.items ≡ map see_part parts.old.items ++ parts_of_file place (see_facts file.now)) }
+{
+    for (part, defined) in file.defined.iter().enumerate() {
+        parts.push(Part {
+            module: file.module.as_str(),
+            name: defined.name.as_str(),
+            arity: defined.arity,
+            file: place,
+            part: part as u32,
+        })?;
+    }
+    Ok(())
+}
+
+/// What the files define, file by file.
+pub(crate) fn parts_of(alloc: Global, files: &[FileFacts]) -> Result<Vec<Part<'_>>, AllocError>
+    requires few { length files.now ≤ 4294967295 }
+    requires small { All (λ (file : Facts). length file.defined ≤ 4294967295) (map see_facts files.now) }
+    ensures { IfOk result (λ parts. map see_part parts.items ≡ parts_in (map see_facts files.now)) }
+{
+    let mut parts = Vec::new(alloc);
+    for (place, file) in files.iter().enumerate() {
+        push_parts(place as u32, file, &mut parts)?;
+    }
+    Ok(parts)
+}

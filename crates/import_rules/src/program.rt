@@ -1,0 +1,86 @@
+ghost use Rattle.std.specs.Prelude.{◌≡◌, ◌<◌, ◌≤◌, [], Some, length, map, take, slice_get};
+ghost use Rattle.std.proofs.Props.{props};
+ghost use Rattle.file_library.specs.SortedOut.{see_loaded};
+ghost use Rattle.import_rules.specs.Files.{AreNumbered, most_predicates};
+ghost use Rattle.import_rules.specs.Flaws.{AreFlaws};
+ghost use Rattle.import_rules.specs.Loaded.{WasLoaded};
+ghost use Rattle.import_rules.specs.Meanings.{AreTargets};
+ghost use Rattle.import_rules.specs.Numbers.{lists_of, places_for, parts_in};
+
+use crate::name_table::NameTable;
+use crate::names::PredName;
+use file_library::Loaded;
+
+/// The predicates of all files that were loaded, numbered from 0 in order of module, name and
+/// arity, and what each name means in each module.
+#[derive(Drop)]
+pub struct Program {
+    pub(crate) loaded: Loaded,
+    /// How many of the names are those of predicates.
+    pub(crate) count: u32,
+    /// The predicates, in the order of their numbers, and behind them the names that are imported.
+    pub(crate) names: NameTable,
+    /// For each name the number of the predicate that it means.
+    pub(crate) targets: Vec<u32>,
+    /// For each predicate the places at which it is defined.
+    pub(crate) places: Vec<Vec<(u32, u32)>>,
+    pub ghost was_loaded: { ∥ WasLoaded (see_loaded loaded) ∥₁ },
+    pub ghost within: { count ≤ length names },
+    pub ghost few: { count ≤ most_predicates },
+    pub ghost numbered: { ∥ AreNumbered (see_loaded loaded).files (take count names) ∥₁ },
+    pub ghost faultless: { ∥ AreFlaws (see_loaded loaded).files (see_loaded loaded).absent [] ∥₁ },
+    pub ghost meant: { AreTargets (see_loaded loaded).files (take count names) names targets.items } by { Prim.hlevel props },
+    pub ghost placed: { lists_of places.items ≡ map (places_for (parts_in (see_loaded loaded).files)) (take count names) },
+}
+
+impl Program {
+    ghost use Rattle.import_rules.specs.Program.{see_program, places_in, found, IsKnown};
+
+    /// A program is few predicates in order, and files in order of name, each read from its text. It
+    /// does nothing, and is called for this.
+    pub fn is_known(&self)
+        ensures { IsKnown (see_program self.now) }
+    {}
+
+    /// How many predicates there are.
+    pub fn count(&self) -> u32
+        ensures { result ≡ length (see_program self.now).predicates }
+    {
+        self.count
+    }
+
+    /// The predicate of a number below the count.
+    pub fn name_of(&self, node: u32) -> &PredName
+        requires { node < length (see_program self.now).predicates }
+        ensures { slice_get (see_program self.now).predicates node ≡ Some result.now }
+    {
+        self.names.name_at(node as usize)
+    }
+
+    /// What was loaded, as it was handed in.
+    pub fn loaded(&self) -> &Loaded
+        ensures { (see_program self.now).loaded ≡ see_loaded result.now }
+    {
+        &self.loaded
+    }
+
+    /// The places at which the predicate of a number below the count is defined, ascending: the place
+    /// of a file in `files`, and of the predicate in the `defined` of that file.
+    pub fn places_of(&self, node: u32) -> &[(u32, u32)]
+        requires { node < length (see_program self.now).predicates }
+        ensures { result.now ≡ places_in (see_program self.now) node }
+    {
+        &self.places[node as usize]
+    }
+
+    /// The number of the predicate that a name means in a module: of the module's own predicate, else
+    /// of the one that the module imports.
+    pub fn find(&self, module: &str, name: &str, arity: u32) -> Option<u32>
+        ensures { result ≡ found (see_program self.now) module.now name.now arity }
+    {
+        let Some(at) = self.names.find(module, name, arity) else {
+            return None;
+        };
+        Some(self.targets[at])
+    }
+}

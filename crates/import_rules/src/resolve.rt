@@ -1,0 +1,75 @@
+//! The program of what was loaded.
+
+ghost use Rattle.std.specs.Prelude.{◌≡◌, ◌≤◌, [], IfOk, IfErr, length, map, take};
+ghost use Rattle.module_table.specs.Facts.{see_facts};
+ghost use Rattle.file_library.specs.SortedOut.{see_loaded};
+ghost use Rattle.import_rules.specs.Files.{AreNumbered, most_predicates};
+ghost use Rattle.import_rules.specs.Flaws.{AreFlaws};
+ghost use Rattle.import_rules.specs.Loaded.{WasLoaded};
+ghost use Rattle.import_rules.specs.Meanings.{AreTargets};
+ghost use Rattle.import_rules.specs.Numbers.{AreNumbers, lists_of, parts_in};
+ghost use Rattle.import_rules.specs.Program.{see_program, IsProgram, IsImportStop};
+
+use crate::check::{Checked, check_imports};
+use crate::meanings::{Meanings, with_imports};
+use crate::name_table::NameTable;
+use crate::number::{Numbered, number};
+use crate::part::parts_of;
+use crate::program::Program;
+use crate::stop::ImportStop;
+use file_library::Loaded;
+use std::alloc::{AllocError, Global};
+
+/// How many predicates a program may have.
+const MOST_PREDICATES: usize = 262_144;
+
+/// The predicates of the files, numbered.
+fn numbered(alloc: Global, loaded: &Loaded) -> Result<Numbered, AllocError>
+    requires { WasLoaded (see_loaded loaded.now) }
+    ensures { IfOk result (λ made. AreNumbers (parts_in (see_loaded loaded.now).files) made.predicates.items (lists_of made.places.items)) }
+{
+    number(alloc, parts_of(alloc, &loaded.files)?)
+}
+
+/// What names mean, where no import is at fault.
+fn meanings(alloc: Global, loaded: &Loaded, predicates: NameTable) -> Result<Meanings, ImportStop>
+    requires loaded { WasLoaded (see_loaded loaded.now) }
+    requires numbered { AreNumbered (see_loaded loaded.now).files predicates }
+    requires few { length predicates ≤ most_predicates }
+    ensures kept { IfOk result (λ made. take (length predicates) made.names ≡ predicates) }
+    ensures targets { IfOk result (λ made. AreTargets (see_loaded loaded.now).files predicates made.names made.targets.items) }
+    ensures faultless { IfOk result (λ made. AreFlaws (see_loaded loaded.now).files (see_loaded loaded.now).absent []) }
+    ensures refused { IfErr result (IsImportStop (see_loaded loaded.now)) }
+{
+    let Checked { faults, imports } = check_imports(alloc, loaded, &predicates)?;
+    if faults.len() > 0 {
+        return Err(ImportStop::Faults(faults));
+    }
+    Ok(with_imports(alloc, predicates, &imports)?)
+}
+
+/// The program of what was loaded by one call of `load_all`. That there are too many predicates is
+/// told before any import fault.
+pub fn resolve_all(alloc: Global, loaded: Loaded) -> Result<Program, ImportStop>
+    requires { WasLoaded (see_loaded loaded) }
+    ensures ok { IfOk result (λ program. IsProgram (see_loaded loaded) (see_program program)) }
+    ensures refused { IfErr result (IsImportStop (see_loaded loaded)) }
+{
+    let Numbered { predicates, places } = numbered(alloc, &loaded)?;
+    if predicates.len() > MOST_PREDICATES {
+        return Err(ImportStop::TooManyPredicates);
+    }
+    let count = predicates.len() as u32;
+    let table = NameTable::make(alloc, predicates)?;
+    let Meanings { names, targets } = match meanings(alloc, &loaded, table) {
+        Ok(found) => found,
+        Err(stop) => return Err(stop),
+    };
+    Ok(Program {
+        loaded,
+        count,
+        names,
+        targets,
+        places,
+    })
+}

@@ -1,0 +1,19 @@
+mod BareSpells
+pub mod LineOrder
+pub mod Lists
+pub mod LoopsMade
+pub mod Marks
+pub mod ModuleCalls
+pub mod ModuleNames
+pub mod OneLine
+pub mod OneLoops
+pub mod OneReport
+pub mod Printable
+pub mod ProgramFiles
+mod QuotedNames
+mod ReadBack
+mod ReportRows
+pub mod RingLemmas
+pub mod SpelledLemmas
+pub mod Texts
+pub mod UserAlone

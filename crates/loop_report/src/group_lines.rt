@@ -1,0 +1,73 @@
+ghost use Rattle.std.specs.Prelude.{◌≡◌, ◌<◌, ◌++◌, OnOk, All, length};
+ghost use Rattle.std.specs.List.{flat_map};
+ghost use Rattle.std.specs.String.{string_bytes};
+ghost use Rattle.graph_law.specs.Graph.{lists_of};
+ghost use Rattle.import_rules.specs.Program.{see_program};
+ghost use Rattle.loop_report.specs.Names.{member_name};
+ghost use Rattle.loop_report.specs.Report.{group_line, kind_of, place_line};
+
+use crate::names::{push_member, push_number};
+use group_release::Level;
+use import_rules::Program;
+use std::alloc::{AllocError, Global};
+
+/// Adds the lines of the groups at these places.
+pub(crate) fn push_groups(
+    alloc: Global,
+    text: &mut String,
+    program: &Program,
+    groups: &[Vec<u32>],
+    levels: &[Level],
+    order: &[usize],
+) -> Result<(), AllocError>
+    requires one_level_each { length levels.now ≡ length groups.now }
+    requires within { All (All (λ member. member < length (see_program program.now).predicates)) (lists_of groups.now) }
+    requires places { All (λ place. place < length groups.now) order.now }
+    ensures { OnOk result (string_bytes text.new
+        ≡ string_bytes text.old ++ flat_map (place_line (see_program program.now).predicates (lists_of groups.now) levels.now) order.now) }
+{
+    for &place in order {
+        push_group(alloc, text, program, &groups[place], levels[place])?;
+    }
+    Ok(())
+}
+
+fn push_group(
+    alloc: Global,
+    text: &mut String,
+    program: &Program,
+    members: &[u32],
+    level: Level,
+) -> Result<(), AllocError>
+    requires { All (λ member. member < length (see_program program.now).predicates) members.now }
+    ensures { OnOk result (string_bytes text.new
+        ≡ string_bytes text.old ++ group_line (see_program program.now).predicates members.now level) }
+{
+    push_number(alloc, text, u64::from(level.height))?;
+    text.push_str(kind_name(level.recursive))?;
+    push_members(alloc, text, program, members)?;
+    text.push_str("\n")?;
+    Ok(())
+}
+
+fn kind_name(recursive: bool) -> &'static str
+    ensures { result.now ≡ kind_of recursive }
+{
+    if recursive { " recursive" } else { " plain" }
+}
+
+fn push_members(
+    alloc: Global,
+    text: &mut String,
+    program: &Program,
+    members: &[u32],
+) -> Result<(), AllocError>
+    requires { All (λ member. member < length (see_program program.now).predicates) members.now }
+    ensures { OnOk result (string_bytes text.new
+        ≡ string_bytes text.old ++ flat_map (member_name (see_program program.now).predicates) members.now) }
+{
+    for &member in members {
+        push_member(alloc, text, program, member)?;
+    }
+    Ok(())
+}

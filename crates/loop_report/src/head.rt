@@ -1,0 +1,83 @@
+ghost use Rattle.std.specs.Prelude.{◌≡◌, ℕ, ◌<◌, ◌^◌, ◌++◌, IfOk, OnOk, All, length, sum_by, count_by};
+ghost use Rattle.std.specs.Fmt.{decimal};
+ghost use Rattle.std.specs.String.{string_bytes};
+ghost use Rattle.graph_law.specs.Graph.{lists_of};
+ghost use Rattle.loop_report.specs.Report.{head_line, height_count};
+ghost use Rattle.loop_report.specs.Reportable.{AreReportable};
+
+use crate::names::push_number;
+use group_release::Level;
+use std::alloc::{AllocError, Global};
+
+/// The first line of the report: `predicates P groups G recursive R levels L`. P counts the members of
+/// all groups, G the groups, R the recursive ones; L is one more than the greatest height, or 0 where
+/// there is no group. The groups are in a legal order of some graph, and the levels are theirs.
+pub fn head_line(
+    alloc: Global,
+    groups: &[Vec<u32>],
+    levels: &[Level],
+) -> Result<Vec<u8>, AllocError>
+    requires { (count : ℕ) × (count < 2 ^ 32) × AreReportable count (lists_of groups.now) levels.now }
+    ensures { IfOk result (λ bytes. bytes.items ≡ head_line (lists_of groups.now) levels.now) }
+{
+    let mut text = String::new(alloc);
+    push_head(alloc, &mut text, groups, levels)?;
+    Ok(text.into_bytes())
+}
+
+/// Adds the first line.
+pub(crate) fn push_head(
+    alloc: Global,
+    text: &mut String,
+    groups: &[Vec<u32>],
+    levels: &[Level],
+) -> Result<(), AllocError>
+    requires few { length groups.now < 2 ^ 32 }
+    requires short { All (λ members. length members < 2 ^ 32) (lists_of groups.now) }
+    ensures { OnOk result (string_bytes text.new
+        ≡ string_bytes text.old ++ head_line (lists_of groups.now) levels.now) }
+{
+    push_count(alloc, text, "predicates ", member_count(groups))?;
+    push_count(alloc, text, " groups ", groups.len() as u64)?;
+    push_count(alloc, text, " recursive ", recursive_count(levels))?;
+    push_count(alloc, text, " levels ", height_count(levels))?;
+    text.push_str("\n")?;
+    Ok(())
+}
+
+fn push_count(alloc: Global, text: &mut String, word: &str, count: u64) -> Result<(), AllocError>
+    ensures { OnOk result (string_bytes text.new
+        ≡ string_bytes text.old ++ (word.now ++ decimal count)) }
+{
+    text.push_str(word)?;
+    push_number(alloc, text, count)
+}
+
+/// The members of all groups together.
+fn member_count(groups: &[Vec<u32>]) -> u64
+    requires few { length groups.now < 2 ^ 32 }
+    requires short { All (λ members. length members < 2 ^ 32) (lists_of groups.now) }
+    ensures { result ≡ sum_by length (lists_of groups.now) }
+{
+    let mut count = 0;
+    for members in groups {
+        count += members.len() as u64;
+    }
+    count
+}
+
+fn recursive_count(levels: &[Level]) -> u64
+    ensures { result ≡ count_by (λ level. level.recursive) levels.now }
+{
+    levels.iter().filter(|level| level.recursive).count() as u64
+}
+
+fn height_count(levels: &[Level]) -> u64
+    ensures { result ≡ height_count levels.now }
+{
+    let mut count = 0;
+    for level in levels {
+        count = count.max(u64::from(level.height) + 1);
+    }
+    count
+}

@@ -1,0 +1,36 @@
+//! The bytes of a report on groups of predicates.
+//!
+//! `report` writes what is known of a program: how many predicates, groups, recursive groups and
+//! levels there are, each group with its height and its members, each ring of modules that import
+//! each other, and where it is asked for, the predicates that are in no group. A report looks so:
+//!
+//! ```text
+//! predicates 3 groups 2 recursive 1 levels 2
+//! 0 plain c:s/0
+//! 1 recursive a:p/0 b:q/0
+//! import-loop a b
+//! unreached c:t/0
+//! ```
+//!
+//! It is the same in whatever legal order the groups are given; `order_report` keeps that order.
+//! Names are spelled so that each reads back as itself.
+#![tactic(auto)]
+
+mod group_lines;
+mod head;
+mod laws;
+mod line_order;
+mod loops;
+mod module_graph;
+mod modules;
+mod names;
+mod rings;
+mod spelled;
+mod unreached;
+mod written;
+
+pub use head::head_line;
+pub use laws::{names_differ, names_read_back, one_list_of_loops, one_report};
+pub use loops::import_loops;
+pub use spelled::quote_atom;
+pub use written::{order_report, report};

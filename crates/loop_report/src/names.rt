@@ -1,0 +1,43 @@
+ghost use Rattle.std.specs.Prelude.{◌≡◌, ◌<◌, ◌++◌, OnOk, codes, length};
+ghost use Rattle.std.specs.Fmt.{decimal};
+ghost use Rattle.std.specs.String.{string_bytes};
+ghost use Rattle.import_rules.specs.Program.{see_program};
+ghost use Rattle.loop_report.specs.Names.{member_name, name_text};
+
+use crate::spelled::push_atom;
+use import_rules::{PredName, Program};
+use std::alloc::{AllocError, Global};
+
+/// Adds the number in decimal digits.
+pub(crate) fn push_number(alloc: Global, text: &mut String, number: u64) -> Result<(), AllocError>
+    ensures { OnOk result (string_bytes text.new ≡ string_bytes text.old ++ decimal number) }
+{
+    let digits = number.to_string(alloc)?;
+    text.push_str(&digits)
+}
+
+fn push_name(alloc: Global, text: &mut String, predicate: &PredName) -> Result<(), AllocError>
+    ensures { OnOk result (string_bytes text.new
+        ≡ string_bytes text.old ++ name_text predicate.now) }
+{
+    push_atom(text, predicate.module.as_str())?;
+    text.push_str(":")?;
+    push_atom(text, predicate.name.as_str())?;
+    text.push_str("/")?;
+    push_number(alloc, text, u64::from(predicate.arity))
+}
+
+/// Adds a space and the name of the predicate with that number.
+pub(crate) fn push_member(
+    alloc: Global,
+    text: &mut String,
+    program: &Program,
+    member: u32,
+) -> Result<(), AllocError>
+    requires { member < length (see_program program.now).predicates }
+    ensures { OnOk result (string_bytes text.new
+        ≡ string_bytes text.old ++ member_name (see_program program.now).predicates member) }
+{
+    text.push_str(" ")?;
+    push_name(alloc, text, program.name_of(member))
+}

@@ -1,0 +1,60 @@
+ghost use Rattle.std.specs.Prelude.{◌≡◌, ◌<◌, ◌++◌, IfOk, OnOk, All, length, map};
+ghost use Rattle.std.specs.List.{range_with_len};
+ghost use Rattle.std.specs.String.{string_bytes};
+ghost use Rattle.graph_law.specs.Graph.{lists_of};
+ghost use Rattle.import_rules.specs.Program.{see_program};
+ghost use Rattle.loop_report.specs.Report.{is_grouped, unreached_line, unreached_lines};
+
+use crate::names::push_member;
+use graph_law::stamp;
+use import_rules::Program;
+use std::alloc::{AllocError, Global};
+
+/// For each of `count` nodes, whether it is in a group.
+fn marks_of(alloc: Global, count: u32, groups: &[Vec<u32>]) -> Result<Vec<bool>, AllocError>
+    requires { All (All (λ member. member < count)) (lists_of groups.now) }
+    ensures { IfOk result (λ marks. marks.items ≡ map (is_grouped (lists_of groups.now)) (range_with_len 0 count)) }
+{
+    let mut marks = vec![in alloc; false; count as usize]?;
+    for group in groups {
+        stamp(&mut marks, group, true);
+    }
+    Ok(marks)
+}
+
+/// Adds the line of a predicate that is in no group.
+fn push_line(
+    alloc: Global,
+    text: &mut String,
+    program: &Program,
+    node: u32,
+) -> Result<(), AllocError>
+    requires { node < length (see_program program.now).predicates }
+    ensures { OnOk result (string_bytes text.new
+        ≡ string_bytes text.old ++ unreached_line (see_program program.now).predicates node) }
+{
+    text.push_str("unreached")?;
+    push_member(alloc, text, program, node)?;
+    text.push_str("\n")
+}
+
+/// Adds the lines of the predicates that are in no group, in order.
+pub(crate) fn push_unreached(
+    alloc: Global,
+    text: &mut String,
+    program: &Program,
+    groups: &[Vec<u32>],
+) -> Result<(), AllocError>
+    requires { All (All (λ member. member < length (see_program program.now).predicates)) (lists_of groups.now) }
+    ensures { OnOk result (string_bytes text.new
+        ≡ string_bytes text.old ++ unreached_lines (see_program program.now).predicates (lists_of groups.now)) }
+{
+    let marks = marks_of(alloc, program.count(), groups)?;
+    for node in 0..program.count() {
+        if marks[node as usize] {
+            continue;
+        }
+        push_line(alloc, text, program, node)?;
+    }
+    Ok(())
+}

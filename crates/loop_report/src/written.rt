@@ -1,0 +1,73 @@
+ghost use Rattle.std.specs.Prelude.{◌≡◌, ◌<◌, IfOk, All, length};
+ghost use Rattle.graph_law.specs.Graph.{lists_of};
+ghost use Rattle.import_rules.specs.Program.{see_program};
+ghost use Rattle.loop_report.specs.Report.{IsOrderReport, IsReport, IsReportIn};
+ghost use Rattle.loop_report.specs.Reportable.{ArePrintable, AreReportable};
+
+use crate::group_lines::push_groups;
+use crate::head::push_head;
+use crate::line_order::{line_order, order_given};
+use crate::loops::{import_loops, push_loops};
+use crate::unreached::push_unreached;
+use group_release::Level;
+use import_rules::Program;
+use std::alloc::{AllocError, Global};
+
+/// The report of groups of a program's predicates, given by their numbers: the head line; a line for
+/// each group, in order of height and least member; a line for each import loop; and where `unreached`
+/// asks for them, the predicates that are in no group. The groups are in a legal order of some graph
+/// of the predicates, and the levels are theirs there.
+pub fn report(
+    alloc: Global,
+    program: &Program,
+    groups: &[Vec<u32>],
+    levels: &[Level],
+    unreached: bool,
+) -> Result<Vec<u8>, AllocError>
+    requires { AreReportable (length (see_program program.now).predicates) (lists_of groups.now) levels.now }
+    ensures { IfOk result (λ bytes.
+        IsReport (see_program program.now).predicates (see_program program.now).loaded.files (lists_of groups.now) levels.now unreached bytes.items) }
+{
+    let order = line_order(alloc, groups, levels)?;
+    written(alloc, program, groups, levels, &order, unreached)
+}
+
+/// The same report with the lines of the groups in the order in which the groups are given.
+pub fn order_report(
+    alloc: Global,
+    program: &Program,
+    groups: &[Vec<u32>],
+    levels: &[Level],
+    unreached: bool,
+) -> Result<Vec<u8>, AllocError>
+    requires { AreReportable (length (see_program program.now).predicates) (lists_of groups.now) levels.now }
+    ensures { IfOk result (λ bytes.
+        IsOrderReport (see_program program.now).predicates (see_program program.now).loaded.files (lists_of groups.now) levels.now unreached bytes.items) }
+{
+    let order = order_given(alloc, groups.len())?;
+    written(alloc, program, groups, levels, &order, unreached)
+}
+
+/// The report with the lines of the groups at these places.
+fn written(
+    alloc: Global,
+    program: &Program,
+    groups: &[Vec<u32>],
+    levels: &[Level],
+    order: &[usize],
+    unreached: bool,
+) -> Result<Vec<u8>, AllocError>
+    requires printable { ArePrintable (length (see_program program.now).predicates) (lists_of groups.now) levels.now }
+    requires places { All (λ place. place < length groups.now) order.now }
+    ensures { IfOk result (λ bytes.
+        IsReportIn (see_program program.now).predicates (see_program program.now).loaded.files (lists_of groups.now) levels.now unreached order.now bytes.items) }
+{
+    let mut text = String::with_capacity(alloc, 32 * program.count() as usize)?;
+    push_head(alloc, &mut text, groups, levels)?;
+    push_groups(alloc, &mut text, program, groups, levels, order)?;
+    push_loops(&mut text, &import_loops(alloc, program)?)?;
+    if unreached {
+        push_unreached(alloc, &mut text, program, groups)?;
+    }
+    Ok(text.into_bytes())
+}
