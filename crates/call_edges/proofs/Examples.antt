@@ -5,8 +5,9 @@ use Rattle.prolog_terms.specs.declared.term.Form.TheVariants.{Functional}
 use Rattle.prolog_terms.specs.declared.term.ConstKind.TheVariants.{Integer, Str, BackStr, Float}
 use Rattle.prolog_terms.specs.Tree.{Tree, variable, constant, atom, compound, listed, tailed, curly, paren, trees_from}
 use Rattle.call_edges.specs.declared.role.Role.TheVariants.{Plain, Goal, Caret, Grammar}
-use Rattle.call_edges.specs.Goals.{Met, call, fault, place, plain_rows, IsPart, IsMet}
+use Rattle.call_edges.specs.Goals.{Met, Place, call, fault, place, plain_rows, IsPart, IsMet}
 use Rattle.call_edges.specs.Listed.{mets_in}
+use Rattle.call_edges.specs.Calls.{body_of, IsMetInClause}
 
 -- terms that stand at an offset
 
@@ -224,3 +225,46 @@ met_behind_a_caret = record {
   stands = record { path = place (codes "user") Caret a ∷ []; leads = (record { i = 1; argument = refl; in_module = refl; stands = refl }, refl) };
   met = refl;
 }
+
+no_part_of_a_variable : (q : Place) → IsPart plain_rows (codes "user") (Goal 0) var q → ⊥
+no_part_of_a_variable q is = is
+
+-- bodies of clauses
+
+body_of_a_rule : body_of (codes "user") (round (with (codes ":-") (a ∷ b ∷ []))) ≡ Some (place (codes "user") (Goal 0) b)
+body_of_a_rule = refl
+
+-- what is pushed back stands in the head
+body_of_a_grammar_rule : body_of (codes "user") (with (codes "-->") (with (codes ",") (a ∷ text ∷ []) ∷ b ∷ [])) ≡ Some (place (codes "user") Grammar b)
+body_of_a_grammar_rule = refl
+
+no_body_of_a_fact : body_of (codes "user") (with (codes "p") (a ∷ b ∷ [])) ≡ None
+no_body_of_a_fact = refl
+
+number_as_a_body : IsMetInClause (codes "user") (with (codes ":-") (a ∷ round (number 5) ∷ [])) (fault 5)
+number_as_a_body = record {
+  body = place (codes "user") (Goal 0) (round (number 5));
+  is = refl;
+  met = record {
+    at = place (codes "user") (Goal 0) (number 5);
+    stands = record { path = place (codes "user") (Goal 0) (number 5) ∷ []; leads = (refl, refl) };
+    met = refl;
+  };
+}
+
+-- `p :- maplist(q, [a]), setof(X, Y^r(X, Y), L), M:s, m:s.`
+four_goals : goals
+    (with (codes ",")
+    (with (codes "maplist") (name (codes "q") ∷ listed (trees_from (a ∷ [])) (at 4) ∷ [])
+    ∷ with (codes ",")
+    (with (codes "setof") (var ∷ with (codes "^") (var ∷ with (codes "r") (var ∷ var ∷ []) ∷ []) ∷ var ∷ [])
+    ∷ with (codes ",") (with (codes ":") (var ∷ name (codes "s") ∷ []) ∷ with (codes ":") (name (codes "m") ∷ name (codes "s") ∷ []) ∷ []) ∷ []) ∷ []))
+    ≡ calls (codes "maplist") 2 ∷ calls (codes "q") 1 ∷ calls (codes "setof") 3 ∷ calls (codes "r") 2 ∷ call (codes "m") (codes "s") 0 ∷ []
+four_goals = refl
+
+-- `greeting --> [hello], name, { log(x) }.`
+greeting : grammar
+    (with (codes ",")
+    (listed (trees_from (name (codes "hello") ∷ [])) (at 4) ∷ with (codes ",") (name (codes "name") ∷ curly (with (codes "log") (name (codes "x") ∷ [])) (at 5) ∷ []) ∷ []))
+    ≡ calls (codes "name") 2 ∷ calls (codes "log") 1 ∷ []
+greeting = refl

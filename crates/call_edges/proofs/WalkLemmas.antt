@@ -36,6 +36,12 @@ deepest_one (first ∷ args) (suc i) tree is = omega (arith, deepest_one args i 
 pub read_seen : (terms : List Term) (i : ℕ) (found : Term) → i < length terms → found ≡ get_or terms i found → slice_get (map tree_of terms) i ≡ Some (tree_of found)
 read_seen terms i found lt is = slice_get-map tree_of terms i ∙ ap (option_map tree_of) (slice_get_read terms (length terms) i found refl lt is)
 
+-- what a compound is, by what the code reads of it
+pub taken_is : (T : Rows) (owner : List ℕ) (role : Role) (name wanted : List ℕ) (items parts : List Term) (apart : Taken)
+    → apart ≡ taken T owner role name (map tree_of items) → name ≡ wanted → items ≡ parts → apart ≡ taken T owner role wanted (map tree_of parts)
+taken_is T owner role name wanted items parts apart is named same =
+    is ∙ (ap (λ n. taken T owner role n (map tree_of items)) named ∙ ap (λ xs. taken T owner role wanted (map tree_of xs)) same)
+
 module _ (T : Rows) (owner : List ℕ) (role : Role) (found : Term) (old new : List Met) where
   -- what the walk has to add
   abbrev pub IsWalked : Tree → Type 0

@@ -1,17 +1,17 @@
 -- Which names a library was asked for.
-use Rattle.std.proofs.Common.{◌≡◌, ◌≢◌, ℕ, ◌<◌, ◌⊎◌, List, [], ◌++◌, AllPairs, length, get_or, refl, sym, subst, ap, ◌∙◌, inl, inr, arith, append-nil}
+use Rattle.std.proofs.Common.{◌≡◌, ◌≢◌, ℕ, ◌<◌, ◌⊎◌, List, [], ◌++◌, AllPairs, length, sym, subst, ap, ◌∙◌, inl, inr, arith, append-nil}
 use Rattle.std.proofs.lemmas.List.{length-append, get_or_append_left}
 use Rattle.file_library.specs.FileLoads.{FileLoads}
 use Rattle.file_library.specs.Library.{Files}
 use Rattle.file_library.specs.Asked.{names_in}
 use Rattle.file_library.specs.Asking.{AreFirst, AreAll, AreTooMany, LoadEnd, loaded, faults, unread, too_many, too_large, too_much, no_memory, LoadEndIs}
-use Rattle.group_tool.specs.Words.{Options, IsLawful, HasNoOptions}
+use Rattle.group_tool.specs.Words.{Options, IsLawful}
 use Rattle.group_tool.specs.Answer.{ComesTo}
 use Rattle.group_tool.specs.End as of_run
 use Rattle.group_tool.specs.End.{End, usage, limit, report, memory_line}
 use Rattle.group_tool.specs.Lines.{unread_line, limit_line}
 use Rattle.group_tool.specs.declared.stop.Limit.{Limit}
-use Rattle.group_tool.specs.Run.{Asking, EndsAsking, IsLawfulEnd, IsAsked, EndIs, EndsBy, Taking, IsRun, SaidWith, AreAskedFor}
+use Rattle.group_tool.specs.Run.{Asking, EndsAsking, IsLawfulEnd, EndIs, EndsBy, Taking, IsRun, SaidWith, AreAskedFor}
 use Rattle.group_tool.proofs.ToldWaves.{waves_once}
 use Rattle.group_tool.proofs.WordLemmas.{one_options}
 

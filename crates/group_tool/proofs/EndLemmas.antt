@@ -1,5 +1,5 @@
 -- From how the asking for files ended to how a run ends.
-use Rattle.std.proofs.Common.{◌≡◌, ℕ, ◌⊎◌, List, [], Option, Some, None, Result, Ok, Err, Vec, Global, IsErrAnd, refl, sym, subst, inl, inr, arith, append-nil}
+use Rattle.std.proofs.Common.{◌≡◌, ℕ, List, [], Option, Some, None, Result, Ok, Err, Vec, Global, IsErrAnd, refl, sym, subst, inl, inr, arith, append-nil}
 use Rattle.order_law.proofs.OneOrder.{nothing_in}
 use Rattle.file_library.specs.declared.loaded.LoadStop.{LoadStop}
 use Rattle.file_library.specs.declared.loaded.LoadStop.TheVariants.{Faults, ReadFault, TooManyFiles, FileTooLarge, TooMuchText, NoMemory}
@@ -15,7 +15,7 @@ use Rattle.call_edges.specs.GoalFaults.{IsGoalStop}
 use Rattle.group_tool.specs.declared.stop.Limit.TheVariants as of_limit
 use Rattle.group_tool.specs.declared.stop.Stop.{Stop}
 use Rattle.group_tool.specs.declared.stop.Stop.TheVariants as of_stop
-use Rattle.group_tool.specs.Words.{Options, IsLawful, HasNoOptions, of_files}
+use Rattle.group_tool.specs.Words.{Options, IsLawful, of_files}
 use Rattle.group_tool.specs.LoadedEnd.{LoadedComesTo}
 use Rattle.group_tool.specs.Answer.{ComesTo, IsLoadedEnd, IsLawfulAnswer}
 use Rattle.group_tool.specs.End.{End, usage, faults, unread, limit, report, no_memory}

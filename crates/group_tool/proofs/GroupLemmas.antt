@@ -1,12 +1,12 @@
 -- The groups of a program: what holds of its successor lists holds of its calls.
-use Rattle.std.proofs.Common.{◌≡◌, ◌<◌, ◌≤◌, ℕ, List, [], None, All, Contains, length, slice_get, refl, ap, sym, ◌∙◌, subst, inl, inr, arith}
+use Rattle.std.proofs.Common.{◌≡◌, ◌<◌, ◌≤◌, ℕ, List, [], All, Contains, length, ap, subst, inl, inr, arith}
 use Rattle.std.proofs.lemmas.Bool.{cases_lt}
 use Rattle.std.proofs.lemmas.List.{get_or_past}
 use Rattle.std.proofs.lemmas.List.Elements.{All-contains}
 use Rattle.std.proofs.lemmas.Option.{slice_get_past}
 use Rattle.order_law.proofs.OneOrder.{nothing_in}
 use Rattle.graph_law.specs.Reach.{Agree}
-use Rattle.graph_law.specs.Graph.{Calls, IsClosed}
+use Rattle.graph_law.specs.Graph.{Calls}
 use Rattle.graph_law.specs.Classes.{HasMember, group_at}
 use Rattle.graph_law.proofs.ReachLaws.{along_walk, is_reached_along}
 use Rattle.graph_law.proofs.Transport.{Agree-sym, IsLegalOrder-agree, HaveHeights-agree, IsRecursive-agree}

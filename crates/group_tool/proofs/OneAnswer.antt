@@ -1,5 +1,5 @@
 -- Words over a map of files have one answer.
-use Rattle.std.proofs.Common.{◌≡◌, ℕ, ◌⊎◌, List, ap, sym, ◌∙◌, subst, refl, inl, inr}
+use Rattle.std.proofs.Common.{◌≡◌, ℕ, ◌⊎◌, List, sym, ◌∙◌, subst, refl, inl, inr}
 use Rattle.file_library.specs.Library.{Files}
 use Rattle.file_library.specs.Asking.{LoadEnd, loaded, too_many, too_large, too_much, LoadEndIs, IsDecided}
 use Rattle.file_library.specs.Asking as of_load

@@ -1,24 +1,15 @@
 -- Loaded files come to one end.
-use Rattle.std.proofs.Common.{◌≡◌, ◌≢◌, ℕ, ◌<◌, ◌≤◌, ◌⊎◌, List, [], ◌∷◌, Some, false, length, get_or, AllPairs, Contains, refl, ap, sym, ◌∙◌, subst, inl, inr, arith}
+use Rattle.std.proofs.Common.{◌≡◌, ℕ, ◌<◌, ◌≤◌, ◌⊎◌, List, [], ◌∷◌, false, get_or, AllPairs, refl, ap, sym, ◌∙◌, subst, inl, inr, arith}
 use Rattle.std.specs.List.{AllZip}
 use Rattle.std.specs.List.Sorted.{IsStrictlyIncreasing}
-use Rattle.std.specs.Ordering.{nat_cmp}
-use Rattle.std.specs.Cmp.Lexicographic.{slice_cmp}
 use Rattle.std.specs.declared.cmp.Ordering.TheVariants.{Less}
 use Rattle.std.proofs.lemmas.Cmp.{nat_list_cmp_total, nat_cmp_total, on_total, then_total}
 use Rattle.std.proofs.lemmas.List.{get_or_default}
 use Rattle.order_law.proofs.OneOrder.{IsStrict, same_order, less_strict, holds_of}
-use Rattle.prolog_tokens.specs.Places.{IsPlace}
-use Rattle.prolog_tokens.proofs.PlaceSteps.{place_once}
 use Rattle.graph_law.proofs.Increasing.{increasing_far}
-use Rattle.module_table.specs.Facts.{Facts}
 use Rattle.file_library.specs.declared.fault.Fault.{Fault}
-use Rattle.file_library.specs.Loaded.{LoadedFiles, NamedText, IsTextOf}
-use Rattle.file_library.proofs.NameLists.{zip_once}
-use Rattle.import_rules.specs.declared.names.PredName.{PredName}
-use Rattle.import_rules.specs.Names.{pred_cmp}
-use Rattle.import_rules.specs.Files.{AreNumbered, all_defined}
-use Rattle.import_rules.specs.Flaws.{Flaw, AreFlaws, IsFaultOf, AreImportFaults}
+use Rattle.file_library.specs.Loaded.{LoadedFiles}
+use Rattle.import_rules.specs.Flaws.{IsFaultOf}
 use Rattle.import_rules.specs.Loaded.{WasLoaded}
 use Rattle.import_rules.specs.Program.{Seen, IsProgram, HasPredicates, most_predicates}
 use Rattle.import_rules.proofs.OneFlaws.{one_list_of_flaws, one_list_of_import_faults}
@@ -27,7 +18,6 @@ use Rattle.call_edges.specs.GoalFaults.{IsGoalFault, fault_cmp, AreGoalFaults}
 use Rattle.call_edges.specs.Calls.{NodeCalls}
 use Rattle.loop_report.specs.Reportable.{AreLeveled}
 use Rattle.loop_report.proofs.OneReport.{same_report}
-use Rattle.group_tool.specs.declared.stop.Limit.TheVariants.{TooManyPredicates}
 use Rattle.group_tool.specs.LoadedEnd.{DefineTooMany, HaveImportFaults, HaveGoalFaults, AreRoots, ReportsProgram, ReportsLoaded, LoadedComesTo}
 use Rattle.group_tool.specs.End.{End, usage, faults, unread, limit, report, no_memory}
 

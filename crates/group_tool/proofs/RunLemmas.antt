@@ -1,13 +1,9 @@
 -- What the ways in which a run ends say.
 use Rattle.std.proofs.Common.{◌≡◌, ◌≢◌, ℕ, ◌⊎◌, List, [], ◌∷◌, ◌++◌, Option, Some, None, ap, sym, subst, ◌∙◌, refl, inl, inr, append-nil, append_assoc, arith}
-use Rattle.file_library.specs.declared.fault.Fault.{Fault}
 use Rattle.file_library.specs.Counts.{Rose}
 use Rattle.file_library.specs.Library.{Files}
-use Rattle.file_library.specs.Loaded.{LoadedFiles}
 use Rattle.file_library.specs.Asking.{LoadEnd, loaded, too_many, too_large, too_much, HasEnded, IsDecided}
 use Rattle.file_library.specs.Asking as of_load
-use Rattle.group_tool.specs.Words.{Options, IsLawful, HasNoOptions}
-use Rattle.group_tool.specs.LoadedEnd.{LoadedComesTo}
 use Rattle.group_tool.specs.Answer.{ComesTo}
 use Rattle.group_tool.specs.Lines.{fault_lines, unread_line, limit_line}
 use Rattle.group_tool.specs.End.{End, usage, faults, unread, limit, report, no_memory, usage_line, memory_line}

@@ -9,7 +9,7 @@ use Rattle.file_library.specs.declared.fault.Fault.{Fault}
 use Rattle.file_library.specs.Library.{Files}
 use Rattle.file_library.specs.Asked.{IsWave, wave_at, AreFirstWaves, AreWaves, names_in}
 use Rattle.file_library.specs.FileLoads.{FileLoads}
-use Rattle.file_library.specs.Loaded.{IsAskedIn, NamedText, LoadedFiles, size_of, AreWithin, IsTextOf, IsLoaded, IsNoRoot, IsOfFile, IsLoadFault, AreLoadFaults, most_bytes, most_files}
+use Rattle.file_library.specs.Loaded.{IsAskedIn, NamedText, LoadedFiles, size_of, AreWithin, IsLoaded, IsLoadFault, AreLoadFaults, most_bytes}
 use Rattle.file_library.specs.Asking.{AreFirst, AreAll, AreTooMany, LeadTo, IsTooMuch, LoadEnd, loaded, faults, unread, too_many, too_large, too_much, no_memory, LoadEndIs, IsDecided, AreAnswered, seen_of, HasEnded}
 use Rattle.file_library.proofs.WaveLaws.{Names, in_names, waves_asked, asked_waves}
 use Rattle.group_tool.proofs.ToldWaves.{AgreeBelow, in_wave_to, first_waves_same, waves_same, StandsAt, stands_at, names_of_first, names_with_last}

@@ -1,7 +1,7 @@
 -- Waves over two relations of files that load files, which say the same of the files of the first waves.
 use Rattle.std.proofs.Common.{◌≡◌, ℕ, zero, suc, ◌+◌, ◌<◌, ◌≤◌, ◌⊎◌, List, [], ◌∷◌, ◌++◌, length, Contains, refl, sym, subst, ap, ◌∙◌, inl, inr, arith, AllPairs}
 use Rattle.std.proofs.lemmas.Grind.{flat_map-append}
-use Rattle.std.proofs.lemmas.List.{length-append, get_or_append_left, get_or_past, append_assoc, append-nil}
+use Rattle.std.proofs.lemmas.List.{length-append, get_or_past, append_assoc, append-nil}
 use Rattle.std.proofs.lemmas.List.Concat.{flat_map-cons}
 use Rattle.file_library.specs.Asked.{LeadsIn, IsInWave, wave_at, IsWave, AreFirstWaves, AreWaves, names_in}
 use Rattle.file_library.proofs.Lookups.{all_pairs_append, order_once}

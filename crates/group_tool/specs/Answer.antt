@@ -7,7 +7,7 @@ use Rattle.file_library.specs.Asking as of_load
 use Rattle.group_tool.specs.declared.stop.Limit.TheVariants.{TooManyFiles, FileTooLarge, TooMuchText}
 use Rattle.group_tool.specs.Words.{Options, IsLawful, HasNoOptions}
 use Rattle.group_tool.specs.LoadedEnd.{LoadedComesTo}
-use Rattle.group_tool.specs.End.{End, usage, faults, unread, limit, report, no_memory}
+use Rattle.group_tool.specs.End.{End, usage, faults, unread, limit, no_memory}
 
 -- what the end of the asking for files comes to
 abbrev pub ComesTo : LoadEnd → End → Type 0

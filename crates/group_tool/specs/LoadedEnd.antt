@@ -12,7 +12,7 @@ use Rattle.call_edges.specs.Roots.{IsRoot}
 use Rattle.loop_report.specs.Report.{IsReport}
 use Rattle.loop_report.specs.Reportable.{AreLeveled}
 use Rattle.group_tool.specs.declared.stop.Limit.TheVariants.{TooManyPredicates}
-use Rattle.group_tool.specs.End.{End, usage, faults, unread, limit, report, no_memory}
+use Rattle.group_tool.specs.End.{End, faults, limit, report}
 
 -- they define too many predicates
 abbrev pub DefineTooMany : LoadedFiles → Type 0

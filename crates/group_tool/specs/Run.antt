@@ -8,7 +8,7 @@ use Rattle.file_library.specs.Asking as of_load
 use Rattle.group_tool.specs.declared.stop.Limit.{Limit}
 use Rattle.group_tool.specs.Words.{Options, IsLawful, HasNoOptions}
 use Rattle.group_tool.specs.Lines.{fault_lines, unread_line, limit_line}
-use Rattle.group_tool.specs.End.{End, usage, faults, unread, limit, report, no_memory, memory_line, status_of, out_of, err_of}
+use Rattle.group_tool.specs.End.{End, usage, faults, limit, report, no_memory, memory_line, status_of, out_of, err_of}
 use Rattle.group_tool.specs.Answer.{IsLawfulAnswer, IsAnswer, ComesTo}
 use Rattle.group_tool.specs.Say.{TookAll, TookPart}
 use Rattle.group_tool.specs.Sink.{more_taken}

@@ -8,8 +8,6 @@ mod graphs;
 #[cfg(test)]
 mod level_tests;
 #[cfg(test)]
-mod move_tests;
-#[cfg(test)]
 mod plain_tests;
 #[cfg(test)]
 mod step_tests;

@@ -9,7 +9,7 @@ use Rattle.call_edges.specs.Goals.{added, atom_met, plain_rows, place, taken, Ta
 use Rattle.call_edges.specs.Seen.{see_mets, see_taken}
 use Rattle.call_edges.proofs.AddedLemmas.{plain_within, argument_within, arguments_within}
 use Rattle.call_edges.proofs.MetLemmas.{first_none, first_more, first_rowless}
-use Rattle.call_edges.proofs.WalkLemmas.{on_ok, deepest_one, read_seen, variable_walked, list_walked, constant_walked, atom_walked, curly_walked, paren_walked, compound_walked}
+use Rattle.call_edges.proofs.WalkLemmas.{taken_is, on_ok, deepest_one, read_seen, variable_walked, list_walked, constant_walked, atom_walked, curly_walked, paren_walked, compound_walked}
 use Rattle.call_edges.proofs.walking.+walk.Goals as goal
 
 pub take_apart-taken-requires : goal.take_apart-taken-requires
@@ -37,9 +37,8 @@ walk-requires t c =
     subst (λ xs. slice_get (map tree_of xs) k ≡ Some tree) c.deref-arg-items.ensures.value
     (read_seen c.deref-arg-items.result.now k c.arg-item.result c.loop-at-test.true c.arg-item.is) in
     let apart : see_taken c.take_apart-taken.result ≡ taken plain_rows owner role v.name parts =
-    c.take_apart-taken.ensures
-    ∙ (ap (λ name. taken plain_rows owner role name (map tree_of c.deref.result.now)) c.as_str-in-Compound.ensures
-    ∙ ap (λ xs. taken plain_rows owner role v.name (map tree_of xs)) c.deref.ensures.value) in
+    taken_is plain_rows owner role c.as_str-in-Compound.result.now v.name c.deref.result.now v.args.items (see_taken c.take_apart-taken.result) c.take_apart-taken.ensures
+    c.as_str-in-Compound.ensures c.deref.ensures.value in
     let stands : c.role_of.result ≡ role_at (taken plain_rows owner role v.name parts).row k =
     c.role_of.ensures ∙ (ap (λ row. role_at row k) (sym c.in-Some.is) ∙ ap (λ (a : Taken). role_at a.row k) apart) in (
       omega (arith, deepest_one parts k tree read, ap depth is),
@@ -95,9 +94,8 @@ returns-in-None t c =
     let new = see_mets c.push_met-in-Compound.new.met.items in
     let here = see_taken c.take_apart-taken.result in
     let apart : here ≡ taken plain_rows owner role v.name parts =
-    c.take_apart-taken.ensures
-    ∙ (ap (λ name. taken plain_rows owner role name (map tree_of c.deref.result.now)) c.as_str-in-Compound.ensures
-    ∙ ap (λ xs. taken plain_rows owner role v.name (map tree_of xs)) c.deref.ensures.value) in
+    taken_is plain_rows owner role c.as_str-in-Compound.result.now v.name c.deref.result.now v.args.items (see_taken c.take_apart-taken.result) c.take_apart-taken.ensures
+    c.as_str-in-Compound.ensures c.deref.ensures.value in
     compound_walked plain_rows owner role c.args.term.now old new v.name v.args v.form v.span here parts (length parts) v.is refl apart (omega arith)
     (first_rowless plain_rows here parts (length parts) old new c.in-None.is (first_none plain_rows here parts old new c.in_ok-push_met-in-Compound.ensures))
 
@@ -112,9 +110,8 @@ returns-after-loop-at t c =
     let here = see_taken c.take_apart-taken.result in
     let items = c.deref-arg-items.result.now in
     let apart : here ≡ taken plain_rows owner role v.name parts =
-    c.take_apart-taken.ensures
-    ∙ (ap (λ name. taken plain_rows owner role name (map tree_of c.deref.result.now)) c.as_str-in-Compound.ensures
-    ∙ ap (λ xs. taken plain_rows owner role v.name (map tree_of xs)) c.deref.ensures.value) in
+    taken_is plain_rows owner role c.as_str-in-Compound.result.now v.name c.deref.result.now v.args.items (see_taken c.take_apart-taken.result) c.take_apart-taken.ensures
+    c.as_str-in-Compound.ensures c.deref.ensures.value in
     compound_walked plain_rows owner role c.args.term.now old new v.name v.args v.form v.span here (map tree_of items) c.loop-at.at v.is
     (ap (map tree_of) c.deref-arg-items.ensures.value) apart (omega (arith, length-map items tree_of, c.loop-at-test.false)) c.loop-at.invariant
 

@@ -1,12 +1,11 @@
-use Rattle.std.proofs.Common.{◌≡◌, ◌<◌, ℕ, List, All, length, refl, sym, subst}
+use Rattle.std.proofs.Common.{◌≡◌, ◌<◌, ℕ, List, All, length, sym, subst}
 use Rattle.graph_law.specs.Graph.{Calls, lists_of}
 use Rattle.graph_law.specs.Classes.{HasMember}
 use Rattle.group_release.specs.Level.{AreLevels}
 use Rattle.import_rules.specs.Program.{Seen, see_program}
 use Rattle.call_edges.specs.Opened.{see_calls}
 use Rattle.call_edges.specs.Successors.{successor_lists}
-use Rattle.loop_report.specs.Report.{IsReport}
-use Rattle.loop_report.specs.Reportable.{AreGroups, AreLeveled, AreReportable}
+use Rattle.loop_report.specs.Reportable.{AreGroups, AreReportable}
 use Rattle.group_tool.proofs.GroupLemmas.{roots_listed, members_listed, members_numbered, leveled_calls}
 use Rattle.group_tool.proofs.answer.report_groups.Goals as goal
 

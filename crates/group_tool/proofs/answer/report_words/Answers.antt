@@ -1,7 +1,5 @@
-use Rattle.std.proofs.Common.{List, ℕ, refl, sym, subst}
-use Rattle.file_library.specs.Asking.{LoadEnd, HasEnded}
+use Rattle.std.proofs.Common.{refl, sym, subst}
 use Rattle.file_library.specs.SortedOut.{see_loaded}
-use Rattle.file_library.specs.SortedOut as of_library
 use Rattle.group_tool.specs.Words.{IsLawful, of_files}
 use Rattle.group_tool.specs.declared.stop.Stop.TheVariants.{NoMemory}
 use Rattle.group_tool.specs.Run.{EndIs}

@@ -1,4 +1,4 @@
-use Rattle.std.proofs.Common.{ℕ, List, take, sym, subst, ap, ◌∙◌, ◌≡◌, ◌++◌, ◌∷◌, [], ◌+◌}
+use Rattle.std.proofs.Common.{take, sym, subst, ◌+◌}
 use Rattle.std.specs.List.{AllZip}
 use Rattle.group_tool.specs.Words.{IsFileWord}
 use Rattle.group_tool.proofs.WordLemmas.{one_more, one_unlawful}
