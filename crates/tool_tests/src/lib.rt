@@ -18,4 +18,6 @@ mod runs;
 #[cfg(test)]
 mod sinks;
 #[cfg(test)]
+mod small_programs;
+#[cfg(test)]
 mod words;
