@@ -1,0 +1,18 @@
+use Rattle.std.proofs.Common.{◌≡◌, ◌∙◌, ap₂, codes}
+use Rattle.std.proofs.lemmas.Result.{IfOk-weaker}
+use Rattle.clap.specs.Words.{app_of, with_rule}
+use Rattle.group_words.specs.ClapCommand.{bare_app, with_valued}
+use Rattle.group_words.proofs.command.command.Goals as goal
+
+pub returns : goal.returns
+returns c =
+    let one : app_of c.in_ok-arg.field-0 ≡ with_valued bare_app (codes "jobs") = c.in_ok-arg.ensures.shape c.valued.ensures.own ∙ ap₂ with_rule c.bare_command.ensures c.valued.ensures.rule in
+    let two : app_of c.in_ok-arg-2.field-0 ≡ with_valued (with_valued bare_app (codes "jobs")) (codes "searches") =
+    c.in_ok-arg-2.ensures.shape c.valued-2.ensures.own ∙ ap₂ with_rule one c.valued-2.ensures.rule in
+    let three : app_of c.in_ok-arg-3.field-0 ≡ with_valued (with_valued (with_valued bare_app (codes "jobs")) (codes "searches")) (codes "seed") =
+    c.in_ok-arg-3.ensures.shape c.valued-3.ensures.own ∙ ap₂ with_rule two c.valued-3.ensures.rule in
+    let four = c.in_ok-arg-4.ensures.shape c.valued-4.ensures.own ∙ ap₂ with_rule three c.valued-4.ensures.rule in
+    let five = c.in_ok-arg-5.ensures.shape c.flag.ensures.own ∙ ap₂ with_rule four c.flag.ensures.rule in
+    let six = c.in_ok-arg-6.ensures.shape c.flag-2.ensures.own ∙ ap₂ with_rule five c.flag-2.ensures.rule in
+    let seven = c.in_ok-arg-7.ensures.shape c.valued-5.ensures.own ∙ ap₂ with_rule six c.valued-5.ensures.rule in
+    IfOk-weaker c.arg-8.result _ _ (λ r added. added.shape c.files.ensures.own ∙ ap₂ with_rule seven c.files.ensures.rule) c.arg-8.ensures
