@@ -61,4 +61,11 @@ impl Released {
     {
         &self.groups
     }
+
+    /// The groups in the order of their release, which are all that is left.
+    pub fn into_groups(self) -> Vec<Vec<u32>>
+        ensures { lists_of result.items ≡ self.groups }
+    {
+        self.groups
+    }
 }

@@ -1,0 +1,83 @@
+ghost use Rattle.std.specs.Prelude.{◌≡◌, ◌⊎◌, ◌+◌, ◌<◌, ◌≤◌, ℕ, true, None, Contains, IfOk, IfErr, IfSome, IfNone};
+ghost use Rattle.node_counts.specs.Counts.{times, flat};
+ghost use Rattle.graph_law.specs.Classes.{HasMember};
+ghost use Rattle.search_stack.specs.GoodSearch.{IsGood};
+ghost use Rattle.search_stack.specs.Search.{IsLastBegun, IsOn, IsReleasable};
+ghost use Rattle.search_stack.specs.Stack.{size};
+ghost use Rattle.blocked_table.specs.Blocked.{HasReady, IsTaken, IsWoken};
+ghost use Rattle.blocked_table.specs.Kept.{Holds};
+ghost use Rattle.blocked_table.specs.Suspending.{IsSuspended};
+ghost use Rattle.group_release.specs.Book.{GoesOnBeside, RunsBeside, released_of};
+ghost use Rattle.group_release.specs.Outline.{kept_nodes, newly_wanted, nodes_going, nodes_on, wanted_nodes};
+ghost use Rattle.group_release.specs.Released.{IsAppended, IsNewGroup};
+
+use super::Book;
+use blocked_table::Suspended;
+use search_stack::Search;
+use std::alloc::AllocError;
+
+impl Book {
+    /// Puts a search aside until a node is finished that its last edge leads to, or lets it go on with
+    /// what it waited for, as `Blocked::suspend` does. At want of memory the search comes back and all
+    /// stays.
+    pub fn suspend(&mut self, search: Search, on: u32) -> Result<Suspended, (AllocError, Search)>
+        requires some { 0 < size search.stack }
+        requires wants_nothing { search.wanted ≡ None }
+        requires apart { (place v : ℕ) → Holds self.old.kept place v → IsOn search.stack v → ⊥ }
+        requires last { IsLastBegun search.stack on }
+        requires off { IsOn search.stack on → ⊥ }
+        requires unreleased { HasMember self.old.groups on → ⊥ }
+        requires good { IsGood self.old.lists self.old.roots (flat self.old.groups) true search.stack }
+        ensures only { IfOk result (λ _. self.new ≡ record self.old { kept = self.new.kept }) }
+        ensures done { IfOk result (IsSuspended self.old.kept self.new.kept search on) }
+        ensures beside { IfOk result (GoesOnBeside self.new) }
+        ensures unchanged { IfErr result (λ _. self.new ≡ self.old) }
+        ensures back { IfErr result (λ failed. failed.1.stack ≡ search.stack) }
+        ensures back_wants { IfErr result (λ failed. failed.1.wanted ≡ None) }
+
+        // In counts: no node is lost or doubled, and what is wanted anew is `on` or a node of the search that goes on.
+        ensures kept_count { IfOk result (λ suspended. (x : ℕ) → times x (kept_nodes self.new.kept) + times x (nodes_going suspended)
+            ≡ times x (kept_nodes self.old.kept) + times x (nodes_on search.stack)) }
+        ensures wanted_count { IfOk result (λ suspended. (x : ℕ) → 0 < times x (wanted_nodes self.new.kept)
+            → (0 < times x (wanted_nodes self.old.kept)) ⊎ (0 < times x (newly_wanted on suspended))) }
+    {
+        self.keeps();
+        self.blocked.suspend(search, on)
+    }
+
+    /// Takes a ready search from its place, where there is one.
+    pub fn take_ready(&mut self) -> Option<Search>
+        ensures only { self.new ≡ record self.old { kept = self.new.kept } }
+        ensures some { IfSome result (λ search. IsTaken self.old.kept self.new.kept search) }
+        ensures beside { IfSome result (RunsBeside self.new) }
+        ensures none { IfNone result (HasReady self.old.kept → ⊥) }
+        ensures unchanged { IfNone result (self.new ≡ self.old) }
+
+        // In counts: the nodes of the search leave the kept ones, and the same nodes are wanted.
+        ensures kept_count { IfSome result (λ search. (x : ℕ)
+            → times x (kept_nodes self.new.kept) + times x (nodes_on search.stack) ≡ times x (kept_nodes self.old.kept)) }
+        ensures wanted_count { (x : ℕ) → times x (wanted_nodes self.new.kept) ≡ times x (wanted_nodes self.old.kept) }
+    {
+        self.keeps();
+        self.blocked.take_ready()
+    }
+
+    /// Puts a group last in the list of released ones, with its members ascending, and makes ready each
+    /// kept search that wants a node of it.
+    pub fn release(&mut self, group: Vec<u32>)
+        requires new { IsNewGroup (released_of self.old) group.items }
+        requires releasable { IsReleasable self.old.lists self.old.roots (flat self.old.groups) group.items }
+        requires apart { (place v : ℕ) → Holds self.old.kept place v → Contains group.items v → ⊥ }
+        ensures only { self.new ≡ record self.old { kept = self.new.kept; groups = self.new.groups } }
+        ensures appended { IsAppended (released_of self.old) group.items (released_of self.new) }
+        ensures woken { IsWoken group.items self.old.kept self.new.kept }
+
+        // In counts: the nodes of the group are released, the kept ones stay, and no other node is wanted.
+        ensures released_count { (x : ℕ) → times x (flat self.new.groups) ≡ times x (flat self.old.groups) + times x group.items }
+        ensures kept_nodes { kept_nodes self.new.kept ≡ kept_nodes self.old.kept }
+        ensures wanted_count { (x : ℕ) → times x (wanted_nodes self.new.kept) ≤ times x (wanted_nodes self.old.kept) }
+    {
+        self.blocked.wake(&group);
+        self.released.append(group);
+    }
+}
