@@ -1,4 +1,12 @@
 pub mod Examples
+pub mod Coding
+pub mod Nodes
+pub mod KeptCounts
+pub mod Beside
+pub mod Gathering
+pub mod Room
+pub mod Books
+pub mod Waking
 mod FewGroups
 mod LevelSteps
 mod MemberSteps
