@@ -19,6 +19,8 @@ use Rattle.blocked_table.proofs.Chain.{none_is_not, some_is}
 use Rattle.group_release.specs.declared.book.Book.TheInside.{Inside}
 use Rattle.group_release.specs.Book.{BookValue, GoesOnBeside, IsGoodBook, RunsBeside, WantsOther, table_of}
 use Rattle.group_release.specs.BookFields.{IsBook, value_of}
+use Rattle.group_release.specs.Coding.{lists_from}
+use Rattle.group_release.specs.Released.{ReleasedGroups}
 use Rattle.group_release.specs.Outline.{kept_nodes, listed, newly_wanted, nodes_going, nodes_of, nodes_on, wanted_nodes, wants_of}
 use Rattle.group_release.proofs.Beside.{none_released}
 use Rattle.group_release.proofs.Gathering.{IsGathering, gathered}
@@ -341,3 +343,29 @@ first_good lists roots closed rooted = record {
   };
   reached = λ v has. absurd (omega (arith, has.within));
 }
+
+-- a new book
+pub made_value : (fields : Inside) (lists : List (List ℕ)) (roots : List ℕ) (count : ℕ) → lists_from fields.lists.numbers ≡ lists
+    → fields.roots.items ≡ roots → fields.given ≡ 0 → fields.failed ≡ false → fields.blocked ≡ record { count = count; most = count; kept = [] }
+    → fields.released ≡ record { count = count; groups = [] }
+    → value_of fields ≡ record { lists = lists; roots = roots; given = 0; failed = false; kept = []; groups = [] }
+made_value fields lists roots count lists_are roots_are given failed blocked released =
+    let kept : fields.blocked.kept ≡ [] = ap (λ (value : BlockedValue). value.kept) blocked in
+    let groups : fields.released.groups ≡ [] = ap (λ (value : ReleasedGroups). value.groups) released in
+    λ i. record { lists = lists_are i; roots = roots_are i; given = given i; failed = failed i; kept = kept i; groups = groups i }
+
+pub made_book : (fields : Inside) (lists : List (List ℕ)) (roots : List ℕ) (count : ℕ) → lists_from fields.lists.numbers ≡ lists
+    → fields.roots.items ≡ roots → fields.given ≡ 0 → fields.failed ≡ false → fields.blocked ≡ record { count = count; most = count; kept = [] }
+    → fields.released ≡ record { count = count; groups = [] } → count ≡ length lists → IsClosed lists → All (λ root. root < length lists) roots
+    → IsBook fields
+made_book fields lists roots count lists_are roots_are given failed blocked released counted closed rooted =
+    let kept : [] ≡ fields.blocked.kept = sym (ap (λ (value : BlockedValue). value.kept) blocked) in
+    let groups : [] ≡ fields.released.groups = sym (ap (λ (value : ReleasedGroups). value.groups) released) in
+    let long : count ≡ length (lists_from fields.lists.numbers) = counted ∙ ap length (sym lists_are) in
+    record {
+      table = blocked ∙ (λ i. record { count = long i; most = long i; kept = kept i });
+      groups = released ∙ (λ i. record { count = long i; groups = groups i });
+      good =
+          subst IsGoodBook (sym (made_value fields lists roots count lists_are roots_are given failed blocked released))
+          (first_good lists roots closed rooted);
+    }

@@ -5,6 +5,7 @@ pub mod KeptCounts
 pub mod Beside
 pub mod Gathering
 pub mod Room
+pub mod Roots
 pub mod Books
 pub mod Waking
 mod FewGroups

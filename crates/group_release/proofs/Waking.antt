@@ -14,12 +14,15 @@ use Rattle.graph_law.specs.Reach.{IsReached}
 use Rattle.graph_law.proofs.ClassLaws.{HasMember-push, HasMember-push_cases, HasMember-push_left}
 use Rattle.search_stack.specs.Search.{SearchValue, IsGoodSearch, IsOn, IsReleasable}
 use Rattle.search_stack.proofs.Released.{legal_push, whole_class}
-use Rattle.blocked_table.specs.Blocked.{IsWoken}
+use Rattle.blocked_table.specs.Blocked.{BlockedValue, IsWoken}
 use Rattle.blocked_table.specs.Kept.{kept_at, Holds}
 use Rattle.blocked_table.proofs.Chain.{none_is_not, some_is}
 use Rattle.group_release.specs.Book.{BookValue, IsGoodBook, WantsOther, released_of}
 use Rattle.group_release.specs.Outline.{kept_nodes, listed, nodes_of, nodes_on, wanted_nodes, wants_of}
-use Rattle.group_release.specs.Released.{IsAppended, ReleasedGroups}
+use Rattle.group_release.specs.declared.book.Book.TheInside.{Inside}
+use Rattle.group_release.specs.BookFields.{IsBook, value_of}
+use Rattle.group_release.specs.Released.{IsAppended, IsNewGroup, ReleasedGroups}
+use Rattle.group_release.proofs.Books.{same_size}
 use Rattle.group_release.proofs.KeptCounts.{wanted_less}
 use Rattle.group_release.proofs.Nodes.{from_flat, in_flat}
 
@@ -178,3 +181,28 @@ module _ {book : BookValue} {group last : List ℕ} {new : List (Option SearchVa
         elim (member_cases v has) as (λ _. IsReached (Calls book.lists) book.roots v)
         [ inl old ↦ good.reached v old | inr newly ↦ release.reached v newly ];
   }
+
+-- the same groups in a list of the same size
+pub released_book : (fields : Inside) (blocked : BlockedValue) (released : ReleasedGroups) (group : List ℕ) → IsBook fields
+    → IsNewGroup (released_of (value_of fields)) group
+    → IsReleasable (value_of fields).lists (value_of fields).roots (flat (value_of fields).groups) group
+    → ((place v : ℕ) → Holds fields.blocked.kept place v → Contains group v → ⊥) → blocked.count ≡ fields.blocked.count
+    → blocked.most ≡ fields.blocked.most → IsWoken group fields.blocked.kept blocked.kept → IsAppended fields.released group released
+    → ((more : List ℕ) → ((v : ℕ) → Contains (flat (value_of fields).groups) v → Contains more v) → ((v : ℕ) → Contains group v → Contains more v)
+        → (place : ℕ) (search : SearchValue) → kept_at blocked.kept place ≡ Some search
+        → IsGoodSearch (value_of fields).lists (value_of fields).roots more search)
+    → IsBook (record fields { blocked = blocked; released = released })
+released_book fields blocked released group is new release apart count most woken appended stays =
+    let book : BookValue = value_of fields in
+    let last : List ℕ = appended.last in
+    let moved : IsPermutation group last = appended.same_members in
+    let good : IsGoodBook (record book { kept = blocked.kept; groups = book.groups ++ last ∷ [] }) =
+    released_good is.good release new.fresh apart woken moved appended.ascending
+    (stays (flat (book.groups ++ last ∷ [])) (more_old is.good release new.fresh apart woken moved appended.ascending)
+    (more_new is.good release new.fresh apart woken moved appended.ascending)) in
+    let count_is : released.count ≡ length book.lists = appended.count ∙ ap (λ (value : ReleasedGroups). value.count) is.groups in
+    record {
+      table = same_size fields.blocked blocked (length book.lists) is.table count most;
+      groups = λ i. record { count = count_is i; groups = released.groups };
+      good = subst (λ groups. IsGoodBook (record book { kept = blocked.kept; groups = groups })) (sym appended.groups) good;
+    }
