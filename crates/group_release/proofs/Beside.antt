@@ -1,13 +1,13 @@
 -- The nodes of a good search whose last edge leads to a node that isn't released: none of them is released, and all are nodes of the graph.
-use Rattle.std.proofs.Common.{◌≡◌, ℕ, ◌<◌, ◌≤◌, ◌+◌, ◌-◌, Bool, List, [], length, ap, ◌∙◌, sym, subst, arith}
+use Rattle.std.proofs.Common.{◌≡◌, ℕ, ◌<◌, ◌+◌, ◌-◌, Bool, List, length, subst, arith}
 use Rattle.std.proofs.lemmas.List.Elements.{All-contains}
-use Rattle.std.specs.Prelude.{All, Contains}
+use Rattle.std.specs.Prelude.{All}
 use Rattle.graph_law.specs.Classes.{HasMember}
 use Rattle.graph_law.specs.Graph.{Calls, IsClosed}
 use Rattle.graph_law.specs.LegalOrder.{IsLegalOrder}
 use Rattle.graph_law.specs.Reach.{IsReached, Reaches}
 use Rattle.graph_law.proofs.ReachLaws.{along_walk}
-use Rattle.search_stack.specs.Stack.{Stack, size, height, top, node, begun, target, position}
+use Rattle.search_stack.specs.Stack.{Stack, height, top, node, begun, position}
 use Rattle.search_stack.specs.GoodSearch.{IsGood}
 use Rattle.search_stack.specs.Search.{IsLastBegun, IsOn}
 use Rattle.search_stack.proofs.Frames.{begun_edge, place_reaches, position_at, position_end, position_within}

@@ -1,14 +1,14 @@
 -- What a book keeps from call to call.
-use Rattle.std.proofs.Common.{◌≡◌, ◌⊎◌, inl, inr, ℕ, ◌<◌, ◌≤◌, ◌+◌, true, false, List, [], ◌∷◌, ◌++◌, length, Option, None, Some, is_some, Result, Ok, Err, refl, ap, ◌∙◌, sym, subst, arith}
+use Rattle.std.proofs.Common.{◌≡◌, ◌⊎◌, inl, inr, ℕ, ◌<◌, ◌≤◌, ◌+◌, Bool, true, false, List, [], ◌∷◌, length, Option, None, Some, is_some, Result, Ok, Err, refl, ap, ◌∙◌, sym, subst, arith}
 use Rattle.std.proofs.lemmas.Bool.{cases_eq, cases_lt}
 use Rattle.std.proofs.lemmas.List.Elements.{All-nil}
 use Rattle.std.specs.Prelude.{All, IfOk, IfErr, IfSome, IfNone}
 use Rattle.node_counts.specs.Counts.{times, flat}
 use Rattle.graph_law.specs.Classes.{HasMember, IsClass}
 use Rattle.graph_law.specs.Graph.{Calls, IsClosed}
-use Rattle.search_stack.specs.Stack.{Stack, size}
+use Rattle.search_stack.specs.Stack.{size}
 use Rattle.search_stack.specs.GoodSearch.{IsGood}
-use Rattle.search_stack.specs.Search.{SearchValue, IsLastBegun, IsOn, lowered}
+use Rattle.search_stack.specs.Search.{SearchValue, IsLastBegun, IsOn}
 use Rattle.blocked_table.specs.declared.suspended.Suspended.{Suspended}
 use Rattle.blocked_table.specs.declared.suspended.Suspended.TheVariants.{Kept, Moved}
 use Rattle.blocked_table.specs.Blocked.{BlockedValue, IsTable, IsTaken}
@@ -42,6 +42,22 @@ table_changes fields after is count most good = record {
   groups = is.groups;
   good = good;
 }
+
+-- the mark is nothing that the searches and groups rest on
+pub failed_good : {book : BookValue} (failed : Bool) → IsGoodBook book → IsGoodBook (record book { failed = failed })
+failed_good failed good = record {
+  closed = good.closed;
+  rooted = good.rooted;
+  given = good.given;
+  kept_good = good.kept_good;
+  wants = λ place w search at wanted. let was = good.wants place w search at wanted in record { unreleased = was.unreleased; off = was.off };
+  unreleased = good.unreleased;
+  legal = good.legal;
+  reached = good.reached;
+}
+
+pub marked_book : {fields : Inside} (failed : Bool) → IsBook fields → IsBook (record fields { failed = failed })
+marked_book failed is = record { table = is.table; groups = is.groups; good = failed_good failed is.good }
 
 -- what holds of an answer that is `Ok`
 pub ok_more : {A E : Type 0} (result : Result A E) (F G : A → Type 0) → ((value : A) → F value → G value) → IfOk result F → IfOk result G
@@ -207,20 +223,22 @@ module _ {book : BookValue} {search : SearchValue} {on : ℕ} (good : IsGoodBook
 
   pub ok_well : {E : Type 0} (new : List (Option SearchValue)) (result : Result Suspended E) → IfOk result (IsSuspended book.kept new search on)
       → IfOk result (λ suspended. (lists : List (List ℕ)) (roots done : List ℕ) → AreGood lists roots done book.kept search.stack
-          → StaysGood lists roots done new suspended)
+      → StaysGood lists roots done new suspended)
       → IfOk result (IsWellSuspended book new search on)
   ok_well new (Ok suspended) is stays =
       suspended_well new suspended is
       (stays book.lists book.roots (flat book.groups) (record { good = may.good; kept_good = good.kept_good }))
   ok_well new (Err error) is stays = tt
 
-pub suspended_book : {E : Type 0} (fields : Inside) (after : BlockedValue) (search : SearchValue) (on : ℕ) (result : Result Suspended E) → IsBook fields
-    → after.count ≡ fields.blocked.count → after.most ≡ fields.blocked.most
+-- whatever the mark is
+pub suspended_book : {E : Type 0} (fields : Inside) (after : BlockedValue) (failed : Bool) (search : SearchValue) (on : ℕ) (result : Result Suspended E)
+    → IsBook fields → after.count ≡ fields.blocked.count → after.most ≡ fields.blocked.most
     → IfOk result (IsWellSuspended (value_of fields) after.kept search on) → IfErr result (λ error. after ≡ fields.blocked)
-    → IsBook (record fields { blocked = after })
-suspended_book fields after search on (Ok suspended) is count most well same = table_changes fields after is count most well.good
-suspended_book fields after search on (Err error) is count most well same =
-    subst (λ table. IsBook (record fields { blocked = table })) (sym same) is
+    → IsBook (record fields { failed = failed; blocked = after })
+suspended_book fields after failed search on (Ok suspended) is count most well same =
+    marked_book failed (table_changes fields after is count most well.good)
+suspended_book fields after failed search on (Err error) is count most well same =
+    marked_book failed (subst (λ table. IsBook (record fields { blocked = table })) (sym same) is)
 
 -- a ready search is taken
 pub record IsWellTaken (book : BookValue) (new : List (Option SearchValue)) (search : SearchValue) : Type 0 where
@@ -301,24 +319,12 @@ pub taken_wants : (fields : Inside) (after : BlockedValue) (result : Option Sear
 taken_wants fields after None well same x = ap (λ (value : BlockedValue). times x (wanted_nodes value.kept)) same
 taken_wants fields after (Some search) well same x = well.wanted_count x
 
--- the roots that are given out, and the mark, are nothing that the searches and groups rest on
+-- nor is how many roots were given out
 pub given_good : {book : BookValue} (given : ℕ) → IsGoodBook book → given ≤ length book.roots → IsGoodBook (record book { given = given })
 given_good given good within = record {
   closed = good.closed;
   rooted = good.rooted;
   given = within;
-  kept_good = good.kept_good;
-  wants = λ place w search at wanted. let was = good.wants place w search at wanted in record { unreleased = was.unreleased; off = was.off };
-  unreleased = good.unreleased;
-  legal = good.legal;
-  reached = good.reached;
-}
-
-pub failed_good : {book : BookValue} → IsGoodBook book → IsGoodBook (record book { failed = true })
-failed_good good = record {
-  closed = good.closed;
-  rooted = good.rooted;
-  given = good.given;
   kept_good = good.kept_good;
   wants = λ place w search at wanted. let was = good.wants place w search at wanted in record { unreleased = was.unreleased; off = was.off };
   unreleased = good.unreleased;

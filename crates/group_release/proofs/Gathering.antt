@@ -1,5 +1,5 @@
 -- What a transfer keeps besides: no released node comes in, each want is an old one or leads to the search that goes on, and no node is lost.
-use Rattle.std.proofs.Common.{◌≡◌, ◌⊎◌, inl, inr, ℕ, ◌<◌, ◌≤◌, ◌+◌, List, [], ◌∷◌, length, map, take, Option, None, Some, refl, ap, ◌∙◌, sym, subst, arith}
+use Rattle.std.proofs.Common.{◌≡◌, ◌⊎◌, inl, inr, ℕ, ◌<◌, ◌+◌, List, [], ◌∷◌, map, take, Option, None, Some, ap, ◌∙◌, sym, subst, arith}
 use Rattle.std.proofs.lemmas.Bool.{cases_eq}
 use Rattle.node_counts.specs.Counts.{times}
 use Rattle.search_stack.specs.Stack.{Stack, IsShaped, size, position}
@@ -95,13 +95,13 @@ module _ {lists : List (List ℕ)} {roots done : List ℕ} {Released Wanted : �
   gathered_count : (x : ℕ) → times x (kept_nodes away.next) + times x (nodes_on t) ≡ count x
   gathered_count x =
       let change : times x (kept_nodes away.next) + times x (nodes_of (kept_at now cut.0))
-          ≡ times x (kept_nodes now) + times x (nodes_of (kept_at away.next cut.0)) =
+      ≡ times x (kept_nodes now) + times x (nodes_of (kept_at away.next cut.0)) =
       kept_change x now away.next cut.0 away.same in
       let donor : times x (nodes_of (kept_at now cut.0)) ≡ times x (nodes_on d) = ap (λ o. times x (nodes_of o)) away.at in
       let left : times x (nodes_of (kept_at away.next cut.0)) ≡ times x (map (λ entry. entry.node) (take (position d cut.1) d.entries)) =
       left_nodes x d cut.1 (kept_at away.next cut.0) upper
       (elim away.left as (λ _. ((cut.1 ≡ 0) × (kept_at away.next cut.0 ≡ None))
-          ⊎ ((rest : SearchValue) × (kept_at away.next cut.0 ≡ Some rest) × (rest.stack ≡ below_frame d cut.1))) [
+      ⊎ ((rest : SearchValue) × (kept_at away.next cut.0 ≡ Some rest) × (rest.stack ≡ below_frame d cut.1))) [
         | inl none ↦ inl none
         | inr (rest, at, stack_is, some, wants) ↦ inr (rest, at, stack_is)
       ]) in

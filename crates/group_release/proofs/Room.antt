@@ -1,5 +1,5 @@
 -- There is always a place for one more search: one node of each search is another node.
-use Rattle.std.proofs.Common.{◌≡◌, ◌⊎◌, inl, inr, ℕ, zero, suc, ◌<◌, ◌≤◌, ◌+◌, List, [], ◌∷◌, length, map, get_or, Option, None, Some, refl, ap, ◌∙◌, sym, subst, arith}
+use Rattle.std.proofs.Common.{◌≡◌, ◌⊎◌, inl, inr, ℕ, zero, suc, ◌<◌, List, [], ◌∷◌, length, map, get_or, Option, None, Some, refl, ap, ◌∙◌, sym, subst, arith}
 use Rattle.std.proofs.lemmas.List.{get_or-map, length-map}
 use Rattle.std.specs.Prelude.{All, Contains}
 use Rattle.order_law.proofs.OneOrder.{nothing_in}
@@ -50,9 +50,11 @@ module _ (value : BlockedValue) (table : IsTable value) (s : Stack) (some : 0 < 
   held zero v lt has = inl (refl, on_listed s v has)
   held (suc k) v lt has =
       let within : k < length value.kept = omega (arith, lt, long) in
-      inr
-      (k, refl,
-      held_by value.kept k v (kept_at value.kept k) refl (subst (λ each. Contains each v) (get_or-map nodes_of value.kept k None [] within) has))
+      inr (
+        k,
+        refl,
+        held_by value.kept k v (kept_at value.kept k) refl (subst (λ each. Contains each v) (get_or-map nodes_of value.kept k None [] within) has),
+      )
 
   some_nodes : All (λ group. 0 < length group) groups
   some_nodes zero d lt = some_on s some

@@ -1,5 +1,5 @@
 -- The root that is read.
-use Rattle.std.proofs.Common.{◌≡◌, ℕ, ◌<◌, ◌≤◌, List, length, get_or, refl, Option, None, Some, Bor, ◌∙◌, sym, subst}
+use Rattle.std.proofs.Common.{◌≡◌, ℕ, ◌<◌, ◌≤◌, List, length, get_or, refl, Option, None, Some, Bor, subst}
 use Rattle.std.specs.Option.{option_copied}
 use Rattle.std.specs.Prelude.{IfSome, MatchOption}
 use Rattle.blocked_table.proofs.Chain.{none_is_not, some_is}

@@ -1,6 +1,6 @@
 -- What a release keeps.
 use Rattle.std.proofs.Common.{◌≡◌, ◌⊎◌, inl, inr, ℕ, ◌<◌, ◌≤◌, ◌+◌, List, [], ◌∷◌, ◌++◌, length, Option, None, Some, refl, ap, ◌∙◌, sym, subst, arith}
-use Rattle.std.proofs.lemmas.Bool.{cases_eq, cases_lt}
+use Rattle.std.proofs.lemmas.Bool.{cases_lt}
 use Rattle.std.proofs.lemmas.List.Sorted.{Contains-permutation, IsPermutation-sym, length_permutation}
 use Rattle.std.specs.List.Sorted.{IsPermutation, IsStrictlyIncreasing}
 use Rattle.std.specs.Prelude.{Contains}
@@ -189,8 +189,8 @@ pub released_book : (fields : Inside) (blocked : BlockedValue) (released : Relea
     → ((place v : ℕ) → Holds fields.blocked.kept place v → Contains group v → ⊥) → blocked.count ≡ fields.blocked.count
     → blocked.most ≡ fields.blocked.most → IsWoken group fields.blocked.kept blocked.kept → IsAppended fields.released group released
     → ((more : List ℕ) → ((v : ℕ) → Contains (flat (value_of fields).groups) v → Contains more v) → ((v : ℕ) → Contains group v → Contains more v)
-        → (place : ℕ) (search : SearchValue) → kept_at blocked.kept place ≡ Some search
-        → IsGoodSearch (value_of fields).lists (value_of fields).roots more search)
+    → (place : ℕ) (search : SearchValue) → kept_at blocked.kept place ≡ Some search
+    → IsGoodSearch (value_of fields).lists (value_of fields).roots more search)
     → IsBook (record fields { blocked = blocked; released = released })
 released_book fields blocked released group is new release apart count most woken appended stays =
     let book : BookValue = value_of fields in

@@ -1,9 +1,7 @@
 -- How the fields hold a book.
-use Rattle.std.specs.Prelude.{◌≡◌, ℕ, length}
-use Rattle.blocked_table.specs.Blocked.{BlockedValue}
+use Rattle.std.specs.Prelude.{◌≡◌}
 use Rattle.group_release.specs.Book.{BookValue, IsGoodBook, released_of, table_of}
 use Rattle.group_release.specs.Coding.{lists_from}
-use Rattle.group_release.specs.Released.{ReleasedGroups}
 use Rattle.group_release.specs.declared.book.Book.TheInside.{Inside}
 
 abbrev pub value_of : Inside → BookValue

@@ -51,7 +51,12 @@ impl Book {
     pub fn make<O: Opener>(alloc: Global, opener: &O, roots: &[u32]) -> Result<Book, AllocError>
         requires { All (λ root. root < length (O.lists opener.now)) roots.now }
         ensures { IfOk result (λ book. book ≡ record {
-            lists = O.lists opener.now; roots = roots.now; given = 0; failed = false; kept = []; groups = [];
+          lists = O.lists opener.now;
+          roots = roots.now;
+          given = 0;
+          failed = false;
+          kept = [];
+          groups = [];
         }) }
     {
         let count = opener.count();

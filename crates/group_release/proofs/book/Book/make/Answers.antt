@@ -9,7 +9,12 @@ invariant_of-result g c =
     let lists : List (List ℕ) = g.O.Opener.lists c.args.opener.now in
     let lists_are : lists_from c.of.result.numbers ≡ lists = ap lists_from c.of.ensures ∙ back_again lists in
     made_book (record {
-      lists = c.of.result; roots = c.in_ok-to_vec.field-0; given = 0; failed = false; blocked = c.in_ok-make.field-0; released = c.in_ok-make-2.field-0
+      lists = c.of.result;
+      roots = c.in_ok-to_vec.field-0;
+      given = 0;
+      failed = false;
+      blocked = c.in_ok-make.field-0;
+      released = c.in_ok-make-2.field-0;
     }) lists c.args.roots.now c.count-count.result lists_are
     (c.in_ok-to_vec.ensures.items_if_clones_equal (λ x y same. same)) refl refl c.in_ok-make.ensures c.in_ok-make-2.ensures c.count-count.ensures.count
     c.count-count.ensures.closed c.requires
@@ -19,6 +24,11 @@ returns g c =
     let lists : List (List ℕ) = g.O.Opener.lists c.args.opener.now in
     let lists_are : lists_from c.of.result.numbers ≡ lists = ap lists_from c.of.ensures ∙ back_again lists in
     made_value (record {
-      lists = c.of.result; roots = c.in_ok-to_vec.field-0; given = 0; failed = false; blocked = c.in_ok-make.field-0; released = c.in_ok-make-2.field-0
+      lists = c.of.result;
+      roots = c.in_ok-to_vec.field-0;
+      given = 0;
+      failed = false;
+      blocked = c.in_ok-make.field-0;
+      released = c.in_ok-make-2.field-0;
     }) lists c.args.roots.now c.count-count.result lists_are (c.in_ok-to_vec.ensures.items_if_clones_equal (λ x y same. same)) refl refl
     c.in_ok-make.ensures c.in_ok-make-2.ensures

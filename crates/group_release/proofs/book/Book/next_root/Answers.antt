@@ -1,4 +1,4 @@
-use Rattle.std.proofs.Common.{◌≡◌, ◌<◌, ◌+◌, Some, length, get_or, refl, sym, ap, ◌∙◌, subst, arith}
+use Rattle.std.proofs.Common.{◌≡◌, ◌<◌, Some, length, get_or, refl, sym, ap, ◌∙◌, subst, arith}
 use Rattle.std.proofs.lemmas.Option.{slice_get_read}
 use Rattle.std.specs.List.{HoldsAt}
 use Rattle.std.specs.Prelude.{slice_get}
@@ -15,7 +15,7 @@ invariant_of-self c =
       table = c.self.invariant.table;
       groups = c.self.invariant.groups;
       good =
-          given_good (c.self.inside.given + 1) c.self.invariant.good (omega (arith, within, ap length c.deref.ensures.value));
+          given_good _ c.self.invariant.good (omega (arith, within, c.self.invariant.good.given, ap length c.deref.ensures.value));
     }
 
 pub returns-clause-next : goal.returns-clause-next

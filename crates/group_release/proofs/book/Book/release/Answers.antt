@@ -1,8 +1,8 @@
-use Rattle.std.proofs.Common.{◌≡◌, ◌<◌, ◌+◌, ℕ, List, [], ◌∷◌, ◌++◌, length, sym, ap, ◌∙◌, subst}
+use Rattle.std.proofs.Common.{subst}
 use Rattle.std.specs.Prelude.{Contains}
 use Rattle.node_counts.specs.Counts.{flat}
 use Rattle.blocked_table.specs.Blocked.{IsWoken}
-use Rattle.group_release.specs.Book.{BookValue, IsGoodBook}
+use Rattle.group_release.specs.Book.{BookValue}
 use Rattle.group_release.specs.BookFields.{value_of}
 use Rattle.group_release.proofs.Waking.{released_book, released_count, woken_nodes, woken_wants}
 use Rattle.group_release.proofs.book.Book.release.Goals as goal

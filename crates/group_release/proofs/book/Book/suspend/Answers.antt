@@ -1,10 +1,9 @@
-use Rattle.std.proofs.Common.{◌≡◌, ◌⊎◌, ◌+◌, ℕ, ◌<◌, length, refl, Ok, Err, sym, ap, ◌∙◌, subst, arith}
-use Rattle.std.specs.Prelude.{IfOk, IfErr}
+use Rattle.std.proofs.Common.{◌≡◌, ◌⊎◌, ◌+◌, ℕ, ◌<◌, length, refl, sym, ap, subst, arith}
+use Rattle.std.specs.Prelude.{IfOk}
 use Rattle.node_counts.specs.Counts.{flat, times}
 use Rattle.blocked_table.specs.Blocked.{BlockedValue, HasRoom, IsTable}
-use Rattle.blocked_table.specs.Suspending.{IsSuspended, StaysGood}
 use Rattle.group_release.specs.Book.{BookValue, GoesOnBeside, IsGoodBook, table_of}
-use Rattle.group_release.specs.BookFields.{IsBook, value_of}
+use Rattle.group_release.specs.BookFields.{value_of}
 use Rattle.group_release.specs.Outline.{kept_nodes, newly_wanted, nodes_going, nodes_on, wanted_nodes}
 use Rattle.group_release.proofs.Beside.{on_within, last_below}
 use Rattle.group_release.proofs.Books.{IsWellSuspended, MaySuspend, may_at, ok_more, ok_well, suspended_book}
@@ -47,12 +46,17 @@ pub invariant_of-self : goal.invariant_of-self
 invariant_of-self c =
     let book : BookValue = value_of c.self.inside in
     let may : MaySuspend book c.args.search c.args.on = may_at book c.args.self.now c.args.search c.args.on c.self.view_is (record {
-      some = c.requires.some; apart = c.requires.apart; last = c.requires.last; off = c.requires.off; unreleased = c.requires.unreleased; good = c.requires.good
+      some = c.requires.some;
+      apart = c.requires.apart;
+      last = c.requires.last;
+      off = c.requires.off;
+      unreleased = c.requires.unreleased;
+      good = c.requires.good;
     }) in
     let table : IsTable (table_of book) = rw (← c.self.view_is) at c.keeps.ensures.table in
     let well : IfOk c.suspend.result (IsWellSuspended book c.suspend.new.self.kept c.args.search c.args.on) =
     ok_well c.self.invariant.good table may c.suspend.new.self.kept c.suspend.result c.suspend.ensures.done c.suspend.ensures.good in
-    suspended_book c.self.inside c.suspend.new.self c.args.search c.args.on c.suspend.result c.self.invariant c.suspend.ensures.count c.suspend.ensures.most well
+    suspended_book c.self.inside c.suspend.new.self _ c.args.search c.args.on c.suspend.result c.self.invariant c.suspend.ensures.count c.suspend.ensures.most well
     c.suspend.ensures.kept
 
 pub returns-clause-done : goal.returns-clause-done
@@ -62,7 +66,12 @@ pub returns-clause-beside : goal.returns-clause-beside
 returns-clause-beside c =
     let book : BookValue = value_of c.self.inside in
     let may : MaySuspend book c.args.search c.args.on = may_at book c.args.self.now c.args.search c.args.on c.self.view_is (record {
-      some = c.requires.some; apart = c.requires.apart; last = c.requires.last; off = c.requires.off; unreleased = c.requires.unreleased; good = c.requires.good
+      some = c.requires.some;
+      apart = c.requires.apart;
+      last = c.requires.last;
+      off = c.requires.off;
+      unreleased = c.requires.unreleased;
+      good = c.requires.good;
     }) in
     let table : IsTable (table_of book) = rw (← c.self.view_is) at c.keeps.ensures.table in
     let well : IfOk c.suspend.result (IsWellSuspended book c.suspend.new.self.kept c.args.search c.args.on) =
@@ -74,7 +83,12 @@ pub returns-clause-kept_count : goal.returns-clause-kept_count
 returns-clause-kept_count c =
     let book : BookValue = value_of c.self.inside in
     let may : MaySuspend book c.args.search c.args.on = may_at book c.args.self.now c.args.search c.args.on c.self.view_is (record {
-      some = c.requires.some; apart = c.requires.apart; last = c.requires.last; off = c.requires.off; unreleased = c.requires.unreleased; good = c.requires.good
+      some = c.requires.some;
+      apart = c.requires.apart;
+      last = c.requires.last;
+      off = c.requires.off;
+      unreleased = c.requires.unreleased;
+      good = c.requires.good;
     }) in
     let table : IsTable (table_of book) = rw (← c.self.view_is) at c.keeps.ensures.table in
     let well : IfOk c.suspend.result (IsWellSuspended book c.suspend.new.self.kept c.args.search c.args.on) =
@@ -87,7 +101,12 @@ pub returns-clause-wanted_count : goal.returns-clause-wanted_count
 returns-clause-wanted_count c =
     let book : BookValue = value_of c.self.inside in
     let may : MaySuspend book c.args.search c.args.on = may_at book c.args.self.now c.args.search c.args.on c.self.view_is (record {
-      some = c.requires.some; apart = c.requires.apart; last = c.requires.last; off = c.requires.off; unreleased = c.requires.unreleased; good = c.requires.good
+      some = c.requires.some;
+      apart = c.requires.apart;
+      last = c.requires.last;
+      off = c.requires.off;
+      unreleased = c.requires.unreleased;
+      good = c.requires.good;
     }) in
     let table : IsTable (table_of book) = rw (← c.self.view_is) at c.keeps.ensures.table in
     let well : IfOk c.suspend.result (IsWellSuspended book c.suspend.new.self.kept c.args.search c.args.on) =

@@ -1,10 +1,10 @@
-use Rattle.std.proofs.Common.{◌≡◌, ◌+◌, ℕ, sym, ap, ◌∙◌, subst}
-use Rattle.std.specs.Prelude.{IfSome, IfNone}
+use Rattle.std.proofs.Common.{◌≡◌, ◌+◌, ℕ}
+use Rattle.std.specs.Prelude.{IfSome}
 use Rattle.node_counts.specs.Counts.{times}
 use Rattle.blocked_table.specs.Blocked.{IsTable}
 use Rattle.group_release.specs.Book.{BookValue, RunsBeside, table_of}
 use Rattle.group_release.specs.BookFields.{value_of}
-use Rattle.group_release.specs.Outline.{kept_nodes, nodes_on, wanted_nodes}
+use Rattle.group_release.specs.Outline.{kept_nodes, nodes_on}
 use Rattle.group_release.proofs.Books.{IsWellTaken, some_more, some_well, taken_book, taken_wants}
 use Rattle.group_release.proofs.book.Book.take_ready.Goals as goal
 
