@@ -59,6 +59,12 @@ failed_good failed good = record {
 pub marked_book : {fields : Inside} (failed : Bool) → IsBook fields → IsBook (record fields { failed = failed })
 marked_book failed is = record { table = is.table; groups = is.groups; good = failed_good failed is.good }
 
+pub beside_marked : (book : BookValue) (failed : Bool) (suspended : Suspended) → GoesOnBeside book suspended
+    → GoesOnBeside (record book { failed = failed }) suspended
+beside_marked book failed Kept is = tt
+beside_marked book failed (Moved after) is =
+    record { some = is.some; wants_nothing = is.wants_nothing; good = is.good; apart = is.apart; unreleased = is.unreleased }
+
 -- what holds of an answer that is `Ok`
 pub ok_more : {A E : Type 0} (result : Result A E) (F G : A → Type 0) → ((value : A) → F value → G value) → IfOk result F → IfOk result G
 ok_more (Ok value) F G each is = each value is

@@ -6,7 +6,7 @@ use Rattle.group_release.specs.Book.{BookValue, GoesOnBeside, IsGoodBook, table_
 use Rattle.group_release.specs.BookFields.{value_of}
 use Rattle.group_release.specs.Outline.{kept_nodes, newly_wanted, nodes_going, nodes_on, wanted_nodes}
 use Rattle.group_release.proofs.Beside.{on_within, last_below}
-use Rattle.group_release.proofs.Books.{IsWellSuspended, MaySuspend, may_at, ok_more, ok_well, suspended_book}
+use Rattle.group_release.proofs.Books.{IsWellSuspended, beside_marked, MaySuspend, may_at, ok_more, ok_well, suspended_book}
 use Rattle.group_release.proofs.Room.{always_room}
 use Rattle.group_release.proofs.book.Book.suspend.Goals as goal
 
@@ -76,8 +76,9 @@ returns-clause-beside c =
     let table : IsTable (table_of book) = rw (← c.self.view_is) at c.keeps.ensures.table in
     let well : IfOk c.suspend.result (IsWellSuspended book c.suspend.new.self.kept c.args.search c.args.on) =
     ok_well c.self.invariant.good table may c.suspend.new.self.kept c.suspend.result c.suspend.ensures.done c.suspend.ensures.good in
-    (ok_more c.suspend.result (IsWellSuspended book c.suspend.new.self.kept c.args.search c.args.on)
-    (GoesOnBeside (record book { kept = c.suspend.new.self.kept })) (λ suspended is. is.beside) well)
+    let now : BookValue = record book { kept = c.suspend.new.self.kept } in
+    ok_more c.suspend.result (IsWellSuspended book c.suspend.new.self.kept c.args.search c.args.on) (GoesOnBeside (record now { failed = _ }))
+    (λ suspended is. beside_marked now _ suspended is.beside) well
 
 pub returns-clause-kept_count : goal.returns-clause-kept_count
 returns-clause-kept_count c =
