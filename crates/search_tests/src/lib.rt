@@ -2,6 +2,8 @@
 #![tactic(auto)]
 
 #[cfg(test)]
+mod book_tests;
+#[cfg(test)]
 mod class_tests;
 #[cfg(test)]
 mod graphs;
