@@ -1,14 +1,15 @@
 -- Chains of names in buckets: how one is followed, and how a place is added.
-use Rattle.std.proofs.Common.{◌≡◌, ◌≢◌, ℕ, zero, suc, ◌+◌, ◌-◌, ◌<◌, ◌≤◌, inl, inr, List, [], ◌∷◌, ◌++◌, length, get_or, set, false, refl, sym, ap, subst, ◌∙◌, arith, replicate}
+use Rattle.std.proofs.Common.{◌≡◌, ◌≢◌, ℕ, zero, suc, ◌+◌, ◌-◌, ◌<◌, ◌≤◌, inl, inr, List, [], ◌∷◌, ◌++◌, length, map, take, get_or, set, false, refl, sym, ap, subst, ◌∙◌, arith, replicate}
 use Rattle.std.specs.List.{list_any}
 use Rattle.std.proofs.lemmas.Bool.{cases_eq, cases_order, cases_lt, false_from_ne_true}
 use Rattle.std.proofs.Math.ListN.{length-set}
-use Rattle.std.proofs.lemmas.List.{get_or-map, get_or-set_same, get_or-set_other, get_or_append_left, get_or_push, get_or-replicate, length_push}
+use Rattle.std.proofs.lemmas.List.{get_or-map, get_or-set_same, get_or-set_other, get_or_append_left, get_or_push, get_or-replicate, length_push, map-append, take_more, take_all}
 use Rattle.std.proofs.lemmas.List.Elements.{All-from_get_or}
 use Rattle.std.proofs.lemmas.List.Folds.{list_any_none}
+use Rattle.import_rules.specs.declared.name_table.Link.{Link}
 use Rattle.import_rules.specs.declared.names.PredName.{PredName}
 use Rattle.import_rules.specs.Names.{is_same}
-use Rattle.import_rules.specs.NameTable.{bucket_of, buckets_of, bucket_at, IsLast, AreChains, IsChained}
+use Rattle.import_rules.specs.NameTable.{name_hash, bucket_of, buckets_of, bucket_at, next_of, hashes_of, IsLast, AreChains, IsChained, IsLinked}
 use Rattle.import_rules.proofs.NameOrder.{same_parts}
 
 -- the name doesn't stand at the place or behind it, and the place before is in its bucket
@@ -139,3 +140,39 @@ add_place buckets heads next n b is below chains = record {
           ];
       is = last.is;
     }
+
+-- the hashes beside the names
+
+-- one more
+pub hash_more : (names : List PredName) (n : ℕ) (item : PredName) (links : List Link) (link : Link) → n < length names → item ≡ get_or names n item
+    → link.hash ≡ name_hash item → hashes_of links ≡ map name_hash (take n names) → hashes_of (links ++ link ∷ []) ≡ map name_hash (take (n + 1) names)
+hash_more names n item links link within here is so_far =
+    map-append (λ (l : Link). l.hash) links (link ∷ [])
+    ∙ ((λ i. so_far i ++ is i ∷ [])
+    ∙ (ap (λ p. map name_hash (take n names) ++ name_hash p ∷ []) here
+    ∙ sym (ap (map name_hash) (take_more names n item within) ∙ map-append name_hash (take n names) (get_or names n item ∷ []))))
+
+-- the one beside a name is its own
+pub hash_at : (names : List PredName) (links : List Link) (at : ℕ) (link : Link) (one : PredName) → hashes_of links ≡ map name_hash names → at < length names
+    → at < length links → link ≡ get_or links at link → one ≡ get_or names at one → link.hash ≡ name_hash one
+hash_at names links at link one hashed within inside link_is here =
+    ap (λ (l : Link). l.hash) link_is
+    ∙ (sym (get_or-map (λ (l : Link). l.hash) links at link 0 inside)
+    ∙ (ap (λ xs. get_or xs at 0) hashed ∙ (get_or-map name_hash names at one 0 within ∙ ap name_hash (sym here))))
+
+-- a name of another hash is another one
+pub other_hash : (wanted one : PredName) → name_hash one ≢ name_hash wanted → is_same wanted one ≡ false
+other_hash wanted one apart = false_from_ne_true (is_same wanted one) (λ is. apart (ap name_hash (sym (same_parts wanted one is))))
+
+-- all names stand in the chains, with their hashes
+pub all_linked : (names : List PredName) (size n : ℕ) (heads : List ℕ) (links : List Link) → AreChains (buckets_of size names) n heads (next_of links)
+    → hashes_of links ≡ map name_hash (take n names) → length heads ≡ size → 0 < size → n ≡ length names → IsLinked names heads links
+all_linked names size n heads links chains hashed sized some end = record {
+  chained = record {
+    some = omega (arith, sized, some);
+    chains =
+        subst (λ m. AreChains (buckets_of m names) (length names) heads (next_of links)) (sym sized)
+        (subst (λ m. AreChains (buckets_of size names) m heads (next_of links)) end chains);
+  };
+  hashed = hashed ∙ ap (map name_hash) (take_all n names (omega (arith, end)));
+}

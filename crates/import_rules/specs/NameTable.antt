@@ -1,5 +1,6 @@
 -- Names in chains, one for each bucket.
 use Rattle.std.specs.Prelude.{ℕ, ◌≡◌, ◌≢◌, ◌+◌, ◌-◌, ◌*◌, ◌/◌, ◌%◌, ◌^◌, ◌<◌, ◌≤◌, List, length, map, fold, slice_index_or}
+use Rattle.import_rules.specs.declared.name_table.Link.{Link}
 use Rattle.import_rules.specs.declared.names.PredName.{PredName}
 
 -- the hash of a text, begun with another one
@@ -9,9 +10,13 @@ text_hash state text = fold (λ s b. (s * 1099511628211 % 2 ^ 64 + b) % 2 ^ 64) 
 abbrev pub name_hash : PredName → ℕ
 name_hash p = text_hash (text_hash p.arity p.name) p.module
 
+-- the bucket of a hash, of so many
+abbrev pub bucket_in : ℕ → ℕ → ℕ
+bucket_in size hash = hash / 2 ^ 32 % size
+
 -- the bucket of a name, of so many
 abbrev pub bucket_of : ℕ → PredName → ℕ
-bucket_of size p = name_hash p / 2 ^ 32 % size
+bucket_of size p = bucket_in size (name_hash p)
 
 abbrev pub buckets_of : ℕ → List PredName → List ℕ
 buckets_of size names = map (bucket_of size) names
@@ -35,3 +40,14 @@ pub record AreChains (buckets : List ℕ) (count : ℕ) (heads next : List ℕ) 
 pub record IsChained (names : List PredName) (heads next : List ℕ) : Type 0 where
   pub some : 0 < length heads
   pub chains : AreChains (buckets_of (length heads) names) (length names) heads next
+
+abbrev pub next_of : List Link → List ℕ
+next_of links = map (λ (link : Link). link.next) links
+
+abbrev pub hashes_of : List Link → List ℕ
+hashes_of links = map (λ (link : Link). link.hash) links
+
+-- the links are those of the chains, with the hashes of the names
+pub record IsLinked (names : List PredName) (heads : List ℕ) (links : List Link) : Type 0 where
+  pub chained : IsChained names heads (next_of links)
+  pub hashed : hashes_of links ≡ map name_hash names

@@ -3,32 +3,40 @@
 ghost use Rattle.std.specs.Prelude.{◌≡◌, ◌<◌, length, slice_get, Some, false, IfOk, IfSome, MatchOption};
 ghost use Rattle.std.specs.List.{list_any};
 ghost use Rattle.import_rules.specs.Names.{is_same, pred_name};
-ghost use Rattle.import_rules.specs.NameTable.{text_hash, bucket_of};
+ghost use Rattle.import_rules.specs.NameTable.{text_hash, name_hash, bucket_in};
 
 use crate::names::PredName;
 use std::alloc::{AllocError, Global};
 use std::marker::Model;
 
-/// Names with their places. A name is found by the hash of its bytes and its arity.
+/// What stands beside a name: its hash, and one more than the place of the name before it in its
+/// bucket; 0 where there is none.
+#[derive(Clone, Copy)]
+struct Link {
+    hash: u64,
+    next: usize,
+}
+
+/// Names with their places. A name is found by the hash of its bytes and its arity. On the way the
+/// names of other hashes are passed by their links, without a look at their texts.
 #[derive(Drop)]
 pub(crate) struct NameTable {
     names: Vec<PredName>,
     /// For each bucket one more than the place of its last name; 0 where it has none.
     heads: Vec<usize>,
-    /// For each name one more than the place of the name before it in its bucket; 0 where there is none.
-    next: Vec<usize>,
+    links: Vec<Link>,
 }
 
 impl Model for NameTable {
     ghost use Rattle.std.specs.Prelude.{List};
     ghost use Rattle.import_rules.specs.declared.names.PredName.{PredName};
-    ghost use Rattle.import_rules.specs.NameTable.{IsChained};
+    ghost use Rattle.import_rules.specs.NameTable.{IsLinked};
 
     ghost Value = { List PredName };
 
     ghost view = { λ table. table.names.items };
 
-    ghost invariant = { λ table. IsChained table.names.items table.heads.items table.next.items };
+    ghost invariant = { λ table. IsLinked table.names.items table.heads.items table.links.items };
 }
 
 /// The hash of a text, begun with another one.
@@ -44,19 +52,31 @@ fn text_hash(state: u64, text: &str) -> u64
     state
 }
 
-/// The bucket of a name, of so many.
-fn bucket_of(module: &str, name: &str, arity: u32, size: usize) -> usize
+fn name_hash(module: &str, name: &str, arity: u32) -> u64
+    ensures { result ≡ name_hash (pred_name module.now name.now arity) }
+{
+    text_hash(text_hash(u64::from(arity), name), module)
+}
+
+/// The bucket of a hash, of so many.
+fn bucket_of(hash: u64, size: usize) -> usize
     requires { 0 < size }
-    ensures is { result ≡ bucket_of size (pred_name module.now name.now arity) }
+    ensures is { result ≡ bucket_in size hash }
     ensures below { result < size }
 {
-    let hash = text_hash(text_hash(u64::from(arity), name), module);
     (hash >> 32) as usize % size
 }
 
-fn is_named(one: &PredName, module: &str, name: &str, arity: u32) -> bool
+/// Whether it is the name of that hash. `kept` is its own hash: where it is another one, the texts
+/// aren't read.
+fn is_named(one: &PredName, kept: u64, module: &str, name: &str, arity: u32, hash: u64) -> bool
+    requires kept { kept ≡ name_hash one.now }
+    requires wanted { hash ≡ name_hash (pred_name module.now name.now arity) }
     ensures { result ≡ is_same (pred_name module.now name.now arity) one.now }
 {
+    if kept != hash {
+        return false;
+    }
     module == one.module.as_str() && (name == one.name.as_str() && arity == one.arity)
 }
 
@@ -67,13 +87,21 @@ impl NameTable {
     {
         let size = names.len().max(1);
         let mut heads = vec![in alloc; 0usize; size]?;
-        let mut next = Vec::with_capacity(alloc, names.len())?;
+        let mut links = Vec::with_capacity(alloc, names.len())?;
         for one in &names {
-            let bucket = bucket_of(one.module.as_str(), one.name.as_str(), one.arity, size);
-            next.push(heads[bucket])?;
-            heads[bucket] = next.len();
+            let hash = name_hash(one.module.as_str(), one.name.as_str(), one.arity);
+            let bucket = bucket_of(hash, size);
+            links.push(Link {
+                hash,
+                next: heads[bucket],
+            })?;
+            heads[bucket] = links.len();
         }
-        Ok(NameTable { names, heads, next })
+        Ok(NameTable {
+            names,
+            heads,
+            links,
+        })
     }
 
     /// The name at a place.
@@ -96,13 +124,15 @@ impl NameTable {
         ensures is { MatchOption result (list_any (is_same (pred_name module.now name.now arity)) self.now ≡ false) (λ n. slice_get self.now n ≡ Some (pred_name module.now name.now arity)) }
         ensures below { IfSome result (λ n. n < length self.now) }
     {
-        let mut at = self.heads[bucket_of(module, name, arity, self.heads.len())];
+        let hash = name_hash(module, name, arity);
+        let mut at = self.heads[bucket_of(hash, self.heads.len())];
         while at > 0 {
             let place = at - 1;
-            if is_named(&self.names[place], module, name, arity) {
+            let link = self.links[place];
+            if is_named(&self.names[place], link.hash, module, name, arity, hash) {
                 return Some(place);
             }
-            at = self.next[place];
+            at = link.next;
         }
         None
     }
