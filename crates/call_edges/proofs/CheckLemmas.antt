@@ -1,7 +1,7 @@
 -- The places of all goals that aren't callable, from those of predicates and of directives.
-use Rattle.std.proofs.Common.{◌≡◌, ◌⊎◌, ◌↔◌, inl, inr, ℕ, ◌+◌, ◌<◌, Bool, true, false, ◌&&◌, nat_eq, List, [], ◌++◌, Option, Some, Result, Ok, Err, IfOk, Vec, Global, All, AllPairs, length, get_or, slice_get, ap, sym, ◌∙◌, subst, refl, arith}
+use Rattle.std.proofs.Common.{◌≡◌, ◌⊎◌, ◌↔◌, inl, inr, ℕ, ◌+◌, ◌<◌, Bool, true, false, ◌&&◌, nat_eq, List, [], ◌++◌, Option, Some, Result, Ok, Err, IfOk, All, AllPairs, length, get_or, slice_get, ap, sym, ◌∙◌, subst, refl, arith}
 use Rattle.std.specs.Prelude.{Contains, IsOk, alloc_error}
-use Rattle.std.specs.List.{AllZip, range_with_len, enumerate_from, dedup}
+use Rattle.std.specs.List.{range_with_len, enumerate_from, dedup}
 use Rattle.std.specs.List.Retain.{IsFiltered, DiffersFromLast}
 use Rattle.std.specs.List.Sorted.{IsSorted, IsPermutation}
 use Rattle.std.specs.Cmp.{IsTotalOrder, IsEquivalence, both_tied, unsigned_ties}
@@ -23,10 +23,12 @@ use Rattle.import_rules.specs.declared.names.PredName.{PredName}
 use Rattle.import_rules.specs.Files.{pair_cmp, name_in, defined_in, all_defined, IsDefinedAt}
 use Rattle.import_rules.specs.Numbers.{places_for, parts_in}
 use Rattle.import_rules.specs.Program.{Seen, places_in, places_at, IsKnown}
+use Rattle.call_edges.specs.declared.opened.Opened.{Opened}
 use Rattle.call_edges.specs.declared.role.Role.TheVariants.{Goal}
 use Rattle.call_edges.specs.Goals.{fault, place, plain_rows, IsMet, Adds}
 use Rattle.call_edges.specs.Calls.{IsAmong, IsMetInClause, IsMetAt}
 use Rattle.call_edges.specs.Bodies.{body_in, bodies_at, bodies_in, goals_of_file, goals_in}
+use Rattle.call_edges.specs.CallLists.{IsOpened, AreOpened}
 use Rattle.call_edges.specs.FaultPlaces.{HasPlace, IsFaultIn, AreFaultsIn, IsFaultPlace, AreFaultPlaces}
 use Rattle.call_edges.proofs.AmongLemmas.{among_flat, among_map, flat_has, map_has}
 use Rattle.call_edges.proofs.PlaceLemmas.{enumerated, numbered, stands_place}
@@ -41,14 +43,14 @@ adds_append old more = record {
   );
 }
 
-abbrev pub Places : Type 0
-Places = Result (Vec (ℕ × ℕ) Global) AllocError
+abbrev pub Found : Type 0
+Found = Result Opened AllocError
 
-pub list_adds : (list : Places) (more : Vec (ℕ × ℕ) Global) (old new : List (ℕ × ℕ)) → list ≡ Ok more → new ≡ old ++ more.items → Adds (HasPlace list) old new
-list_adds list more old new is same =
-    let P : Places → Type 0 = λ one. Adds (HasPlace one) old new in
-    let Q : List (ℕ × ℕ) → Type 0 = λ xs. Adds (HasPlace (Ok more)) old xs in
-    subst P (sym is) (subst Q (sym same) (adds_append old more.items))
+pub list_adds : (one : Found) (opened : Opened) (old new : List (ℕ × ℕ)) → one ≡ Ok opened → new ≡ old ++ opened.faults.items → Adds (HasPlace one) old new
+list_adds one opened old new is same =
+    let P : Found → Type 0 = λ one. Adds (HasPlace one) old new in
+    let Q : List (ℕ × ℕ) → Type 0 = λ xs. Adds (HasPlace (Ok opened)) old xs in
+    subst P (sym is) (subst Q (sym same) (adds_append old opened.faults.items))
 
 -- elements by their places
 
@@ -60,8 +62,28 @@ place_in xs x (k, lt, is) = (k, slice_get-get_or xs k x lt ∙ ap (λ y. Some y)
 
 -- the places of predicates
 
-abbrev pub AreOf : Seen → ℕ → Places → Type 0
-AreOf seen node one = IfOk one (λ (faults : Vec (ℕ × ℕ) Global). AreFaultsIn (bodies_in seen node) faults.items)
+abbrev pub IsOf : Seen → ℕ → Found → Type 0
+IsOf seen node one = IfOk one (IsOpened seen node)
+
+-- what is found of a number
+pub opened_at : (seen : Seen) (each : List Found) (k : ℕ) (d : Found) → AreOpened seen each → k < length seen.predicates → IsOf seen k (get_or each k d)
+opened_at seen each k d zip lt =
+    let n = length seen.predicates in
+    let nodes = range_with_len 0 n in
+    let count_up : 0 + k ≡ k = omega arith in
+    let here : get_or nodes k 0 ≡ k = get_or-range_with_len 0 n k 0 lt ∙ count_up in
+    subst (λ (node : ℕ). IsOf seen node (get_or each k d)) here (zip_at (IsOf seen) nodes each k 0 d zip (omega (arith, lt, length-range_with_len 0 n)))
+
+pub one_opened : (seen : Seen) (each : List Found) (k : ℕ) (one : Found) (opened : Opened) → AreOpened seen each → k < length seen.predicates → one ≡ get_or each k one
+    → one ≡ Ok opened → IsOpened seen k opened
+one_opened seen each k one opened zip lt read is =
+    let here : IsOf seen k one = subst (IsOf seen k) (sym read) (opened_at seen each k one zip lt) in
+    subst (IsOf seen k) is here
+
+pub opened_count : (seen : Seen) (each : List Found) → AreOpened seen each → length each ≡ length seen.predicates
+opened_count seen each zip =
+    let n = length seen.predicates in
+    sym (zip_count (IsOf seen) (range_with_len 0 n) each zip) ∙ length-range_with_len 0 n
 
 -- a goal of a predicate isn't callable, there
 pub record IsNodeFault (seen : Seen) (p : ℕ × ℕ) : Type 0 where
@@ -69,37 +91,30 @@ pub record IsNodeFault (seen : Seen) (p : ℕ × ℕ) : Type 0 where
   pub below : node < length seen.predicates
   pub is : IsAmong IsFaultIn (bodies_in seen node) p
 
-has_of : (seen : Seen) (node : ℕ) (one : Places) (p : ℕ × ℕ) → AreOf seen node one → HasPlace one p → IsAmong IsFaultIn (bodies_in seen node) p
-has_of seen node (Ok faults) p are has = (are.each p).0 has
+has_of : (seen : Seen) (node : ℕ) (one : Found) (p : ℕ × ℕ) → IsOf seen node one → HasPlace one p → IsAmong IsFaultIn (bodies_in seen node) p
+has_of seen node (Ok opened) p are has = (are.faults.each p).0 has
 has_of seen node (Err error) p are has = absurd has
 
-of_has : (seen : Seen) (node : ℕ) (one : Places) (p : ℕ × ℕ) → IsOk one → AreOf seen node one → IsAmong IsFaultIn (bodies_in seen node) p → HasPlace one p
-of_has seen node (Ok faults) p ok are is = (are.each p).1 is
+of_has : (seen : Seen) (node : ℕ) (one : Found) (p : ℕ × ℕ) → IsOk one → IsOf seen node one → IsAmong IsFaultIn (bodies_in seen node) p → HasPlace one p
+of_has seen node (Ok opened) p ok are is = (are.faults.each p).1 is
 of_has seen node (Err error) p ok are is = let both : false ≡ true = ok in absurd (cc)
 
-pub each_faults : (seen : Seen) (each : List Places) (p : ℕ × ℕ) → AllZip (AreOf seen) (range_with_len 0 (length seen.predicates)) each → All IsOk each
-    → IsAmong HasPlace each p ↔ IsNodeFault seen p
+pub each_faults : (seen : Seen) (each : List Found) (p : ℕ × ℕ) → AreOpened seen each → All IsOk each → IsAmong HasPlace each p ↔ IsNodeFault seen p
 each_faults seen each p zip whole =
-    let n = length seen.predicates in
-    let nodes = range_with_len 0 n in
-    let count : length each ≡ n = sym (zip_count (AreOf seen) nodes each zip) ∙ length-range_with_len 0 n in
-    let at : (k : ℕ) (d : Places) → k < n → AreOf seen k (get_or each k d) = λ k d lt.
-    let count_up : 0 + k ≡ k = omega arith in
-    let here : get_or nodes k 0 ≡ k = get_or-range_with_len 0 n k 0 lt ∙ count_up in
-    subst (λ (node : ℕ). AreOf seen node (get_or each k d)) here (zip_at (AreOf seen) nodes each k 0 d zip (omega (arith, lt, length-range_with_len 0 n))) in (
+    let count = opened_count seen each zip in (
       λ among.
           let k = among.has.0 in
-          let lt : k < n = omega (arith, among.has.1, count) in
-          let are : AreOf seen k among.one = subst (AreOf seen k) among.has.2 (at k among.one lt) in
+          let lt : k < length seen.predicates = omega (arith, among.has.1, count) in
+          let are : IsOf seen k among.one = subst (IsOf seen k) among.has.2 (opened_at seen each k among.one zip lt) in
           record { node = k; below = lt; is = has_of seen k among.one p are among.is },
       λ fault.
           let k = fault.node in
           let within : k < length each = omega (arith, fault.below, count) in
-          let d : Places = Err alloc_error in
+          let d : Found = Err alloc_error in
           record {
             one = get_or each k d;
             has = Contains-get_or each k d within;
-            is = of_has seen k (get_or each k d) p (whole k d within) (at k d fault.below) fault.is;
+            is = of_has seen k (get_or each k d) p (whole k d within) (opened_at seen each k d zip fault.below) fault.is;
           },
     )
 
@@ -241,8 +256,7 @@ pairs_have xs sorted kept p moved filtered =
     )
 
 -- the places of all, sorted and each once
-pub all_places : (seen : Seen) (each : List Places) (lists others all sorted kept : List (ℕ × ℕ)) → IsKnown seen
-    → AllZip (AreOf seen) (range_with_len 0 (length seen.predicates)) each → All IsOk each → ((p : ℕ × ℕ) → Contains lists p ↔ IsAmong HasPlace each p)
+pub all_places : (seen : Seen) (each : List Found) (lists others all sorted kept : List (ℕ × ℕ)) → IsKnown seen → AreOpened seen each → All IsOk each → ((p : ℕ × ℕ) → Contains lists p ↔ IsAmong HasPlace each p)
     → AreFaultsIn (goals_in seen.loaded.files) others → all ≡ lists ++ others
     → IsPermutation all sorted → IsSorted pair_cmp sorted → IsFiltered (DiffersFromLast pair_eq) [] sorted kept → AreFaultPlaces seen kept
 all_places seen each lists others all sorted kept known zip whole told goals joins moved in_order filtered = record {

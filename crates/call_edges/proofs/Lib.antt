@@ -9,6 +9,7 @@ pub mod PlaceLemmas
 pub mod BodyLemmas
 pub mod SuccessorLemmas
 pub mod CallLemmas
+pub mod LaidOutLemmas
 pub mod LightLemmas
 pub mod RootLemmas
 pub mod FaultLemmas

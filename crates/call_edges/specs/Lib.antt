@@ -11,3 +11,4 @@ pub mod Roots
 pub mod Unresolved
 pub mod Called
 pub mod Placing
+pub mod CallLists

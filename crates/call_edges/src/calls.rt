@@ -30,7 +30,7 @@ fn target(program: &Program, met: Met) -> Option<u32>
 }
 
 /// Adds the predicates that calls go to.
-fn push_targets(program: &Program, met: &[Met], out: &mut Vec<u32>) -> Result<(), AllocError>
+pub fn push_targets(program: &Program, met: &[Met], out: &mut Vec<u32>) -> Result<(), AllocError>
     ensures { OnOk result (Adds (GoesTo (see_program program.now) (Contains (see_mets met.now))) out.old.items out.new.items) }
 {
     for one in met {

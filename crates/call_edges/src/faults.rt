@@ -1,13 +1,13 @@
 //! Goals that aren't callable, by the places of their files and their offsets.
 
-ghost use Rattle.std.specs.Prelude.{◌≡◌, ◌<◌, ℕ, All, Contains, length, map, IfOk, OnOk};
+ghost use Rattle.std.specs.Prelude.{◌≡◌, ℕ, All, Contains, map, IfOk, OnOk};
 ghost use Rattle.import_rules.specs.Program.{see_program};
 ghost use Rattle.call_edges.specs.Goals.{Adds, fault};
 ghost use Rattle.call_edges.specs.Seen.{see_met, see_mets};
-ghost use Rattle.call_edges.specs.Bodies.{see_body, bodies_in, goals_in, IsLight};
+ghost use Rattle.call_edges.specs.Bodies.{see_body, goals_in, IsLight};
 ghost use Rattle.call_edges.specs.FaultPlaces.{fault_at, AreFaultsIn};
 
-use crate::body::{Body, bodies_of, goals_of};
+use crate::body::{Body, goals_of};
 use crate::role::Met;
 use crate::walking::walk;
 use import_rules::Program;
@@ -24,7 +24,7 @@ fn fault_at(met: Met) -> Option<u32>
 }
 
 /// Adds the places of goals that aren't callable.
-fn push_places(file: u32, met: &[Met], places: &mut Vec<(u32, u32)>) -> Result<(), AllocError>
+pub fn push_places(file: u32, met: &[Met], places: &mut Vec<(u32, u32)>) -> Result<(), AllocError>
     ensures { OnOk result (Adds (λ (p : ℕ × ℕ). (p.0 ≡ file) × Contains (see_mets met.now) (fault p.1)) places.old.items places.new.items) }
 {
     for one in met {
@@ -49,20 +49,6 @@ fn faults_in(alloc: Global, bodies: &[Body]) -> Result<Vec<(u32, u32)>, AllocErr
         push_places(body.file, &met, &mut faults)?;
     }
     Ok(faults)
-}
-
-/// The places of goals of a predicate that aren't callable.
-pub fn predicate_faults(
-    alloc: Global,
-    program: &Program,
-    node: u32,
-) -> Result<Vec<(u32, u32)>, AllocError>
-    requires { node < length (see_program program.now).predicates }
-    ensures { IfOk result (λ faults. AreFaultsIn (bodies_in (see_program program.now) node) faults.items) }
-{
-    program.is_known();
-    let bodies = bodies_of(alloc, program, node)?;
-    faults_in(alloc, &bodies)
 }
 
 /// The places of goals of directives that aren't callable.

@@ -4,10 +4,10 @@ use Rattle.std.proofs.lemmas.List.{nil_from_length}
 use Rattle.import_rules.specs.Program.{see_program}
 use Rattle.call_edges.specs.FaultPlaces.{AreFaultPlaces}
 use Rattle.call_edges.proofs.GoalFaultLemmas.{goal_faults, some_faults}
-use Rattle.call_edges.proofs.check.check_goals.Goals as goal
+use Rattle.call_edges.proofs.check.call_lists.Goals as goal
 
-pub returns-then-is_empty-clause-ok : goal.returns-then-is_empty-clause-ok
-returns-then-is_empty-clause-ok g c =
+pub returns-then-is_empty-clause-callable : goal.returns-then-is_empty-clause-callable
+returns-then-is_empty-clause-callable g c =
     let seen = see_program c.args.program.now in
     let faults = c.in_ok-faults.faults in
     let none = eqb-true faults.len 0 (sym c.is_empty.ensures ∙ c.if-is_empty.true) in
@@ -19,11 +19,11 @@ pub returns-clause-refused : goal.returns-clause-refused
 returns-clause-refused g c =
     let seen = see_program c.args.program.now in
     let faults = c.in_ok-faults.faults in
-    let places = c.deref.result.now in
+    let places = c.deref-2.result.now in
     let P : List (ℕ × ℕ) → Type 0 = λ xs. AreFaultPlaces seen xs in
-    let are : AreFaultPlaces seen places = subst P (sym c.deref.ensures.value) c.in_ok-faults.ensures in
+    let are : AreFaultPlaces seen places = subst P (sym c.deref-2.ensures.value) c.in_ok-faults.ensures in
     let some : places ≡ [] → ⊥ = λ empty.
-    let none : faults.len ≡ 0 = omega (arith, ap length empty, ap length c.deref.ensures.value, faults.ok.0) in
+    let none : faults.len ≡ 0 = omega (arith, ap length empty, ap length c.deref-2.ensures.value, faults.ok.0) in
     let both : true ≡ false = sym (eq-eqb faults.len 0 none) ∙ (sym c.is_empty.ensures ∙ c.if-is_empty.false) in
     cc in (
       goal_faults seen c.is_known.ensures places c.in_ok-placed.field-0.items are c.in_ok-placed.ensures,

@@ -1,0 +1,55 @@
+use Rattle.std.proofs.Common.{◌≡◌, [], map, get_or, ap, sym, ◌∙◌, subst, arith}
+use Rattle.std.proofs.lemmas.List.{length-map, get_or-map}
+use Rattle.import_rules.specs.Program.{see_program}
+use Rattle.call_edges.specs.Seen.{see_mets}
+use Rattle.call_edges.specs.Bodies.{see_body, IsLight}
+use Rattle.call_edges.proofs.AmongLemmas.{among_more, among_all}
+use Rattle.call_edges.proofs.CallLemmas.{IsCalledIn, body_goes, bodies_go}
+use Rattle.call_edges.proofs.FaultLemmas.{IsSeenFault, body_faults, bodies_faults}
+use Rattle.call_edges.proofs.opened.found_in.Goals as goal
+
+pub walk-requires : goal.walk-requires
+walk-requires c =
+    let bodies = c.args.bodies.now in
+    let k = c.loop-body.body-index in
+    let body = c.body-item.result in
+    let within = c.loop-body-test.true in
+    let read : get_or (map see_body bodies) k (see_body body) ≡ see_body body = get_or-map see_body bodies k body (see_body body) within ∙ ap see_body (sym c.body-item.is) in
+    subst IsLight read (c.requires k (see_body body) (omega (arith, within, length-map bodies see_body)))
+
+pub loop-body-preserved : goal.loop-body-preserved
+loop-body-preserved c =
+    let seen = see_program c.args.program.now in
+    let bodies = c.args.bodies.now in
+    let k = c.loop-body.body-index in
+    let body = c.body-item.result in
+    let met = c.walk.new.met.items in
+    let empty = ap see_mets c.clear.ensures.items in
+    let callees = c.loop-body.callees.items in
+    let faults = c.loop-body.faults.items in
+    let called = c.push_targets.new.out.items in
+    let placed = c.push_places.new.places.items in
+    let so_far = c.loop-body.invariant in record {
+      callees =
+          among_more (IsCalledIn seen) bodies k body [] callees called c.loop-body-test.true c.body-item.is so_far.callees
+          (body_goes seen (see_body body) met (see_mets c.clear.new.self.items) callees called empty c.in_ok-walk.ensures
+          (rw c.deref.ensures.value at c.in_ok-push_targets.ensures));
+      faults =
+          among_more IsSeenFault bodies k body [] faults placed c.loop-body-test.true c.body-item.is so_far.faults
+          (body_faults (see_body body) met (see_mets c.clear.new.self.items) faults placed empty c.in_ok-walk.ensures
+          (rw c.deref-in-loop-body.ensures.value at c.in_ok-push_places.ensures));
+    }
+
+pub returns-clause-callees : goal.returns-clause-callees
+returns-clause-callees c =
+    let seen = see_program c.args.program.now in
+    let bodies = c.args.bodies.now in
+    let callees = c.loop-body.callees.items in
+    bodies_go seen bodies [] callees
+    (among_all (IsCalledIn seen) bodies c.loop-body.body-index [] callees c.loop-body-test.false c.loop-body.invariant.callees)
+
+pub returns-clause-faults : goal.returns-clause-faults
+returns-clause-faults c =
+    let bodies = c.args.bodies.now in
+    let faults = c.loop-body.faults.items in
+    bodies_faults bodies faults (among_all IsSeenFault bodies c.loop-body.body-index [] faults c.loop-body-test.false c.loop-body.invariant.faults)
