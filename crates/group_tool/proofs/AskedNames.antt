@@ -1,19 +1,18 @@
 -- Which names a library was asked for.
-use Rattle.std.proofs.Common.{◌≡◌, ◌≢◌, ℕ, ◌<◌, ◌⊎◌, List, [], ◌++◌, AllPairs, length, sym, subst, ap, ◌∙◌, inl, inr, arith, append-nil}
+use Rattle.std.proofs.Common.{◌≡◌, ◌≢◌, ℕ, ◌<◌, ◌⊎◌, List, [], ◌++◌, Option, None, AllPairs, length, sym, subst, ap, ◌∙◌, inl, inr, arith, append-nil}
 use Rattle.std.proofs.lemmas.List.{length-append, get_or_append_left}
 use Rattle.file_library.specs.FileLoads.{FileLoads}
 use Rattle.file_library.specs.Library.{Files}
 use Rattle.file_library.specs.Asked.{names_in}
 use Rattle.file_library.specs.Asking.{AreFirst, AreAll, AreTooMany, LoadEnd, loaded, faults, unread, too_many, too_large, too_much, no_memory, LoadEndIs}
-use Rattle.group_tool.specs.Words.{Options, IsLawful}
+use Rattle.group_words.specs.Settings.{Settings}
 use Rattle.group_tool.specs.Answer.{ComesTo}
 use Rattle.group_tool.specs.End as of_run
-use Rattle.group_tool.specs.End.{End, usage, limit, report, memory_line}
+use Rattle.group_tool.specs.End.{End, usage, missing, limit, report, memory_line}
 use Rattle.group_tool.specs.Lines.{unread_line, limit_line}
 use Rattle.group_tool.specs.declared.stop.Limit.{Limit}
-use Rattle.group_tool.specs.Run.{Asking, EndsAsking, IsLawfulEnd, EndIs, EndsBy, Taking, IsRun, SaidWith, AreAskedFor}
+use Rattle.group_tool.specs.Run.{Asking, EndsAsking, EndsReading, IsLawfulEnd, EndIs, EndsBy, Taking, IsRun, SaidWith, AreAskedFor}
 use Rattle.group_tool.proofs.ToldWaves.{waves_once}
-use Rattle.group_tool.proofs.WordLemmas.{one_options}
 
 all_first : (files : Files) (roots names : List (List ℕ)) → AreAll files roots names → AreFirst files roots names
 all_first files roots names all = record {
@@ -51,19 +50,23 @@ first_once files roots names first i j d lt within same =
     let inside : j < length (names ++ first.rest) = omega (arith, within, length-append names first.rest) in
     once i j d lt inside (get_or_append_left names first.rest d i lower ∙ (same ∙ sym (get_or_append_left names first.rest d j within)))
 
--- which ends of the asking come to a report or to faults
-load_whole : (files : Files) (roots names : List (List ℕ)) (load : LoadEnd) (end : End) → ComesTo load end → ((name : List ℕ) → end ≢ of_run.unread name) → end ≢ of_run.no_memory
-    → ((passed : Limit) → end ≢ limit passed) → LoadEndIs files roots names load → AreAll files roots names
-load_whole files roots names (loaded found) end comes not_unread not_wanting not_passed is = is.0
-load_whole files roots names (faults found) end comes not_unread not_wanting not_passed is = is.0
-load_whole files roots names (unread name) end comes not_unread not_wanting not_passed is = absurd (not_unread name comes)
-load_whole files roots names too_many end comes not_unread not_wanting not_passed is = absurd (not_passed _ comes)
-load_whole files roots names (too_large name) end comes not_unread not_wanting not_passed is = absurd (not_passed _ comes)
-load_whole files roots names too_much end comes not_unread not_wanting not_passed is = absurd (not_passed _ comes)
-load_whole files roots names no_memory end comes not_unread not_wanting not_passed is = absurd (not_wanting comes)
+-- the statuses at which all was asked for
+abbrev IsWhole : ℕ → Type 0
+IsWhole result = (result ≡ 0) ⊎ ((result ≡ 2) ⊎ (result ≡ 3))
+
+-- which ends of the asking come to a report, to faults or to a root that is missing
+load_whole : (settings : Settings) (files : Files) (roots names : List (List ℕ)) (load : LoadEnd) (end : End) → ComesTo settings load end → ((name : List ℕ) → end ≢ of_run.unread name)
+    → end ≢ of_run.no_memory → ((passed : Limit) → end ≢ limit passed) → LoadEndIs files roots names load → AreAll files roots names
+load_whole settings files roots names (loaded found) end comes not_unread not_wanting not_passed is = is.0
+load_whole settings files roots names (faults found) end comes not_unread not_wanting not_passed is = is.0
+load_whole settings files roots names (unread name) end comes not_unread not_wanting not_passed is = absurd (not_unread name comes)
+load_whole settings files roots names too_many end comes not_unread not_wanting not_passed is = absurd (not_passed _ comes)
+load_whole settings files roots names (too_large name) end comes not_unread not_wanting not_passed is = absurd (not_passed _ comes)
+load_whole settings files roots names too_much end comes not_unread not_wanting not_passed is = absurd (not_passed _ comes)
+load_whole settings files roots names no_memory end comes not_unread not_wanting not_passed is = absurd (not_wanting comes)
 
 asked_for : (library : Asking) (roots : List (List ℕ)) (load : LoadEnd) (result : ℕ) (asking : EndsAsking library roots load)
-    → ((result ≡ 0) ⊎ (result ≡ 3) → AreAll asking.ended.seen roots asking.ended.names) → AreAskedFor roots library.asked library.asked' result
+    → (IsWhole result → (files : Files) (names : List (List ℕ)) → LoadEndIs files roots names load → AreAll files roots names) → AreAskedFor roots library.asked library.asked' result
 asked_for library roots load result asking whole =
     let first = end_first asking.ended.seen roots asking.ended.names load asking.ended.is in
     record {
@@ -72,44 +75,53 @@ asked_for library roots load result asking whole =
       put = asking.ended.put;
       first = first;
       once = first_once asking.ended.seen roots asking.ended.names first;
-      whole = whole;
+      whole = λ status. whole status asking.ended.seen asking.ended.names asking.ended.is;
     }
 
--- a status that is neither that of a report nor of faults
+-- a status that is none of these
 not_these : (bytes : List ℕ) (status result : ℕ) (sink : Taking) → SaidWith bytes status result sink.taken sink.taken' sink.faults sink.faults' sink.settled' → 3 < status
-    → (result ≡ 0) ⊎ (result ≡ 3) → ⊥
-not_these bytes status result sink said high (inl is) = elim said [ inl all ↦ omega (arith, is, all.0, high) | inr part ↦ omega (arith, is, part.0) ]
-not_these bytes status result sink said high (inr is) = elim said [ inl all ↦ omega (arith, is, all.0, high) | inr part ↦ omega (arith, is, part.0) ]
+    → IsWhole result → ⊥
+not_these bytes status result sink said high is =
+    elim said [
+      | inl all ↦ elim is [ inl zero ↦ omega (arith, zero, all.0, high) | inr rest ↦ elim rest [ inl two ↦ omega (arith, two, all.0, high) | inr three ↦ omega (arith, three, all.0, high) ] ]
+      | inr part ↦ elim is [ inl zero ↦ omega (arith, zero, part.0) | inr rest ↦ elim rest [ inl two ↦ omega (arith, two, part.0) | inr three ↦ omega (arith, three, part.0) ] ]
+    ]
 
-lawful_asked_for : (words : List (List ℕ)) (library : Asking) (result : ℕ) (end : End) (is : IsLawfulEnd words library end) (options : Options) → IsLawful words options
-    → ((result ≡ 0) ⊎ (result ≡ 3) → AreAll is.asking.ended.seen is.options.files is.asking.ended.names) → AreAskedFor options.files library.asked library.asked' result
-lawful_asked_for words library result end is options also whole =
-    subst (λ roots. AreAskedFor roots library.asked library.asked' result) (one_options words is.options options is.lawful also)
-    (asked_for library is.options.files is.load result is.asking whole)
+-- the library was asked
+asked_reading : (make : Option ℕ) (names : List (List ℕ)) (library : Asking) (load : LoadEnd) → make ≡ None → EndsReading make names library load → EndsAsking library names load
+asked_reading make names library load none reading = subst (λ m. EndsReading m names library load) none reading
 
-asked_by : (words : List (List ℕ)) (library : Asking) (out err : Taking) (result : ℕ) (options : Options) → IsLawful words options → (end : End) → EndIs words library end
-    → EndsBy result out err end → AreAskedFor options.files library.asked library.asked' result
-asked_by words library out err result options lawful usage cause written = absurd (cause.0 options lawful)
-asked_by words library out err result options lawful (of_run.faults found) cause written =
-    lawful_asked_for words library result (of_run.faults found) cause options lawful
-    (λ status.
-    load_whole cause.asking.ended.seen cause.options.files cause.asking.ended.names cause.load (of_run.faults found) cause.comes (λ name e. cc) (λ e. cc) (λ passed e. cc)
-    cause.asking.ended.is)
-asked_by words library out err result options lawful (of_run.unread name) cause written =
-    lawful_asked_for words library result (of_run.unread name) cause options lawful
-    (λ status. absurd (not_these (unread_line name) 4 result err written.0 (omega arith) status))
-asked_by words library out err result options lawful (limit passed) cause written =
-    lawful_asked_for words library result (limit passed) cause options lawful
-    (λ status. absurd (not_these (limit_line passed) 6 result err written.0 (omega arith) status))
-asked_by words library out err result options lawful (report bytes) cause written =
-    lawful_asked_for words library result (report bytes) cause options lawful
-    (λ status.
-    load_whole cause.asking.ended.seen cause.options.files cause.asking.ended.names cause.load (report bytes) cause.comes (λ name e. cc) (λ e. cc) (λ passed e. cc)
-    cause.asking.ended.is)
-asked_by words library out err result options lawful of_run.no_memory cause written =
-    let asked = cause.lawful options lawful in
-    asked_for library options.files asked.0 result asked.1 (λ status. absurd (not_these memory_line 7 result err written.0 (omega arith) status))
+module _ (wanted : Settings → Type 0) (one : (settings other : Settings) → wanted settings → wanted other → settings ≡ other) (library : Asking) (settings : Settings) (lawful : wanted settings) (reads : settings.make ≡ None) where
+  reading_asked : (other : Settings) → wanted other → (load : LoadEnd) (result : ℕ) → EndsReading other.make other.files library load
+      → (IsWhole result → (files : Files) (names : List (List ℕ)) → LoadEndIs files settings.files names load → AreAll files settings.files names)
+      → AreAskedFor settings.files library.asked library.asked' result
+  reading_asked other also load result reading whole =
+      asked_for library settings.files load result
+      (asked_reading settings.make settings.files library load reads (subst (λ (s : Settings). EndsReading s.make s.files library load) (one other settings also lawful) reading)) whole
 
-pub asked_said : (words : List (List ℕ)) (library : Asking) (out err : Taking) (result : ℕ) → IsRun words library out err result → (options : Options) → IsLawful words options
-    → AreAskedFor options.files library.asked library.asked' result
-asked_said words library out err result run options lawful = asked_by words library out err result options lawful run.end run.cause run.written
+  lawful_asked_for : (result : ℕ) (end : End) (is : IsLawfulEnd wanted library end)
+      → (IsWhole result → (files : Files) (names : List (List ℕ)) → LoadEndIs files settings.files names is.load → AreAll files settings.files names)
+      → AreAskedFor settings.files library.asked library.asked' result
+  lawful_asked_for result end is whole = reading_asked is.settings is.lawful is.load result is.reading whole
+
+  decided_for : (result : ℕ) (end : End) → IsLawfulEnd wanted library end → ((name : List ℕ) → end ≢ of_run.unread name) → end ≢ of_run.no_memory → ((passed : Limit) → end ≢ limit passed)
+      → AreAskedFor settings.files library.asked library.asked' result
+  decided_for result end is not_unread not_wanting not_passed =
+      lawful_asked_for result end is
+      (λ status files names ends. load_whole is.settings files settings.files names is.load end is.comes not_unread not_wanting not_passed ends)
+
+  asked_by : (out err : Taking) (result : ℕ) (end : End) → EndIs wanted library end → EndsBy result out err end → AreAskedFor settings.files library.asked library.asked' result
+  asked_by out err result usage cause written = absurd (cause.0 settings lawful)
+  asked_by out err result (of_run.faults found) cause written = decided_for result (of_run.faults found) cause (λ name e. cc) (λ e. cc) (λ passed e. cc)
+  asked_by out err result (missing root) cause written = decided_for result (missing root) cause (λ name e. cc) (λ e. cc) (λ passed e. cc)
+  asked_by out err result (of_run.unread name) cause written =
+      lawful_asked_for result (of_run.unread name) cause (λ status files names ends. absurd (not_these (unread_line name) 4 result err written.0 (omega arith) status))
+  asked_by out err result (limit passed) cause written =
+      lawful_asked_for result (limit passed) cause (λ status files names ends. absurd (not_these (limit_line passed) 6 result err written.0 (omega arith) status))
+  asked_by out err result (report bytes) cause written = decided_for result (report bytes) cause (λ name e. cc) (λ e. cc) (λ passed e. cc)
+  asked_by out err result of_run.no_memory cause written =
+      let asked = cause.lawful settings lawful in
+      reading_asked settings lawful asked.0 result asked.1 (λ status files names ends. absurd (not_these memory_line 7 result err written.0 (omega arith) status))
+
+  pub asked_said : (out err : Taking) (result : ℕ) → IsRun wanted library out err result → AreAskedFor settings.files library.asked library.asked' result
+  asked_said out err result run = asked_by out err result run.end run.cause run.written

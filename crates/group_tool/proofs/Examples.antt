@@ -1,10 +1,16 @@
 -- What some words, lines and answers of sinks are, and what they aren't.
-use Rattle.std.proofs.Common.{◌≡◌, inl, inr, ℕ, true, false, List, [], ◌∷◌, length, Option, Some, None, codes, refl, ap, arith}
+use Rattle.std.proofs.Common.{◌≡◌, inl, inr, ℕ, true, false, List, [], ◌∷◌, ◌++◌, All, Contains, length, Option, Some, None, codes, refl, ap, arith}
 use Rattle.std.specs.Fmt.{digits}
-use Rattle.std.specs.List.{AllZip}
 use Rattle.std.proofs.lemmas.List.{length-take}
 use Rattle.clause_text.specs.declared.cause.Cause.TheVariants.{NoRoot, Stuck}
 use Rattle.file_library.specs.Library.{Files}
+use Rattle.import_rules.specs.declared.names.PredName.{PredName}
+use Rattle.import_rules.specs.Program.{Seen}
+use Rattle.group_release.specs.declared.level.Level.{Level}
+use Rattle.group_words.specs.Settings.{Settings}
+use Rattle.loop_report.specs.Spelled.{spelled_name}
+use Rattle.order_law.proofs.OneOrder.{nothing_in, first_or_rest}
+use Rattle.std.proofs.lemmas.List.Elements.{All-cons}
 use Rattle.file_library.specs.Asking.{LoadEnd, loaded, too_many, too_large, too_much, IsDecided}
 use Rattle.file_library.specs.Asking as of_load
 use Rattle.group_tool.specs.declared.sink.Put.TheVariants.{Took, Failed}
@@ -12,43 +18,86 @@ use Rattle.group_tool.specs.declared.sink.Flushed.TheVariants.{Done}
 use Rattle.group_tool.specs.declared.stop.Limit.TheVariants.{FileTooLarge}
 use Rattle.group_tool.specs.Say.{SaidIs, TookPart}
 use Rattle.group_tool.specs.Sink.{PutIs, FlushIs}
-use Rattle.group_tool.specs.Lines.{fault_line, fault_lines, limit_line}
+use Rattle.group_tool.specs.Lines.{fault_line, fault_lines, limit_line, missing_line}
 use Rattle.group_tool.specs.Answer.{ComesTo, IsAnswer}
 use Rattle.group_tool.specs.End.{unread}
-use Rattle.group_tool.specs.Words.{IsFileWord, IsLawful, HasNoOptions, of_files}
+use Rattle.group_tool.specs.Wanted.{AreJust, HasNoOptions, made_name, files_read}
+use Rattle.group_tool.specs.Roots.{IsFirstMissing, LacksRoot}
+use Rattle.group_tool.specs.LoadedEnd.{IsOutput}
 
--- a word means a file with or without its ending; not one with a dash, and not the empty one
+-- the made text is the one file that is read
 
-means_file : IsFileWord (codes "./f") (codes "f.pl")
-means_file = record { no_option = refl; means = refl }
+made_file : files_read (Some 1) (λ name. None) made_name ≡ Some (codes "p0.\n")
+unfolding digits
+made_file = refl
 
-with_dash : IsFileWord (codes "-f.pl") (codes "-f.pl") → ⊥
-with_dash is = let both : true ≡ false = is.no_option in cc
+no_other_file : (files : Files) → files_read (Some 1) files (codes "f.pl") ≡ None
+no_other_file files = refl
 
-empty_word : (name : List ℕ) → IsFileWord [] name → ⊥
-empty_word name is = let both : None ≡ Some name = is.means in cc
+-- options that are handed over are wanted; none but these
+just_these : (settings : Settings) → HasNoOptions (AreJust settings) → ⊥
+just_these settings none = none settings refl
 
--- two words may mean one file; where one means none, the words aren't lawful, nor are no words
+-- the first name of a list that is missing, in the order of the list
 
-two_words : IsLawful (codes "f" ∷ codes "f.pl" ∷ []) (of_files (codes "f.pl" ∷ codes "f.pl" ∷ []))
-two_words = record { some = omega arith; files = (record { no_option = refl; means = refl }, (record { no_option = refl; means = refl }, tt)) }
+-- a program without predicates
+abbrev empty : Seen
+empty = record { loaded = record { files = []; absent = []; roots = []; texts = [] }; predicates = [] }
 
-one_without_file : HasNoOptions (codes "f" ∷ codes ".." ∷ [])
-one_without_file options lawful = second options.files lawful.files
+abbrev named : ℕ → PredName
+named arity = record { «module» = codes "a"; name = codes "p"; arity = arity }
+
+abbrev two : List PredName
+two = named 0 ∷ named 1 ∷ []
+
+has_first : Contains two (named 0)
+has_first = (0, omega arith, refl)
+
+third_missing : IsFirstMissing two (named 0 ∷ named 3 ∷ named 2 ∷ []) (named 3)
+third_missing = record {
+  before = named 0 ∷ [];
+  after = named 2 ∷ [];
+  is = refl;
+  there = All-cons (Contains two) (named 0) [] has_first (λ k d less. let none : ⊥ = omega (arith, less) in absurd none);
+  missing = λ has.
+      elim (first_or_rest (named 0) (named 3) (named 1 ∷ []) has) [
+        | inl same ↦ omega (arith, ap (λ (p : PredName). p.arity) same)
+        | inr later ↦
+            elim (first_or_rest (named 1) (named 3) [] later) [
+              | inl same ↦ omega (arith, ap (λ (p : PredName). p.arity) same)
+              | inr none ↦ nothing_in (named 3) none
+            ]
+      ];
+}
+
+-- behind one that is missing no other is the first
+later_missing : LacksRoot (Some (named 3 ∷ named 2 ∷ [])) empty (named 2) → ⊥
+later_missing is = later is.before is.after is.is is.there
   where
-    second : (names : List (List ℕ)) → AllZip IsFileWord (codes "f" ∷ codes ".." ∷ []) names → ⊥
-    second [] zip = zip
-    second (name ∷ []) zip = zip.1
-    second (name ∷ other ∷ names) zip = let both : None ≡ Some other = zip.1.0.means in cc
+    later : (before after : List PredName) → named 3 ∷ named 2 ∷ [] ≡ before ++ named 2 ∷ after → All (Contains []) before → ⊥
+    later [] after same there =
+        let first : named 3 ≡ named 2 = cc in
+        omega (arith, ap (λ (p : PredName). p.arity) first)
+    later (p ∷ before) after same there = nothing_in p (there 0 p (omega arith))
 
-no_words : HasNoOptions []
-no_words options lawful = omega (arith, lawful.some)
+-- without a list no root is missing
+none_missing : (seen : Seen) (root : PredName) → LacksRoot None seen root → ⊥
+none_missing seen root is = is
+
+-- of a made program the first line alone is written
+
+abbrev plain : Level
+plain = record { height = 0; recursive = false }
+
+first_line_alone : IsOutput (Some 1) false false empty ((0 ∷ []) ∷ []) (plain ∷ []) (codes "predicates 1 groups 1 recursive 0 levels 1\n")
+unfolding digits
+first_line_alone = refl
 
 -- that a file could not be read is no answer over a map
-no_failed_read : (words : List (List ℕ)) (files : Files) (name : List ℕ) → IsAnswer words files (unread name) → ⊥
-no_failed_read words files name is = undecided is.load is.decided is.comes
+no_failed_read : (wanted : Settings → Type 0) (files : Files) (name : List ℕ) → IsAnswer wanted files (unread name) → ⊥
+no_failed_read wanted files name is = undecided is.load is.decided is.comes
   where
-    undecided : (load : LoadEnd) → IsDecided load → ComesTo load (unread name) → ⊥
+    undecided : (load : LoadEnd) → IsDecided load → ComesTo is.settings load (unread name) → ⊥
     undecided (loaded found) decided comes = comes
     undecided (of_load.faults found) decided comes = cc
     undecided (of_load.unread other) decided comes = decided
@@ -68,6 +117,10 @@ without_place = refl
 
 too_large_line : limit_line (FileTooLarge (codes "f.pl")) ≡ codes "groups: f.pl is larger than 8388608 bytes\n"
 too_large_line = refl
+
+missing_root_line : missing_line (named 2) ≡ codes "groups: no predicate a:p/2\n"
+unfolding digits spelled_name
+missing_root_line = refl
 
 -- a sink takes some of the bytes, from the first on; never none, and no more than there are
 

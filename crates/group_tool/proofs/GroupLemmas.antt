@@ -16,7 +16,10 @@ use Rattle.import_rules.specs.Program.{Seen, places_in, places_at}
 use Rattle.call_edges.specs.Calls.{NodeCalls}
 use Rattle.call_edges.specs.Successors.{successor_lists}
 use Rattle.call_edges.proofs.SuccessorLemmas.{lists_count, list_has, lists_closed}
-use Rattle.loop_report.specs.Reportable.{AreGroups, AreLeveled}
+use Rattle.group_words.specs.Settings.{Settings}
+use Rattle.loop_report.specs.Reportable.{AreGroups, AreLeveled, AreReportable}
+use Rattle.group_tool.specs.Roots.{AreRoots}
+use Rattle.group_tool.specs.LoadedEnd.{IsOutput, ReportsProgram}
 
 -- what has no number is defined nowhere
 no_places : (seen : Seen) (p : ℕ) → length seen.predicates ≤ p → places_in seen p ≡ []
@@ -76,3 +79,25 @@ members_listed seen roots groups below are p has =
 pub members_numbered : (seen : Seen) (roots : List ℕ) (groups : List (List ℕ)) → All (λ q. q < length seen.predicates) roots → AreGroups (Calls (successor_lists seen)) roots groups
     → (p : ℕ) → HasMember groups p → p < length seen.predicates
 members_numbered seen roots groups below are p has = omega (arith, members_listed seen roots groups below are p has, lists_count seen)
+
+-- what is leveled can be reported
+pub reportable : (seen : Seen) (roots : List ℕ) (groups : List (List ℕ)) (levels : List Level) → All (λ q. q < length seen.predicates) roots
+    → AreLeveled (Calls (successor_lists seen)) roots groups levels → AreReportable (length seen.predicates) groups levels
+reportable seen roots groups levels below is = record {
+  lists = successor_lists seen;
+  legal = is.are.legal;
+  nodes = members_numbered seen roots groups below is.are;
+  leveled = is.leveled;
+}
+
+pub reports : (settings : Settings) (seen : Seen) (roots : List ℕ) (groups : List (List ℕ)) (levels : List Level) (bytes : List ℕ) → AreRoots settings.roots seen roots
+    → AreLeveled (Calls (successor_lists seen)) roots groups levels → IsOutput settings.make settings.order settings.unreached seen groups levels bytes
+    → ReportsProgram settings seen bytes
+reports settings seen roots groups levels bytes are leveled output = record {
+  roots = roots;
+  are_roots = are;
+  groups = groups;
+  levels = levels;
+  leveled = leveled_calls seen roots groups levels leveled.are leveled.leveled;
+  output = output;
+}

@@ -2,10 +2,11 @@ pub mod Said
 pub mod Examples
 pub mod ToldWaves
 pub mod ToldEnd
-pub mod WordLemmas
 pub mod OneLoaded
 pub mod OneAnswer
 pub mod EndLemmas
+pub mod OneFileLemmas
+pub mod RootLemmas
 pub mod GroupLemmas
 pub mod RunLemmas
 pub mod AskedNames

@@ -1,51 +1,61 @@
--- Words over a map of files have one answer.
-use Rattle.std.proofs.Common.{◌≡◌, ℕ, ◌⊎◌, List, sym, ◌∙◌, subst, refl, inl, inr}
+-- What is wanted over a map of files has one answer, where the order of the groups is not asked for.
+use Rattle.std.proofs.Common.{◌≡◌, ℕ, ◌⊎◌, List, false, sym, ◌∙◌, subst, refl, inl, inr}
 use Rattle.file_library.specs.Library.{Files}
 use Rattle.file_library.specs.Asking.{LoadEnd, loaded, too_many, too_large, too_much, LoadEndIs, IsDecided}
 use Rattle.file_library.specs.Asking as of_load
 use Rattle.file_library.proofs.OneEnd.{one_end}
-use Rattle.group_tool.specs.Words.{HasNoOptions}
+use Rattle.group_words.specs.Settings.{Settings}
+use Rattle.group_tool.specs.Wanted.{HasNoOptions, files_read, names_read}
 use Rattle.group_tool.specs.Answer.{ComesTo, IsLawfulAnswer, IsAnswer}
-use Rattle.group_tool.specs.End.{End, usage, faults, unread, limit, report, no_memory}
+use Rattle.group_tool.specs.End.{End, usage, faults, missing, unread, limit, report, no_memory}
 use Rattle.group_tool.proofs.OneLoaded.{one_loaded_end}
-use Rattle.group_tool.proofs.WordLemmas.{one_options}
 
 -- how the asking ends comes to one end
-comes_once : (files : Files) (roots asked : List (List ℕ)) (load : LoadEnd) (end other : End) → LoadEndIs files roots asked load → ComesTo load end → ComesTo load other → end ≡ other
-comes_once files roots asked (loaded found) end other ends is also = one_loaded_end found (record { files = files; roots = roots; is = ends.1 }) end other is also
-comes_once files roots asked (of_load.faults found) end other ends is also = is ∙ sym also
-comes_once files roots asked (of_load.unread name) end other ends is also = is ∙ sym also
-comes_once files roots asked too_many end other ends is also = is ∙ sym also
-comes_once files roots asked (too_large name) end other ends is also = is ∙ sym also
-comes_once files roots asked too_much end other ends is also = is ∙ sym also
-comes_once files roots asked of_load.no_memory end other ends is also = is ∙ sym also
+comes_once : (settings : Settings) → settings.order ≡ false → (files : Files) (roots asked : List (List ℕ)) (load : LoadEnd) (end other : End) → LoadEndIs files roots asked load
+    → ComesTo settings load end → ComesTo settings load other → end ≡ other
+comes_once settings unordered files roots asked (loaded found) end other ends is also =
+    one_loaded_end settings unordered found (record { files = files; roots = roots; is = ends.1 }) end other is also
+comes_once settings unordered files roots asked (of_load.faults found) end other ends is also = is ∙ sym also
+comes_once settings unordered files roots asked (of_load.unread name) end other ends is also = is ∙ sym also
+comes_once settings unordered files roots asked too_many end other ends is also = is ∙ sym also
+comes_once settings unordered files roots asked (too_large name) end other ends is also = is ∙ sym also
+comes_once settings unordered files roots asked too_much end other ends is also = is ∙ sym also
+comes_once settings unordered files roots asked of_load.no_memory end other ends is also = is ∙ sym also
 
-one_lawful_answer : (words : List (List ℕ)) (files : Files) (end other : End) → IsLawfulAnswer words files end → IsLawfulAnswer words files other → end ≡ other
-one_lawful_answer words files end other is also =
-    let same : also.options.files ≡ is.options.files = one_options words also.options is.options also.lawful is.lawful in
-    let load : also.load ≡ is.load =
-    one_end files is.options.files also.asked is.asked also.load is.load also.decided is.decided (subst (λ roots. LoadEndIs files roots also.asked also.load) same also.ends) is.ends in
-    comes_once files is.options.files is.asked is.load end other is.ends is.comes (subst (λ l. ComesTo l other) load also.comes)
+module _ (wanted : Settings → Type 0) (one : (settings other : Settings) → wanted settings → wanted other → settings ≡ other) (unordered : (settings : Settings) → wanted settings → settings.order ≡ false) (files : Files) where
+  abbrev AreEnds : Settings → List (List ℕ) → LoadEnd → Type 0
+  AreEnds settings asked load = LoadEndIs (files_read settings.make files) (names_read settings.make settings.files) asked load
 
--- the answer is the usage, or one to lawful words
-usage_or_lawful : (words : List (List ℕ)) (files : Files) (end : End) → IsAnswer words files end → (HasNoOptions words × (end ≡ usage)) ⊎ IsLawfulAnswer words files end
-usage_or_lawful words files usage is = inl (is, refl)
-usage_or_lawful words files (faults found) is = inr is
-usage_or_lawful words files (unread name) is = inr is
-usage_or_lawful words files (limit passed) is = inr is
-usage_or_lawful words files (report bytes) is = inr is
-usage_or_lawful words files no_memory is = inr is
+  one_lawful_answer : (end other : End) → IsLawfulAnswer wanted files end → IsLawfulAnswer wanted files other → end ≡ other
+  one_lawful_answer end other is also =
+      let same : also.settings ≡ is.settings = one also.settings is.settings also.lawful is.lawful in
+      let read = files_read is.settings.make files in
+      let names = names_read is.settings.make is.settings.files in
+      let load : also.load ≡ is.load =
+      one_end read names also.asked is.asked also.load is.load also.decided is.decided (subst (λ settings. AreEnds settings also.asked also.load) same also.ends) is.ends in
+      let comes : ComesTo is.settings also.load other = subst (λ settings. ComesTo settings also.load other) same also.comes in
+      comes_once is.settings (unordered is.settings is.lawful) read names is.asked is.load end other is.ends is.comes (subst (λ l. ComesTo is.settings l other) load comes)
 
-pub one_answer : (words : List (List ℕ)) (files : Files) (answer other : End) → IsAnswer words files answer → IsAnswer words files other → answer ≡ other
-one_answer words files answer other is also = elim (usage_or_lawful words files answer is) [
-  | inl none ↦
-      elim (usage_or_lawful words files other also) [
-        | inl too ↦ none.1 ∙ sym too.1
-        | inr lawful ↦ absurd (none.0 lawful.options lawful.lawful)
-      ]
-  | inr lawful ↦
-      elim (usage_or_lawful words files other also) [
-        | inl none ↦ absurd (none.0 lawful.options lawful.lawful)
-        | inr too ↦ one_lawful_answer words files answer other lawful too
-      ]
-]
+  -- the answer is the usage, or one by settings that are wanted
+  usage_or_lawful : (end : End) → IsAnswer wanted files end → (HasNoOptions wanted × (end ≡ usage)) ⊎ IsLawfulAnswer wanted files end
+  usage_or_lawful usage is = inl (is, refl)
+  usage_or_lawful (faults found) is = inr is
+  usage_or_lawful (missing root) is = inr is
+  usage_or_lawful (unread name) is = inr is
+  usage_or_lawful (limit passed) is = inr is
+  usage_or_lawful (report bytes) is = inr is
+  usage_or_lawful no_memory is = inr is
+
+  pub one_answer : (answer other : End) → IsAnswer wanted files answer → IsAnswer wanted files other → answer ≡ other
+  one_answer answer other is also = elim (usage_or_lawful answer is) [
+    | inl none ↦
+        elim (usage_or_lawful other also) [
+          | inl too ↦ none.1 ∙ sym too.1
+          | inr lawful ↦ absurd (none.0 lawful.settings lawful.lawful)
+        ]
+    | inr lawful ↦
+        elim (usage_or_lawful other also) [
+          | inl none ↦ absurd (none.0 lawful.settings lawful.lawful)
+          | inr too ↦ one_lawful_answer answer other lawful too
+        ]
+  ]

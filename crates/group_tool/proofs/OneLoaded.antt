@@ -1,14 +1,18 @@
 -- Loaded files come to one end.
-use Rattle.std.proofs.Common.{◌≡◌, ℕ, ◌<◌, ◌≤◌, ◌⊎◌, List, [], ◌∷◌, false, get_or, AllPairs, refl, ap, sym, ◌∙◌, subst, inl, inr, arith}
+use Rattle.std.proofs.Common.{◌≡◌, ℕ, ◌<◌, ◌≤◌, ◌⊎◌, List, [], ◌∷◌, ◌++◌, All, Contains, Bool, true, false, Option, Some, None, length, get_or, AllPairs, refl, ap, sym, ◌∙◌, subst, inl, inr, arith}
 use Rattle.std.specs.List.{AllZip}
 use Rattle.std.specs.List.Sorted.{IsStrictlyIncreasing}
 use Rattle.std.specs.declared.cmp.Ordering.TheVariants.{Less}
 use Rattle.std.proofs.lemmas.Cmp.{nat_list_cmp_total, nat_cmp_total, on_total, then_total}
-use Rattle.std.proofs.lemmas.List.{get_or_default}
+use Rattle.std.proofs.lemmas.List.{get_or_default, length-append}
+use Rattle.std.proofs.lemmas.List.Elements.{All-tail}
+use Rattle.std.proofs.Math.Seq.{get_or-append_seam}
 use Rattle.order_law.proofs.OneOrder.{IsStrict, same_order, less_strict, holds_of}
 use Rattle.graph_law.proofs.Increasing.{increasing_far}
 use Rattle.file_library.specs.declared.fault.Fault.{Fault}
 use Rattle.file_library.specs.Loaded.{LoadedFiles}
+use Rattle.group_release.specs.declared.level.Level.{Level}
+use Rattle.import_rules.specs.declared.names.PredName.{PredName}
 use Rattle.import_rules.specs.Flaws.{IsFaultOf}
 use Rattle.import_rules.specs.Loaded.{WasLoaded}
 use Rattle.import_rules.specs.Program.{Seen, IsProgram, HasPredicates, most_predicates}
@@ -17,9 +21,12 @@ use Rattle.import_rules.proofs.OneProgram.{one_program, few_or_many}
 use Rattle.call_edges.specs.GoalFaults.{IsGoalFault, fault_cmp, AreGoalFaults}
 use Rattle.call_edges.specs.Calls.{NodeCalls}
 use Rattle.loop_report.specs.Reportable.{AreLeveled}
+use Rattle.group_words.specs.Settings.{Settings}
+use Rattle.loop_report.proofs.OneHead.{same_head}
 use Rattle.loop_report.proofs.OneReport.{same_report}
-use Rattle.group_tool.specs.LoadedEnd.{DefineTooMany, HaveImportFaults, HaveGoalFaults, AreRoots, ReportsProgram, ReportsLoaded, LoadedComesTo}
-use Rattle.group_tool.specs.End.{End, usage, faults, unread, limit, report, no_memory}
+use Rattle.group_tool.specs.Roots.{AreRoots, LacksRoot, HasRoots}
+use Rattle.group_tool.specs.LoadedEnd.{DefineTooMany, HaveImportFaults, HaveGoalFaults, AreCallable, LackRoot, IsOutput, ReportsProgram, ReportsLoaded, LoadedComesTo}
+use Rattle.group_tool.specs.End.{End, usage, faults, missing, unread, limit, report, no_memory}
 
 -- a program has no import faults
 
@@ -48,8 +55,8 @@ one_goal_list seen list other is also =
 number_strict : IsStrict (λ (a b : ℕ). a < b)
 number_strict = record { one_way = λ a b there back. omega (arith, there, back) }
 
-one_root_list : (seen : Seen) (roots others : List ℕ) → AreRoots seen roots → AreRoots seen others → roots ≡ others
-one_root_list seen roots others is also =
+one_root_list : (list : Option (List PredName)) (seen : Seen) (roots others : List ℕ) → AreRoots list seen roots → AreRoots list seen others → roots ≡ others
+one_root_list list seen roots others is also =
     same_order (λ a b. a < b) number_strict roots others (rises roots is.ascending) (rises others also.ascending) (λ q has. (also.are q).1 ((is.are q).0 has))
     (λ q has. (is.are q).1 ((also.are q).0 has))
   where
@@ -57,25 +64,66 @@ one_root_list seen roots others is also =
     rises xs up i j d lt within =
         subst (λ a. a < get_or xs j d) (get_or_default xs i 0 d (omega (arith, lt, within))) (subst (λ b. get_or xs i 0 < b) (get_or_default xs j 0 d within) (increasing_far xs up i j lt within))
 
-one_report_of : (seen : Seen) (bytes other : List ℕ) → ReportsProgram seen bytes → ReportsProgram seen other → bytes ≡ other
-one_report_of seen bytes other is also =
-    let roots : also.roots ≡ is.roots = one_root_list seen also.roots is.roots also.are_roots is.are_roots in
-    same_report seen.predicates seen.loaded.files false bytes other is.leveled (subst (λ rs. AreLeveled (NodeCalls seen) rs also.groups also.levels) roots also.leveled) is.report also.report
+same_output : (make : Option ℕ) (order unreached : Bool) (seen : Seen) (roots : List ℕ) (groups others : List (List ℕ)) (levels marks : List Level) (bytes other : List ℕ)
+    → order ≡ false → AreLeveled (NodeCalls seen) roots groups levels → AreLeveled (NodeCalls seen) roots others marks → IsOutput make order unreached seen groups levels bytes
+    → IsOutput make order unreached seen others marks other → bytes ≡ other
+same_output (Some count) order unreached seen roots groups others levels marks bytes other unordered a b is also = is ∙ (same_head a b ∙ sym also)
+same_output None true unreached seen roots groups others levels marks bytes other unordered a b is also = cc
+same_output None false unreached seen roots groups others levels marks bytes other unordered a b is also =
+    same_report seen.predicates seen.loaded.files unreached bytes other a b is also
+
+one_report_of : (settings : Settings) (seen : Seen) (bytes other : List ℕ) → settings.order ≡ false → ReportsProgram settings seen bytes → ReportsProgram settings seen other → bytes ≡ other
+one_report_of settings seen bytes other unordered is also =
+    let roots : also.roots ≡ is.roots = one_root_list settings.roots seen also.roots is.roots also.are_roots is.are_roots in
+    same_output settings.make settings.order settings.unreached seen is.roots is.groups also.groups is.levels also.levels bytes other unordered is.leveled
+    (subst (λ rs. AreLeveled (NodeCalls seen) rs also.groups also.levels) roots also.leveled) is.output also.output
+
+-- and one root that is first missing
+
+-- of two names that a list goes on with, where all before either are there and it is not, both are one
+first_missing : (predicates before others after more : List PredName) (root other : PredName) → before ++ root ∷ after ≡ others ++ other ∷ more → All (Contains predicates) before
+    → All (Contains predicates) others → (Contains predicates root → ⊥) → (Contains predicates other → ⊥) → root ≡ other
+first_missing predicates [] [] after more root other same there there_too lacks lacks_too = cc
+first_missing predicates [] (q ∷ others) after more root other same there there_too lacks lacks_too =
+    let is : root ≡ q = cc in
+    absurd (lacks (subst (Contains predicates) (sym is) (there_too 0 root (omega arith))))
+first_missing predicates (p ∷ before) [] after more root other same there there_too lacks lacks_too =
+    let is : p ≡ other = cc in
+    absurd (lacks_too (subst (Contains predicates) is (there 0 root (omega arith))))
+first_missing predicates (p ∷ before) (q ∷ others) after more root other same there there_too lacks lacks_too =
+    let rest : before ++ root ∷ after ≡ others ++ other ∷ more = cc in
+    first_missing predicates before others after more root other rest (All-tail (Contains predicates) p before there) (All-tail (Contains predicates) q others there_too) lacks lacks_too
+
+one_missing : (list : Option (List PredName)) (seen : Seen) (root other : PredName) → LacksRoot list seen root → LacksRoot list seen other → root ≡ other
+one_missing None seen root other is also = absurd is
+one_missing (Some list) seen root other is also =
+    first_missing seen.predicates is.before also.before is.after also.after root other (sym is.is ∙ also.is) is.there also.there is.missing also.missing
+
+-- a list that lacks a root isn't all there
+there_or_missing : (list : Option (List PredName)) (seen : Seen) (root : PredName) → HasRoots list seen → LacksRoot list seen root → ⊥
+there_or_missing None seen root has lacks = lacks
+there_or_missing (Some list) seen root has lacks =
+    let all : All (Contains seen.predicates) (lacks.before ++ root ∷ lacks.after) = subst (All (Contains seen.predicates)) lacks.is has in
+    let here : length lacks.before < length (lacks.before ++ root ∷ lacks.after) = omega (arith, length-append lacks.before (root ∷ lacks.after)) in
+    lacks.missing (subst (Contains seen.predicates) (get_or-append_seam lacks.before root lacks.after root) (all (length lacks.before) root here))
 
 -- so the end is one
 
 few_of : (found : LoadedFiles) (seen : Seen) → IsProgram found seen → HasPredicates found (λ n. n ≤ most_predicates)
 few_of found seen is = record { predicates = seen.predicates; numbered = is.numbered; many_are = is.few }
 
-report_or_faults : (found : LoadedFiles) (bytes : List ℕ) (list : List Fault) → ReportsLoaded found bytes → HaveImportFaults found list ⊎ HaveGoalFaults found list → ⊥
-report_or_faults found bytes list is (inl imports) = no_import_faults found is.seen list is.program imports
-report_or_faults found bytes list is (inr goals) =
-    let same : goals.seen ≡ is.seen = one_program found goals.seen is.seen goals.program is.program in
-    goals.some (one_goal_list is.seen list [] (subst (λ seen. AreGoalFaults seen list) same goals.are) is.callable)
+callable_or_faults : (found : LoadedFiles) (seen : Seen) (list : List Fault) → AreCallable found seen → HaveImportFaults found list ⊎ HaveGoalFaults found list → ⊥
+callable_or_faults found seen list is (inl imports) = no_import_faults found seen list is.program imports
+callable_or_faults found seen list is (inr goals) =
+    let same : goals.seen ≡ seen = one_program found goals.seen seen goals.program is.program in
+    goals.some (one_goal_list seen list [] (subst (λ seen. AreGoalFaults seen list) same goals.are) is.callable)
 
 many_or_faults : (found : LoadedFiles) (list : List Fault) → DefineTooMany found → HaveImportFaults found list ⊎ HaveGoalFaults found list → ⊥
 many_or_faults found list many (inl imports) = few_or_many found imports.few many
 many_or_faults found list many (inr goals) = few_or_many found (few_of found goals.seen goals.program) many
+
+many_or_callable : (found : LoadedFiles) (seen : Seen) → DefineTooMany found → AreCallable found seen → ⊥
+many_or_callable found seen many is = few_or_many found (few_of found seen is.program) many
 
 same_faults : (found : LoadedFiles) → WasLoaded found → (list other : List Fault) → HaveImportFaults found list ⊎ HaveGoalFaults found list
     → HaveImportFaults found other ⊎ HaveGoalFaults found other → list ≡ other
@@ -86,30 +134,51 @@ same_faults found was list other (inr is) (inr also) =
     let same : also.seen ≡ is.seen = one_program found also.seen is.seen also.program is.program in
     one_goal_list is.seen list other is.are (subst (λ seen. AreGoalFaults seen other) same also.are)
 
-same_reports : (found : LoadedFiles) (bytes other : List ℕ) → ReportsLoaded found bytes → ReportsLoaded found other → bytes ≡ other
-same_reports found bytes other is also =
-    let same : also.seen ≡ is.seen = one_program found also.seen is.seen also.program is.program in
-    one_report_of is.seen bytes other is.reports (subst (λ seen. ReportsProgram seen other) same also.reports)
+module _ (settings : Settings) (unordered : settings.order ≡ false) (found : LoadedFiles) where
+  same_missing : (root other : PredName) → LackRoot settings found root → LackRoot settings found other → root ≡ other
+  same_missing root other is also =
+      let same : also.seen ≡ is.seen = one_program found also.seen is.seen also.program.program is.program.program in
+      one_missing settings.roots is.seen root other is.lacks (subst (λ seen. LacksRoot settings.roots seen other) same also.lacks)
 
-pub one_loaded_end : (found : LoadedFiles) → WasLoaded found → (end other : End) → LoadedComesTo found end → LoadedComesTo found other → end ≡ other
-one_loaded_end found was usage other is also = absurd is
-one_loaded_end found was (unread name) other is also = absurd is
-one_loaded_end found was no_memory other is also = absurd is
-one_loaded_end found was (faults list) usage is also = absurd also
-one_loaded_end found was (faults list) (faults others) is also = ap (λ fs. faults fs) (same_faults found was list others is also)
-one_loaded_end found was (faults list) (unread name) is also = absurd also
-one_loaded_end found was (faults list) (limit passed) is also = absurd (many_or_faults found list also.1 is)
-one_loaded_end found was (faults list) (report bytes) is also = absurd (report_or_faults found bytes list also is)
-one_loaded_end found was (faults list) no_memory is also = absurd also
-one_loaded_end found was (limit passed) usage is also = absurd also
-one_loaded_end found was (limit passed) (faults list) is also = absurd (many_or_faults found list is.1 also)
-one_loaded_end found was (limit passed) (unread name) is also = absurd also
-one_loaded_end found was (limit passed) (limit other) is also = ap (λ l. limit l) (is.0 ∙ sym also.0)
-one_loaded_end found was (limit passed) (report bytes) is also = absurd (few_or_many found (few_of found also.seen also.program) is.1)
-one_loaded_end found was (limit passed) no_memory is also = absurd also
-one_loaded_end found was (report bytes) usage is also = absurd also
-one_loaded_end found was (report bytes) (faults list) is also = absurd (report_or_faults found bytes list is also)
-one_loaded_end found was (report bytes) (unread name) is also = absurd also
-one_loaded_end found was (report bytes) (limit passed) is also = absurd (few_or_many found (few_of found is.seen is.program) also.1)
-one_loaded_end found was (report bytes) (report others) is also = ap (λ bs. report bs) (same_reports found bytes others is also)
-one_loaded_end found was (report bytes) no_memory is also = absurd also
+  report_or_missing : (bytes : List ℕ) (root : PredName) → ReportsLoaded settings found bytes → LackRoot settings found root → ⊥
+  report_or_missing bytes root is also =
+      let same : also.seen ≡ is.seen = one_program found also.seen is.seen also.program.program is.program.program in
+      there_or_missing settings.roots is.seen root is.rooted (subst (λ seen. LacksRoot settings.roots seen root) same also.lacks)
+
+  same_reports : (bytes other : List ℕ) → ReportsLoaded settings found bytes → ReportsLoaded settings found other → bytes ≡ other
+  same_reports bytes other is also =
+      let same : also.seen ≡ is.seen = one_program found also.seen is.seen also.program.program is.program.program in
+      one_report_of settings is.seen bytes other unordered is.reports (subst (λ seen. ReportsProgram settings seen other) same also.reports)
+
+  pub one_loaded_end : WasLoaded found → (end other : End) → LoadedComesTo settings found end → LoadedComesTo settings found other → end ≡ other
+  one_loaded_end was usage other is also = absurd is
+  one_loaded_end was (unread name) other is also = absurd is
+  one_loaded_end was no_memory other is also = absurd is
+  one_loaded_end was (faults list) usage is also = absurd also
+  one_loaded_end was (faults list) (unread name) is also = absurd also
+  one_loaded_end was (faults list) no_memory is also = absurd also
+  one_loaded_end was (faults list) (faults others) is also = ap (λ fs. faults fs) (same_faults found was list others is also)
+  one_loaded_end was (faults list) (limit also_passed) is also = absurd (many_or_faults found list also.1 is)
+  one_loaded_end was (faults list) (missing other) is also = absurd (callable_or_faults found also.seen list also.program is)
+  one_loaded_end was (faults list) (report others) is also = absurd (callable_or_faults found also.seen list also.program is)
+  one_loaded_end was (limit passed) usage is also = absurd also
+  one_loaded_end was (limit passed) (unread name) is also = absurd also
+  one_loaded_end was (limit passed) no_memory is also = absurd also
+  one_loaded_end was (limit passed) (faults others) is also = absurd (many_or_faults found others is.1 also)
+  one_loaded_end was (limit passed) (limit also_passed) is also = ap (λ l. limit l) (is.0 ∙ sym also.0)
+  one_loaded_end was (limit passed) (missing other) is also = absurd (many_or_callable found also.seen is.1 also.program)
+  one_loaded_end was (limit passed) (report others) is also = absurd (many_or_callable found also.seen is.1 also.program)
+  one_loaded_end was (missing root) usage is also = absurd also
+  one_loaded_end was (missing root) (unread name) is also = absurd also
+  one_loaded_end was (missing root) no_memory is also = absurd also
+  one_loaded_end was (missing root) (faults others) is also = absurd (callable_or_faults found is.seen others is.program also)
+  one_loaded_end was (missing root) (limit also_passed) is also = absurd (many_or_callable found is.seen also.1 is.program)
+  one_loaded_end was (missing root) (missing other) is also = ap (λ r. missing r) (same_missing root other is also)
+  one_loaded_end was (missing root) (report others) is also = absurd (report_or_missing others root also is)
+  one_loaded_end was (report bytes) usage is also = absurd also
+  one_loaded_end was (report bytes) (unread name) is also = absurd also
+  one_loaded_end was (report bytes) no_memory is also = absurd also
+  one_loaded_end was (report bytes) (faults others) is also = absurd (callable_or_faults found is.seen others is.program also)
+  one_loaded_end was (report bytes) (limit also_passed) is also = absurd (many_or_callable found is.seen also.1 is.program)
+  one_loaded_end was (report bytes) (missing other) is also = absurd (report_or_missing bytes other is also)
+  one_loaded_end was (report bytes) (report others) is also = ap (λ bs. report bs) (same_reports bytes others is also)

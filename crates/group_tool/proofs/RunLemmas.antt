@@ -1,59 +1,132 @@
 -- What the ways in which a run ends say.
-use Rattle.std.proofs.Common.{◌≡◌, ◌≢◌, ℕ, ◌⊎◌, List, [], ◌∷◌, ◌++◌, Option, Some, None, ap, sym, subst, ◌∙◌, refl, inl, inr, append-nil, append_assoc, arith}
+use Rattle.std.proofs.Common.{◌≡◌, ◌≢◌, ℕ, ◌⊎◌, List, [], ◌∷◌, ◌++◌, Option, Some, None, true, ap, sym, subst, ◌∙◌, refl, inl, inr, append-nil, append_assoc, arith}
 use Rattle.file_library.specs.Counts.{Rose}
 use Rattle.file_library.specs.Library.{Files}
 use Rattle.file_library.specs.Asking.{LoadEnd, loaded, too_many, too_large, too_much, HasEnded, IsDecided}
 use Rattle.file_library.specs.Asking as of_load
-use Rattle.group_tool.specs.Answer.{ComesTo}
-use Rattle.group_tool.specs.Lines.{fault_lines, unread_line, limit_line}
-use Rattle.group_tool.specs.End.{End, usage, faults, unread, limit, report, no_memory, usage_line, memory_line}
-use Rattle.group_tool.specs.Say.{TookAll}
+use Rattle.group_words.specs.Settings.{Settings}
+use Rattle.group_tool.specs.Wanted.{AskForNone, HasNoOptions}
+use Rattle.group_tool.specs.Answer.{ComesTo, IsAnswer}
+use Rattle.group_tool.specs.End.{End, usage, faults, missing, unread, limit, report, no_memory, status_of, out_of, err_of}
+use Rattle.group_tool.specs.Say.{TookAll, TookPart}
 use Rattle.group_tool.specs.Sink.{more_taken}
-use Rattle.group_tool.specs.Run.{Asking, EndsAsking, IsLawfulEnd, EndIs, EndsBy, Taking, IsRun, SaidWith, SaysAnswer, SaysNoMemory, IsUnread, HasReported, HasFaults, HasUnread}
+use Rattle.group_tool.specs.Run.{Asking, EndsAsking, EndsReading, IsLawfulEnd, EndIs, EndsBy, CutBy, Taking, IsRun, IsWritten, SaysAnswer, SaysNoMemory, IsUnread, HasReported, HasUsage, HasNoRoot, HasFaults, HasPassed, HasUnread, IsCutOff, IsSettled}
+use Rattle.group_tool.proofs.EndLemmas.{lawful_left}
 
 pub more_none : (taken : Option (List ℕ)) → more_taken taken [] ≡ taken
 more_none None = refl
 more_none (Some before) = ap Some (append-nil before)
 
--- where the sink's count didn't rise, it took all
-pub record SaidAll (bytes : List ℕ) (status result : ℕ) (sink : Taking) : Type 0 where
+-- what both sinks have taken where the run was not cut off
+pub record IsSaid (result : ℕ) (out err : Taking) (end : End) : Type 0 where
+  pub status : result ≡ status_of end
+  pub on_out : out.taken' ≡ more_taken out.taken (out_of end)
+  pub on_err : err.taken' ≡ more_taken err.taken (err_of end)
+
+-- a sink took all bytes, or a part of them, and the other took nothing
+pub record TookWhole (bytes : List ℕ) (status result : ℕ) (sink other : Taking) : Type 0 where
   pub is_status : result ≡ status
   pub all : TookAll bytes sink.taken sink.taken' sink.settled'
+  pub nothing : other.taken' ≡ more_taken other.taken []
 
-said_all : (bytes : List ℕ) (status result : ℕ) (sink : Taking) → SaidWith bytes status result sink.taken sink.taken' sink.faults sink.faults' sink.settled'
-    → (Rose sink.faults sink.faults' → ⊥) → SaidAll bytes status result sink
-said_all bytes status result sink said quiet = elim said [
-  | inl all ↦ record { is_status = all.0; all = all.1 }
-  | inr part ↦ absurd (quiet part.1.rose)
+pub record TookSome (bytes : List ℕ) (result : ℕ) (sink other : Taking) : Type 0 where
+  pub is_five : result ≡ 5
+  pub part : TookPart bytes sink.taken sink.taken' sink.faults sink.faults'
+  pub nothing : other.taken' ≡ other.taken
+
+whole_or_some : (bytes : List ℕ) (status result : ℕ) (sink other : Taking) → IsWritten bytes status result sink other
+    → TookWhole bytes status result sink other ⊎ TookSome bytes result sink other
+whole_or_some bytes status result sink other written = elim written.0 [
+  | inl all ↦ inl (record { is_status = all.0; all = all.1; nothing = written.1 ∙ sym (more_none other.taken) })
+  | inr part ↦ inr (record { is_five = part.0; part = part.1; nothing = written.1 })
 ]
+
+lines_said : (result : ℕ) (out err : Taking) (end : End) → out_of end ≡ [] → IsWritten (err_of end) (status_of end) result err out
+    → IsSaid result out err end ⊎ TookSome (err_of end) result err out
+lines_said result out err end none written = elim (whole_or_some (err_of end) (status_of end) result err out written) [
+  | inl whole ↦
+      inl (record {
+        status = whole.is_status;
+        on_out = subst (λ bytes. out.taken' ≡ more_taken out.taken bytes) (sym none) whole.nothing;
+        on_err = whole.all.is;
+      })
+  | inr part ↦ inr part
+]
+
+-- a run is said, or cut off
+said_or_cut : (result : ℕ) (out err : Taking) (end : End) → EndsBy result out err end
+    → IsSaid result out err end ⊎ ((result ≡ 5) × CutBy out err end × (Rose err.faults err.faults' ⊎ Rose out.faults out.faults'))
+said_or_cut result out err usage written = elim (lines_said result out err usage refl written) [
+  | inl said ↦ inl said
+  | inr part ↦ inr (part.is_five, (part.part, part.nothing), inl part.part.rose)
+]
+said_or_cut result out err (faults list) written = elim (lines_said result out err (faults list) refl written) [
+  | inl said ↦ inl said
+  | inr part ↦ inr (part.is_five, (part.part, part.nothing), inl part.part.rose)
+]
+said_or_cut result out err (missing root) written = elim (lines_said result out err (missing root) refl written) [
+  | inl said ↦ inl said
+  | inr part ↦ inr (part.is_five, (part.part, part.nothing), inl part.part.rose)
+]
+said_or_cut result out err (unread name) written = elim (lines_said result out err (unread name) refl written) [
+  | inl said ↦ inl said
+  | inr part ↦ inr (part.is_five, (part.part, part.nothing), inl part.part.rose)
+]
+said_or_cut result out err (limit passed) written = elim (lines_said result out err (limit passed) refl written) [
+  | inl said ↦ inl said
+  | inr part ↦ inr (part.is_five, (part.part, part.nothing), inl part.part.rose)
+]
+said_or_cut result out err (report bytes) written = elim (whole_or_some bytes 0 result out err written) [
+  | inl whole ↦ inl (record { status = whole.is_status; on_out = whole.all.is; on_err = whole.nothing })
+  | inr part ↦ inr (part.is_five, (part.part, part.nothing), inr part.part.rose)
+]
+said_or_cut result out err no_memory written = elim (lines_said result out err no_memory refl written) [
+  | inl said ↦ inl said
+  | inr part ↦ inr (part.is_five, (part.part, part.nothing), inl part.part.rose)
+]
+
+pub is_said : (result : ℕ) (out err : Taking) (end : End) → EndsBy result out err end → result ≢ 5 → IsSaid result out err end
+is_said result out err end written whole = elim (said_or_cut result out err end written) [ inl said ↦ said | inr cut ↦ absurd (whole cut.0) ]
 
 -- which end of the asking comes to an end of the run
 
--- a report, faults and a passed limit are decided by the map
-comes_decided : (load : LoadEnd) (end : End) → ComesTo load end → ((name : List ℕ) → end ≢ unread name) → end ≢ no_memory → IsDecided load
-comes_decided (loaded found) end comes not_unread not_wanting = tt
-comes_decided (of_load.faults found) end comes not_unread not_wanting = tt
-comes_decided (of_load.unread name) end comes not_unread not_wanting = not_unread name comes
-comes_decided too_many end comes not_unread not_wanting = tt
-comes_decided (too_large name) end comes not_unread not_wanting = tt
-comes_decided too_much end comes not_unread not_wanting = tt
-comes_decided of_load.no_memory end comes not_unread not_wanting = not_wanting comes
+-- a report, faults, a root that is missing and a passed limit are decided by the map
+comes_decided : (settings : Settings) (load : LoadEnd) (end : End) → ComesTo settings load end → ((name : List ℕ) → end ≢ unread name) → end ≢ no_memory → IsDecided load
+comes_decided settings (loaded found) end comes not_unread not_wanting = tt
+comes_decided settings (of_load.faults found) end comes not_unread not_wanting = tt
+comes_decided settings (of_load.unread name) end comes not_unread not_wanting = not_unread name comes
+comes_decided settings too_many end comes not_unread not_wanting = tt
+comes_decided settings (too_large name) end comes not_unread not_wanting = tt
+comes_decided settings too_much end comes not_unread not_wanting = tt
+comes_decided settings of_load.no_memory end comes not_unread not_wanting = not_wanting comes
 
-unread_load : (load : LoadEnd) (name : List ℕ) → ComesTo load (unread name) → load ≡ of_load.unread name
-unread_load (loaded found) name comes = absurd comes
-unread_load (of_load.faults found) name comes = cc
-unread_load (of_load.unread other) name comes = cc
-unread_load too_many name comes = cc
-unread_load (too_large other) name comes = cc
-unread_load too_much name comes = cc
-unread_load of_load.no_memory name comes = cc
+unread_load : (settings : Settings) (load : LoadEnd) (name : List ℕ) → ComesTo settings load (unread name) → load ≡ of_load.unread name
+unread_load settings (loaded found) name comes = absurd comes
+unread_load settings (of_load.faults found) name comes = cc
+unread_load settings (of_load.unread other) name comes = cc
+unread_load settings too_many name comes = cc
+unread_load settings (too_large other) name comes = cc
+unread_load settings too_much name comes = cc
+unread_load settings of_load.no_memory name comes = cc
+
+abbrev IsUnreadEnd : LoadEnd → Type 0
+IsUnreadEnd (of_load.unread name) = Unit {0}
+IsUnreadEnd _ = ⊥
+
+-- only a read of the library fails
+asked_unread : (make : Option ℕ) (names : List (List ℕ)) (library : Asking) (name : List ℕ) → EndsReading make names library (of_load.unread name)
+    → EndsAsking library names (of_load.unread name)
+asked_unread None names library name reading = reading
+asked_unread (Some count) names library name reading = elim reading.1 [ inl none ↦ absurd (subst IsUnreadEnd none tt) | inr made ↦ absurd made.decided ]
 
 -- a name that could not be read is the last one, and that was counted
-unread_last : (words : List (List ℕ)) (library : Asking) (name : List ℕ) → IsLawfulEnd words library (unread name) → IsUnread words library.asked' library.faults library.faults' name
-unread_last words library name is =
-    let asking : EndsAsking library is.options.files (of_load.unread name) = subst (λ load. EndsAsking library is.options.files load) (unread_load is.load name is.comes) is.asking in
+unread_last : (wanted : Settings → Type 0) (library : Asking) (name : List ℕ) → IsLawfulEnd wanted library (unread name) → IsUnread wanted library.asked' library.faults library.faults' name
+unread_last wanted library name is =
+    let reading : EndsReading is.settings.make is.settings.files library (of_load.unread name) =
+    subst (λ load. EndsReading is.settings.make is.settings.files library load) (unread_load is.settings is.load name is.comes) is.reading in
+    let asking = asked_unread is.settings.make is.settings.files library name reading in
     record {
-      options = is.options;
+      settings = is.settings;
       lawful = is.lawful;
       before = library.asked ++ asking.ended.is.before;
       last =
@@ -62,133 +135,224 @@ unread_last words library name is =
       rose = asking.counted;
     }
 
-abbrev Says : List (List ℕ) → Files → Taking → Taking → ℕ → Type 0
-Says words files out err result =
-    SaysAnswer words files out.taken err.taken out.taken' err.taken' result ⊎ SaysNoMemory out.taken err.taken out.taken' err.taken' result
+module _ (wanted : Settings → Type 0) (library : Asking) where
+  -- over the library's map the end is the answer
+  right : (files : Files) → library.told ≡ Some files → (Rose library.faults library.faults' → ⊥) → (end : End) → end ≢ no_memory → EndIs wanted library end → IsAnswer wanted files end
+  right files tells quiet usage some cause = cause.0
+  right files tells quiet (faults found) some cause =
+      cause.told_too files tells (comes_decided cause.settings cause.load (faults found) cause.comes (λ name e. cc) (λ e. cc))
+  right files tells quiet (missing root) some cause =
+      cause.told_too files tells (comes_decided cause.settings cause.load (missing root) cause.comes (λ name e. cc) (λ e. cc))
+  right files tells quiet (unread name) some cause = absurd (quiet (unread_last wanted library name cause).rose)
+  right files tells quiet (limit passed) some cause =
+      cause.told_too files tells (comes_decided cause.settings cause.load (limit passed) cause.comes (λ name e. cc) (λ e. cc))
+  right files tells quiet (report bytes) some cause =
+      cause.told_too files tells (comes_decided cause.settings cause.load (report bytes) cause.comes (λ name e. cc) (λ e. cc))
+  right files tells quiet no_memory some cause = absurd (some refl)
 
-answered_by : (words : List (List ℕ)) (library : Asking) (out err : Taking) (result : ℕ) (files : Files) → library.told ≡ Some files
-    → (Rose library.faults library.faults' → ⊥) → (Rose out.faults out.faults' → ⊥) → (Rose err.faults err.faults' → ⊥) → (end : End) → EndIs words library end → EndsBy result out err end
-    → Says words files out err result
-answered_by words library out err result files tells read_quiet out_quiet err_quiet usage cause written =
-    let said = said_all usage_line 2 result err written.0 err_quiet in
-    inl (record { answer = usage; is_right = cause.0; status = said.is_status; on_out = written.1 ∙ sym (more_none out.taken); on_err = said.all.is })
-answered_by words library out err result files tells read_quiet out_quiet err_quiet (faults found) cause written =
-    let said = said_all (fault_lines found) 3 result err written.0 err_quiet in
-    inl (record {
-      answer = faults found;
-      is_right = cause.told_too files tells (comes_decided cause.load (faults found) cause.comes (λ name e. cc) (λ e. cc));
-      status = said.is_status;
-      on_out = written.1 ∙ sym (more_none out.taken);
-      on_err = said.all.is;
-    })
-answered_by words library out err result files tells read_quiet out_quiet err_quiet (unread name) cause written =
-    absurd (read_quiet (unread_last words library name cause).rose)
-answered_by words library out err result files tells read_quiet out_quiet err_quiet (limit passed) cause written =
-    let said = said_all (limit_line passed) 6 result err written.0 err_quiet in
-    inl (record {
-      answer = limit passed;
-      is_right = cause.told_too files tells (comes_decided cause.load (limit passed) cause.comes (λ name e. cc) (λ e. cc));
-      status = said.is_status;
-      on_out = written.1 ∙ sym (more_none out.taken);
-      on_err = said.all.is;
-    })
-answered_by words library out err result files tells read_quiet out_quiet err_quiet (report bytes) cause written =
-    let said = said_all bytes 0 result out written.0 out_quiet in
-    inl (record {
-      answer = report bytes;
-      is_right = cause.told_too files tells (comes_decided cause.load (report bytes) cause.comes (λ name e. cc) (λ e. cc));
-      status = said.is_status;
-      on_out = said.all.is;
-      on_err = written.1 ∙ sym (more_none err.taken);
-    })
-answered_by words library out err result files tells read_quiet out_quiet err_quiet no_memory cause written =
-    let said = said_all memory_line 7 result err written.0 err_quiet in
-    inr (record { status = said.is_status; on_out = written.1; on_err = said.all.is })
+  wanting_or : (end : End) → (end ≡ no_memory) ⊎ (end ≢ no_memory)
+  wanting_or usage = inr (λ e. cc)
+  wanting_or (faults found) = inr (λ e. cc)
+  wanting_or (missing root) = inr (λ e. cc)
+  wanting_or (unread name) = inr (λ e. cc)
+  wanting_or (limit passed) = inr (λ e. cc)
+  wanting_or (report bytes) = inr (λ e. cc)
+  wanting_or no_memory = inl refl
 
-pub answered : (words : List (List ℕ)) (library : Asking) (out err : Taking) (result : ℕ) → IsRun words library out err result
-    → (files : Files) → library.told ≡ Some files → (Rose library.faults library.faults' → ⊥) → (Rose out.faults out.faults' → ⊥) → (Rose err.faults err.faults' → ⊥) → Says words files out err result
-answered words library out err result run files tells read_quiet out_quiet err_quiet =
-    answered_by words library out err result files tells read_quiet out_quiet err_quiet run.end run.cause run.written
+  module _ (out err : Taking) (result : ℕ) (run : IsRun wanted library out err result) where
+    pub answered : (files : Files) → library.told ≡ Some files → (Rose library.faults library.faults' → ⊥) → (Rose out.faults out.faults' → ⊥) → (Rose err.faults err.faults' → ⊥)
+        → SaysAnswer wanted files out.taken err.taken out.taken' err.taken' result ⊎ SaysNoMemory out.taken err.taken out.taken' err.taken' result
+    answered files tells read_quiet out_quiet err_quiet = elim (said_or_cut result out err run.end run.written) [
+      | inl said ↦
+          elim (wanting_or run.end) [
+            | inl none ↦ inr (no_memory_of (subst (IsSaid result out err) none said))
+            | inr some ↦
+                inl (record {
+                  answer = run.end;
+                  is_right = right files tells read_quiet run.end some run.cause;
+                  status = said.status;
+                  on_out = said.on_out;
+                  on_err = said.on_err;
+                })
+          ]
+      | inr cut ↦ elim cut.2 [ inl rose ↦ absurd (err_quiet rose) | inr rose ↦ absurd (out_quiet rose) ]
+    ]
+      where
+        no_memory_of : IsSaid result out err no_memory → SaysNoMemory out.taken err.taken out.taken' err.taken' result
+        no_memory_of said = record { status = said.status; on_out = said.on_out ∙ more_none out.taken; on_err = said.on_err }
 
--- no status but its own
+    -- no status but its own
 
-other_status : (bytes : List ℕ) (status result wanted : ℕ) (sink : Taking) → SaidWith bytes status result sink.taken sink.taken' sink.faults sink.faults' sink.settled'
-    → result ≡ wanted → status ≢ wanted → 5 ≢ wanted → ⊥
-other_status bytes status result wanted sink said is not_status not_five = elim said [
-  | inl all ↦ not_status (sym all.0 ∙ is)
-  | inr part ↦ not_five (sym part.0 ∙ is)
-]
+    apart : {X : Type 0} (m n : ℕ) → result ≡ m → result ≡ n → (m ≡ n → ⊥) → X
+    apart {X} m n here there differ = absurd (differ (sym here ∙ there))
 
-own_status : (bytes : List ℕ) (status result : ℕ) (sink : Taking) → SaidWith bytes status result sink.taken sink.taken' sink.faults sink.faults' sink.settled' → result ≢ 5
-    → SaidAll bytes status result sink
-own_status bytes status result sink said not_five = elim said [
-  | inl all ↦ record { is_status = all.0; all = all.1 }
-  | inr part ↦ absurd (not_five part.0)
-]
+    reported_by : result ≡ 0 → (end : End) → EndIs wanted library end → IsSaid result out err end
+        → HasReported wanted library.told out.taken err.taken out.taken' err.taken'
+    reported_by is usage cause said = apart 0 2 is said.status (λ e. omega (arith, e))
+    reported_by is (faults found) cause said = apart 0 3 is said.status (λ e. omega (arith, e))
+    reported_by is (missing root) cause said = apart 0 2 is said.status (λ e. omega (arith, e))
+    reported_by is (unread name) cause said = apart 0 4 is said.status (λ e. omega (arith, e))
+    reported_by is (limit passed) cause said = apart 0 6 is said.status (λ e. omega (arith, e))
+    reported_by is (report bytes) cause said = record { bytes = bytes; library = library; cause = cause; on_out = said.on_out; on_err = said.on_err ∙ more_none err.taken }
+    reported_by is no_memory cause said = apart 0 7 is said.status (λ e. omega (arith, e))
 
-faults_by : (words : List (List ℕ)) (library : Asking) (out err : Taking) (result : ℕ) → result ≡ 3 → (end : End) → EndIs words library end → EndsBy result out err end
-    → HasFaults words library.told library.misses library.misses' err.taken err.taken' × (out.taken' ≡ out.taken)
-faults_by words library out err result is usage cause written = absurd (other_status usage_line 2 result 3 err written.0 is (λ e. omega (arith, e)) (λ e. omega (arith, e)))
-faults_by words library out err result is (faults found) cause written = (
-  record {
-    found = found;
-    library = library;
-    cause = cause;
-    on_err = (own_status (fault_lines found) 3 result err written.0 (λ five. omega (arith, is, five))).all.is;
-  },
-  written.1,
-)
-faults_by words library out err result is (unread name) cause written =
-    absurd (other_status (unread_line name) 4 result 3 err written.0 is (λ e. omega (arith, e)) (λ e. omega (arith, e)))
-faults_by words library out err result is (limit passed) cause written =
-    absurd (other_status (limit_line passed) 6 result 3 err written.0 is (λ e. omega (arith, e)) (λ e. omega (arith, e)))
-faults_by words library out err result is (report bytes) cause written = absurd (other_status bytes 0 result 3 out written.0 is (λ e. omega (arith, e)) (λ e. omega (arith, e)))
-faults_by words library out err result is no_memory cause written = absurd (other_status memory_line 7 result 3 err written.0 is (λ e. omega (arith, e)) (λ e. omega (arith, e)))
+    pub reported : result ≡ 0 → HasReported wanted library.told out.taken err.taken out.taken' err.taken'
+    reported is = reported_by is run.end run.cause (is_said result out err run.end run.written (λ five. let both : 0 ≡ 5 = sym is ∙ five in omega (arith, both)))
 
-pub faults_said : (words : List (List ℕ)) (library : Asking) (out err : Taking) (result : ℕ) → IsRun words library out err result → result ≡ 3
-    → HasFaults words library.told library.misses library.misses' err.taken err.taken' × (out.taken' ≡ out.taken)
-faults_said words library out err result run is = faults_by words library out err result is run.end run.cause run.written
+    refused_by : result ≡ 2 → (end : End) → EndIs wanted library end → IsSaid result out err end
+        → (HasUsage wanted err.taken err.taken' ⊎ HasNoRoot wanted library.told library.misses library.misses' err.taken err.taken') × (out.taken' ≡ out.taken)
+    refused_by is usage cause said = (inl (record { none = cause.0; on_err = said.on_err }), said.on_out ∙ more_none out.taken)
+    refused_by is (faults found) cause said = apart 2 3 is said.status (λ e. omega (arith, e))
+    refused_by is (missing root) cause said = (inr (record { root = root; library = library; cause = cause; on_err = said.on_err }), said.on_out ∙ more_none out.taken)
+    refused_by is (unread name) cause said = apart 2 4 is said.status (λ e. omega (arith, e))
+    refused_by is (limit passed) cause said = apart 2 6 is said.status (λ e. omega (arith, e))
+    refused_by is (report bytes) cause said = apart 2 0 is said.status (λ e. omega (arith, e))
+    refused_by is no_memory cause said = apart 2 7 is said.status (λ e. omega (arith, e))
 
-unread_by : (words : List (List ℕ)) (library : Asking) (out err : Taking) (result : ℕ) → result ≡ 4 → (end : End) → EndIs words library end → EndsBy result out err end
-    → HasUnread words library.asked' library.faults library.faults' err.taken err.taken' × (out.taken' ≡ out.taken)
-unread_by words library out err result is usage cause written = absurd (other_status usage_line 2 result 4 err written.0 is (λ e. omega (arith, e)) (λ e. omega (arith, e)))
-unread_by words library out err result is (faults found) cause written =
-    absurd (other_status (fault_lines found) 3 result 4 err written.0 is (λ e. omega (arith, e)) (λ e. omega (arith, e)))
-unread_by words library out err result is (unread name) cause written = (
-  record {
-    name = name;
-    cause = unread_last words library name cause;
-    on_err = (own_status (unread_line name) 4 result err written.0 (λ five. omega (arith, is, five))).all.is;
-  },
-  written.1,
-)
-unread_by words library out err result is (limit passed) cause written =
-    absurd (other_status (limit_line passed) 6 result 4 err written.0 is (λ e. omega (arith, e)) (λ e. omega (arith, e)))
-unread_by words library out err result is (report bytes) cause written = absurd (other_status bytes 0 result 4 out written.0 is (λ e. omega (arith, e)) (λ e. omega (arith, e)))
-unread_by words library out err result is no_memory cause written = absurd (other_status memory_line 7 result 4 err written.0 is (λ e. omega (arith, e)) (λ e. omega (arith, e)))
+    pub refused : result ≡ 2 → (HasUsage wanted err.taken err.taken' ⊎ HasNoRoot wanted library.told library.misses library.misses' err.taken err.taken') × (out.taken' ≡ out.taken)
+    refused is = refused_by is run.end run.cause (is_said result out err run.end run.written (λ five. let both : 2 ≡ 5 = sym is ∙ five in omega (arith, both)))
 
-pub unread_said : (words : List (List ℕ)) (library : Asking) (out err : Taking) (result : ℕ) → IsRun words library out err result → result ≡ 4
-    → HasUnread words library.asked' library.faults library.faults' err.taken err.taken' × (out.taken' ≡ out.taken)
-unread_said words library out err result run is = unread_by words library out err result is run.end run.cause run.written
+    -- where settings are wanted, it is a root that is missing
+    pub refused_lawful : (settings : Settings) → wanted settings → result ≡ 2
+        → HasNoRoot wanted library.told library.misses library.misses' err.taken err.taken' × (out.taken' ≡ out.taken)
+    refused_lawful settings lawful is =
+        let both = refused is in
+        elim both.0 [ inl none ↦ absurd (none.none settings lawful) | inr missing_too ↦ (missing_too, both.1) ]
 
-reported_by : (words : List (List ℕ)) (library : Asking) (out err : Taking) (result : ℕ) → result ≡ 0 → (end : End) → EndIs words library end → EndsBy result out err end
-    → HasReported words library.told out.taken err.taken out.taken' err.taken'
-reported_by words library out err result is usage cause written = absurd (other_status usage_line 2 result 0 err written.0 is (λ e. omega (arith, e)) (λ e. omega (arith, e)))
-reported_by words library out err result is (faults found) cause written =
-    absurd (other_status (fault_lines found) 3 result 0 err written.0 is (λ e. omega (arith, e)) (λ e. omega (arith, e)))
-reported_by words library out err result is (unread name) cause written =
-    absurd (other_status (unread_line name) 4 result 0 err written.0 is (λ e. omega (arith, e)) (λ e. omega (arith, e)))
-reported_by words library out err result is (limit passed) cause written =
-    absurd (other_status (limit_line passed) 6 result 0 err written.0 is (λ e. omega (arith, e)) (λ e. omega (arith, e)))
-reported_by words library out err result is (report bytes) cause written = record {
-  bytes = bytes;
-  library = library;
-  cause = cause;
-  on_out = (own_status bytes 0 result out written.0 (λ five. omega (arith, is, five))).all.is;
-  on_err = written.1;
-}
-reported_by words library out err result is no_memory cause written = absurd (other_status memory_line 7 result 0 err written.0 is (λ e. omega (arith, e)) (λ e. omega (arith, e)))
+    faults_by : result ≡ 3 → (end : End) → EndIs wanted library end → IsSaid result out err end
+        → HasFaults wanted library.told library.misses library.misses' err.taken err.taken' × (out.taken' ≡ out.taken)
+    faults_by is usage cause said = apart 3 2 is said.status (λ e. omega (arith, e))
+    faults_by is (faults found) cause said = (record { found = found; library = library; cause = cause; on_err = said.on_err }, said.on_out ∙ more_none out.taken)
+    faults_by is (missing root) cause said = apart 3 2 is said.status (λ e. omega (arith, e))
+    faults_by is (unread name) cause said = apart 3 4 is said.status (λ e. omega (arith, e))
+    faults_by is (limit passed) cause said = apart 3 6 is said.status (λ e. omega (arith, e))
+    faults_by is (report bytes) cause said = apart 3 0 is said.status (λ e. omega (arith, e))
+    faults_by is no_memory cause said = apart 3 7 is said.status (λ e. omega (arith, e))
 
-pub reported : (words : List (List ℕ)) (library : Asking) (out err : Taking) (result : ℕ) → IsRun words library out err result → result ≡ 0
-    → HasReported words library.told out.taken err.taken out.taken' err.taken'
-reported words library out err result run is = reported_by words library out err result is run.end run.cause run.written
+    pub faults_said : result ≡ 3 → HasFaults wanted library.told library.misses library.misses' err.taken err.taken' × (out.taken' ≡ out.taken)
+    faults_said is = faults_by is run.end run.cause (is_said result out err run.end run.written (λ five. let both : 3 ≡ 5 = sym is ∙ five in omega (arith, both)))
+
+    unread_by : result ≡ 4 → (end : End) → EndIs wanted library end → IsSaid result out err end
+        → HasUnread wanted library.asked' library.faults library.faults' err.taken err.taken' × (out.taken' ≡ out.taken)
+    unread_by is usage cause said = apart 4 2 is said.status (λ e. omega (arith, e))
+    unread_by is (faults found) cause said = apart 4 3 is said.status (λ e. omega (arith, e))
+    unread_by is (missing root) cause said = apart 4 2 is said.status (λ e. omega (arith, e))
+    unread_by is (unread name) cause said = (record { name = name; cause = unread_last wanted library name cause; on_err = said.on_err }, said.on_out ∙ more_none out.taken)
+    unread_by is (limit passed) cause said = apart 4 6 is said.status (λ e. omega (arith, e))
+    unread_by is (report bytes) cause said = apart 4 0 is said.status (λ e. omega (arith, e))
+    unread_by is no_memory cause said = apart 4 7 is said.status (λ e. omega (arith, e))
+
+    pub unread_said : result ≡ 4 → HasUnread wanted library.asked' library.faults library.faults' err.taken err.taken' × (out.taken' ≡ out.taken)
+    unread_said is = unread_by is run.end run.cause (is_said result out err run.end run.written (λ five. let both : 4 ≡ 5 = sym is ∙ five in omega (arith, both)))
+
+    passed_by : result ≡ 6 → (end : End) → EndIs wanted library end → IsSaid result out err end
+        → HasPassed wanted library err.taken err.taken' × (out.taken' ≡ out.taken)
+    passed_by is usage cause said = apart 6 2 is said.status (λ e. omega (arith, e))
+    passed_by is (faults found) cause said = apart 6 3 is said.status (λ e. omega (arith, e))
+    passed_by is (missing root) cause said = apart 6 2 is said.status (λ e. omega (arith, e))
+    passed_by is (unread name) cause said = apart 6 4 is said.status (λ e. omega (arith, e))
+    passed_by is (limit passed) cause said = (record { passed = passed; cause = cause; on_err = said.on_err }, said.on_out ∙ more_none out.taken)
+    passed_by is (report bytes) cause said = apart 6 0 is said.status (λ e. omega (arith, e))
+    passed_by is no_memory cause said = apart 6 7 is said.status (λ e. omega (arith, e))
+
+    pub passed_said : result ≡ 6 → HasPassed wanted library err.taken err.taken' × (out.taken' ≡ out.taken)
+    passed_said is = passed_by is run.end run.cause (is_said result out err run.end run.written (λ five. let both : 6 ≡ 5 = sym is ∙ five in omega (arith, both)))
+
+    wanting_by : result ≡ 7 → (end : End) → EndIs wanted library end → IsSaid result out err end
+        → SaysNoMemory out.taken err.taken out.taken' err.taken' result
+    wanting_by is usage cause said = apart 7 2 is said.status (λ e. omega (arith, e))
+    wanting_by is (faults found) cause said = apart 7 3 is said.status (λ e. omega (arith, e))
+    wanting_by is (missing root) cause said = apart 7 2 is said.status (λ e. omega (arith, e))
+    wanting_by is (unread name) cause said = apart 7 4 is said.status (λ e. omega (arith, e))
+    wanting_by is (limit passed) cause said = apart 7 6 is said.status (λ e. omega (arith, e))
+    wanting_by is (report bytes) cause said = apart 7 0 is said.status (λ e. omega (arith, e))
+    wanting_by is no_memory cause said = record { status = said.status; on_out = said.on_out ∙ more_none out.taken; on_err = said.on_err }
+
+    pub wanting_said : result ≡ 7 → SaysNoMemory out.taken err.taken out.taken' err.taken' result
+    wanting_said is = wanting_by is run.end run.cause (is_said result out err run.end run.written (λ five. let both : 7 ≡ 5 = sym is ∙ five in omega (arith, both)))
+
+    -- each run has one of the statuses
+
+    abbrev IsStatus : Type 0
+    IsStatus = (result ≡ 0) ⊎ ((result ≡ 2) ⊎ ((result ≡ 3) ⊎ ((result ≡ 4) ⊎ ((result ≡ 5) ⊎ ((result ≡ 6) ⊎ (result ≡ 7))))))
+
+    status_said : (end : End) → result ≡ status_of end → IsStatus
+    status_said usage is = inr (inl is)
+    status_said (faults found) is = inr (inr (inl is))
+    status_said (missing root) is = inr (inl is)
+    status_said (unread name) is = inr (inr (inr (inl is)))
+    status_said (limit passed) is = inr (inr (inr (inr (inr (inl is)))))
+    status_said (report bytes) is = inl is
+    status_said no_memory is = inr (inr (inr (inr (inr (inr is)))))
+
+    pub statuses : IsStatus
+    statuses = elim (said_or_cut result out err run.end run.written) [ inl said ↦ status_said run.end said.status | inr cut ↦ inr (inr (inr (inr (inl cut.0)))) ]
+
+    -- where the status is that of a sink that failed, the run was cut off
+    pub cut_off : result ≡ 5 → IsCutOff wanted library.told library.asked' library.faults library.faults' library.misses library.misses' out err
+    cut_off is = elim (said_or_cut result out err run.end run.written) [
+      | inl said ↦ absurd (never_five run.end (sym said.status ∙ is))
+      | inr cut ↦ record { end = run.end; asked = library.asked; cause = run.cause; cut = cut.1 }
+    ]
+      where
+        never_five : (end : End) → status_of end ≡ 5 → ⊥
+        never_five usage e = omega (arith, e)
+        never_five (faults found) e = omega (arith, e)
+        never_five (missing root) e = omega (arith, e)
+        never_five (unread name) e = omega (arith, e)
+        never_five (limit passed) e = omega (arith, e)
+        never_five (report bytes) e = omega (arith, e)
+        never_five no_memory e = omega (arith, e)
+
+    -- where no settings are wanted, that is said
+
+    without : HasNoOptions wanted → (end : End) → EndIs wanted library end → result ≡ status_of end → (result ≡ 2) ⊎ ((result ≡ 5) ⊎ (result ≡ 7))
+    without none usage cause is = inl is
+    without none (faults found) cause is = absurd (none cause.settings cause.lawful)
+    without none (missing root) cause is = absurd (none cause.settings cause.lawful)
+    without none (unread name) cause is = absurd (none cause.settings cause.lawful)
+    without none (limit passed) cause is = absurd (none cause.settings cause.lawful)
+    without none (report bytes) cause is = absurd (none cause.settings cause.lawful)
+    without none no_memory cause is = inr (inr is)
+
+    pub unlawful : HasNoOptions wanted → (result ≡ 2) ⊎ ((result ≡ 5) ⊎ (result ≡ 7))
+    unlawful none = elim (said_or_cut result out err run.end run.written) [
+      | inl said ↦ without none run.end run.cause said.status
+      | inr cut ↦ inr (inl cut.0)
+    ]
+
+    -- the sink of the bytes is settled
+
+    settled_all : (bytes : List ℕ) (status : ℕ) (sink other : Taking) → IsWritten bytes status result sink other → result ≢ 5 → (result ≡ status) × (sink.settled' ≡ true)
+    settled_all bytes status sink other written whole = elim (whole_or_some bytes status result sink other written) [
+      | inl all ↦ (all.is_status, all.all.is_settled)
+      | inr part ↦ absurd (whole part.is_five)
+    ]
+
+    settled_err : (bytes : List ℕ) (status : ℕ) → (status ≡ 0 → ⊥) → IsWritten bytes status result err out → result ≢ 5 → IsSettled result out.settled' err.settled'
+    settled_err bytes status some written whole = let all = settled_all bytes status err out written whole in inr ((λ zero. some (sym all.0 ∙ zero)), all.1)
+
+    settled_by : (end : End) → EndsBy result out err end → result ≢ 5 → IsSettled result out.settled' err.settled'
+    settled_by usage written whole = settled_err (err_of usage) 2 (λ e. omega (arith, e)) written whole
+    settled_by (faults found) written whole = settled_err (err_of (faults found)) 3 (λ e. omega (arith, e)) written whole
+    settled_by (missing root) written whole = settled_err (err_of (missing root)) 2 (λ e. omega (arith, e)) written whole
+    settled_by (unread name) written whole = settled_err (err_of (unread name)) 4 (λ e. omega (arith, e)) written whole
+    settled_by (limit passed) written whole = settled_err (err_of (limit passed)) 6 (λ e. omega (arith, e)) written whole
+    settled_by (report bytes) written whole = inl (settled_all bytes 0 out err written whole)
+    settled_by no_memory written whole = settled_err (err_of no_memory) 7 (λ e. omega (arith, e)) written whole
+
+    pub settled : result ≢ 5 → IsSettled result out.settled' err.settled'
+    settled whole = settled_by run.end run.written whole
+
+    -- where no library is asked, its names are as before
+    pub unasked : AskForNone wanted → library.asked' ≡ library.asked
+    unasked none = asked_none run.end run.cause
+      where
+        asked_none : (end : End) → EndIs wanted library end → library.asked' ≡ library.asked
+        asked_none usage cause = cause.1
+        asked_none (faults found) cause = lawful_left wanted library (faults found) none cause
+        asked_none (missing root) cause = lawful_left wanted library (missing root) none cause
+        asked_none (unread name) cause = lawful_left wanted library (unread name) none cause
+        asked_none (limit passed) cause = lawful_left wanted library (limit passed) none cause
+        asked_none (report bytes) cause = lawful_left wanted library (report bytes) none cause
+        asked_none no_memory cause = cause.none none

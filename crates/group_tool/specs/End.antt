@@ -1,12 +1,14 @@
 -- How a run ends, with its status and its bytes.
 use Rattle.std.specs.Prelude.{ℕ, List, [], codes}
 use Rattle.file_library.specs.declared.fault.Fault.{Fault}
+use Rattle.import_rules.specs.declared.names.PredName.{PredName}
 use Rattle.group_tool.specs.declared.stop.Limit.{Limit}
-use Rattle.group_tool.specs.Lines.{fault_lines, unread_line, limit_line}
+use Rattle.group_tool.specs.Lines.{fault_lines, missing_line, unread_line, limit_line}
 
 pub data End : Type 0 where
   usage : End
   faults : List Fault → End
+  missing : PredName → End
   unread : List ℕ → End
   limit : Limit → End
   report : List ℕ → End
@@ -22,6 +24,7 @@ memory_line = codes "groups: out of memory\n"
 abbrev pub status_of : End → ℕ
 status_of usage = 2
 status_of (faults found) = 3
+status_of (missing root) = 2
 status_of (unread name) = 4
 status_of (limit passed) = 6
 status_of (report bytes) = 0
@@ -36,6 +39,7 @@ out_of end = []
 abbrev pub err_of : End → List ℕ
 err_of usage = usage_line
 err_of (faults found) = fault_lines found
+err_of (missing root) = missing_line root
 err_of (unread name) = unread_line name
 err_of (limit passed) = limit_line passed
 err_of (report bytes) = []

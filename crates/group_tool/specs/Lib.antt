@@ -2,10 +2,12 @@ pub mod MemorySink
 pub mod Sink
 pub mod StreamSink
 pub mod Say
-pub mod Words
+pub mod Wanted
+pub mod Roots
 pub mod Lines
 pub mod End
 pub mod LoadedEnd
 pub mod Answer
 pub mod Stop
 pub mod Run
+pub mod OneFile

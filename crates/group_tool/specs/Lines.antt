@@ -5,6 +5,8 @@ use Rattle.std.specs.List.{flat_map}
 use Rattle.prolog_tokens.specs.declared.token.Place.{Place}
 use Rattle.clause_text.specs.Cause.{cause_text}
 use Rattle.file_library.specs.declared.fault.Fault.{Fault}
+use Rattle.import_rules.specs.declared.names.PredName.{PredName}
+use Rattle.loop_report.specs.Names.{name_text}
 use Rattle.group_tool.specs.declared.stop.Limit.{Limit}
 use Rattle.group_tool.specs.declared.stop.Limit.TheVariants.{TooManyFiles, FileTooLarge, TooMuchText, TooManyPredicates}
 
@@ -19,6 +21,10 @@ fault_line fault = fault.file ++ (place_text fault.place ++ (codes ": " ++ (caus
 -- a line for each fault, in their order
 abbrev pub fault_lines : List Fault → List ℕ
 fault_lines faults = flat_map fault_line faults
+
+-- a root that is no predicate of the program
+abbrev pub missing_line : PredName → List ℕ
+missing_line root = codes "groups: no predicate " ++ (name_text root ++ codes "\n")
 
 abbrev pub unread_line : List ℕ → List ℕ
 unread_line name = codes "groups: cannot read " ++ (name ++ codes "\n")

@@ -1,18 +1,19 @@
 -- What loaded files come to.
-use Rattle.std.specs.Prelude.{◌≡◌, ◌≢◌, ℕ, ◌↔◌, ◌<◌, ◌≤◌, ◌⊎◌, List, [], Contains, false}
-use Rattle.std.specs.List.Sorted.{IsStrictlyIncreasing}
+use Rattle.std.specs.Prelude.{◌≡◌, ◌≢◌, ℕ, ◌<◌, ◌≤◌, ◌⊎◌, Option, Some, None, Bool, true, false, List, []}
 use Rattle.group_release.specs.declared.level.Level.{Level}
 use Rattle.file_library.specs.declared.fault.Fault.{Fault}
 use Rattle.file_library.specs.Loaded.{LoadedFiles}
+use Rattle.import_rules.specs.declared.names.PredName.{PredName}
 use Rattle.import_rules.specs.Flaws.{AreImportFaults}
 use Rattle.import_rules.specs.Program.{Seen, IsProgram, HasPredicates, most_predicates}
 use Rattle.call_edges.specs.Calls.{NodeCalls}
 use Rattle.call_edges.specs.GoalFaults.{AreGoalFaults}
-use Rattle.call_edges.specs.Roots.{IsRoot}
-use Rattle.loop_report.specs.Report.{IsReport}
+use Rattle.group_words.specs.Settings.{Settings}
+use Rattle.loop_report.specs.Report.{IsReport, IsOrderReport, head_line}
 use Rattle.loop_report.specs.Reportable.{AreLeveled}
 use Rattle.group_tool.specs.declared.stop.Limit.TheVariants.{TooManyPredicates}
-use Rattle.group_tool.specs.End.{End, faults, limit, report}
+use Rattle.group_tool.specs.Roots.{AreRoots, LacksRoot, HasRoots}
+use Rattle.group_tool.specs.End.{End, faults, missing, limit, report}
 
 -- they define too many predicates
 abbrev pub DefineTooMany : LoadedFiles → Type 0
@@ -31,30 +32,43 @@ pub record HaveGoalFaults (found : LoadedFiles) (list : List Fault) : Type 0 whe
   pub are : AreGoalFaults seen list
   pub some : list ≢ []
 
--- the predicates at which reach begins, in order and each once
-pub record AreRoots (seen : Seen) (roots : List ℕ) : Type 0 where
-  pub ascending : IsStrictlyIncreasing roots
-  pub are : (q : ℕ) → Contains roots q ↔ IsRoot seen q
+-- they are a program, and all its goals are callable
+pub record AreCallable (found : LoadedFiles) (seen : Seen) : Type 0 where
+  pub program : IsProgram found seen
+  pub callable : AreGoalFaults seen []
 
--- the bytes are the report of the groups that the roots of the program reach
-pub record ReportsProgram (seen : Seen) (bytes : List ℕ) : Type 0 where
+-- they are a callable program, and this is the first of the roots that it does not have
+pub record LackRoot (settings : Settings) (found : LoadedFiles) (root : PredName) : Type 0 where
+  pub seen : Seen
+  pub program : AreCallable found seen
+  pub lacks : LacksRoot settings.roots seen root
+
+-- the bytes are the report of the groups: of a made program the first line; else with the lines of the groups in order of height, or in the order of the groups where that is wanted
+abbrev pub IsOutput : Option ℕ → Bool → Bool → Seen → List (List ℕ) → List Level → List ℕ → Type 0
+IsOutput (Some count) order unreached seen groups levels bytes = bytes ≡ head_line groups levels
+IsOutput None true unreached seen groups levels bytes = IsOrderReport seen.predicates seen.loaded.files groups levels unreached bytes
+IsOutput None false unreached seen groups levels bytes = IsReport seen.predicates seen.loaded.files groups levels unreached bytes
+
+-- the bytes are the report of the groups that the roots reach, in some legal order
+pub record ReportsProgram (settings : Settings) (seen : Seen) (bytes : List ℕ) : Type 0 where
   pub roots : List ℕ
-  pub are_roots : AreRoots seen roots
+  pub are_roots : AreRoots settings.roots seen roots
   pub groups : List (List ℕ)
   pub levels : List Level
   pub leveled : AreLeveled (NodeCalls seen) roots groups levels
-  pub report : IsReport seen.predicates seen.loaded.files groups levels false bytes
+  pub output : IsOutput settings.make settings.order settings.unreached seen groups levels bytes
 
--- they are a program, all its goals are callable, and the bytes are its report
-pub record ReportsLoaded (found : LoadedFiles) (bytes : List ℕ) : Type 0 where
+-- they are a callable program that has the roots, and the bytes are its report
+pub record ReportsLoaded (settings : Settings) (found : LoadedFiles) (bytes : List ℕ) : Type 0 where
   pub seen : Seen
-  pub program : IsProgram found seen
-  pub callable : AreGoalFaults seen []
-  pub reports : ReportsProgram seen bytes
+  pub program : AreCallable found seen
+  pub rooted : HasRoots settings.roots seen
+  pub reports : ReportsProgram settings seen bytes
 
--- too many predicates come before import faults, and these before goal faults
-abbrev pub LoadedComesTo : LoadedFiles → End → Type 0
-LoadedComesTo found (faults list) = HaveImportFaults found list ⊎ HaveGoalFaults found list
-LoadedComesTo found (limit passed) = (passed ≡ TooManyPredicates) × DefineTooMany found
-LoadedComesTo found (report bytes) = ReportsLoaded found bytes
-LoadedComesTo found _ = ⊥
+-- too many predicates come before import faults, these before goal faults, and these before a root that is missing
+abbrev pub LoadedComesTo : Settings → LoadedFiles → End → Type 0
+LoadedComesTo settings found (faults list) = HaveImportFaults found list ⊎ HaveGoalFaults found list
+LoadedComesTo settings found (limit passed) = (passed ≡ TooManyPredicates) × DefineTooMany found
+LoadedComesTo settings found (missing root) = LackRoot settings found root
+LoadedComesTo settings found (report bytes) = ReportsLoaded settings found bytes
+LoadedComesTo settings found _ = ⊥

@@ -1,14 +1,17 @@
 -- How a run ends over any library, and what its sinks have taken.
-use Rattle.std.specs.Prelude.{◌≡◌, ◌≢◌, ℕ, ◌⊎◌, List, [], ◌∷◌, ◌++◌, Option, Some, Bool, true, AllPairs}
+use Rattle.std.specs.Prelude.{◌≡◌, ◌≢◌, ℕ, ◌⊎◌, List, [], ◌∷◌, ◌++◌, Option, Some, None, Bool, true, AllPairs}
+use Rattle.import_rules.specs.declared.names.PredName.{PredName}
 use Rattle.file_library.specs.declared.fault.Fault.{Fault}
 use Rattle.file_library.specs.Counts.{Rose}
 use Rattle.file_library.specs.Library.{Files}
-use Rattle.file_library.specs.Asking.{LoadEnd, HasEnded, IsDecided, AreFirst, AreAll}
+use Rattle.file_library.specs.Asking.{LoadEnd, LoadEndIs, HasEnded, IsDecided, AreFirst, AreAll}
 use Rattle.file_library.specs.Asking as of_load
+use Rattle.group_words.specs.Made.{made_text}
+use Rattle.group_words.specs.Settings.{Settings}
 use Rattle.group_tool.specs.declared.stop.Limit.{Limit}
-use Rattle.group_tool.specs.Words.{Options, IsLawful, HasNoOptions}
-use Rattle.group_tool.specs.Lines.{fault_lines, unread_line, limit_line}
-use Rattle.group_tool.specs.End.{End, usage, faults, limit, report, no_memory, memory_line, status_of, out_of, err_of}
+use Rattle.group_tool.specs.Wanted.{AskForNone, HasNoOptions, one_file, made_name}
+use Rattle.group_tool.specs.Lines.{fault_lines, missing_line, unread_line, limit_line}
+use Rattle.group_tool.specs.End.{End, usage, faults, missing, limit, report, no_memory, usage_line, memory_line, status_of, out_of, err_of}
 use Rattle.group_tool.specs.Answer.{IsLawfulAnswer, IsAnswer, ComesTo}
 use Rattle.group_tool.specs.Say.{TookAll, TookPart}
 use Rattle.group_tool.specs.Sink.{more_taken}
@@ -33,25 +36,49 @@ pub record EndsAsking (library : Asking) (roots : List (List ℕ)) (load : LoadE
   pub ended : HasEnded library.told roots library.asked library.asked' library.misses library.misses' load
   pub counted : IsCounted library.faults library.faults' load
 
--- the run ends by what the asking for the files of lawful words comes to; over the library's map, where it tells that, this is the answer
-pub record IsLawfulEnd (words : List (List ℕ)) (library : Asking) (end : End) : Type 0 where
-  pub options : Options
-  pub lawful : IsLawful words options
+-- the run ends by what the asking for these files comes to, unless memory was wanting behind it
+pub record IsReadEnd (settings : Settings) (names : List (List ℕ)) (library : Asking) (end : End) : Type 0 where
   pub load : LoadEnd
-  pub asking : EndsAsking library options.files load
-  pub comes : ComesTo load end
-  pub told_too : (files : Files) → library.told ≡ Some files → IsDecided load → IsLawfulAnswer words files end
+  pub asking : EndsAsking library names load
+  pub comes : (end ≡ no_memory) ⊎ ComesTo settings load end
 
--- what was asked for where memory was wanting: files of lawful words as far as the asking went, and else nothing
-pub record IsAsked (words : List (List ℕ)) (library : Asking) : Type 0 where
-  pub lawful : (options : Options) → IsLawful words options → (load : LoadEnd) × EndsAsking library options.files load
-  pub none : HasNoOptions words → library.asked' ≡ library.asked
+-- the library was not asked, and counted nothing
+pub record IsLeft (library : Asking) : Type 0 where
+  pub same_asked : library.asked' ≡ library.asked
+  pub same_faults : library.faults' ≡ library.faults
+  pub same_misses : library.misses' ≡ library.misses
+
+-- the map alone decided how the asking for these files ended
+pub record IsDecidedEnd (files : Files) (roots : List (List ℕ)) (load : LoadEnd) : Type 0 where
+  pub decided : IsDecided load
+  pub asked : List (List ℕ)
+  pub ends : LoadEndIs files roots asked load
+
+-- the reading of files ended so: the library was asked for these; or it was left, and the one file was made and read, unless memory was wanting
+abbrev pub EndsReading : Option ℕ → List (List ℕ) → Asking → LoadEnd → Type 0
+EndsReading None names library load = EndsAsking library names load
+EndsReading (Some count) names library load =
+    IsLeft library × ((load ≡ of_load.no_memory) ⊎ IsDecidedEnd (one_file made_name (made_text count)) (made_name ∷ []) load)
+
+-- the run ends by what the reading for the wanted settings comes to; over the library's map, where it tells that, this is the answer
+pub record IsLawfulEnd (wanted : Settings → Type 0) (library : Asking) (end : End) : Type 0 where
+  pub settings : Settings
+  pub lawful : wanted settings
+  pub load : LoadEnd
+  pub reading : EndsReading settings.make settings.files library load
+  pub comes : ComesTo settings load end
+  pub told_too : (files : Files) → library.told ≡ Some files → IsDecided load → IsLawfulAnswer wanted files end
+
+-- what was asked for where memory was wanting: files of the wanted settings as far as the reading went, and else nothing
+pub record IsAsked (wanted : Settings → Type 0) (library : Asking) : Type 0 where
+  pub lawful : (settings : Settings) → wanted settings → (load : LoadEnd) × EndsReading settings.make settings.files library load
+  pub none : AskForNone wanted → library.asked' ≡ library.asked
 
 -- why a run ends so
-abbrev pub EndIs : List (List ℕ) → Asking → End → Type 0
-EndIs words library usage = HasNoOptions words × (library.asked' ≡ library.asked)
-EndIs words library no_memory = IsAsked words library
-EndIs words library end = IsLawfulEnd words library end
+abbrev pub EndIs : (Settings → Type 0) → Asking → End → Type 0
+EndIs wanted library usage = HasNoOptions wanted × (library.asked' ≡ library.asked)
+EndIs wanted library no_memory = IsAsked wanted library
+EndIs wanted library end = IsLawfulEnd wanted library end
 
 -- a sink's view before and after a run
 pub record Taking : Type 0 where
@@ -90,15 +117,15 @@ CutBy out err (report bytes) = IsCutShort bytes out err
 CutBy out err end = IsCutShort (err_of end) err out
 
 -- the run ends so, and its bytes are put
-pub record IsRun (words : List (List ℕ)) (library : Asking) (out err : Taking) (result : ℕ) : Type 0 where
+pub record IsRun (wanted : Settings → Type 0) (library : Asking) (out err : Taking) (result : ℕ) : Type 0 where
   pub end : End
-  pub cause : EndIs words library end
+  pub cause : EndIs wanted library end
   pub written : EndsBy result out err end
 
 -- the sinks have taken the bytes of the right answer, and nothing else
-pub record SaysAnswer (words : List (List ℕ)) (files : Files) (before_out before_err after_out after_err : Option (List ℕ)) (result : ℕ) : Type 0 where
+pub record SaysAnswer (wanted : Settings → Type 0) (files : Files) (before_out before_err after_out after_err : Option (List ℕ)) (result : ℕ) : Type 0 where
   pub answer : End
-  pub is_right : IsAnswer words files answer
+  pub is_right : IsAnswer wanted files answer
   pub status : result ≡ status_of answer
   pub on_out : after_out ≡ more_taken before_out (out_of answer)
   pub on_err : after_err ≡ more_taken before_err (err_of answer)
@@ -109,56 +136,68 @@ pub record SaysNoMemory (before_out before_err after_out after_err : Option (Lis
   pub on_out : after_out ≡ before_out
   pub on_err : after_err ≡ more_taken before_err memory_line
 
--- the report of the files of the words is on `out`, and nothing on `err`
-pub record HasReported (words : List (List ℕ)) (told : Option Files) (before_out before_err after_out after_err : Option (List ℕ)) : Type 0 where
+-- the report of the files is on `out`, and nothing on `err`
+pub record HasReported (wanted : Settings → Type 0) (told : Option Files) (before_out before_err after_out after_err : Option (List ℕ)) : Type 0 where
   pub bytes : List ℕ
   pub library : Asking
-  pub cause : IsLawfulEnd words (record library { told = told }) (report bytes)
+  pub cause : IsLawfulEnd wanted (record library { told = told }) (report bytes)
   pub on_out : after_out ≡ more_taken before_out bytes
   pub on_err : after_err ≡ before_err
 
--- the files of the words have no report, and the lines on `err` say why
-pub record HasFaults (words : List (List ℕ)) (told : Option Files) (misses misses' : ℕ) (before_err after_err : Option (List ℕ)) : Type 0 where
+-- no settings are wanted, and the line on `err` says the usage
+pub record HasUsage (wanted : Settings → Type 0) (before_err after_err : Option (List ℕ)) : Type 0 where
+  pub none : HasNoOptions wanted
+  pub on_err : after_err ≡ more_taken before_err usage_line
+
+-- the program of the files has no such root, and the line on `err` says so
+pub record HasNoRoot (wanted : Settings → Type 0) (told : Option Files) (misses misses' : ℕ) (before_err after_err : Option (List ℕ)) : Type 0 where
+  pub root : PredName
+  pub library : Asking
+  pub cause : IsLawfulEnd wanted (record library { told = told; misses = misses; misses' = misses' }) (missing root)
+  pub on_err : after_err ≡ more_taken before_err (missing_line root)
+
+-- the files have no report, and the lines on `err` say why
+pub record HasFaults (wanted : Settings → Type 0) (told : Option Files) (misses misses' : ℕ) (before_err after_err : Option (List ℕ)) : Type 0 where
   pub found : List Fault
   pub library : Asking
-  pub cause : IsLawfulEnd words (record library { told = told; misses = misses; misses' = misses' }) (faults found)
+  pub cause : IsLawfulEnd wanted (record library { told = told; misses = misses; misses' = misses' }) (faults found)
   pub on_err : after_err ≡ more_taken before_err (fault_lines found)
 
--- the files of the words pass a limit, and the line on `err` says which
-pub record HasPassed (words : List (List ℕ)) (library : Asking) (before_err after_err : Option (List ℕ)) : Type 0 where
+-- the files pass a limit, and the line on `err` says which
+pub record HasPassed (wanted : Settings → Type 0) (library : Asking) (before_err after_err : Option (List ℕ)) : Type 0 where
   pub passed : Limit
-  pub cause : IsLawfulEnd words library (limit passed)
+  pub cause : IsLawfulEnd wanted library (limit passed)
   pub on_err : after_err ≡ more_taken before_err (limit_line passed)
 
 -- a read failed, and it is the last that the library was asked for
-pub record IsUnread (words : List (List ℕ)) (asked' : List (List ℕ)) (faults faults' : ℕ) (name : List ℕ) : Type 0 where
-  pub options : Options
-  pub lawful : IsLawful words options
+pub record IsUnread (wanted : Settings → Type 0) (asked' : List (List ℕ)) (faults faults' : ℕ) (name : List ℕ) : Type 0 where
+  pub settings : Settings
+  pub lawful : wanted settings
   pub before : List (List ℕ)
   pub last : asked' ≡ before ++ name ∷ []
   pub rose : Rose faults faults'
 
 -- a read of the library failed
-pub record HasUnread (words : List (List ℕ)) (asked' : List (List ℕ)) (faults_before faults_after : ℕ) (before_err after_err : Option (List ℕ)) : Type 0 where
+pub record HasUnread (wanted : Settings → Type 0) (asked' : List (List ℕ)) (faults_before faults_after : ℕ) (before_err after_err : Option (List ℕ)) : Type 0 where
   pub name : List ℕ
-  pub cause : IsUnread words asked' faults_before faults_after name
+  pub cause : IsUnread wanted asked' faults_before faults_after name
   pub on_err : after_err ≡ more_taken before_err (unread_line name)
 
 -- the sink to which the run's bytes go took a part of them, and its count of faults rose; the other took nothing
-pub record IsCutOff (words : List (List ℕ)) (told : Option Files) (asked' : List (List ℕ)) (f f' m m' : ℕ) (out err : Taking) : Type 0 where
+pub record IsCutOff (wanted : Settings → Type 0) (told : Option Files) (asked' : List (List ℕ)) (f f' m m' : ℕ) (out err : Taking) : Type 0 where
   pub end : End
   pub asked : List (List ℕ)
-  pub cause : EndIs words (record { told = told; asked = asked; asked' = asked'; faults = f; faults' = f'; misses = m; misses' = m' }) end
+  pub cause : EndIs wanted (record { told = told; asked = asked; asked' = asked'; faults = f; faults' = f'; misses = m; misses' = m' }) end
   pub cut : CutBy out err end
 
--- the library was asked for the first of the names that these files lead to over some map, each once; for all of them where there is a report or a fault
+-- the library was asked for the first of the names that these files lead to over some map, each once; for all of them where there is a report, or a fault, or a root that is missing
 pub record AreAskedFor (roots asked asked' : List (List ℕ)) (result : ℕ) : Type 0 where
   pub seen : Files
   pub names : List (List ℕ)
   pub put : asked' ≡ asked ++ names
   pub first : AreFirst seen roots names
   pub once : AllPairs (λ a b. a ≡ b → ⊥) names
-  pub whole : (result ≡ 0) ⊎ (result ≡ 3) → AreAll seen roots names
+  pub whole : (result ≡ 0) ⊎ ((result ≡ 2) ⊎ (result ≡ 3)) → AreAll seen roots names
 
 -- the sink of the run's bytes is settled
 abbrev pub IsSettled : ℕ → Bool → Bool → Type 0

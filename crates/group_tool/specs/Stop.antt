@@ -7,10 +7,17 @@ use Rattle.import_rules.specs.declared.stop.ImportStop.{ImportStop}
 use Rattle.import_rules.specs.declared.stop.ImportStop.TheVariants as of_import
 use Rattle.call_edges.specs.declared.goal_stop.GoalStop.{GoalStop}
 use Rattle.call_edges.specs.declared.goal_stop.GoalStop.TheVariants as of_check
+use Rattle.group_words.specs.declared.options.WordFault.{WordFault}
+use Rattle.group_words.specs.declared.options.WordFault.TheVariants as of_word
 use Rattle.group_tool.specs.declared.stop.Limit.TheVariants.{TooManyFiles, FileTooLarge, TooMuchText, TooManyPredicates}
 use Rattle.group_tool.specs.declared.stop.Stop.{Stop}
-use Rattle.group_tool.specs.declared.stop.Stop.TheVariants.{Usage, Faults, ReadFault, Passed, NoMemory}
-use Rattle.group_tool.specs.End.{End, usage, faults, unread, limit, report, no_memory}
+use Rattle.group_tool.specs.declared.stop.Stop.TheVariants.{Usage, Faults, NoPredicate, ReadFault, Passed, NoMemory}
+use Rattle.group_tool.specs.End.{End, usage, faults, missing, unread, limit, report, no_memory}
+
+-- why there are no options, as why there is no report
+abbrev pub of_words : WordFault → Stop
+of_words of_word.Usage = Usage
+of_words of_word.NoMemory = NoMemory
 
 -- why nothing was loaded, as why there is no report
 abbrev pub of_loading : LoadStop → Stop
@@ -36,6 +43,7 @@ of_checking of_check.NoMemory = NoMemory
 abbrev pub end_of_stop : Stop → End
 end_of_stop Usage = usage
 end_of_stop (Faults list) = faults list.items
+end_of_stop (NoPredicate root) = missing root
 end_of_stop (ReadFault name) = unread name
 end_of_stop (Passed passed) = limit passed
 end_of_stop NoMemory = no_memory

@@ -15,20 +15,23 @@
 #![tactic(auto)]
 
 mod answer;
+mod driver;
 mod gate;
 mod laws;
 mod lines;
 mod memory_sink;
+mod one_file;
+mod roots;
 mod run;
 mod say;
 mod sink;
 mod stop;
 mod stream_sink;
-mod words;
 
 pub use gate::{Gate, OpenGate};
+pub use group_words::{Options, WordFault, parse_words};
 pub use laws::one_answer;
 pub use memory_sink::MemorySink;
-pub use run::run_groups;
+pub use run::{run_alone, run_groups};
 pub use sink::{Flushed, Put, Sink};
 pub use stream_sink::StreamSink;

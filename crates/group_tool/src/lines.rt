@@ -1,11 +1,13 @@
 ghost use Rattle.std.specs.Prelude.{◌≡◌, ◌++◌, IfOk, OnOk};
 ghost use Rattle.std.specs.Fmt.{decimal};
 ghost use Rattle.std.specs.String.{string_bytes};
-ghost use Rattle.group_tool.specs.Lines.{fault_line, fault_lines, limit_line, place_text, unread_line};
+ghost use Rattle.group_tool.specs.Lines.{fault_line, fault_lines, limit_line, missing_line, place_text, unread_line};
 
 use crate::stop::Limit;
 use clause_text::cause_text;
 use file_library::Fault;
+use import_rules::PredName;
+use loop_report::predicate_name;
 use prolog_tokens::{Place, Text};
 use std::alloc::{AllocError, Global};
 
@@ -50,6 +52,14 @@ fn push_number(alloc: Global, text: &mut String, number: u32) -> Result<(), Allo
 {
     let digits = number.to_string(alloc)?;
     text.push_str(&digits)
+}
+
+/// The line that says which root is no predicate of the program.
+pub fn missing_line(alloc: Global, root: &PredName) -> Result<String, AllocError>
+    ensures { IfOk result (λ text. string_bytes text ≡ missing_line root.now) }
+{
+    let name = predicate_name(alloc, root)?;
+    line(alloc, "groups: no predicate ", name.as_str(), "\n")
 }
 
 /// The line that says which file can't be read.

@@ -1,21 +1,23 @@
-ghost use Rattle.std.specs.Prelude.{◌≡◌, ◌≢◌, ◌⊎◌, MatchResult, Some};
+ghost use Rattle.std.specs.Prelude.{◌≡◌, ◌≢◌, ◌⊎◌, ℕ, List, MatchResult, Some, None, true, is_some};
 ghost use Rattle.std.specs.String.{string_bytes};
 ghost use Rattle.file_library.specs.Counts.{Rose};
 ghost use Rattle.file_library.specs.Asking.{LoadEnd};
 ghost use Rattle.file_library.specs.Library.{Files};
-ghost use Rattle.group_tool.specs.End.{usage_line, err_of, status_of, memory_line};
-ghost use Rattle.group_tool.specs.Sink.{more_taken};
+ghost use Rattle.group_words.specs.Settings.{Settings, AreLawful, see_options};
+ghost use Rattle.group_tool.specs.End.{err_of, status_of, memory_line};
 ghost use Rattle.group_tool.specs.Stop.{end_of_stop};
-ghost use Rattle.group_tool.specs.Words.{HasNoOptions, IsLawful, Options};
-ghost use Rattle.group_tool.specs.Run.{EndsAsking, IsRun, IsSettled, AreAskedFor, SaysAnswer, SaysNoMemory, SaidWith, SaidEnd, HasReported, HasFaults, HasPassed, HasUnread, IsCutOff};
+ghost use Rattle.group_tool.specs.Wanted.{AreJust, AskForNone, HasNoOptions};
+ghost use Rattle.group_tool.specs.Run.{EndsReading, IsRun, IsSettled, AreAskedFor, SaysAnswer, SaysNoMemory, SaidWith, SaidEnd, HasReported, HasUsage, HasNoRoot, HasFaults, HasPassed, HasUnread, IsCutOff};
 
-use crate::answer::report_words;
+use crate::answer::report_options;
+use crate::driver::{Driver, OneSearch};
 use crate::gate::Gate;
-use crate::lines::{fault_lines, limit_line, unread_line};
+use crate::lines::{fault_lines, limit_line, missing_line, unread_line};
 use crate::say::say;
 use crate::sink::Sink;
 use crate::stop::Stop;
 use file_library::Library;
+use group_words::{Options, parse_words};
 use prolog_tokens::Text;
 use std::alloc::{AllocError, Global};
 use std::sync::Wait;
@@ -55,22 +57,25 @@ fn say_stop<S: Sink>(alloc: Global, sink: &mut S, stop: &Stop) -> u8
     match stop {
         Stop::Usage => say_with(sink, USAGE.as_bytes(), 2),
         Stop::Faults(faults) => say_lines(sink, fault_lines(alloc, faults), 3),
+        Stop::NoPredicate(root) => say_lines(sink, missing_line(alloc, root), 2),
         Stop::ReadFault(name) => say_lines(sink, unread_line(alloc, name), 4),
         Stop::Passed(limit) => say_lines(sink, limit_line(alloc, limit), 6),
         Stop::NoMemory => say_with(sink, OUT_OF_MEMORY.as_bytes(), 7),
     }
 }
 
-/// Puts what the words come to on the sink that it goes to.
-fn run<R: Threads + Sync, L: Library, O: Sink, E: Sink>(
+/// Puts what the options come to on the sink that it goes to, where the driver finds the groups.
+fn run_options<R: Threads + Sync, D: Driver, L: Library, O: Sink, E: Sink>(
     rt: &R,
     alloc: Global,
-    words: &[Text],
+    options: &Options,
+    driver: &D,
     library: &mut L,
     out: &mut O,
     err: &mut E,
 ) -> u8
-    ensures run { IsRun words.now
+    requires { (words : List (List ℕ)) × AreLawful words (see_options options.now) }
+    ensures run { IsRun (AreJust (see_options options.now))
         (record { told = L.files library.old; asked = L.asked library.old; asked' = L.asked library.new; faults = L.faults library.old; faults' = L.faults library.new; misses = L.misses library.old; misses' = L.misses library.new })
         (record { taken = O.taken out.old; taken' = O.taken out.new; faults = O.faults out.old; faults' = O.faults out.new; settled' = O.settled out.new })
         (record { taken = E.taken err.old; taken' = E.taken err.new; faults = E.faults err.old; faults' = E.faults err.new; settled' = E.settled err.new })
@@ -79,16 +84,71 @@ fn run<R: Threads + Sync, L: Library, O: Sink, E: Sink>(
     ensures out_left { result ≢ 0 → result ≢ 5 → out.new ≡ out.old }
     ensures one_left { (out.new ≡ out.old) ⊎ (err.new ≡ err.old) }
 {
-    match report_words(rt, alloc, words, library) {
+    match report_options(rt, alloc, options, driver, library) {
         Ok(report) => say_with(out, &report, 0),
         Err(stop) => say_stop(alloc, err, &stop),
     }
 }
 
+/// Puts what the options of lawful words come to on the sink that it goes to: on one thread, or with
+/// workers.
+fn run_lawful<R: Threads + Wait + Sync, L: Library, O: Sink, E: Sink, G: Gate>(
+    rt: &R,
+    alloc: Global,
+    options: &Options,
+    library: &mut L,
+    out: &mut O,
+    err: &mut E,
+    _gate: &G,
+) -> u8
+    requires { (words : List (List ℕ)) × AreLawful words (see_options options.now) }
+    ensures run { IsRun (AreJust (see_options options.now))
+        (record { told = L.files library.old; asked = L.asked library.old; asked' = L.asked library.new; faults = L.faults library.old; faults' = L.faults library.new; misses = L.misses library.old; misses' = L.misses library.new })
+        (record { taken = O.taken out.old; taken' = O.taken out.new; faults = O.faults out.old; faults' = O.faults out.new; settled' = O.settled out.new })
+        (record { taken = E.taken err.old; taken' = E.taken err.new; faults = E.faults err.old; faults' = E.faults err.new; settled' = E.settled err.new })
+        result }
+    ensures err_left { result ≡ 0 → err.new ≡ err.old }
+    ensures out_left { result ≢ 0 → result ≢ 5 → out.new ≡ out.old }
+    ensures one_left { (out.new ≡ out.old) ⊎ (err.new ≡ err.old) }
+{
+    if options.searches.is_some() {
+        return run_alone(rt, alloc, options, library, out, err);
+    }
+    if options.jobs == 1 {
+        return run_alone(rt, alloc, options, library, out, err);
+    }
+    run_options(rt, alloc, options, &OneSearch, library, out, err)
+}
+
+/// Puts what the words come to on the sink that it goes to.
+fn run<R: Threads + Wait + Sync, L: Library, O: Sink, E: Sink, G: Gate>(
+    rt: &R,
+    alloc: Global,
+    words: &[Text],
+    library: &mut L,
+    out: &mut O,
+    err: &mut E,
+    gate: &G,
+) -> u8
+    ensures run { IsRun (AreLawful words.now)
+        (record { told = L.files library.old; asked = L.asked library.old; asked' = L.asked library.new; faults = L.faults library.old; faults' = L.faults library.new; misses = L.misses library.old; misses' = L.misses library.new })
+        (record { taken = O.taken out.old; taken' = O.taken out.new; faults = O.faults out.old; faults' = O.faults out.new; settled' = O.settled out.new })
+        (record { taken = E.taken err.old; taken' = E.taken err.new; faults = E.faults err.old; faults' = E.faults err.new; settled' = E.settled err.new })
+        result }
+    ensures err_left { result ≡ 0 → err.new ≡ err.old }
+    ensures out_left { result ≢ 0 → result ≢ 5 → out.new ≡ out.old }
+    ensures one_left { (out.new ≡ out.old) ⊎ (err.new ≡ err.old) }
+{
+    match parse_words(alloc, words) {
+        Ok(options) => run_lawful(rt, alloc, &options, library, out, err, gate),
+        Err(fault) => say_stop(alloc, err, &Stop::from(fault)),
+    }
+}
+
 /// Answers the words over the library: a report on `out`, or lines on `err` that say why there is
-/// none, and the status of the run: 0 for a report, 2 for wrong words, 3 for faults of the files,
-/// 4 where the library could not read a file, 5 where a sink failed, 6 where a limit was passed,
-/// 7 where memory was wanting.
+/// none, and the status of the run: 0 for a report, 2 for wrong words or a root that is no predicate
+/// of the program, 3 for faults of the files, 4 where the library could not read a file, 5 where a
+/// sink failed, 6 where a limit was passed, 7 where memory was wanting.
 pub fn run_groups<R: Threads + Wait + Sync, L: Library, O: Sink, E: Sink, G: Gate>(
     rt: &R,
     alloc: Global,
@@ -96,50 +156,107 @@ pub fn run_groups<R: Threads + Wait + Sync, L: Library, O: Sink, E: Sink, G: Gat
     library: &mut L,
     out: &mut O,
     err: &mut E,
-    _gate: &G,
+    gate: &G,
 ) -> u8
     // Over a library and sinks that tell what they hold, and where no count of faults rose, the
     // sinks have taken the bytes of the right answer, or memory was wanting.
     ensures answered { (files : Files) → L.files library.old ≡ Some files
         → ¬ Rose (L.faults library.old) (L.faults library.new) → ¬ Rose (O.faults out.old) (O.faults out.new) → ¬ Rose (E.faults err.old) (E.faults err.new)
-        → SaysAnswer words.now files (O.taken out.old) (E.taken err.old) (O.taken out.new) (E.taken err.new) result
+        → SaysAnswer (AreLawful words.now) files (O.taken out.old) (E.taken err.old) (O.taken out.new) (E.taken err.new) result
         ⊎ SaysNoMemory (O.taken out.old) (E.taken err.old) (O.taken out.new) (E.taken err.new) result }
 
     // Over any library and sinks, what each status says.
     ensures statuses { (result ≡ 0) ⊎ ((result ≡ 2) ⊎ ((result ≡ 3) ⊎ ((result ≡ 4) ⊎ ((result ≡ 5) ⊎ ((result ≡ 6) ⊎ (result ≡ 7)))))) }
-    ensures report { result ≡ 0 → HasReported words.now (L.files library.old) (O.taken out.old) (E.taken err.old) (O.taken out.new) (E.taken err.new) }
-    ensures usage { result ≡ 2 → HasNoOptions words.now × ((O.taken out.new ≡ O.taken out.old) × (E.taken err.new ≡ more_taken (E.taken err.old) usage_line)) }
-    ensures lawful { HasNoOptions words.now → (result ≡ 2) ⊎ ((result ≡ 5) ⊎ (result ≡ 7)) }
-    ensures faults { result ≡ 3 → HasFaults words.now (L.files library.old) (L.misses library.old) (L.misses library.new) (E.taken err.old) (E.taken err.new) × (O.taken out.new ≡ O.taken out.old) }
-    ensures unread { result ≡ 4 → HasUnread words.now (L.asked library.new) (L.faults library.old) (L.faults library.new) (E.taken err.old) (E.taken err.new) × (O.taken out.new ≡ O.taken out.old) }
-    ensures limit { result ≡ 6 → HasPassed words.now
+    ensures report { result ≡ 0 → HasReported (AreLawful words.now) (L.files library.old) (O.taken out.old) (E.taken err.old) (O.taken out.new) (E.taken err.new) }
+    ensures usage { result ≡ 2 → (HasUsage (AreLawful words.now) (E.taken err.old) (E.taken err.new) ⊎ HasNoRoot (AreLawful words.now) (L.files library.old) (L.misses library.old) (L.misses library.new) (E.taken err.old) (E.taken err.new)) × (O.taken out.new ≡ O.taken out.old) }
+    ensures lawful { HasNoOptions (AreLawful words.now) → (result ≡ 2) ⊎ ((result ≡ 5) ⊎ (result ≡ 7)) }
+    ensures faults { result ≡ 3 → HasFaults (AreLawful words.now) (L.files library.old) (L.misses library.old) (L.misses library.new) (E.taken err.old) (E.taken err.new) × (O.taken out.new ≡ O.taken out.old) }
+    ensures unread { result ≡ 4 → HasUnread (AreLawful words.now) (L.asked library.new) (L.faults library.old) (L.faults library.new) (E.taken err.old) (E.taken err.new) × (O.taken out.new ≡ O.taken out.old) }
+    ensures limit { result ≡ 6 → HasPassed (AreLawful words.now)
         (record { told = L.files library.old; asked = L.asked library.old; asked' = L.asked library.new; faults = L.faults library.old; faults' = L.faults library.new; misses = L.misses library.old; misses' = L.misses library.new })
         (E.taken err.old) (E.taken err.new) × (O.taken out.new ≡ O.taken out.old) }
-    ensures cut_off { result ≡ 5 → IsCutOff words.now (L.files library.old) (L.asked library.new) (L.faults library.old) (L.faults library.new) (L.misses library.old) (L.misses library.new)
+    ensures cut_off { result ≡ 5 → IsCutOff (AreLawful words.now) (L.files library.old) (L.asked library.new) (L.faults library.old) (L.faults library.new) (L.misses library.old) (L.misses library.new)
         (record { taken = O.taken out.old; taken' = O.taken out.new; faults = O.faults out.old; faults' = O.faults out.new; settled' = O.settled out.new })
         (record { taken = E.taken err.old; taken' = E.taken err.new; faults = E.faults err.old; faults' = E.faults err.new; settled' = E.settled err.new }) }
     ensures no_memory { result ≡ 7 → SaysNoMemory (O.taken out.old) (E.taken err.old) (O.taken out.new) (E.taken err.new) result }
     ensures settled { result ≢ 5 → IsSettled result (O.settled out.new) (E.settled err.new) }
 
     // How the run ends, why, and what the sinks have taken: the other clauses follow from it.
-    ensures run { IsRun words.now
+    ensures run { IsRun (AreLawful words.now)
         (record { told = L.files library.old; asked = L.asked library.old; asked' = L.asked library.new; faults = L.faults library.old; faults' = L.faults library.new; misses = L.misses library.old; misses' = L.misses library.new })
         (record { taken = O.taken out.old; taken' = O.taken out.new; faults = O.faults out.old; faults' = O.faults out.new; settled' = O.settled out.new })
         (record { taken = E.taken err.old; taken' = E.taken err.new; faults = E.faults err.old; faults' = E.faults err.new; settled' = E.settled err.new })
         result }
 
     // The library is asked for the files of the words and those that they lead to, each once, until
-    // that ends; with wrong words for none.
-    ensures asked { (options : Options) → IsLawful words.now options → AreAskedFor options.files (L.asked library.old) (L.asked library.new) result }
-    ensures asking { (options : Options) → IsLawful words.now options → (load : LoadEnd) × EndsAsking
+    // that ends; with wrong words, and where the file is made, for none.
+    ensures asked { (options : Settings) → AreLawful words.now options → options.make ≡ None → AreAskedFor options.files (L.asked library.old) (L.asked library.new) result }
+    ensures asking { (options : Settings) → AreLawful words.now options → (load : LoadEnd) × EndsReading options.make options.files
         (record { told = L.files library.old; asked = L.asked library.old; asked' = L.asked library.new; faults = L.faults library.old; faults' = L.faults library.new; misses = L.misses library.old; misses' = L.misses library.new })
-        options.files load }
-    ensures unasked { HasNoOptions words.now → L.asked library.new ≡ L.asked library.old }
+        load }
+    ensures unasked { AskForNone (AreLawful words.now) → L.asked library.new ≡ L.asked library.old }
 
     // The sink that the run's bytes don't go to is left as it was.
     ensures err_left { result ≡ 0 → err.new ≡ err.old }
     ensures out_left { result ≢ 0 → result ≢ 5 → out.new ≡ out.old }
     ensures one_left { (out.new ≡ out.old) ⊎ (err.new ≡ err.old) }
 {
-    run(rt, alloc, words, library, out, err)
+    run(rt, alloc, words, library, out, err, gate)
+}
+
+/// Answers the options of lawful words as `run_groups` answers the words, on one thread, and always
+/// returns: where there are many searches, or no more than one worker.
+pub fn run_alone<R: Threads + Sync, L: Library, O: Sink, E: Sink>(
+    rt: &R,
+    alloc: Global,
+    options: &Options,
+    library: &mut L,
+    out: &mut O,
+    err: &mut E,
+) -> u8
+    requires lawful { (words : List (List ℕ)) × AreLawful words (see_options options.now) }
+    requires alone { (is_some (see_options options.now).searches ≡ true) ⊎ ((see_options options.now).jobs ≡ 1) }
+    // Over a library and sinks that tell what they hold, and where no count of faults rose, the
+    // sinks have taken the bytes of the right answer, or memory was wanting.
+    ensures answered { (files : Files) → L.files library.old ≡ Some files
+        → ¬ Rose (L.faults library.old) (L.faults library.new) → ¬ Rose (O.faults out.old) (O.faults out.new) → ¬ Rose (E.faults err.old) (E.faults err.new)
+        → SaysAnswer (AreJust (see_options options.now)) files (O.taken out.old) (E.taken err.old) (O.taken out.new) (E.taken err.new) result
+        ⊎ SaysNoMemory (O.taken out.old) (E.taken err.old) (O.taken out.new) (E.taken err.new) result }
+
+    // Over any library and sinks, what each status says.
+    ensures statuses { (result ≡ 0) ⊎ ((result ≡ 2) ⊎ ((result ≡ 3) ⊎ ((result ≡ 4) ⊎ ((result ≡ 5) ⊎ ((result ≡ 6) ⊎ (result ≡ 7)))))) }
+    ensures report { result ≡ 0 → HasReported (AreJust (see_options options.now)) (L.files library.old) (O.taken out.old) (E.taken err.old) (O.taken out.new) (E.taken err.new) }
+    ensures missing { result ≡ 2 → HasNoRoot (AreJust (see_options options.now)) (L.files library.old) (L.misses library.old) (L.misses library.new) (E.taken err.old) (E.taken err.new) × (O.taken out.new ≡ O.taken out.old) }
+    ensures faults { result ≡ 3 → HasFaults (AreJust (see_options options.now)) (L.files library.old) (L.misses library.old) (L.misses library.new) (E.taken err.old) (E.taken err.new) × (O.taken out.new ≡ O.taken out.old) }
+    ensures unread { result ≡ 4 → HasUnread (AreJust (see_options options.now)) (L.asked library.new) (L.faults library.old) (L.faults library.new) (E.taken err.old) (E.taken err.new) × (O.taken out.new ≡ O.taken out.old) }
+    ensures limit { result ≡ 6 → HasPassed (AreJust (see_options options.now))
+        (record { told = L.files library.old; asked = L.asked library.old; asked' = L.asked library.new; faults = L.faults library.old; faults' = L.faults library.new; misses = L.misses library.old; misses' = L.misses library.new })
+        (E.taken err.old) (E.taken err.new) × (O.taken out.new ≡ O.taken out.old) }
+    ensures cut_off { result ≡ 5 → IsCutOff (AreJust (see_options options.now)) (L.files library.old) (L.asked library.new) (L.faults library.old) (L.faults library.new) (L.misses library.old) (L.misses library.new)
+        (record { taken = O.taken out.old; taken' = O.taken out.new; faults = O.faults out.old; faults' = O.faults out.new; settled' = O.settled out.new })
+        (record { taken = E.taken err.old; taken' = E.taken err.new; faults = E.faults err.old; faults' = E.faults err.new; settled' = E.settled err.new }) }
+    ensures no_memory { result ≡ 7 → SaysNoMemory (O.taken out.old) (E.taken err.old) (O.taken out.new) (E.taken err.new) result }
+    ensures settled { result ≢ 5 → IsSettled result (O.settled out.new) (E.settled err.new) }
+
+    // How the run ends, why, and what the sinks have taken: the other clauses follow from it.
+    ensures run { IsRun (AreJust (see_options options.now))
+        (record { told = L.files library.old; asked = L.asked library.old; asked' = L.asked library.new; faults = L.faults library.old; faults' = L.faults library.new; misses = L.misses library.old; misses' = L.misses library.new })
+        (record { taken = O.taken out.old; taken' = O.taken out.new; faults = O.faults out.old; faults' = O.faults out.new; settled' = O.settled out.new })
+        (record { taken = E.taken err.old; taken' = E.taken err.new; faults = E.faults err.old; faults' = E.faults err.new; settled' = E.settled err.new })
+        result }
+
+    // The library is asked for the files of the options and those that they lead to, each once, until
+    // that ends; where the file is made, for none.
+    ensures asked { (see_options options.now).make ≡ None → AreAskedFor (see_options options.now).files (L.asked library.old) (L.asked library.new) result }
+    ensures asking { (load : LoadEnd) × EndsReading (see_options options.now).make (see_options options.now).files
+        (record { told = L.files library.old; asked = L.asked library.old; asked' = L.asked library.new; faults = L.faults library.old; faults' = L.faults library.new; misses = L.misses library.old; misses' = L.misses library.new })
+        load }
+    ensures unasked { (see_options options.now).make ≢ None → L.asked library.new ≡ L.asked library.old }
+
+    // The sink that the run's bytes don't go to is left as it was.
+    ensures err_left { result ≡ 0 → err.new ≡ err.old }
+    ensures out_left { result ≢ 0 → result ≢ 5 → out.new ≡ out.old }
+    ensures one_left { (out.new ≡ out.old) ⊎ (err.new ≡ err.old) }
+{
+    run_options(rt, alloc, options, &OneSearch, library, out, err)
 }

@@ -1,6 +1,7 @@
 use call_edges::GoalStop;
 use file_library::{Fault, LoadStop};
-use import_rules::ImportStop;
+use group_words::WordFault;
+use import_rules::{ImportStop, PredName};
 use prolog_tokens::Text;
 use std::alloc::AllocError;
 
@@ -24,6 +25,8 @@ pub enum Stop {
     Usage,
     /// What is wrong with the files, in order.
     Faults(Vec<Fault>),
+    /// The root that is no predicate of the program.
+    NoPredicate(PredName),
     /// The file that could not be read.
     ReadFault(Text),
     Passed(Limit),
@@ -38,6 +41,20 @@ impl From<AllocError> for Stop {
 
     fn from(_error: AllocError) -> Stop {
         Stop::NoMemory
+    }
+}
+
+impl From<WordFault> for Stop {
+    ghost use Rattle.std.specs.Prelude.{◌≡◌};
+    ghost use Rattle.group_tool.specs.Stop.{of_words};
+
+    ghost from_gives = { λ fault found. found ≡ of_words fault };
+
+    fn from(fault: WordFault) -> Stop {
+        match fault {
+            WordFault::Usage => Stop::Usage,
+            WordFault::NoMemory => Stop::NoMemory,
+        }
     }
 }
 

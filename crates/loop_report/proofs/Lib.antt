@@ -7,6 +7,7 @@ pub mod ModuleCalls
 pub mod ModuleNames
 pub mod OneLine
 pub mod OneLoops
+pub mod OneHead
 pub mod OneReport
 pub mod Printable
 pub mod ProgramFiles

@@ -42,7 +42,7 @@ place_of {calls} {starts} {groups} {others} are also i lt =
     }
 
 -- a group stands once
-once : {calls : ℕ → ℕ → Type 0} {starts : List ℕ} {groups : List (List ℕ)} → AreGroups calls starts groups
+pub once : {calls : ℕ → ℕ → Type 0} {starts : List ℕ} {groups : List (List ℕ)} → AreGroups calls starts groups
     → (i j : ℕ) → i < length groups → j < length groups → group_at groups i ≡ group_at groups j → i ≡ j
 once {calls} {starts} {groups} are i j within inside same =
     let p : ℕ = least_member (group_at groups i) in
@@ -131,7 +131,7 @@ lines_rise groups levels order is i j d lt within =
     subst (λ x. IsBefore x (get_or (lines groups levels order) j d)) (sym first)
     (subst (λ x. IsBefore (line_at groups levels (get_or order i 0)) x) (sym second) (is.rising i j 0 lt (omega (arith, within, long))))
 
-has_line : (groups : List (List ℕ)) (levels : List Level) (order : List ℕ) (p : ℕ) → Contains order p → Contains (lines groups levels order) (line_at groups levels p)
+pub has_line : (groups : List (List ℕ)) (levels : List Level) (order : List ℕ) (p : ℕ) → Contains order p → Contains (lines groups levels order) (line_at groups levels p)
 has_line groups levels order p (k, lt, is) =
     (k, omega (arith, lt, length-map order (line_at groups levels)), get_or-map (line_at groups levels) order k p (line_at groups levels p) lt ∙ ap (line_at groups levels) is)
 

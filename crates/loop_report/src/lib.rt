@@ -32,5 +32,6 @@ mod written;
 pub use head::head_line;
 pub use laws::{names_differ, names_read_back, one_list_of_loops, one_report};
 pub use loops::import_loops;
+pub use names::predicate_name;
 pub use spelled::quote_atom;
 pub use written::{order_report, report};

@@ -1,4 +1,4 @@
-ghost use Rattle.std.specs.Prelude.{◌≡◌, ◌<◌, ◌++◌, OnOk, codes, length};
+ghost use Rattle.std.specs.Prelude.{◌≡◌, ◌<◌, ◌++◌, IfOk, OnOk, codes, length};
 ghost use Rattle.std.specs.Fmt.{decimal};
 ghost use Rattle.std.specs.String.{string_bytes};
 ghost use Rattle.import_rules.specs.Program.{see_program};
@@ -25,6 +25,16 @@ fn push_name(alloc: Global, text: &mut String, predicate: &PredName) -> Result<(
     push_atom(text, predicate.name.as_str())?;
     text.push_str("/")?;
     push_number(alloc, text, u64::from(predicate.arity))
+}
+
+/// The name of a predicate as reports have it: `MODULE:NAME/ARITY`, where module and name are spelled
+/// as `quote_atom` spells them.
+pub fn predicate_name(alloc: Global, predicate: &PredName) -> Result<String, AllocError>
+    ensures { IfOk result (λ text. string_bytes text ≡ name_text predicate.now) }
+{
+    let mut text = String::new(alloc);
+    push_name(alloc, &mut text, predicate)?;
+    Ok(text)
 }
 
 /// Adds a space and the name of the predicate with that number.

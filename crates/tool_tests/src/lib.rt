@@ -10,6 +10,8 @@ mod limits;
 #[cfg(test)]
 mod loads;
 #[cfg(test)]
+mod options;
+#[cfg(test)]
 mod programs;
 #[cfg(test)]
 mod reports;

@@ -121,3 +121,17 @@ pub fn expect_texts<R: Threads + Wait + Sync + Abort>(
     }
     Ok(())
 }
+
+/// Runs on words that make a program, and compares what `out` has taken; no file is asked for.
+pub fn expect_make<R: Threads + Wait + Sync + Abort>(
+    rt: &R,
+    alloc: Global,
+    words: &[&str],
+    on_out: &str,
+) -> Result<(), Fail> {
+    let words = words_of(alloc, words)?;
+    let mut library = library_of(alloc, &[], &[])?;
+    expect_run(rt, &words, &mut library, alloc, (0, on_out, ""))?;
+    assert_eq!(rt; library.asked().len(), 0);
+    Ok(())
+}

@@ -59,7 +59,7 @@ static RUNS: [FilesRun; 21] = [
     (&["--help"], LOOP, &[], "", 2, "", USAGE),
     (&[".."], LOOP, &[], "", 2, "", USAGE),
     (&["f.pl", "x/.."], LOOP, &[], "", 2, "", USAGE),
-    (&["f.pl", "--order"], LOOP, &[], "", 2, "", USAGE),
+    (&["f.pl", "--orders"], LOOP, &[], "", 2, "", USAGE),
     (&["g.pl"], LOOP, &[], " g.pl", 3, "", "g.pl: no such file\n"),
     (
         &["g", "f", "e"],

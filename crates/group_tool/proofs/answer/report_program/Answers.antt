@@ -1,25 +1,31 @@
 use Rattle.std.proofs.Common.{inl, inr, refl}
 use Rattle.group_tool.specs.declared.stop.Stop.TheVariants.{NoMemory}
 use Rattle.import_rules.specs.Program.{see_program}
+use Rattle.group_words.specs.Settings.{see_options}
 use Rattle.group_tool.specs.Answer.{IsLoadedEnd}
 use Rattle.group_tool.specs.Stop.{of_checking}
-use Rattle.group_tool.proofs.EndLemmas.{handed_on, check_end}
+use Rattle.group_tool.proofs.EndLemmas.{handed_on, check_end, root_end}
 use Rattle.group_tool.proofs.answer.report_program.Goals as goal
 
 pub returns-in_err-check_goals : goal.returns-in_err-check_goals
 returns-in_err-check_goals g c found program =
-    handed_on (IsLoadedEnd found) c.from_residual.result (of_checking c.in_err-check_goals.field-0.0) c.from_residual.ensures.1
-    (check_end found (see_program c.args.program.now) c.in_err-check_goals.field-0.0 program c.in_err-check_goals.ensures.refused)
+    handed_on (IsLoadedEnd (see_options c.args.options.now) found) c.from_residual.result (of_checking c.in_err-check_goals.field-0.0) c.from_residual.ensures.1
+    (check_end (see_options c.args.options.now) found (see_program c.args.program.now) c.in_err-check_goals.field-0.0 program c.in_err-check_goals.ensures.refused)
+
+pub returns-in_err-roots : goal.returns-in_err-roots
+returns-in_err-roots g c found program =
+    handed_on (IsLoadedEnd (see_options c.args.options.now) found) c.from_residual-in_err-roots.result c.in_err-roots.field-0.0 c.from_residual-in_err-roots.ensures.1
+    (root_end (see_options c.args.options.now) found (see_program c.args.program.now) c.in_err-roots.field-0.0 program c.in_ok-check_goals.ensures.ok c.in_err-roots.ensures.err)
 
 pub returns-in_err-bytes : goal.returns-in_err-bytes
 returns-in_err-bytes g c found program =
-    handed_on (IsLoadedEnd found) c.from_residual-in_err-bytes.result NoMemory c.from_residual-in_err-bytes.ensures.1 (inl refl)
+    handed_on (IsLoadedEnd (see_options c.args.options.now) found) c.from_residual-in_err-bytes.result NoMemory c.from_residual-in_err-bytes.ensures.1 (inl refl)
 
 pub returns : goal.returns
 returns g c found program =
     inr (record {
       seen = see_program c.args.program.now;
-      program = program;
-      callable = c.in_ok-check_goals.ensures.ok;
+      program = record { program = program; callable = c.in_ok-check_goals.ensures.ok };
+      rooted = c.in_ok-roots.ensures.rooted;
       reports = c.in_ok-bytes.ensures;
     })

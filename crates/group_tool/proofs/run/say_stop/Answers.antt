@@ -1,7 +1,7 @@
 use Rattle.std.proofs.Common.{◌≡◌, ℕ, ◌⊎◌, List, IfOk, MatchResult, Result, Ok, Err, inl, inr, subst}
 use Rattle.std.specs.String.{string_bytes}
 use Rattle.group_tool.specs.End.{memory_line}
-use Rattle.group_tool.specs.Lines.{unread_line}
+use Rattle.group_tool.specs.Lines.{missing_line, unread_line}
 use Rattle.group_tool.specs.Run.{SaidWith}
 use Rattle.group_tool.proofs.run.say_stop.Goals as goal
 
@@ -13,6 +13,17 @@ lines_or_wanting : {T E : Type 0} (r : Result T E) (bytes : T → List ℕ) (lin
     → MatchResult r (λ text. Said (bytes text)) (λ _. Wanting) → Said line ⊎ Wanting
 lines_or_wanting {T} {E} (Ok text) bytes line Said Wanting is said = inl (subst Said is said)
 lines_or_wanting {T} {E} (Err error) bytes line Said Wanting is said = inr said
+
+pub returns-in-NoPredicate : goal.returns-in-NoPredicate
+returns-in-NoPredicate g c =
+    let before = g.S.Sink.taken c.args.sink.now in
+    let after = g.S.Sink.taken c.say_lines-in-NoPredicate.new.sink in
+    let f = g.S.Sink.faults c.args.sink.now in
+    let f' = g.S.Sink.faults c.say_lines-in-NoPredicate.new.sink in
+    let settled' = g.S.Sink.settled c.say_lines-in-NoPredicate.new.sink in
+    rw c.in-NoPredicate.is
+    (lines_or_wanting c.missing_line.result string_bytes (missing_line c.in-NoPredicate.root) (λ bytes. SaidWith bytes 2 c.say_lines-in-NoPredicate.result before after f f' settled')
+    (SaidWith memory_line 7 c.say_lines-in-NoPredicate.result before after f f' settled') c.missing_line.ensures c.say_lines-in-NoPredicate.ensures)
 
 pub returns-in-ReadFault : goal.returns-in-ReadFault
 returns-in-ReadFault g c =

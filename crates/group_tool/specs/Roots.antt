@@ -1,0 +1,47 @@
+-- Where reach begins: at the roots of a program, or at those that a list names.
+use Rattle.std.specs.Prelude.{◌≡◌, ℕ, ◌↔◌, List, ◌∷◌, ◌++◌, Option, Some, None, All, Contains, slice_get}
+use Rattle.std.specs.List.Sorted.{IsStrictlyIncreasing}
+use Rattle.import_rules.specs.declared.names.PredName.{PredName}
+use Rattle.import_rules.specs.Program.{Seen}
+use Rattle.call_edges.specs.Calls.{IsAmong}
+use Rattle.call_edges.specs.Roots.{IsRoot}
+use Rattle.group_tool.specs.declared.stop.Stop.{Stop}
+use Rattle.group_tool.specs.declared.stop.Stop.TheVariants.{NoPredicate, NoMemory}
+
+-- the predicate of that number has the name
+abbrev pub IsNamed : List PredName → PredName → ℕ → Type 0
+IsNamed predicates name q = slice_get predicates q ≡ Some name
+
+-- reach begins at the predicate of that number
+abbrev pub IsRootBy : Option (List PredName) → Seen → ℕ → Type 0
+IsRootBy None seen q = IsRoot seen q
+IsRootBy (Some list) seen q = IsAmong (IsNamed seen.predicates) list q
+
+-- the numbers of the predicates at which reach begins, ascending and each once
+pub record AreRoots (list : Option (List PredName)) (seen : Seen) (roots : List ℕ) : Type 0 where
+  pub ascending : IsStrictlyIncreasing roots
+  pub are : (q : ℕ) → Contains roots q ↔ IsRootBy list seen q
+
+-- the first name of the list that is no name of a predicate
+pub record IsFirstMissing (predicates list : List PredName) (name : PredName) : Type 0 where
+  pub before : List PredName
+  pub after : List PredName
+  pub is : list ≡ before ++ name ∷ after
+  pub there : All (Contains predicates) before
+  pub missing : Contains predicates name → ⊥
+
+-- the list names a predicate that the program does not have, and this is the first such name
+abbrev pub LacksRoot : Option (List PredName) → Seen → PredName → Type 0
+LacksRoot None seen name = ⊥
+LacksRoot (Some list) seen name = IsFirstMissing seen.predicates list name
+
+-- the program has all predicates that the list names
+abbrev pub HasRoots : Option (List PredName) → Seen → Type 0
+HasRoots None seen = Unit {0}
+HasRoots (Some list) seen = All (Contains seen.predicates) list
+
+-- why there are no roots: one is missing, or memory was wanting
+abbrev pub IsRootStop : Option (List PredName) → Seen → Stop → Type 0
+IsRootStop list seen (NoPredicate root) = LacksRoot list seen root
+IsRootStop list seen NoMemory = Unit {0}
+IsRootStop list seen stop = ⊥

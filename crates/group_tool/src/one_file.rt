@@ -1,0 +1,71 @@
+ghost use Rattle.std.specs.Prelude.{◌≡◌, ◌+◌, [], Some, OnOk, OnErr, take};
+
+use file_library::{Library, Read};
+use prolog_tokens::Text;
+use std::alloc::{AllocError, Global};
+
+/// A library of one file. No read of it fails.
+#[derive(Drop)]
+pub struct OneFile {
+    alloc: Global,
+    name: Text,
+    text: Vec<u8>,
+    asked: Vec<Text>,
+    misses: u64,
+}
+
+/// Puts the bytes into the room, which is empty, up to one more than the limit.
+fn copy_start(bytes: &[u8], limit: u32, room: &mut Vec<u8>) -> Result<(), AllocError>
+    requires { room.old.items ≡ [] }
+    ensures ok { OnOk result (room.new.items ≡ take (limit + 1) bytes.now) }
+    ensures err { OnErr result (room.new.items ≡ []) }
+{
+    let end = bytes.len().min(limit as usize + 1);
+    room.extend_from_slice(&bytes[..end])
+}
+
+impl OneFile {
+    ghost use Rattle.group_tool.specs.OneFile.{IsNewFile};
+
+    /// A library of the file of that name.
+    pub fn new(alloc: Global, name: Text, text: Vec<u8>) -> OneFile
+        ensures { IsNewFile name text.items result }
+    {
+        OneFile {
+            alloc,
+            name,
+            text,
+            asked: Vec::new(alloc),
+            misses: 0,
+        }
+    }
+}
+
+impl Library for OneFile {
+    ghost use Rattle.group_tool.specs.Wanted.{one_file};
+
+    ghost files = { λ l. Some (one_file l.name l.text.items) };
+
+    ghost asked = { λ l. l.asked.items };
+
+    ghost faults = { λ _. 0 };
+
+    ghost misses = { λ l. l.misses };
+
+    fn read(&mut self, name: &str, limit: u32, room: &mut Vec<u8>) -> Read {
+        let Ok(asked) = Text::new(self.alloc, name) else {
+            return Read::NoMemory;
+        };
+        if self.asked.push(asked).is_err() {
+            return Read::NoMemory;
+        }
+        if self.name.as_str() != name {
+            self.misses = self.misses.saturating_add(1);
+            return Read::Absent;
+        }
+        match copy_start(&self.text, limit, room) {
+            Ok(()) => Read::Found,
+            Err(_) => Read::NoMemory,
+        }
+    }
+}
