@@ -1,5 +1,5 @@
 ghost use Rattle.std.specs.Prelude.{◌≡◌, ◌<◌, ◌≤◌, ℕ, List, [], ◌∷◌, All, IfOk, length, Some};
-ghost use Rattle.call_edges.specs.Opened.{see_calls};
+ghost use Rattle.call_edges.specs.Opened.{see_call_lists};
 ghost use Rattle.call_edges.specs.Successors.{successor_lists};
 ghost use Rattle.graph_law.specs.Graph.{Calls as ListCalls, lists_of};
 ghost use Rattle.group_release.specs.declared.level.Level.{Level};
@@ -22,7 +22,7 @@ use crate::driver::Driver;
 use crate::one_file::OneFile;
 use crate::roots::roots_by;
 use crate::stop::Stop;
-use call_edges::{Calls, check_goals};
+use call_edges::{CallLists, call_lists};
 use file_library::{Library, Loaded, load_all};
 use group_release::{Level, levels};
 use group_words::{Options, make_text, settings_within};
@@ -146,26 +146,27 @@ fn report_program<R: Threads + Sync, D: Driver>(
 ) -> Result<Vec<u8>, Stop>
     ensures { (found : LoadedFiles) → IsProgram found (see_program program.now) → IsLoadedEnd (see_options options.now) found (end_of result) }
 {
-    check_goals(rt, alloc, program)?;
+    let calls = call_lists(rt, alloc, program)?;
     let roots = roots_by(alloc, program, options)?;
-    let bytes = report_groups(alloc, options, driver, program, &roots)?;
+    let bytes = report_groups(alloc, options, driver, program, &calls, &roots)?;
     Ok(bytes)
 }
 
-/// The report of the groups that the roots reach.
+/// The report of the groups that the roots reach, by what the predicates call.
 fn report_groups<D: Driver>(
     alloc: Global,
     options: &Options,
     driver: &D,
     program: &Program,
+    calls: &CallLists<'_>,
     roots: &[u32],
 ) -> Result<Vec<u8>, AllocError>
+    requires calls { see_call_lists calls.now ≡ see_program program.now }
     requires below { All (λ q. q < length (see_program program.now).predicates) roots.now }
     requires roots { AreRoots (see_options options.now).roots (see_program program.now) roots.now }
     ensures { IfOk result (λ bytes. ReportsProgram (see_options options.now) (see_program program.now) bytes.items) }
 {
-    let calls = Calls::new(program);
-    let found = leveled_groups(alloc, driver, &calls, roots)?;
+    let found = leveled_groups(alloc, driver, calls, roots)?;
     written(alloc, options, program, &found.0, &found.1)
 }
 
@@ -173,11 +174,11 @@ fn report_groups<D: Driver>(
 fn leveled_groups<D: Driver>(
     alloc: Global,
     driver: &D,
-    calls: &Calls<'_>,
+    calls: &CallLists<'_>,
     roots: &[u32],
 ) -> Result<(Vec<Vec<u32>>, Vec<Level>), AllocError>
-    requires { All (λ root. root < length (successor_lists (see_calls calls.now))) roots.now }
-    ensures { IfOk result (λ found. AreLeveled (ListCalls (successor_lists (see_calls calls.now))) roots.now (lists_of found.0.items) found.1.items) }
+    requires { All (λ root. root < length (successor_lists (see_call_lists calls.now))) roots.now }
+    ensures { IfOk result (λ found. AreLeveled (ListCalls (successor_lists (see_call_lists calls.now))) roots.now (lists_of found.0.items) found.1.items) }
 {
     let groups = driver.groups(alloc, calls, roots)?;
     let levels = levels(alloc, calls, &groups)?;

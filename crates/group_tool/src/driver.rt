@@ -1,10 +1,10 @@
 ghost use Rattle.std.specs.Prelude.{◌<◌, List, ℕ, All, IfOk, length};
 ghost use Rattle.graph_law.specs.Graph.{Calls as ListCalls, lists_of};
-ghost use Rattle.call_edges.specs.Opened.{see_calls};
+ghost use Rattle.call_edges.specs.Opened.{see_call_lists};
 ghost use Rattle.call_edges.specs.Successors.{successor_lists};
 ghost use Rattle.loop_report.specs.Reportable.{AreGroups};
 
-use call_edges::Calls;
+use call_edges::CallLists;
 use search_stack::groups_plain;
 use std::alloc::{AllocError, Global};
 
@@ -14,11 +14,11 @@ pub trait Driver {
     fn groups(
         &self,
         alloc: Global,
-        calls: &Calls<'_>,
+        calls: &CallLists<'_>,
         roots: &[u32],
     ) -> Result<Vec<Vec<u32>>, AllocError>
-        requires { All (λ root. root < length (successor_lists (see_calls calls.now))) roots.now }
-        ensures { IfOk result (λ groups. AreGroups (ListCalls (successor_lists (see_calls calls.now))) roots.now (lists_of groups.items)) };
+        requires { All (λ root. root < length (successor_lists (see_call_lists calls.now))) roots.now }
+        ensures { IfOk result (λ groups. AreGroups (ListCalls (successor_lists (see_call_lists calls.now))) roots.now (lists_of groups.items)) };
 }
 
 /// One search after another, on one thread.
@@ -29,7 +29,7 @@ impl Driver for OneSearch {
     fn groups(
         &self,
         alloc: Global,
-        calls: &Calls<'_>,
+        calls: &CallLists<'_>,
         roots: &[u32],
     ) -> Result<Vec<Vec<u32>>, AllocError> {
         groups_plain(alloc, calls, roots)
