@@ -6,11 +6,9 @@ Needs `g++`, `swipl` and `rt`, or the built program. Prints a table: the best of
 that one held, in MB. With `--keep FOLDER` the texts stay there.
 """
 
-import os
 import random
 import subprocess
 import sys
-import time
 
 from common import ROOT, RUNS, folders
 
@@ -84,9 +82,19 @@ FAMILIES = {
 }
 
 
+def spelled(number):
+    """The name of a predicate, with its number to the base 36, so that each text stays below the limit of a file."""
+    digits = ""
+    while number or not digits:
+        digits = "0123456789abcdefghijklmnopqrstuvwxyz"[number % 36] + digits
+        number //= 36
+    return "p" + digits
+
+
 def written(folder, calls, count):
     """The names of the files over which the clauses are spread."""
-    lines = [f"p{i}{' :- ' if goals else ''}{', '.join(f'p{goal}' for goal in goals)}.\n" for i, goals in enumerate(calls)]
+    words = [spelled(number) for number in range(len(calls))]
+    lines = [f"{words[i]}{' :- ' if goals else ''}{', '.join(words[goal] for goal in goals)}.\n" for i, goals in enumerate(calls)]
     step = -(-len(lines) // count)
     names = []
     for number in range(count):
@@ -95,17 +103,25 @@ def written(folder, calls, count):
     return names
 
 
+# Starts a program from a small process, since the peak of a child counts what its parent held when it began it.
+MEASURED = """
+import os, subprocess, sys, time
+
+begun = time.monotonic()
+child = subprocess.Popen(sys.argv[1:], stdin=subprocess.DEVNULL)
+_, status, used = os.wait4(child.pid, 0)
+print(time.monotonic() - begun, used.ru_maxrss / 1024, os.waitstatus_to_exitcode(status), file=sys.stderr)
+"""
+
+
 def once(words, folder):
     """The seconds and the most MB of a run, and what it wrote."""
     with (folder / "written").open("wb") as out:
-        begun = time.monotonic()
-        child = subprocess.Popen(words, cwd=folder, stdout=out, stdin=subprocess.DEVNULL)
-        _, status, used = os.wait4(child.pid, 0)
-        took = time.monotonic() - begun
-    child.returncode = os.waitstatus_to_exitcode(status)
-    if child.returncode:
-        sys.exit(f"{words[0]} ended with status {child.returncode}")
-    return took, used.ru_maxrss / 1024, (folder / "written").read_bytes()
+        run = subprocess.run([sys.executable, "-c", MEASURED, *words], cwd=folder, stdout=out, stderr=subprocess.PIPE, text=True, check=True)
+    took, most, status = run.stderr.split()[-3:]
+    if status != "0":
+        sys.exit(f"{words[0]} ended with status {status}: {run.stderr}")
+    return float(took), float(most), (folder / "written").read_bytes()
 
 
 def best(words, folder):
