@@ -17,7 +17,7 @@ use Rattle.blocked_table.specs.Suspending.{Adds, AreGood, IsSuspended, StaysGood
 use Rattle.blocked_table.specs.Transfer.{IsTransfer}
 use Rattle.blocked_table.proofs.Chain.{none_is_not, some_is}
 use Rattle.group_release.specs.declared.book.Book.TheInside.{Inside}
-use Rattle.group_release.specs.Book.{BookValue, GoesOnBeside, IsGoodBook, RunsBeside, WantsOther, table_of}
+use Rattle.group_release.specs.Book.{BookValue, GoesOnBeside, IsGoodBook, RunsBeside, WantsOther}
 use Rattle.group_release.specs.BookFields.{IsBook, value_of}
 use Rattle.group_release.specs.Coding.{lists_from}
 use Rattle.group_release.specs.Released.{ReleasedGroups}
@@ -89,7 +89,8 @@ pub record IsWellSuspended (book : BookValue) (new : List (Option SearchValue)) 
   pub kept_count : (x : ℕ) → times x (kept_nodes new) + times x (nodes_going suspended) ≡ times x (kept_nodes book.kept) + times x (nodes_on search.stack)
   pub wanted_count : (x : ℕ) → 0 < times x (wanted_nodes new) → (0 < times x (wanted_nodes book.kept)) ⊎ (0 < times x (newly_wanted on suspended))
 
-module _ {book : BookValue} {search : SearchValue} {on : ℕ} (good : IsGoodBook book) (table : IsTable (table_of book)) (may : MaySuspend book search on) where
+module _ {book : BookValue} {search : SearchValue} {on count most : ℕ} (good : IsGoodBook book)
+    (table : IsTable (record { count = count; most = most; kept = book.kept })) (may : MaySuspend book search on) where
   -- no node of the search is released
   pub none_out : (v : ℕ) → IsOn search.stack v → HasMember book.groups v → ⊥
   none_out = none_released may.good may.last good.legal may.unreleased
@@ -253,8 +254,8 @@ pub record IsWellTaken (book : BookValue) (new : List (Option SearchValue)) (sea
   pub kept_count : (x : ℕ) → times x (kept_nodes new) + times x (nodes_on search.stack) ≡ times x (kept_nodes book.kept)
   pub wanted_count : (x : ℕ) → times x (wanted_nodes new) ≡ times x (wanted_nodes book.kept)
 
-module _ {book : BookValue} {new : List (Option SearchValue)} {search : SearchValue} (good : IsGoodBook book) (table : IsTable (table_of book))
-    (taken : IsTaken book.kept new search) where
+module _ {book : BookValue} {new : List (Option SearchValue)} {search : SearchValue} {count most : ℕ} (good : IsGoodBook book)
+    (table : IsTable (record { count = count; most = most; kept = book.kept })) (taken : IsTaken book.kept new search) where
   was_there : (i : ℕ) (one : SearchValue) → kept_at new i ≡ Some one → kept_at book.kept i ≡ Some one
   was_there i one at =
       elim (cases_eq i taken.place) as (λ _. kept_at book.kept i ≡ Some one) [
@@ -309,7 +310,7 @@ pub some_more : {A : Type 0} (result : Option A) (F G : A → Type 0) → ((valu
 some_more None F G each is = tt
 some_more (Some value) F G each is = each value is
 
-pub some_well : {book : BookValue} → IsGoodBook book → IsTable (table_of book) → (new : List (Option SearchValue)) (result : Option SearchValue)
+pub some_well : {book : BookValue} {count most : ℕ} → IsGoodBook book → IsTable (record { count = count; most = most; kept = book.kept }) → (new : List (Option SearchValue)) (result : Option SearchValue)
     → IfSome result (IsTaken book.kept new) → IfSome result (IsWellTaken book new)
 some_well good table new None is = tt
 some_well good table new (Some search) is = taken_well good table is
