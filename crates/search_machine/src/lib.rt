@@ -1,0 +1,2 @@
+//! Many searches on one thread.
+#![tactic(auto)]
