@@ -31,20 +31,21 @@ waiting_at s place = slice_index_or s.waiting place None
 abbrev pub standing : State → ℕ → ℕ
 standing s v = times v (kept_nodes s.running) + times v (flat (map listed s.waiting)) + (times v (kept_nodes s.kept) + times v (flat s.groups))
 
--- the search at a place isn't empty, wants nothing and is good for the released nodes. The last edge that its top has begun is open just
--- where the place waits, and maybe in a state that has failed
-pub record IsRunning (lists : List (List ℕ)) (roots : List ℕ) (failed : Bool) (s : State) (place : ℕ) (search : SearchValue) : Type 0 where
+-- a search at a place isn't empty, wants nothing and is good for the released nodes. The last edge that its top has begun is open just
+-- where the place waits for an opening, and maybe in a state that has failed
+pub record IsRunning (lists : List (List ℕ)) (roots : List ℕ) (failed : Bool) (groups : List (List ℕ)) (waits : Option ℕ) (search : SearchValue)
+    : Type 0 where
   pub some : 0 < size search.stack
   pub wants_nothing : search.wanted ≡ None
   pub opened : Bool
-  pub is_open : failed ≡ false → opened ≡ is_some (waiting_at s place)
-  pub waits_open : is_some (waiting_at s place) ≡ true → opened ≡ true
-  pub good : IsGood lists roots (flat s.groups) opened search.stack
+  pub is_open : failed ≡ false → opened ≡ is_some waits
+  pub waits_open : is_some waits ≡ true → opened ≡ true
+  pub good : IsGood lists roots (flat groups) opened search.stack
 
 -- an idle place waits for a node that a root reaches, and any other for the node to which the last edge of its search leads
-pub record WaitsFor (lists : List (List ℕ)) (roots : List ℕ) (s : State) (place v : ℕ) : Type 0 where
-  pub idle : kept_at s.running place ≡ None → IsReached (Calls lists) roots v
-  pub last : (search : SearchValue) → kept_at s.running place ≡ Some search → IsLastBegun search.stack v
+pub record WaitsFor (lists : List (List ℕ)) (roots : List ℕ) (there : Option SearchValue) (v : ℕ) : Type 0 where
+  pub idle : there ≡ None → IsReached (Calls lists) roots v
+  pub last : (search : SearchValue) → there ≡ Some search → IsLastBegun search.stack v
 
 -- the kept searches and the released groups, as a book of the graph and the roots
 abbrev pub book_of : List (List ℕ) → List ℕ → State → BookValue
@@ -59,8 +60,9 @@ pub record IsGoodState (lists : List (List ℕ)) (roots : List ℕ) (failed : Bo
   pub some : (place : ℕ) (search : SearchValue) → kept_at s.kept place ≡ Some search → 0 < size search.stack
   pub ends : AllEnd s.kept
   -- the searches at places, and what places wait for and kept searches want
-  pub running : (place : ℕ) (search : SearchValue) → kept_at s.running place ≡ Some search → IsRunning lists roots failed s place search
-  pub waits : (place v : ℕ) → waiting_at s place ≡ Some v → WaitsFor lists roots s place v
+  pub running : (place : ℕ) (search : SearchValue) → kept_at s.running place ≡ Some search
+      → IsRunning lists roots failed s.groups (waiting_at s place) search
+  pub waits : (place v : ℕ) → waiting_at s place ≡ Some v → WaitsFor lists roots (kept_at s.running place) v
   pub wants : (place w : ℕ) (search : SearchValue) → kept_at s.kept place ≡ Some search → search.wanted ≡ Some w → IsClaimed s w
   -- each claimed node stands on one search, once, or is waited for or released; and no other node does
   pub once : (v : ℕ) → IsClaimed s v → standing s v ≡ 1

@@ -1,0 +1,136 @@
+-- How often a node is counted where it stands at one place, and at two.
+use Rattle.std.proofs.Common.{◌≡◌, ◌⊎◌, inl, inr, ℕ, zero, suc, ◌<◌, ◌≤◌, ◌+◌, Bool, true, false, List, [], ◌∷◌, ◌++◌, length, map, take, drop, get_or, Option, None, Some, refl, ap, ◌∙◌, sym, subst, arith}
+use Rattle.std.proofs.lemmas.Bool.{cases_eq, cases_lt}
+use Rattle.std.proofs.lemmas.List.{get_or-map, length-map, map-append}
+use Rattle.node_counts.specs.Counts.{times, flat, total}
+use Rattle.node_counts.proofs.Counting.{times-append, times_here}
+use Rattle.node_counts.proofs.Standing.{total_at, times-flat-map}
+use Rattle.search_stack.specs.Stack.{Entry, Stack, size, node, position}
+use Rattle.search_stack.specs.Search.{SearchValue, IsDistinct, IsOn, below_frame, nodes_from, pushed}
+use Rattle.search_stack.proofs.UnderWay.{SameNodes}
+use Rattle.blocked_table.specs.Kept.{kept_at, Holds, IsApart}
+use Rattle.blocked_table.proofs.Chain.{place_within}
+use Rattle.group_release.specs.Outline.{kept_nodes, listed, nodes_of, nodes_on}
+use Rattle.group_release.proofs.Nodes.{on_counted}
+
+-- two elements of a list add up to no more than all
+pub one_of : {A : Type 0} (f : A → ℕ) (d : A) (xs : List A) (i : ℕ) → i < length xs → f (get_or xs i d) ≤ total f xs
+one_of f d [] i lt = absurd (omega (arith, lt))
+one_of f d (x ∷ xs) zero lt = omega arith
+one_of f d (x ∷ xs) (suc i) lt = let rest = one_of f d xs i (omega (arith, lt)) in omega (arith, rest)
+
+pub two_of : {A : Type 0} (f : A → ℕ) (d : A) (xs : List A) (i j : ℕ) → i < length xs → j < length xs → (i ≡ j → ⊥)
+    → f (get_or xs i d) + f (get_or xs j d) ≤ total f xs
+two_of f d [] i j lt within other = absurd (omega (arith, lt))
+two_of f d (x ∷ xs) zero zero lt within other = absurd (other refl)
+two_of f d (x ∷ xs) zero (suc j) lt within other = let rest = one_of f d xs j (omega (arith, within)) in omega (arith, rest)
+two_of f d (x ∷ xs) (suc i) zero lt within other = let rest = one_of f d xs i (omega (arith, lt)) in omega (arith, rest)
+two_of f d (x ∷ xs) (suc i) (suc j) lt within other =
+    let rest = two_of f d xs i j (omega (arith, lt)) (omega (arith, within)) (λ is. other (ap suc is)) in omega (arith, rest)
+
+-- what a search at a place holds
+pub held_counted : (kept : List (Option SearchValue)) (i v : ℕ) → Holds kept i v → 0 < times v (kept_nodes kept)
+held_counted kept i v holds =
+    let f : Option SearchValue → ℕ = λ o. times v (nodes_of o) in
+    let least : f (kept_at kept i) ≤ total f kept = one_of f None kept i (place_within kept i holds.search holds.at) in
+    let here : f (kept_at kept i) ≡ times v (nodes_on holds.search.stack) = ap f holds.at in
+    omega (arith, least, here, on_counted holds.search.stack v holds.on, times-flat-map v nodes_of kept)
+
+pub held_twice : (kept : List (Option SearchValue)) (i j v : ℕ) → Holds kept i v → Holds kept j v → (i ≡ j → ⊥) → 2 ≤ times v (kept_nodes kept)
+held_twice kept i j v first second other =
+    let f : Option SearchValue → ℕ = λ o. times v (nodes_of o) in
+    let least : f (kept_at kept i) + f (kept_at kept j) ≤ total f kept =
+    two_of f None kept i j (place_within kept i first.search first.at) (place_within kept j second.search second.at) other in
+    let here : f (kept_at kept i) ≡ times v (nodes_on first.search.stack) = ap f first.at in
+    let there : f (kept_at kept j) ≡ times v (nodes_on second.search.stack) = ap f second.at in
+    omega (
+      arith,
+      least,
+      here,
+      there,
+      on_counted first.search.stack v first.on,
+      on_counted second.search.stack v second.on,
+      times-flat-map v nodes_of kept,
+    )
+
+pub nodes_counted : (kept : List (Option SearchValue)) (i v : ℕ) (search : SearchValue) → kept_at kept i ≡ Some search
+    → times v (nodes_on search.stack) ≤ times v (kept_nodes kept)
+nodes_counted kept i v search at =
+    let f : Option SearchValue → ℕ = λ o. times v (nodes_of o) in
+    let least : f (kept_at kept i) ≤ total f kept = one_of f None kept i (place_within kept i search at) in
+    let here : f (kept_at kept i) ≡ times v (nodes_on search.stack) = ap f at in
+    omega (arith, least, here, times-flat-map v nodes_of kept)
+
+-- where each node is counted once at most, no node is on two searches, or on one twice
+pub apart_counted : (kept : List (Option SearchValue)) → ((v : ℕ) → times v (kept_nodes kept) ≤ 1) → IsApart kept
+apart_counted kept once i j v first second =
+    elim (cases_eq i j) as (λ _. i ≡ j)
+    [ inl is ↦ is | inr other ↦ let two = held_twice kept i j v first second other in absurd (omega (arith, once v, two)) ]
+
+times_total : (x : ℕ) (es : List Entry) → times x (map (λ entry. entry.node) es) ≡ total (λ (entry : Entry). times x (entry.node ∷ [])) es
+times_total x [] = refl
+times_total x (e ∷ es) = let rest = times_total x es in omega (arith, rest)
+
+pub distinct_counted : (s : Stack) → ((v : ℕ) → times v (nodes_on s) ≤ 1) → IsDistinct s
+unfolding node size
+distinct_counted s once i j lt within is =
+    elim (cases_eq i j) as (λ _. i ≡ j) [
+      | inl same ↦ same
+      | inr other ↦
+          let v : ℕ = node s j in
+          let no_entry : Entry = record { node = 0; succs = []; begun = 0 } in
+          let f : Entry → ℕ = λ entry. times v (entry.node ∷ []) in
+          let two : f (get_or s.entries i no_entry) + f (get_or s.entries j no_entry) ≤ total f s.entries =
+          two_of f no_entry s.entries i j lt within other in
+          let first : f (get_or s.entries i no_entry) ≡ 1 = ap (λ u. times v (u ∷ [])) is ∙ times_here v in
+          let second : f (get_or s.entries j no_entry) ≡ 1 = times_here v in
+          absurd (omega (arith, two, first, second, once v, times_total v s.entries))
+    ]
+
+-- stacks with the same nodes count them the same
+nodes_same : (olds news : List Entry) (d : Entry) → length news ≡ length olds → ((i : ℕ) → (get_or news i d).node ≡ (get_or olds i d).node) → (x : ℕ)
+    → times x (map (λ entry. entry.node) news) ≡ times x (map (λ entry. entry.node) olds)
+nodes_same [] [] d each same x = refl
+nodes_same [] (e ∷ es) d each same x = absurd (omega (arith, each))
+nodes_same (e ∷ es) [] d each same x = absurd (omega (arith, each))
+nodes_same (o ∷ olds) (n ∷ news) d each same x =
+    let rest = nodes_same olds news d (omega (arith, each)) (λ i. same (suc i)) x in
+    let here : times x (n.node ∷ []) ≡ times x (o.node ∷ []) = ap (λ u. times x (u ∷ [])) (same 0) in
+    omega (arith, rest, here)
+
+pub same_counted : {s t : Stack} → SameNodes s t → (x : ℕ) → times x (nodes_on t) ≡ times x (nodes_on s)
+unfolding node size
+same_counted {s} {t} same x = nodes_same s.entries t.entries (record { node = 0; succs = []; begun = 0 }) same.size_is same.node_is x
+
+pub pushed_counted : (s : Stack) (v : ℕ) (list : List ℕ) (x : ℕ) → times x (nodes_on (pushed s v list)) ≡ times x (nodes_on s) + times x (v ∷ [])
+unfolding pushed
+pushed_counted s v list x =
+    let entry : Entry = record { node = v; succs = list; begun = 0 } in
+    ap (times x) (map-append (λ entry. entry.node) s.entries (entry ∷ [])) ∙ times-append x (nodes_on s) (v ∷ [])
+
+taken_counted : (x p : ℕ) (es : List Entry)
+    → times x (map (λ entry. entry.node) (take p es)) + times x (drop p (map (λ entry. entry.node) es)) ≡ times x (map (λ entry. entry.node) es)
+taken_counted x zero es = omega arith
+taken_counted x (suc p) [] = omega arith
+taken_counted x (suc p) (e ∷ es) = let rest = taken_counted x p es in omega (arith, rest)
+
+pub below_counted : (s : Stack) (frame x : ℕ) → times x (nodes_on (below_frame s frame)) + times x (nodes_from s frame) ≡ times x (nodes_on s)
+unfolding below_frame nodes_from
+below_counted s frame x = taken_counted x (position s frame) s.entries
+
+no_nodes : (es : List Entry) (x : ℕ) → length es ≡ 0 → times x (map (λ entry. entry.node) es) ≡ 0
+no_nodes [] x none = refl
+no_nodes (e ∷ es) x none = absurd (omega (arith, none))
+
+pub empty_counted : (s : Stack) (x : ℕ) → size s ≡ 0 → times x (nodes_on s) ≡ 0
+unfolding size
+empty_counted s x none = no_nodes s.entries x none
+
+-- one place waits for another node than before
+pub waiting_change : (x : ℕ) (old new : List (Option ℕ)) (place : ℕ) → ((i : ℕ) → (i ≡ place → ⊥) → get_or new i None ≡ get_or old i None)
+    → times x (flat (map listed new)) + times x (listed (get_or old place None))
+    ≡ times x (flat (map listed old)) + times x (listed (get_or new place None))
+waiting_change x old new place same =
+    let f : Option ℕ → ℕ = λ o. times x (listed o) in
+    let sums : total f new + f (get_or old place None) ≡ total f old + f (get_or new place None) = total_at f None refl old new place same in
+    omega (arith, sums, times-flat-map x listed old, times-flat-map x listed new)
