@@ -1,3 +1,4 @@
 pub mod Counts
 pub mod Stacks
 pub mod KeptEnds
+pub mod Good
