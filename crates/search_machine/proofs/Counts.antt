@@ -1,7 +1,7 @@
 -- How often a node is counted where it stands at one place, and at two.
 use Rattle.std.proofs.Common.{◌≡◌, ◌⊎◌, inl, inr, ℕ, zero, suc, ◌<◌, ◌≤◌, ◌+◌, Bool, true, false, List, [], ◌∷◌, ◌++◌, length, map, take, drop, get_or, Option, None, Some, refl, ap, ◌∙◌, sym, subst, arith}
 use Rattle.std.proofs.lemmas.Bool.{cases_eq, cases_lt}
-use Rattle.std.proofs.lemmas.List.{get_or-map, length-map, map-append}
+use Rattle.std.proofs.lemmas.List.{get_or_past, map-append}
 use Rattle.node_counts.specs.Counts.{times, flat, total}
 use Rattle.node_counts.proofs.Counting.{times-append, times_here}
 use Rattle.node_counts.proofs.Standing.{total_at, times-flat-map}
@@ -60,6 +60,14 @@ nodes_counted kept i v search at =
     let least : f (kept_at kept i) ≤ total f kept = one_of f None kept i (place_within kept i search at) in
     let here : f (kept_at kept i) ≡ times v (nodes_on search.stack) = ap f at in
     omega (arith, least, here, times-flat-map v nodes_of kept)
+
+pub place_counted : (kept : List (Option SearchValue)) (i v : ℕ) → times v (nodes_of (kept_at kept i)) ≤ times v (kept_nodes kept)
+place_counted kept i v =
+    let f : Option SearchValue → ℕ = λ o. times v (nodes_of o) in
+    elim (cases_lt i (length kept)) as (λ _. f (kept_at kept i) ≤ times v (kept_nodes kept)) [
+      | inl lt ↦ let least = one_of f None kept i lt in omega (arith, least, times-flat-map v nodes_of kept)
+      | inr past ↦ let none : f (kept_at kept i) ≡ 0 = ap f (get_or_past kept i None past) in omega (arith, none)
+    ]
 
 -- where each node is counted once at most, no node is on two searches, or on one twice
 pub apart_counted : (kept : List (Option SearchValue)) → ((v : ℕ) → times v (kept_nodes kept) ≤ 1) → IsApart kept

@@ -2,3 +2,5 @@ pub mod Counts
 pub mod Stacks
 pub mod KeptEnds
 pub mod Good
+pub mod Turns
+pub mod Suspending
