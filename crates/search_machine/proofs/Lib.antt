@@ -4,3 +4,6 @@ pub mod KeptEnds
 pub mod Good
 pub mod Turns
 pub mod Suspending
+pub mod Idle
+pub mod Releasing
+pub mod Claiming
