@@ -1,5 +1,5 @@
 -- A node is claimed, and is opened: the state stays good.
-use Rattle.std.proofs.Common.{◌≡◌, ◌⊎◌, inl, inr, ℕ, ◌<◌, ◌≤◌, ◌+◌, Bool, true, false, List, [], ◌∷◌, length, get_or, set, Option, None, Some, is_some, refl, ap, ◌∙◌, sym, subst, arith, get_or-set_same, get_or-set_other, true≢false}
+use Rattle.std.proofs.Common.{◌≡◌, ◌⊎◌, inl, inr, ℕ, ◌<◌, ◌+◌, Bool, true, false, List, [], ◌∷◌, length, get_or, set, Option, None, Some, is_some, refl, ap, ◌∙◌, sym, subst, arith, get_or-set_same, get_or-set_other}
 use Rattle.std.proofs.lemmas.Bool.{cases_eq, cases_lt}
 use Rattle.std.proofs.lemmas.List.{get_or_past, length-set}
 use Rattle.std.proofs.lemmas.List.Elements.{All-contains}
@@ -7,14 +7,12 @@ use Rattle.std.specs.Prelude.{Contains}
 use Rattle.order_law.proofs.OneOrder.{in_first}
 use Rattle.node_counts.specs.Counts.{times, flat}
 use Rattle.node_counts.proofs.Counting.{times_here, times_other}
-use Rattle.graph_law.specs.Graph.{Calls}
-use Rattle.graph_law.specs.Reach.{IsReached}
 use Rattle.search_stack.specs.Stack.{Stack, size}
 use Rattle.search_stack.specs.GoodSearch.{IsGood}
-use Rattle.search_stack.specs.Search.{SearchValue, IsLastBegun, empty_stack, pushed}
+use Rattle.search_stack.specs.Search.{SearchValue, IsLastBegun, pushed}
 use Rattle.blocked_table.specs.Kept.{kept_at}
 use Rattle.blocked_table.proofs.Chain.{none_is_not, place_within, some_is}
-use Rattle.group_release.specs.Outline.{kept_nodes, listed, nodes_of, nodes_on}
+use Rattle.group_release.specs.Outline.{listed, nodes_of, nodes_on}
 use Rattle.group_release.proofs.Beside.{last_below}
 use Rattle.search_machine.specs.Events.{Asks, ClaimsNext, Opens, SetsAt, TakesRoot, stack_of}
 use Rattle.search_machine.specs.State.{State, IsClaimed, IsGoodState, IsRunning, WaitsFor, standing, waiting_at}

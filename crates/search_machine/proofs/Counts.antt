@@ -1,12 +1,12 @@
 -- How often a node is counted where it stands at one place, and at two.
-use Rattle.std.proofs.Common.{◌≡◌, ◌⊎◌, inl, inr, ℕ, zero, suc, ◌<◌, ◌≤◌, ◌+◌, Bool, true, false, List, [], ◌∷◌, ◌++◌, length, map, take, drop, get_or, Option, None, Some, refl, ap, ◌∙◌, sym, subst, arith}
+use Rattle.std.proofs.Common.{◌≡◌, inl, inr, ℕ, zero, suc, ◌<◌, ◌≤◌, ◌+◌, List, [], ◌∷◌, length, map, take, drop, get_or, Option, None, Some, refl, ap, ◌∙◌, arith}
 use Rattle.std.proofs.lemmas.Bool.{cases_eq, cases_lt}
 use Rattle.std.proofs.lemmas.List.{get_or_past, map-append}
 use Rattle.node_counts.specs.Counts.{times, flat, total}
 use Rattle.node_counts.proofs.Counting.{times-append, times_here}
 use Rattle.node_counts.proofs.Standing.{total_at, times-flat-map}
 use Rattle.search_stack.specs.Stack.{Entry, Stack, size, node, position}
-use Rattle.search_stack.specs.Search.{SearchValue, IsDistinct, IsOn, below_frame, nodes_from, pushed}
+use Rattle.search_stack.specs.Search.{SearchValue, IsDistinct, below_frame, nodes_from, pushed}
 use Rattle.search_stack.proofs.UnderWay.{SameNodes}
 use Rattle.blocked_table.specs.Kept.{kept_at, Holds, IsApart}
 use Rattle.blocked_table.proofs.Chain.{place_within}

@@ -1,5 +1,5 @@
 -- What a good state has, and what a change at one place keeps of it.
-use Rattle.std.proofs.Common.{◌≡◌, ◌⊎◌, inl, inr, ℕ, ◌<◌, ◌≤◌, ◌+◌, Bool, true, false, List, [], ◌∷◌, length, get_or, Option, None, Some, is_some, refl, ap, ◌∙◌, sym, subst, arith, true≢false}
+use Rattle.std.proofs.Common.{◌≡◌, ◌⊎◌, inl, inr, ℕ, ◌<◌, ◌≤◌, ◌+◌, Bool, false, List, length, get_or, Option, None, Some, is_some, refl, ap, ◌∙◌, sym, subst, arith, true≢false}
 use Rattle.std.proofs.lemmas.Bool.{cases_Bool, cases_eq}
 use Rattle.std.specs.Prelude.{Contains}
 use Rattle.node_counts.specs.Counts.{times, flat}
@@ -12,7 +12,7 @@ use Rattle.blocked_table.specs.Blocked.{IsTable}
 use Rattle.blocked_table.specs.Kept.{kept_at, Holds, AllEnd}
 use Rattle.blocked_table.proofs.Chain.{none_is_not}
 use Rattle.group_release.specs.Book.{IsGoodBook}
-use Rattle.group_release.specs.Outline.{kept_nodes, listed, nodes_of, nodes_on}
+use Rattle.group_release.specs.Outline.{kept_nodes, listed, nodes_of}
 use Rattle.group_release.proofs.Beside.{on_within}
 use Rattle.group_release.proofs.KeptCounts.{kept_change}
 use Rattle.group_release.proofs.Nodes.{in_flat, on_counted}
@@ -88,7 +88,7 @@ module _ {lists : List (List ℕ)} {roots : List ℕ} {failed : Bool} {s : State
   -- what the counts of the place and of the kept and released nodes add up to
   pub standing_change : (v : ℕ)
       → standing t v + (times v (nodes_of (kept_at s.running place)) + times v (listed (waiting_at s place))
-          + (times v (kept_nodes s.kept) + times v (flat s.groups)))
+      + (times v (kept_nodes s.kept) + times v (flat s.groups)))
       ≡ standing s v + (times v (nodes_of after) + times v (listed (waiting_at t place)) + (times v (kept_nodes t.kept) + times v (flat t.groups)))
   standing_change v =
       let runs = kept_change v s.running t.running place sets.same in

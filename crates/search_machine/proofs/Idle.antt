@@ -1,16 +1,15 @@
 -- An idle place passes over a root or takes a ready search: the state stays good.
-use Rattle.std.proofs.Common.{◌≡◌, ◌⊎◌, inl, inr, ℕ, ◌<◌, ◌+◌, Bool, false, List, [], ◌∷◌, length, Option, None, Some, refl, ap, ◌∙◌, sym, subst, arith}
+use Rattle.std.proofs.Common.{◌≡◌, ◌⊎◌, inl, inr, ℕ, Bool, false, List, ◌∷◌, length, Some, ap, ◌∙◌, sym, subst, arith}
 use Rattle.std.specs.Prelude.{Contains}
 use Rattle.order_law.proofs.OneOrder.{first_or_rest, in_rest}
 use Rattle.node_counts.specs.Counts.{times, flat}
 use Rattle.search_stack.specs.Stack.{size}
 use Rattle.search_stack.specs.GoodSearch.{IsGood}
 use Rattle.search_stack.specs.Search.{SearchValue}
-use Rattle.blocked_table.specs.Blocked.{IsTaken}
 use Rattle.blocked_table.specs.Kept.{kept_at}
 use Rattle.blocked_table.proofs.Chain.{none_is_not, some_is}
 use Rattle.blocked_table.proofs.Tables.{take_table}
-use Rattle.group_release.specs.Outline.{kept_nodes, nodes_of, nodes_on}
+use Rattle.group_release.specs.Outline.{nodes_of, nodes_on}
 use Rattle.group_release.proofs.Books.{IsWellTaken, taken_well}
 use Rattle.search_machine.specs.Events.{Resumes, Skips}
 use Rattle.search_machine.specs.State.{State, IsClaimed, IsGoodState, book_of}

@@ -1,14 +1,14 @@
 -- Following wants among kept searches ends still: after a release, and from each node.
-use Rattle.std.proofs.Common.{◌≡◌, ◌⊎◌, inl, inr, ℕ, ◌<◌, ◌≤◌, ◌+◌, List, [], ◌∷◌, Option, None, Some, refl, ap, ◌∙◌, sym, subst, arith}
+use Rattle.std.proofs.Common.{◌≡◌, ◌⊎◌, inl, inr, ℕ, ◌<◌, List, [], ◌∷◌, Option, None, Some, refl, ap, ◌∙◌, sym, subst, arith}
 use Rattle.std.proofs.lemmas.Bool.{cases_eq}
-use Rattle.search_stack.specs.Stack.{Stack, size, height}
+use Rattle.search_stack.specs.Stack.{Stack, size}
 use Rattle.search_stack.specs.Search.{SearchValue, IsOn, joined}
 use Rattle.search_stack.proofs.Frames.{position_le}
 use Rattle.blocked_table.specs.Blocked.{IsWoken}
-use Rattle.blocked_table.specs.Kept.{kept_at, Holds, IsApart, Follows, IsChain, IsFree, IsAtReady, Ends, AllEnd}
+use Rattle.blocked_table.specs.Kept.{kept_at, Holds, Follows, IsChain, IsFree, IsAtReady, Ends, AllEnd}
 use Rattle.blocked_table.specs.Transfer.{IsCutAway, IsMoved}
 use Rattle.blocked_table.proofs.Along.{IsOnTheWay, at_cut, cut_away, left, rest_of, shaped}
-use Rattle.blocked_table.proofs.Chain.{held_or_free, none_is_not, same_search, some_is}
+use Rattle.blocked_table.proofs.Chain.{held_or_free, none_is_not, some_is}
 use Rattle.group_release.proofs.Waking.{still, was_kept}
 
 -- from any node, where it ends from what is wanted

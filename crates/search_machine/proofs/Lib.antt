@@ -7,3 +7,7 @@ pub mod Suspending
 pub mod Idle
 pub mod Releasing
 pub mod Claiming
+pub mod Starting
+pub mod Stuck
+pub mod Quiet
+pub mod Runs

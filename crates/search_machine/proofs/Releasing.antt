@@ -1,5 +1,5 @@
 -- A group is released: the state stays good.
-use Rattle.std.proofs.Common.{◌≡◌, ◌⊎◌, inl, inr, ℕ, ◌<◌, ◌≤◌, ◌+◌, Bool, false, List, [], ◌∷◌, ◌++◌, length, Option, None, Some, refl, ap, ◌∙◌, sym, subst, arith}
+use Rattle.std.proofs.Common.{◌≡◌, inl, inr, ℕ, ◌<◌, ◌+◌, false, List, [], ◌∷◌, ◌++◌, length, Option, None, Some, refl, ap, sym, subst, arith}
 use Rattle.std.proofs.lemmas.List.Elements.{Contains-append_cases}
 use Rattle.std.specs.Prelude.{Contains}
 use Rattle.node_counts.specs.Counts.{times, flat}
@@ -7,9 +7,9 @@ use Rattle.node_counts.proofs.Counting.{counted}
 use Rattle.graph_law.specs.Classes.{HasMember}
 use Rattle.search_stack.specs.Stack.{Stack, size, top}
 use Rattle.search_stack.specs.GoodSearch.{IsGood}
-use Rattle.search_stack.specs.Search.{SearchValue, IsOn, IsReleasable, below_frame, nodes_from}
+use Rattle.search_stack.specs.Search.{SearchValue, IsReleasable, below_frame, nodes_from}
 use Rattle.search_stack.proofs.Edges.{good_more}
-use Rattle.blocked_table.specs.Kept.{kept_at, Holds}
+use Rattle.blocked_table.specs.Kept.{Holds}
 use Rattle.blocked_table.proofs.Chain.{none_is_not, some_is}
 use Rattle.blocked_table.proofs.WakeGood.{woken_good}
 use Rattle.group_release.specs.Book.{IsGoodBook}
@@ -18,7 +18,7 @@ use Rattle.group_release.specs.Released.{ReleasedGroups}
 use Rattle.group_release.proofs.Nodes.{in_flat}
 use Rattle.group_release.proofs.Waking.{more_new, more_old, released_count, released_good, was_kept, woken_nodes}
 use Rattle.search_machine.specs.Events.{GoesOn, Releases, SetsAt}
-use Rattle.search_machine.specs.State.{State, IsClaimed, IsGoodState}
+use Rattle.search_machine.specs.State.{State, IsGoodState}
 use Rattle.search_machine.proofs.Counts.{below_counted, empty_counted, held_counted, place_counted}
 use Rattle.search_machine.proofs.Good.{IsPlain, IsSettled, at_most_once, plain_good}
 use Rattle.search_machine.proofs.KeptEnds.{woken_ends}

@@ -1,15 +1,15 @@
 -- What each event makes of the stack at its place: it stays good, and which nodes it has.
-use Rattle.std.proofs.Common.{◌≡◌, ◌⊎◌, inl, inr, ℕ, ◌<◌, ◌≤◌, ◌+◌, ◌-◌, Bool, true, false, List, [], length, get_or, Option, None, Some, refl, ap, ◌∙◌, sym, subst, arith, ◌++◌}
+use Rattle.std.proofs.Common.{◌≡◌, inl, inr, ℕ, ◌<◌, ◌≤◌, ◌+◌, ◌-◌, true, false, List, [], length, get_or, Some, refl, ◌∙◌, sym, subst, arith, ◌++◌}
 use Rattle.std.proofs.lemmas.Bool.{cases_lt}
 use Rattle.std.proofs.lemmas.List.{get_or_default}
 use Rattle.node_counts.specs.Counts.{times}
 use Rattle.graph_law.specs.Graph.{Calls}
 use Rattle.graph_law.specs.Reach.{IsReached}
-use Rattle.search_stack.specs.Stack.{Stack, size, height, top, node, begun, succs, target, position, low}
+use Rattle.search_stack.specs.Stack.{Stack, size, height, top, node, begun, succs, position, low}
 use Rattle.search_stack.specs.GoodSearch.{IsGood}
 use Rattle.search_stack.specs.Search.{IsDone, IsLastBegun, IsReleasable, IsRipe, below_frame, empty_stack, lowered, next_successor, nodes_from, one_more_begun, pushed, retreated}
 use Rattle.search_stack.proofs.Back.{good_back}
-use Rattle.search_stack.proofs.Changes.{Begins, Keeps, Lowers, Pushes, Retreats}
+use Rattle.search_stack.proofs.Changes.{Begins, Retreats}
 use Rattle.search_stack.proofs.Driving.{begins_top, next_is, tall_from_long}
 use Rattle.search_stack.proofs.Edges.{good_begin, good_empty}
 use Rattle.search_stack.proofs.FieldLaws.{last_begun}

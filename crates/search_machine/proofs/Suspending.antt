@@ -1,5 +1,5 @@
 -- A search is kept, or goes on after a transfer: the state stays good.
-use Rattle.std.proofs.Common.{◌≡◌, ◌⊎◌, inl, inr, ℕ, ◌<◌, ◌≤◌, ◌+◌, Bool, true, false, List, [], ◌∷◌, length, get_or, Option, None, Some, refl, ap, ◌∙◌, sym, subst, arith}
+use Rattle.std.proofs.Common.{◌≡◌, inl, inr, ℕ, ◌<◌, ◌+◌, true, false, List, [], ◌∷◌, Option, None, Some, refl, ap, ◌∙◌, sym, subst, arith}
 use Rattle.std.proofs.lemmas.Bool.{cases_eq}
 use Rattle.order_law.proofs.OneOrder.{first_or_rest, nothing_in}
 use Rattle.node_counts.specs.Counts.{times, flat}
@@ -16,12 +16,12 @@ use Rattle.blocked_table.proofs.Along.{IsOnTheWay, moved_along}
 use Rattle.blocked_table.proofs.Chain.{add_ends, none_is_not, some_is}
 use Rattle.blocked_table.proofs.EndSteps.{keep_good}
 use Rattle.blocked_table.proofs.MovedSteps.{way_of}
-use Rattle.group_release.specs.Outline.{kept_nodes, newly_wanted, nodes_of, nodes_on, wanted_nodes}
+use Rattle.group_release.specs.Outline.{kept_nodes, newly_wanted, nodes_of, nodes_on}
 use Rattle.group_release.proofs.Books.{IsWellSuspended, MaySuspend, suspended_well}
 use Rattle.group_release.proofs.KeptCounts.{at_wanted, wanted_at}
-use Rattle.search_machine.specs.Events.{Begins, IsOther, SetsAt, Suspends, Transfers}
-use Rattle.search_machine.specs.State.{State, IsClaimed, IsGoodState, book_of, standing, waiting_at}
-use Rattle.search_machine.proofs.Good.{IsPlain, IsSettled, at_most_once, plain_good, stands_claimed, table}
+use Rattle.search_machine.specs.Events.{Begins, IsOther, Suspends, Transfers}
+use Rattle.search_machine.specs.State.{State, IsClaimed, IsGoodState, book_of, standing}
+use Rattle.search_machine.proofs.Good.{IsPlain, IsSettled, plain_good, stands_claimed, table}
 use Rattle.search_machine.proofs.Counts.{place_counted}
 use Rattle.search_machine.proofs.KeptEnds.{ends_from, moved_some}
 use Rattle.search_machine.proofs.Stacks.{back_good, back_some}

@@ -1,5 +1,5 @@
 -- Events at a place that has a search, where only this search changes: they keep a good state.
-use Rattle.std.proofs.Common.{◌≡◌, ◌⊎◌, inl, inr, ℕ, ◌<◌, ◌≤◌, ◌+◌, Bool, true, false, List, [], ◌∷◌, length, get_or, Option, None, Some, refl, ap, ◌∙◌, sym, subst, arith}
+use Rattle.std.proofs.Common.{◌≡◌, ℕ, ◌<◌, Bool, true, false, List, Option, None, Some, refl, ap, ◌∙◌, sym, subst, arith}
 use Rattle.node_counts.specs.Counts.{times, flat}
 use Rattle.node_counts.proofs.Counting.{counted}
 use Rattle.graph_law.specs.Classes.{HasMember}
@@ -12,7 +12,7 @@ use Rattle.blocked_table.proofs.Chain.{some_is}
 use Rattle.group_release.specs.Outline.{kept_nodes, nodes_of, nodes_on}
 use Rattle.group_release.proofs.Nodes.{in_flat, on_counted}
 use Rattle.search_machine.specs.Events.{Begins, GoesBack, GoesOn, Passes, Retreats, Runs}
-use Rattle.search_machine.specs.State.{State, IsGoodState, standing, waiting_at}
+use Rattle.search_machine.specs.State.{State, IsGoodState, waiting_at}
 use Rattle.search_machine.proofs.Counts.{held_counted, nodes_counted}
 use Rattle.search_machine.proofs.Good.{IsPlain, IsSettled, at_most_once, plain_good, settled}
 use Rattle.search_machine.proofs.Stacks.{back_counted, back_good, back_some, begun_counted, begun_good, begun_last, begun_some, retreat_counted, retreat_good, retreat_some}

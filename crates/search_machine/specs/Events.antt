@@ -1,14 +1,13 @@
 -- The events of many searches on one thread.
-use Rattle.std.specs.Prelude.{◌≡◌, ℕ, ◌+◌, ◌<◌, ◌⊎◌, true, List, [], ◌∷◌, length, slice_index_or, slice_set, Option, None, Some}
+use Rattle.std.specs.Prelude.{◌≡◌, ℕ, ◌<◌, ◌⊎◌, true, List, [], ◌∷◌, length, slice_index_or, slice_set, Option, None, Some}
 use Rattle.graph_law.specs.Classes.{HasMember}
-use Rattle.search_stack.specs.Stack.{Stack, size, height, node, top, position, low}
+use Rattle.search_stack.specs.Stack.{Stack, size, node, top, position, low}
 use Rattle.search_stack.specs.Search.{SearchValue, IsDone, IsOn, IsRipe, below_frame, empty_stack, lowered, next_successor, nodes_from, one_more_begun, pushed, retreated}
-use Rattle.blocked_table.specs.declared.suspended.Suspended.{Suspended}
 use Rattle.blocked_table.specs.declared.suspended.Suspended.TheVariants.{Kept, Moved}
 use Rattle.blocked_table.specs.Blocked.{HasReady, IsTaken, IsWoken}
 use Rattle.blocked_table.specs.Kept.{kept_at}
 use Rattle.blocked_table.specs.Suspending.{IsSuspended}
-use Rattle.group_release.specs.Released.{ReleasedGroups, IsAppended}
+use Rattle.group_release.specs.Released.{IsAppended}
 use Rattle.search_machine.specs.State.{State, IsClaimed, waiting_at}
 
 -- at the place stands this then, and what stood at the others stays

@@ -1,5 +1,5 @@
 -- Runs of many searches on one thread by a schedule that can be run again.
-use Rattle.std.specs.Prelude.{◌≡◌, ℕ, ◌+◌, ◌*◌, ◌/◌, ◌%◌, ◌^◌, ◌<◌, ◌⊎◌, Bool, false, List, [], ◌∷◌, length, replicate, slice_get, Option, None, Some, Contains}
+use Rattle.std.specs.Prelude.{◌≡◌, ℕ, ◌+◌, ◌*◌, ◌/◌, ◌%◌, ◌^◌, ◌<◌, ◌⊎◌, false, List, [], ◌∷◌, length, replicate, slice_get, None, Some, Contains}
 use Rattle.std.specs.List.Sorted.{IsStrictlyIncreasing}
 use Rattle.blocked_table.specs.Blocked.{HasReady}
 use Rattle.blocked_table.specs.Kept.{kept_at}

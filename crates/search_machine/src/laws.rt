@@ -1,0 +1,57 @@
+//! What holds of the searches of each graph, as laws: functions with nothing to run.
+
+ghost use Rattle.std.specs.Prelude.{◌≡◌, ◌<◌, ℕ, Bool, false, List, ◌∷◌, length, None, Some, All};
+ghost use Rattle.graph_law.specs.Classes.{HasMember};
+ghost use Rattle.graph_law.specs.Graph.{Calls, IsClosed};
+ghost use Rattle.graph_law.specs.LegalOrder.{IsComplete, IsLegalOrder};
+ghost use Rattle.graph_law.specs.Reach.{IsReached};
+ghost use Rattle.blocked_table.specs.Kept.{kept_at, IsChain};
+ghost use Rattle.search_machine.specs.Events.{Asks, IsEvent, IsPlainEvent, Opens};
+ghost use Rattle.search_machine.specs.Runs.{CanAct, IsRun, opening_state};
+ghost use Rattle.search_machine.specs.State.{State, IsGoodState, waiting_at};
+
+/// Each event keeps a good state, and so does each half of a claim.
+pub fn events_keep()
+    ensures plain { (lists : List (List ℕ)) (roots : List ℕ) (place : ℕ) (s t : State) → IsGoodState lists roots false s
+        → IsPlainEvent place s t → IsGoodState lists roots false t }
+    ensures asks { (lists : List (List ℕ)) (roots : List ℕ) (place v : ℕ) (s t : State) → IsGoodState lists roots false s
+        → Asks s place v t → IsGoodState lists roots false t }
+    ensures opens { (lists : List (List ℕ)) (roots : List ℕ) (failed : Bool) (place v : ℕ) (s t : State)
+        → IsGoodState lists roots failed s → Opens lists s place v t → IsGoodState lists roots failed t }
+    ensures events { (lists : List (List ℕ)) (roots : List ℕ) (place : ℕ) (s t : State) → IsGoodState lists roots false s
+        → IsEvent lists place s t → IsGoodState lists roots false t }
+{}
+
+/// The opening state is good, and so is each state that a run comes to.
+pub fn runs_keep()
+    ensures opening { (lists : List (List ℕ)) (roots : List ℕ) (places : ℕ) → IsClosed lists → All (λ root. root < length lists) roots
+        → IsGoodState lists roots false (opening_state (length lists) roots places) }
+    ensures runs { (lists : List (List ℕ)) (roots : List ℕ) (x : ℕ) (s : State) (states : List State) (end : State)
+        → IsGoodState lists roots false s → IsRun lists x s states end → IsGoodState lists roots false end }
+{}
+
+/// In a good state the released groups are a legal order of nodes that the roots reach, and no kept
+/// searches want each other in a ring.
+pub fn good_states()
+    ensures legal { (lists : List (List ℕ)) (roots : List ℕ) (failed : Bool) (s : State) → IsGoodState lists roots failed s
+        → IsLegalOrder (Calls lists) s.groups }
+    ensures reached { (lists : List (List ℕ)) (roots : List ℕ) (failed : Bool) (s : State) → IsGoodState lists roots failed s
+        → (v : ℕ) → HasMember s.groups v → IsReached (Calls lists) roots v }
+    ensures no_ring { (lists : List (List ℕ)) (roots : List ℕ) (failed : Bool) (s : State) → IsGoodState lists roots failed s
+        → (v x : ℕ) (steps : List ℕ) → IsChain s.kept v (x ∷ steps) v → ⊥ }
+{}
+
+/// Where nothing can act, nothing is left: no search is kept, and every root is released. So it is where
+/// a run from the opening state stops.
+pub fn nothing_left()
+    ensures none_kept { (lists : List (List ℕ)) (roots : List ℕ) (failed : Bool) (s : State) → IsGoodState lists roots failed s
+        → 0 < length s.running → ((place : ℕ) → waiting_at s place ≡ None) → ((place : ℕ) → CanAct s place → ⊥)
+        → (place : ℕ) → kept_at s.kept place ≡ None }
+    ensures complete { (lists : List (List ℕ)) (roots : List ℕ) (failed : Bool) (s : State) → IsGoodState lists roots failed s
+        → 0 < length s.running → ((place : ℕ) → waiting_at s place ≡ None) → ((place : ℕ) → CanAct s place → ⊥)
+        → IsComplete roots s.groups }
+    ensures runs { (lists : List (List ℕ)) (roots : List ℕ) (places x : ℕ) (states : List State) (end : State) → IsClosed lists
+        → All (λ root. root < length lists) roots → 0 < places
+        → IsRun lists x (opening_state (length lists) roots places) states end → ((place : ℕ) → CanAct end place → ⊥)
+        → IsComplete roots end.groups }
+{}
