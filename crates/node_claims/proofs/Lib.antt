@@ -1,0 +1,7 @@
+mod Calls
+mod Claiming
+mod Once
+mod Passes
+mod Turning
+mod Turns
+mod Words

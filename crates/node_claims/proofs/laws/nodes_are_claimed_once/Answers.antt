@@ -1,0 +1,8 @@
+use Rattle.node_claims.proofs.Once.{claimed_once, stand_somewhere}
+use Rattle.node_claims.proofs.laws.nodes_are_claimed_once.Goals as goal
+
+pub returns-clause-once : goal.returns-clause-once
+returns-clause-once c = claimed_once
+
+pub returns-clause-somewhere : goal.returns-clause-somewhere
+returns-clause-somewhere c = stand_somewhere

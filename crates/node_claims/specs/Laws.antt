@@ -1,0 +1,20 @@
+-- What follows for every table that keeps the rule.
+use Rattle.std.specs.Prelude.{◌≡◌, ℕ, suc, ◌+◌, ◌<◌, length, slice_index}
+use mathlib.Core.Option.{some}
+use lib.ListN.{get_elem?}
+use Rattle.atomic_table.specs.Table.{State}
+use Rattle.node_counts.specs.Counts.{times, total}
+use Rattle.node_claims.specs.declared.view.View.{View}
+use Rattle.node_claims.specs.Rule.{RuleHolds, Slot}
+
+-- no node is with two passes
+abbrev pub AreClaimedOnce : Type 0
+AreClaimedOnce =
+    (s : State Slot View) → RuleHolds s → (x i j : ℕ) (v w : View) → get_elem? s.views i ≡ some v → get_elem? s.views j ≡ some w
+    → 0 < times x v.nodes → 0 < times x w.nodes → i ≡ j
+
+-- a node whose word is 1 stands once, with a pass or on a kept search of the known book
+abbrev pub StandSomewhere : Type 0
+StandSomewhere =
+    (s : State Slot View) (holds : RuleHolds s) (x : ℕ) → x < length holds.known.lists → slice_index s.words (suc x) ≡ 1
+    → total (λ v. times x v.nodes) s.views + times x holds.known.kept ≡ 1

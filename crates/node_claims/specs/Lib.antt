@@ -1,0 +1,10 @@
+pub mod Claims
+pub mod ClaimsFields
+pub mod Laws
+pub mod Lending
+pub mod PassFields
+pub mod Rule
+pub mod Steps
+pub mod Taking
+pub mod TurnFields
+pub mod Views

@@ -1,0 +1,213 @@
+ghost use Rattle.std.specs.Prelude.{◌≡◌, ◌<◌, ℕ, [], length, All, IfOk};
+ghost use Rattle.graph_law.specs.Classes.{HasMember};
+ghost use Rattle.graph_law.specs.Graph.{Calls, lists_of};
+ghost use Rattle.graph_law.specs.LegalOrder.{IsComplete, IsLegalOrder};
+ghost use Rattle.graph_law.specs.Reach.{IsReached};
+ghost use Rattle.node_counts.specs.Counts.{times};
+ghost use Rattle.node_claims.specs.Claims.{ClaimsValue, IsPassOf, claim_number, look_number};
+ghost use Rattle.node_claims.specs.Steps.{IsLater, IsLent};
+ghost use Rattle.node_claims.specs.Taking.{IsTaken};
+ghost use Rattle.node_claims.specs.Views.{both, claimed, fresh, looked, outline_of};
+
+use crate::pass::Pass;
+use crate::rule::{Claim, ClaimRule, Look, Part, Take, Whole};
+use crate::turn::Turn;
+use crate::view::View;
+use atomic_table::{Refused, Seat, Table};
+use graph_law::Opener;
+use group_release::Book;
+use std::alloc::{AllocError, Global};
+use std::marker::Model;
+use std::snapshot::Snapshot;
+use std::sync::Wait;
+use std::thread;
+
+// How often a pass that waits for the turn lets other threads go on before it sleeps.
+const TRIES: u32 = 64;
+
+/// What a claim found.
+#[derive(Clone, Copy, Debug, PartialEq, Eq)]
+pub enum Claimed {
+    /// Nobody had it: this pass has it now.
+    Won,
+    /// A pass or a kept search has it.
+    Held,
+    /// It is released, or is about to be.
+    Done,
+}
+
+/// What a look found.
+#[derive(Clone, Copy, Debug, PartialEq, Eq)]
+pub enum Looked {
+    Unseen,
+    Held,
+    Done,
+}
+
+/// A word for each node, and one book that one pass at a time may have. It is seen as the table of its
+/// words, and the graph and the roots that its book was made with.
+#[derive(Drop)]
+pub struct Claims {
+    pub(crate) table: Table<Option<Book>, View, Snapshot<Book>, ClaimRule, Global>,
+}
+
+impl Model for Claims {
+    ghost use Rattle.node_claims.specs.Claims.{ClaimsValue};
+
+    ghost Value = { ClaimsValue };
+
+    ghost use Rattle.node_claims.specs.ClaimsFields.{claims_of, IsClaims};
+
+    ghost view = { claims_of };
+
+    ghost invariant = { IsClaims };
+}
+
+impl Claims {
+    /// No node is claimed, the book is new, and there is one pass, which has nothing.
+    pub fn make<O: Opener>(
+        alloc: Global,
+        opener: &O,
+        roots: &[u32],
+    ) -> Result<(Claims, Pass), AllocError>
+        requires { All (λ root. root < length (O.lists opener.now)) roots.now }
+        ensures lists { IfOk result (λ made. made.0.lists ≡ O.lists opener.now) }
+        ensures roots { IfOk result (λ made. made.0.roots ≡ roots.now) }
+        ensures pass { IfOk result (λ made. IsPassOf made.0 made.1) }
+        ensures fresh { IfOk result (λ made. made.1.view ≡ fresh (O.lists opener.now) roots.now) }
+    {
+        let words = vec![in alloc; 0u64; opener.count() as usize + 1]?;
+        let mut slots = Vec::with_capacity(alloc, 1)?;
+        let book = Book::make(alloc, opener, roots)?;
+        let about = Snapshot::of(&book);
+        slots.push_reserved(Some(book));
+        match Table::new(alloc, words.as_slice(), slots, &about) {
+            Ok((table, seat)) => Ok((Claims { table }, Pass { seat })),
+            Err(Refused { slots: _ }) => Err(AllocError),
+        }
+    }
+
+    /// Claims a node by one exchange on its word. It takes no lock and never waits.
+    pub fn claim(&self, pass: &mut Pass, node: u32) -> Claimed
+        requires pass { IsPassOf self.now pass.old }
+        requires node { node < length self.now.lists }
+        ensures pass { IsPassOf self.now pass.new }
+        ensures later { IsLater node pass.old.view (claim_number result) }
+        ensures view { pass.new.view ≡ claimed node (claim_number result) pass.old.view }
+    {
+        let found = self
+            .table
+            .shared
+            .compare_exchange::<Claim>(&mut pass.seat, node as usize + 1, 0, 1);
+        match found {
+            0 => Claimed::Won,
+            1 => Claimed::Held,
+            _ => Claimed::Done,
+        }
+    }
+
+    /// Reads the word of a node once. It never waits.
+    pub fn look(&self, pass: &mut Pass, node: u32) -> Looked
+        requires pass { IsPassOf self.now pass.old }
+        requires node { node < length self.now.lists }
+        ensures pass { IsPassOf self.now pass.new }
+        ensures later { IsLater node pass.old.view (look_number result) }
+        ensures view { pass.new.view ≡ looked node (look_number result) pass.old.view }
+    {
+        match self
+            .table
+            .shared
+            .load::<Look>(&mut pass.seat, node as usize + 1)
+        {
+            0 => Looked::Unseen,
+            1 => Looked::Held,
+            _ => Looked::Done,
+        }
+    }
+
+    /// Waits until no other pass has the turn, and lends the book. What the pass saw finished is
+    /// released in it; what the pass has is neither released in it nor kept. Every book keeps the rest
+    /// of its rule by itself, as `Book::keeps` tells. The promise holds if the call returns.
+    pub fn turn(&self, rt: &impl Wait, pass: Pass) -> Turn<'_>
+        requires { IsPassOf self.now pass }
+        ensures table { result.table ≡ pass.table }
+        ensures view { result.view ≡ pass.view }
+        ensures taken { result.taken ≡ record { book = outline_of result.book; closed = [] } }
+        ensures lent { IsLent pass.view (outline_of result.book) }
+    {
+        let (seat, book) = self.take(rt, pass);
+        Turn {
+            claims: self,
+            seat,
+            book,
+        }
+    }
+
+    /// A second pass, which has nothing yet.
+    pub fn split(&self, pass: Pass) -> (Pass, Pass)
+        requires { IsPassOf self.now pass }
+        ensures first { result.0 ≡ pass }
+        ensures second { result.1 ≡ record { table = pass.table; view = fresh self.now.lists self.now.roots } }
+    {
+        let Pass { mut seat } = pass;
+        let other = self.table.shared.split_seat::<Part>(&mut seat);
+        (Pass { seat }, Pass { seat: other })
+    }
+
+    /// One pass that has and knows what both did: of each list the left's and then the right's.
+    pub fn join(&self, left: Pass, right: Pass) -> Pass
+        requires left { IsPassOf self.now left }
+        requires right { IsPassOf self.now right }
+        ensures { result ≡ record { table = left.table; view = both left.view right.view } }
+    {
+        let Pass { mut seat } = left;
+        self.table.shared.join_seat::<Whole>(&mut seat, right.seat);
+        Pass { seat }
+    }
+
+    /// Takes the turn for the last time, and answers the released groups in their order. The promise
+    /// holds if the call returns.
+    pub fn finish(self, rt: &impl Wait, pass: Pass) -> Vec<Vec<u32>>
+        requires pass { IsPassOf self pass }
+        requires idle { pass.view.nodes ≡ [] }
+        requires seen { All (λ root. 0 < times root pass.view.seen) self.roots }
+        ensures legal { IsLegalOrder (Calls self.lists) (lists_of result.items) }
+        ensures complete { IsComplete self.roots (lists_of result.items) }
+        ensures reached { (v : ℕ) → HasMember (lists_of result.items) v → IsReached (Calls self.lists) self.roots v }
+    {
+        let (_seat, book) = self.take(rt, pass);
+        book.into_groups()
+    }
+
+    // Waits for the turn, and takes the book out of its slot.
+    fn take(&self, rt: &impl Wait, pass: Pass) -> (Seat<Option<Book>, View>, Book)
+        requires { pass.table ≡ self.now.table }
+        ensures { IsTaken pass result.0 result.1 }
+    {
+        let Pass { mut seat } = pass;
+        let mut tries = 0;
+        for _ in rt.forever() {
+            if self
+                .table
+                .shared
+                .compare_exchange::<Take>(&mut seat, 0, 0, 1)
+                == 0
+            {
+                let book = self.table.shared.exchange(&mut seat, 0, None).unwrap();
+                return (seat, book);
+            }
+            tries = self.pause(rt, tries);
+        }
+        unreachable!()
+    }
+
+    // Lets other threads go on, or sleeps until the turn is given back where it has tried often enough.
+    fn pause(&self, rt: &impl Wait, tries: u32) -> u32 {
+        if tries < TRIES {
+            thread::yield_now();
+            return tries + 1;
+        }
+        self.table.shared.park(rt, 0, 1);
+        tries
+    }
+}

@@ -1,0 +1,33 @@
+//! What a pass knows, as plain data. No value of these types is ever made: clauses and proofs alone
+//! speak of them.
+
+use std::collections::LinkedList;
+
+/// A book as the rule sees it: its graph and its roots, the nodes of its kept searches, the nodes that
+/// these want, and its released groups.
+pub struct Outline {
+    pub lists: LinkedList<LinkedList<u32>>,
+    pub roots: LinkedList<u32>,
+    pub kept: LinkedList<u32>,
+    pub wants: LinkedList<u32>,
+    pub released: LinkedList<LinkedList<u32>>,
+}
+
+/// A book as it was taken, and the nodes closed since.
+pub struct Taken {
+    pub book: Outline,
+    pub closed: LinkedList<u32>,
+}
+
+/// What a pass knows: the graph and the roots, the nodes that it claimed and has, those that it saw
+/// finished, what each of its claims and looks found, and the book that it took, if it has the turn. A
+/// pass that was joined into another isn't live.
+pub struct View {
+    pub live: bool,
+    pub lists: LinkedList<LinkedList<u32>>,
+    pub roots: LinkedList<u32>,
+    pub nodes: LinkedList<u32>,
+    pub seen: LinkedList<u32>,
+    pub looks: LinkedList<(u32, u64)>,
+    pub turn: Option<Taken>,
+}
