@@ -1,7 +1,10 @@
 -- How often a node is counted where it stands at one place, and at two.
-use Rattle.std.proofs.Common.{◌≡◌, inl, inr, ℕ, zero, suc, ◌<◌, ◌≤◌, ◌+◌, List, [], ◌∷◌, length, map, take, drop, get_or, Option, None, Some, refl, ap, ◌∙◌, arith}
+use Rattle.std.proofs.Common.{◌≡◌, inl, inr, ℕ, zero, suc, ◌<◌, ◌≤◌, ◌+◌, List, [], ◌∷◌, length, map, take, drop, get_or, ne_eqb, Option, None, Some, refl, ap, ◌∙◌, arith}
 use Rattle.std.proofs.lemmas.Bool.{cases_eq, cases_lt}
 use Rattle.std.proofs.lemmas.List.{get_or_past, map-append}
+use Rattle.std.proofs.lemmas.Map.Keys.{IsDistinct-from_apart}
+use Rattle.std.specs.List.{IsDistinct as AreDistinct}
+use Rattle.std.specs.Prelude.{nat_eq}
 use Rattle.node_counts.specs.Counts.{times, flat, total}
 use Rattle.node_counts.proofs.Counting.{times-append, times_here}
 use Rattle.node_counts.proofs.Standing.{total_at, times-flat-map}
@@ -94,6 +97,24 @@ distinct_counted s once i j lt within is =
           let second : f (get_or s.entries j no_entry) ≡ 1 = times_here v in
           absurd (omega (arith, two, first, second, once v, times_total v s.entries))
     ]
+
+listed_total : (x : ℕ) (xs : List ℕ) → times x xs ≡ total (λ u. times x (u ∷ [])) xs
+listed_total x [] = refl
+listed_total x (y ∷ ys) = let rest = listed_total x ys in omega (arith, rest)
+
+pub distinct_listed : (xs : List ℕ) → ((v : ℕ) → times v xs ≤ 1) → AreDistinct nat_eq xs
+distinct_listed xs once =
+    IsDistinct-from_apart nat_eq xs
+    (λ i j d below lt.
+    ne_eqb (get_or xs i d) (get_or xs j d)
+    (λ is.
+    let v : ℕ = get_or xs j d in
+    let f : ℕ → ℕ = λ u. times v (u ∷ []) in
+    let two : f (get_or xs i d) + f (get_or xs j d) ≤ total f xs =
+    two_of f d xs i j (omega (arith, below, lt)) lt (λ same. omega (arith, same, below)) in
+    let first : f (get_or xs i d) ≡ 1 = ap (λ u. times v (u ∷ [])) is ∙ times_here v in
+    let second : f (get_or xs j d) ≡ 1 = times_here v in
+    omega (arith, two, first, second, once v, listed_total v xs)))
 
 -- stacks with the same nodes count them the same
 nodes_same : (olds news : List Entry) (d : Entry) → length news ≡ length olds → ((i : ℕ) → (get_or news i d).node ≡ (get_or olds i d).node) → (x : ℕ)

@@ -11,3 +11,6 @@ pub mod Starting
 pub mod Stuck
 pub mod Quiet
 pub mod Runs
+pub mod Stopping
+pub mod Acting
+pub mod Steps

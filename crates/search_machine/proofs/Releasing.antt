@@ -1,29 +1,74 @@
 -- A group is released: the state stays good.
-use Rattle.std.proofs.Common.{◌≡◌, inl, inr, ℕ, ◌<◌, ◌+◌, false, List, [], ◌∷◌, ◌++◌, length, Option, None, Some, refl, ap, sym, subst, arith}
-use Rattle.std.proofs.lemmas.List.Elements.{Contains-append_cases}
+use Rattle.std.proofs.Common.{◌≡◌, inl, inr, ℕ, ◌<◌, ◌≤◌, ◌+◌, false, List, [], ◌∷◌, ◌++◌, length, get_or, Option, None, Some, refl, ap, sym, subst, arith}
+use Rattle.std.proofs.lemmas.List.Elements.{All-from_get_or, Contains-append_cases}
+use Rattle.std.proofs.lemmas.List.{get_or_default}
 use Rattle.std.specs.Prelude.{Contains}
 use Rattle.node_counts.specs.Counts.{times, flat}
 use Rattle.node_counts.proofs.Counting.{counted}
 use Rattle.graph_law.specs.Classes.{HasMember}
 use Rattle.search_stack.specs.Stack.{Stack, size, top}
 use Rattle.search_stack.specs.GoodSearch.{IsGood}
-use Rattle.search_stack.specs.Search.{SearchValue, IsReleasable, below_frame, nodes_from}
+use Rattle.search_stack.specs.Search.{SearchValue, IsReleasable, IsRipe, below_frame, nodes_from}
 use Rattle.search_stack.proofs.Edges.{good_more}
 use Rattle.blocked_table.specs.Kept.{Holds}
 use Rattle.blocked_table.proofs.Chain.{none_is_not, some_is}
 use Rattle.blocked_table.proofs.WakeGood.{woken_good}
 use Rattle.group_release.specs.Book.{IsGoodBook}
 use Rattle.group_release.specs.Outline.{kept_nodes, nodes_of, nodes_on}
-use Rattle.group_release.specs.Released.{ReleasedGroups}
+use Rattle.group_release.specs.Released.{IsNewGroup, ReleasedGroups}
+use Rattle.group_release.proofs.Beside.{reached_within}
 use Rattle.group_release.proofs.Nodes.{in_flat}
 use Rattle.group_release.proofs.Waking.{more_new, more_old, released_count, released_good, was_kept, woken_nodes}
-use Rattle.search_machine.specs.Events.{GoesOn, Releases, SetsAt}
+use Rattle.search_machine.specs.Events.{GoesOn, Releases, Runs, SetsAt}
 use Rattle.search_machine.specs.State.{State, IsGoodState}
-use Rattle.search_machine.proofs.Counts.{below_counted, empty_counted, held_counted, place_counted}
+use Rattle.search_machine.proofs.Counts.{below_counted, distinct_listed, empty_counted, held_counted, place_counted}
 use Rattle.search_machine.proofs.Good.{IsPlain, IsSettled, at_most_once, plain_good}
 use Rattle.search_machine.proofs.KeptEnds.{woken_ends}
 use Rattle.search_machine.proofs.Stacks.{leaves, left_good}
 use Rattle.search_machine.proofs.Turns.{HasStack, has_stack}
+
+-- the group of the ripe top segment
+module _ {lists : List (List ℕ)} {roots : List ℕ} {s : State} {place : ℕ} {stack : Stack} (good : IsGoodState lists roots false s)
+    (runs : Runs s place stack) (ripe : IsRipe stack) where
+  abbrev ripe_group : List ℕ
+  ripe_group = nodes_from stack (top stack)
+
+  top_was : HasStack lists roots s place false stack
+  top_was = has_stack good runs
+
+  pub ripe_releasable : IsReleasable lists roots (flat s.groups) ripe_group
+  ripe_releasable = leaves top_was.good ripe
+
+  group_counted : (v : ℕ) → times v ripe_group ≤ times v (kept_nodes s.running)
+  group_counted v = omega (arith, below_counted stack (top stack) v, top_was.counted v, place_counted s.running place v)
+
+  pub ripe_fresh : (v : ℕ) → Contains ripe_group v → HasMember s.groups v → ⊥
+  ripe_fresh v has member =
+      let once = at_most_once good v in
+      let own = group_counted v in
+      let here = counted v ripe_group has in
+      let other = counted v (flat s.groups) (in_flat s.groups v member) in
+      omega (arith, once, own, here, other)
+
+  pub ripe_apart : (i v : ℕ) → Holds s.kept i v → Contains ripe_group v → ⊥
+  ripe_apart i v holds has =
+      let once = at_most_once good v in
+      let own = group_counted v in
+      let here = counted v ripe_group has in
+      let other = held_counted s.kept i v holds in
+      omega (arith, once, own, here, other)
+
+  pub ripe_new : IsNewGroup (record { count = length lists; groups = s.groups }) ripe_group
+  ripe_new = record {
+    inhabited = ripe_releasable.inhabited;
+    distinct = distinct_listed ripe_group (λ v. let once = at_most_once good v in let own = group_counted v in omega (arith, once, own));
+    below =
+        All-from_get_or (λ node. node < length lists) ripe_group 0
+        (λ k lt.
+        reached_within lists roots good.book.closed good.book.rooted (get_or ripe_group k 0)
+        (ripe_releasable.reached (get_or ripe_group k 0) (k, lt, get_or_default ripe_group k (get_or ripe_group k 0) 0 lt)));
+    fresh = ripe_fresh;
+  }
 
 module _ {lists : List (List ℕ)} {roots : List ℕ} {s t : State} {place : ℕ} (good : IsGoodState lists roots false s) (e : Releases s place t) where
   abbrev group : List ℕ
@@ -36,25 +81,13 @@ module _ {lists : List (List ℕ)} {roots : List ℕ} {s t : State} {place : ℕ
   was = has_stack good e.runs
 
   release : IsReleasable lists roots (flat s.groups) group
-  release = leaves was.good e.ripe
-
-  group_counted : (v : ℕ) → Contains group v → 0 < times v (kept_nodes s.running)
-  group_counted v has =
-      omega (arith, counted v group has, below_counted e.stack (top e.stack) v, was.counted v, place_counted s.running place v)
+  release = ripe_releasable good e.runs e.ripe
 
   fresh : (v : ℕ) → Contains group v → HasMember s.groups v → ⊥
-  fresh v has member =
-      let once = at_most_once good v in
-      let own = group_counted v has in
-      let other = counted v (flat s.groups) (in_flat s.groups v member) in
-      omega (arith, once, own, other)
+  fresh = ripe_fresh good e.runs e.ripe
 
   apart : (i v : ℕ) → Holds s.kept i v → Contains group v → ⊥
-  apart i v holds has =
-      let once = at_most_once good v in
-      let own = group_counted v has in
-      let other = held_counted s.kept i v holds in
-      omega (arith, once, own, other)
+  apart = ripe_apart good e.runs e.ripe
 
   abbrev more : List (List ℕ)
   more = s.groups ++ e.appended.last ∷ []

@@ -1,3 +1,5 @@
 pub mod Events
+pub mod Machine
+pub mod MachineFields
 pub mod Runs
 pub mod State

@@ -1,14 +1,16 @@
-//! Many searches on one thread: the events that change what they hold, and what each event keeps.
+//! Many searches of one graph that take turns on one thread.
 //!
-//! A state has searches at places, kept ones, marks of the nodes that are claimed, the roots to come
-//! and the released groups. An event is one turn of a place: it takes a root or a ready search,
-//! begins an edge, retreats, or releases a group. Each event keeps a good state, so along each run,
-//! whatever the schedule, the released groups are a legal order of what the roots reach; and where no
-//! place can act any more, every root is released.
-//!
-//! There is no code in it yet: its laws are what a machine of these events will stand on.
+//! A state has a search or none at each place, the kept searches, the claimed nodes, the roots to come
+//! and the released groups. What one turn of a place makes of it is an event. The laws say of every
+//! graph that each event keeps a good state, whose groups are a legal order of what the roots reach, and
+//! that where no place can act every root is released. A `Machine` holds such a state, and lets a place
+//! act.
 #![tactic(auto)]
 
 mod laws;
+mod machine;
+mod step;
 
 pub use laws::{events_keep, good_states, nothing_left, runs_keep};
+pub use machine::Machine;
+pub use step::Step;
