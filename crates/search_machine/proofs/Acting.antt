@@ -38,7 +38,7 @@ puts_back xs place gone after lt = record {
   same = λ i ne. get_or-set_other (set xs place gone) place i after None ne ∙ get_or-set_other xs place i gone None ne;
 }
 
-put_same : (xs : List (Option SearchValue)) (place : ℕ) (left after : Option SearchValue) → place < length xs → get_or xs place None ≡ after
+pub put_same : (xs : List (Option SearchValue)) (place : ℕ) (left after : Option SearchValue) → place < length xs → get_or xs place None ≡ after
     → set (set xs place left) place after ≡ xs
 put_same [] place left after lt is = absurd (omega (arith, lt))
 put_same (x ∷ xs) zero left after lt is = ap (λ y. y ∷ xs) (sym is)

@@ -172,7 +172,7 @@ module _ {lists : List (List ℕ)} {roots : List ℕ} {failed : Bool} {s : State
   stack_counted None x = refl
   stack_counted (Some search) x = refl
 
-  waits_within : (place v : ℕ) → waiting_at s place ≡ Some v → place < length s.waiting
+  pub waits_within : (place v : ℕ) → waiting_at s place ≡ Some v → place < length s.waiting
   waits_within place v waits =
       elim (cases_lt place (length s.waiting)) as (λ _. place < length s.waiting)
       [ inl lt ↦ lt | inr past ↦ absurd (none_is_not v (waiting_at s place) (get_or_past s.waiting place None past) waits) ]

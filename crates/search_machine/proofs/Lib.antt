@@ -13,4 +13,5 @@ pub mod Quiet
 pub mod Runs
 pub mod Stopping
 pub mod Acting
+pub mod Pushing
 pub mod Steps

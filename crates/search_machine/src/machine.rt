@@ -12,6 +12,7 @@ use std::alloc::{AllocError, Global};
 use std::marker::Model;
 
 mod acting;
+mod opening;
 
 /// Many searches of one graph, each at a place, which take turns on one thread.
 ///
