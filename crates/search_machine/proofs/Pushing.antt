@@ -14,7 +14,6 @@ use Rattle.group_release.specs.Outline.{listed}
 use Rattle.group_release.proofs.Nodes.{on_counted}
 use Rattle.search_machine.specs.declared.machine.Machine.TheInside.{Inside}
 use Rattle.search_machine.specs.Events.{Opens, stack_of}
-use Rattle.search_machine.specs.Machine.{MachineValue}
 use Rattle.search_machine.specs.MachineFields.{IsMachine, state_of, value_of}
 use Rattle.search_machine.specs.State.{State, IsGoodState, waiting_at}
 use Rattle.search_machine.proofs.Acting.{goes, put_same, puts_back}

@@ -10,6 +10,8 @@ mod graphs;
 #[cfg(test)]
 mod level_tests;
 #[cfg(test)]
+mod machine_tests;
+#[cfg(test)]
 mod plain_tests;
 #[cfg(test)]
 mod step_tests;

@@ -1,4 +1,4 @@
-use Rattle.std.proofs.Common.{◌∙◌, refl, sym}
+use Rattle.std.proofs.Common.{refl}
 use Rattle.search_machine.proofs.Pushing.{back_machine, failed_state, failed_value, fresh, led, opened_machine, opens_step, waiting, wants_none}
 use Rattle.search_machine.proofs.machine.Machine.opened.Goals as goal
 

@@ -1,0 +1,112 @@
+ghost use Rattle.std.specs.Prelude.{◌≡◌, ◌<◌, IfOk};
+
+use crate::graphs::small_graph;
+use graph_law::{Graph, Opener, classes_slow};
+use search_machine::{Machine, Step};
+use search_stack::Opening;
+use std::alloc::Global;
+use std::test::Fail;
+
+#[test]
+fn searches_at_two_places_become_one_group(rt: HostRuntime) -> Result<(), Fail> {
+    let alloc = rt.alloc();
+    // 0 and 1 call each other, and both are roots.
+    let graph = small_graph(alloc, 2, 0b0110, 0b11)?.ok_or("refused")?;
+    // Each place takes a root, the first search is kept, and comes on top of the second, which joins
+    // its segments and releases them.
+    let seen = turns_of_two(alloc, &graph, &[0, 1, 0, 1, 1, 1])?;
+    assert_eq!(rt;
+        seen.as_str(),
+        "[(Some(0), true, true), (Some(1), true, true), (None, false, true), \
+         (None, false, true), (None, false, true), (None, false, false)] [[0, 1]]"
+    );
+    Ok(())
+}
+
+#[test]
+fn releases_the_classes_of_all_small_graphs(rt: HostRuntime) -> Result<(), Fail> {
+    let alloc = rt.alloc();
+    for count in 1..4 {
+        for edges in 0..1u32 << (count * count) {
+            let graph = small_graph(alloc, count, edges, 0b111)?.ok_or("refused")?;
+            assert!(rt; agrees(alloc, &graph)?);
+        }
+    }
+    Ok(())
+}
+
+/// Two places act, as listed. For each turn: the node that was claimed, and whether the first place can
+/// act then and the second; and after them the released groups.
+fn turns_of_two(alloc: Global, graph: &Graph, places: &[u32]) -> Result<String, Fail> {
+    let mut machine = Machine::make(alloc, graph, graph.roots(), 2)?;
+    let mut seen = Vec::new(alloc);
+    'turns: for &place in places {
+        let claimed = take_turn(alloc, graph, &mut machine, place)?;
+        seen.push((claimed, machine.can_act(0), machine.can_act(1)))?;
+    }
+    let groups = machine.into_groups();
+    Ok(format!(in alloc; "{seen:?} {groups:?}")?)
+}
+
+/// Whether the groups, in order of their least members, are the classes, for two places and for three
+/// which act one to three times in a row.
+fn agrees(alloc: Global, graph: &Graph) -> Result<bool, Fail> {
+    let classes = classes_slow(alloc, graph)?;
+    for pattern in 0..6u32 {
+        let mut groups = groups_in_turns(alloc, graph, 2 + pattern % 2, 1 + pattern / 2)?;
+        groups.sort()?;
+        if groups != classes {
+            return Ok(false);
+        }
+    }
+    Ok(true)
+}
+
+/// The groups that a machine releases, each place of which acts so many times in a row where it can.
+fn groups_in_turns(
+    alloc: Global,
+    graph: &Graph,
+    places: u32,
+    row: u32,
+) -> Result<Vec<Vec<u32>>, Fail>
+    requires places { 0 < places }
+    requires row { 0 < row }
+{
+    let mut machine = Machine::make(alloc, graph, graph.roots(), places)?;
+    'turns: for turn in 0..200u32 {
+        let place = turn / row % places;
+        if !machine.can_act(place) {
+            continue;
+        }
+        take_turn(alloc, graph, &mut machine, place)?;
+    }
+    Ok(machine.into_groups())
+}
+
+/// Lets a place act, and hands in the opening that it asks for: the node that it has claimed.
+fn take_turn(
+    alloc: Global,
+    graph: &Graph,
+    machine: &mut Machine,
+    place: u32,
+) -> Result<Option<u32>, Fail>
+    requires { machine.old.lists ≡ graph.now.lists }
+    ensures { IfOk result (λ _. machine.new.lists ≡ graph.now.lists) }
+{
+    machine.keeps();
+    if !machine.can_act(place) {
+        return Err("the place can't act".into());
+    }
+    let Step::Open(node) = machine.act(place)? else {
+        return Ok(None);
+    };
+    if node >= graph.count() {
+        return Err("no such node".into());
+    }
+    let mut succs = Vec::new(alloc);
+    graph.expand(node, &mut succs)?;
+    match machine.opened(alloc, place, Opening { node, succs }) {
+        Ok(()) => Ok(Some(node)),
+        Err((error, _)) => Err(error.into()),
+    }
+}
