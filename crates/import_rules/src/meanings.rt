@@ -91,12 +91,8 @@ pub(crate) fn with_imports(
         → AreFirsts (foreign_items files) (map see_item items.now) → AreTargets files predicates made.names made.targets.items) }
 {
     let mut imported = find_sources(alloc, &predicates, items)?;
-    let mut names = predicates.into_names();
-    let mut targets = numbers_below(alloc, names.len() as u32)?;
-    names.append(&mut imported.names)?;
+    let mut targets = numbers_below(alloc, predicates.len() as u32)?;
     targets.append(&mut imported.targets)?;
-    Ok(Meanings {
-        names: NameTable::make(alloc, names)?,
-        targets,
-    })
+    let names = predicates.with_more(alloc, &mut imported.names)?;
+    Ok(Meanings { names, targets })
 }

@@ -1,6 +1,6 @@
 //! Names in chains, one for each bucket of a hash: a name is found by one look-up, without memory.
 
-ghost use Rattle.std.specs.Prelude.{◌≡◌, ◌<◌, length, slice_get, Some, false, IfOk, IfSome, MatchOption};
+ghost use Rattle.std.specs.Prelude.{◌≡◌, ◌<◌, ◌++◌, length, slice_get, Some, false, IfOk, IfSome, MatchOption};
 ghost use Rattle.std.specs.List.{list_any};
 ghost use Rattle.import_rules.specs.Names.{is_same, pred_name};
 ghost use Rattle.import_rules.specs.NameTable.{text_hash, name_hash, bucket_in};
@@ -112,11 +112,27 @@ impl NameTable {
         &self.names[place]
     }
 
-    /// The names, in order of their places.
-    pub(crate) fn into_names(self) -> Vec<PredName>
-        ensures { result.items ≡ self }
+    /// How many names there are.
+    pub(crate) fn len(&self) -> usize
+        ensures { result ≡ length self.now }
     {
-        self.names
+        self.names.len()
+    }
+
+    /// The table of the names and, behind them, of more names, which are taken out of their list.
+    pub(crate) fn with_more(
+        self,
+        alloc: Global,
+        more: &mut Vec<PredName>,
+    ) -> Result<NameTable, AllocError>
+        ensures { IfOk result (λ table. table ≡ self ++ more.old.items) }
+    {
+        if more.is_empty() {
+            return Ok(self);
+        }
+        let mut names = self.names;
+        names.append(more)?;
+        NameTable::make(alloc, names)
     }
 
     /// The last place at which the name stands.
