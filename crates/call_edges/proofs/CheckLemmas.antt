@@ -134,10 +134,10 @@ fault_at_place files at p =
 
 -- a clause of a predicate of a file is one of a node
 
-node_of : (seen : Seen) (p : PredName) → IsKnown seen → Contains (all_defined seen.loaded.files) p → (n : ℕ) × (slice_get seen.predicates n ≡ Some p)
+pub node_of : (seen : Seen) (p : PredName) → IsKnown seen → Contains (all_defined seen.loaded.files) p → (n : ℕ) × (slice_get seen.predicates n ≡ Some p)
 node_of seen p known has = place_in seen.predicates p (All-contains (Contains seen.predicates) (all_defined seen.loaded.files) p known.numbered.all has)
 
-defined_there : (files : List Facts) (file : Facts) (k part : ℕ) (predicate : Predicate) → slice_get files k ≡ Some file → slice_get file.defined part ≡ Some predicate
+pub defined_there : (files : List Facts) (file : Facts) (k part : ℕ) (predicate : Predicate) → slice_get files k ≡ Some file → slice_get file.defined part ≡ Some predicate
     → Contains (all_defined files) (name_in file predicate)
 defined_there files file k part predicate here there =
     (flat_has defined_in files (name_in file predicate)).1
@@ -149,7 +149,7 @@ defined_there files file k part predicate here there =
           (record { one = predicate; has = stands_in file.defined part predicate there; is = refl });
     })
 
-place_of_node : (seen : Seen) (n : ℕ) (p : PredName) (at : ℕ × ℕ) → slice_get seen.predicates n ≡ Some p → Contains (places_for (parts_in seen.loaded.files) p) at
+pub place_of_node : (seen : Seen) (n : ℕ) (p : PredName) (at : ℕ × ℕ) → slice_get seen.predicates n ≡ Some p → Contains (places_for (parts_in seen.loaded.files) p) at
     → Contains (places_in seen n) at
 unfolding places_in
 place_of_node seen n p at is has = subst (λ (o : Option PredName). Contains (places_at seen.loaded.files o) at) (sym is) has

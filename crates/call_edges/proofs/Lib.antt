@@ -12,6 +12,7 @@ pub mod CallLemmas
 pub mod LaidOutLemmas
 pub mod LightLemmas
 pub mod RootLemmas
+pub mod PlainRoots
 pub mod FaultLemmas
 pub mod KnownLemmas
 pub mod OffsetLemmas

@@ -30,46 +30,14 @@ use Rattle.call_edges.proofs.CheckLemmas.{stands_in, place_in}
 use Rattle.call_edges.proofs.CallLemmas.{adds_from_none}
 use Rattle.call_edges.proofs.SuccessorLemmas.{found_below, goes_below}
 
--- what the exports and the definitions of a file give
+-- what the exports of a file give
 
 abbrev pub IsExport : Seen → List ℕ → Indicator → ℕ → Type 0
 IsExport seen owner i n = found seen owner i.name i.arity ≡ Some n
 
-abbrev pub IsDefinition : Seen → List ℕ → Defined → ℕ → Type 0
-IsDefinition seen owner d n = found seen owner d.name d.arity ≡ Some n
-
-abbrev pub IsDefinedAs : Seen → List ℕ → Predicate → ℕ → Type 0
-IsDefinedAs seen owner p n = found seen owner p.name p.arity ≡ Some n
-
-abbrev pub IsGivenBy : Seen → FileFacts → ℕ → Type 0
-IsGivenBy seen file n = IsGivenByRoot seen (see_facts file) n
-
-pub defined_go : (seen : Seen) (owner : List ℕ) (defined : List Defined) (old new : List ℕ) → Adds (IsAmong (IsDefinition seen owner) defined) old new
-    → Adds (IsAmong (IsDefinedAs seen owner) (map see_defined defined)) old new
-defined_go seen owner defined old new adds =
-    adds_as (IsAmong (IsDefinition seen owner) defined) (IsAmong (IsDefinedAs seen owner) (map see_defined defined)) old new
-    (λ q. (among_map (IsDefinedAs seen owner) see_defined defined q).1) (λ q. (among_map (IsDefinedAs seen owner) see_defined defined q).0) adds
-
-pub given_go : (seen : Seen) (files : List FileFacts) (all : List Facts) (old new : List ℕ) → map see_facts files ≡ all → Adds (IsAmong (IsGivenBy seen) files) old new
-    → Adds (IsAmong (IsGivenByRoot seen) all) old new
-given_go seen files all old new are adds =
-    let P : List Facts → Type 0 = λ fs. Adds (IsAmong (IsGivenByRoot seen) fs) old new in
-    subst P are
-    (adds_as (IsAmong (IsGivenBy seen) files) (IsAmong (IsGivenByRoot seen) (map see_facts files)) old new
-    (λ q. (among_map (IsGivenByRoot seen) see_facts files q).1) (λ q. (among_map (IsGivenByRoot seen) see_facts files q).0) adds)
-
--- a root file gives what it has to, and another one nothing
-pub root_gives : (seen : Seen) (file : FileFacts) (old new : List ℕ) → Contains seen.loaded.roots file.file → Adds (Gives seen (see_facts file) file.is_module) old new
-    → Adds (IsGivenBy seen file) old new
-root_gives seen file old new is_root adds =
-    adds_as (Gives seen (see_facts file) file.is_module) (IsGivenBy seen file) old new (λ q gives. record { is_root = is_root; gives = gives }) (λ q given. given.gives) adds
-
-pub gives_nothing : (seen : Seen) (file : FileFacts) (old : List ℕ) → (Contains seen.loaded.roots file.file → ⊥) → Adds (IsGivenBy seen file) old old
-gives_nothing seen file old no_root = adds_nothing (IsGivenBy seen file) old (λ q given. no_root given.is_root)
-
 -- roots are below the count
 
-given_below : (seen : Seen) (file : Facts) (is_module : Bool) (q : ℕ) → Gives seen file is_module q → q < length seen.predicates
+pub given_below : (seen : Seen) (file : Facts) (is_module : Bool) (q : ℕ) → Gives seen file is_module q → q < length seen.predicates
 given_below seen file true q gives = let i : Indicator = gives.one in found_below seen file.module_ i.name i.arity q gives.is
 given_below seen file false q gives = let p : Predicate = gives.one in found_below seen file.module_ p.name p.arity q gives.is
 

@@ -1,5 +1,6 @@
 -- Where reach begins.
-use Rattle.std.specs.Prelude.{ℕ, ◌≡◌, ◌⊎◌, Some, Bool, true, false, Contains}
+use Rattle.std.specs.Prelude.{ℕ, ◌≡◌, ◌⊎◌, ◌↔◌, List, Some, Bool, true, false, Contains, slice_index_or}
+use Rattle.std.specs.List.{AllZip}
 use Rattle.module_table.specs.declared.indicator.Indicator.{Indicator}
 use Rattle.module_table.specs.Defined.{Predicate}
 use Rattle.module_table.specs.Facts.{Facts}
@@ -23,3 +24,28 @@ IsCalledByGoal seen file q = GoesTo seen (IsMetInGoals file) q
 -- one of the files makes the predicate a root
 abbrev pub IsRoot : Seen → ℕ → Type 0
 IsRoot seen q = IsAmong (λ (file : Facts) n. IsGivenByRoot seen file n ⊎ IsCalledByGoal seen file n) seen.loaded.files q
+
+-- the file is a root file and a module file, and exports the predicate
+pub record IsExportedByRoot (seen : Seen) (file : Facts) (q : ℕ) : Type 0 where
+  pub is_root : Contains seen.loaded.roots file.file
+  pub declared : file.is_module ≡ true
+  pub gives : Gives seen file true q
+
+-- the file is a root file and no module file
+pub record IsPlainRoot (roots : List (List ℕ)) (file : Facts) : Type 0 where
+  pub is_root : Contains roots file.file
+  pub plain : file.is_module ≡ false
+
+-- such a file defines the predicate
+abbrev pub IsDefinedByRoot : Seen → Facts → ℕ → Type 0
+IsDefinedByRoot seen file q = IsPlainRoot seen.loaded.roots file × Gives seen file false q
+
+-- just those files are marked
+abbrev pub AreMarked : Seen → List Bool → Type 0
+AreMarked seen marks = AllZip (λ (file : Facts) mark. (mark ≡ true) ↔ IsPlainRoot seen.loaded.roots file) seen.loaded.files marks
+
+-- one of the places is in a marked file
+pub record HasMarked (marks : List Bool) (places : List (ℕ × ℕ)) : Type 0 where
+  pub at : ℕ × ℕ
+  pub has : Contains places at
+  pub marked : slice_index_or marks at.0 false ≡ true

@@ -1,20 +1,19 @@
 //! Where reach begins.
 
-ghost use Rattle.std.specs.Prelude.{◌≡◌, ◌↔◌, ◌<◌, ℕ, Some, All, Contains, IsTrue, length, map, IfOk, OnOk};
+ghost use Rattle.std.specs.Prelude.{◌≡◌, ◌↔◌, ◌<◌, ℕ, Some, All, Contains, IsTrue, length, IfOk, OnOk};
 ghost use Rattle.std.specs.List.Sorted.{IsStrictlyIncreasing};
 ghost use Rattle.module_table.specs.declared.indicator.Indicator.{Indicator as Exported};
-ghost use Rattle.module_table.specs.Defined.{Predicate, see_defined};
 ghost use Rattle.module_table.specs.Facts.{see_facts};
 ghost use Rattle.file_library.specs.Asked.{AreInOrder};
 ghost use Rattle.import_rules.specs.Program.{see_program, found};
 ghost use Rattle.call_edges.specs.Goals.{Adds};
 ghost use Rattle.call_edges.specs.Calls.{IsAmong};
-ghost use Rattle.call_edges.specs.Roots.{Gives, IsGivenByRoot, IsRoot};
+ghost use Rattle.call_edges.specs.Roots.{AreMarked, HasMarked, IsDefinedByRoot, IsExportedByRoot, IsGivenByRoot, IsPlainRoot, IsRoot};
 
 use crate::body::goals_of;
 use crate::calls::push_called;
 use import_rules::Program;
-use module_table::{Defined, FileFacts, Indicator};
+use module_table::{FileFacts, Indicator};
 use prolog_tokens::Text;
 use std::alloc::{AllocError, Global};
 
@@ -36,34 +35,6 @@ fn push_exports(
     Ok(())
 }
 
-/// Adds the predicates that are defined for a module.
-fn push_defined(
-    program: &Program,
-    owner: &str,
-    defined: &[Defined],
-    roots: &mut Vec<u32>,
-) -> Result<(), AllocError>
-    ensures { OnOk result (Adds (IsAmong (λ (p : Predicate) n. found (see_program program.now) owner.now p.name p.arity ≡ Some n) (map see_defined defined.now)) roots.old.items roots.new.items) }
-{
-    for predicate in defined {
-        let Some(node) = program.find(owner, predicate.name.as_str(), predicate.arity) else {
-            continue;
-        };
-        roots.push(node)?;
-    }
-    Ok(())
-}
-
-/// Adds what a root file gives.
-fn push_given(program: &Program, file: &FileFacts, roots: &mut Vec<u32>) -> Result<(), AllocError>
-    ensures { OnOk result (Adds (Gives (see_program program.now) (see_facts file.now) file.now.is_module) roots.old.items roots.new.items) }
-{
-    if file.is_module {
-        return push_exports(program, file.module.as_str(), &file.exports, roots);
-    }
-    push_defined(program, file.module.as_str(), &file.defined, roots)
-}
-
 /// Whether the name is one of the names, which are in order.
 fn is_among(names: &[Text], name: &Text) -> bool
     requires { AreInOrder names.now }
@@ -72,18 +43,82 @@ fn is_among(names: &[Text], name: &Text) -> bool
     names.binary_search(name).is_ok()
 }
 
-/// Adds what the root files give.
-fn push_all_given(program: &Program, roots: &mut Vec<u32>) -> Result<(), AllocError>
-    ensures { OnOk result (Adds (IsAmong (IsGivenByRoot (see_program program.now)) (see_program program.now).loaded.files) roots.old.items roots.new.items) }
+/// Adds the exports of the root files that are module files.
+fn push_all_exports(program: &Program, roots: &mut Vec<u32>) -> Result<(), AllocError>
+    ensures { OnOk result (Adds (IsAmong (IsExportedByRoot (see_program program.now)) (see_program program.now).loaded.files) roots.old.items roots.new.items) }
 {
     let loaded = program.loaded();
     for file in &loaded.files {
+        if !file.is_module {
+            continue;
+        }
         if !is_among(&loaded.roots, &file.file) {
             continue;
         }
-        push_given(program, file, roots)?;
+        push_exports(program, file.module.as_str(), &file.exports, roots)?;
     }
     Ok(())
+}
+
+/// Whether the file is a root file and no module file. The names of the root files are in order.
+fn is_plain_root(roots: &[Text], file: &FileFacts) -> bool
+    requires { AreInOrder roots.now }
+    ensures { IsTrue result ↔ IsPlainRoot roots.now (see_facts file.now) }
+{
+    if file.is_module {
+        return false;
+    }
+    is_among(roots, &file.file)
+}
+
+/// For each file whether it is a root file and no module file.
+fn plain_roots(alloc: Global, program: &Program) -> Result<Vec<bool>, AllocError>
+    ensures { IfOk result (λ marks. AreMarked (see_program program.now) marks.items) }
+{
+    let loaded = program.loaded();
+    let mut marks = Vec::with_capacity(alloc, loaded.files.len())?;
+    for file in &loaded.files {
+        marks.push(is_plain_root(&loaded.roots, file))?;
+    }
+    Ok(marks)
+}
+
+/// Whether one of the places is in a marked file.
+fn is_marked(marks: &[bool], places: &[(u32, u32)]) -> bool
+    requires { All (λ (at : ℕ × ℕ). at.0 < length marks.now) places.now }
+    ensures { IsTrue result ↔ HasMarked marks.now places.now }
+{
+    for place in places {
+        if marks[place.0 as usize] {
+            return true;
+        }
+    }
+    false
+}
+
+/// Adds the predicates that marked files define. They are found by their places, so no name is looked
+/// up.
+fn push_marked(program: &Program, marks: &[bool], roots: &mut Vec<u32>) -> Result<(), AllocError>
+    requires { AreMarked (see_program program.now) marks.now }
+    ensures { OnOk result (Adds (IsAmong (IsDefinedByRoot (see_program program.now)) (see_program program.now).loaded.files) roots.old.items roots.new.items) }
+{
+    program.is_known();
+    for node in 0..program.count() {
+        if !is_marked(marks, program.places_of(node)) {
+            continue;
+        }
+        roots.push(node)?;
+    }
+    Ok(())
+}
+
+/// Adds what the root files give.
+fn push_all_given(alloc: Global, program: &Program, roots: &mut Vec<u32>) -> Result<(), AllocError>
+    ensures { OnOk result (Adds (IsAmong (IsGivenByRoot (see_program program.now)) (see_program program.now).loaded.files) roots.old.items roots.new.items) }
+{
+    push_all_exports(program, roots)?;
+    let marks = plain_roots(alloc, program)?;
+    push_marked(program, &marks, roots)
 }
 
 /// The predicates at which reach begins, ascending and each once: the exports of root files that are
@@ -95,7 +130,7 @@ pub fn roots_of(alloc: Global, program: &Program) -> Result<Vec<u32>, AllocError
 {
     program.is_known();
     let mut roots = Vec::new(alloc);
-    push_all_given(program, &mut roots)?;
+    push_all_given(alloc, program, &mut roots)?;
     let goals = goals_of(alloc, program)?;
     push_called(program, &goals, &mut roots)?;
     roots.sort_unstable();

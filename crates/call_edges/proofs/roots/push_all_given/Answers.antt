@@ -1,44 +1,15 @@
-use Rattle.std.proofs.Common.{◌≡◌, ℕ, List, map, ap, sym, ◌∙◌, subst, refl}
-use Rattle.std.specs.Prelude.{Contains}
-use Rattle.std.proofs.lemmas.Bool.{false≢true}
-use Rattle.module_table.specs.Facts.{see_facts}
-use Rattle.file_library.specs.Asked.{AreInOrder}
-use Rattle.file_library.specs.Loaded.{LoadedFiles}
+use Rattle.std.proofs.Common.{◌≡◌, List, Bool, sym, subst}
 use Rattle.import_rules.specs.Program.{see_program}
-use Rattle.call_edges.proofs.AmongLemmas.{among_more, among_all}
-use Rattle.call_edges.proofs.KnownLemmas.{roots_rise}
-use Rattle.call_edges.proofs.RootLemmas.{IsGivenBy, given_go, root_gives, gives_nothing}
+use Rattle.call_edges.specs.Roots.{AreMarked}
+use Rattle.call_edges.proofs.WalkLemmas.{on_ok}
+use Rattle.call_edges.proofs.PlainRoots.{given_both}
 use Rattle.call_edges.proofs.roots.push_all_given.Goals as goal
 
-pub is_among-requires : goal.is_among-requires
-is_among-requires c =
-    let P : List (List ℕ) → Type 0 = λ names. AreInOrder names in
-    subst P (ap (λ (l : LoadedFiles). l.roots) c.loaded-loaded.ensures ∙ sym c.deref.ensures.value) (roots_rise c.args.program.now)
-
-pub loop-file-preserved-then-not-is_among : goal.loop-file-preserved-then-not-is_among
-loop-file-preserved-then-not-is_among c =
-    let seen = see_program c.args.program.now in
-    let file = c.file-item.result in
-    let roots = c.loop-file.roots.items in
-    let names : seen.loaded.roots ≡ c.deref.result.now = ap (λ (l : LoadedFiles). l.roots) c.loaded-loaded.ensures ∙ sym c.deref.ensures.value in
-    among_more (IsGivenBy seen) c.deref-file-items.result.now c.loop-file.file-index file c.args.roots.now.items roots roots c.loop-file-test.true c.file-item.is c.loop-file.invariant
-    (gives_nothing seen file roots (λ has. false≢true (c.if-not-is_among.ensures.1 (subst (λ (xs : List (List ℕ)). Contains xs file.file) names has))))
-
-pub loop-file-preserved : goal.loop-file-preserved
-loop-file-preserved c =
-    let seen = see_program c.args.program.now in
-    let file = c.file-item.result in
-    let roots = c.loop-file.roots.items in
-    let new = c.push_given.new.roots.items in
-    let names : seen.loaded.roots ≡ c.deref.result.now = ap (λ (l : LoadedFiles). l.roots) c.loaded-loaded.ensures ∙ sym c.deref.ensures.value in
-    let is_root = subst (λ (xs : List (List ℕ)). Contains xs file.file) (sym names) (c.if-not-is_among.ensures.0 refl) in
-    among_more (IsGivenBy seen) c.deref-file-items.result.now c.loop-file.file-index file c.args.roots.now.items roots new c.loop-file-test.true c.file-item.is c.loop-file.invariant
-    (root_gives seen file roots new is_root c.in_ok-push_given.ensures)
+pub push_marked-requires : goal.push_marked-requires
+push_marked-requires c = subst (AreMarked (see_program c.args.program.now)) (sym c.deref.ensures.value) c.in_ok-marks.ensures
 
 pub returns : goal.returns
 returns c =
     let seen = see_program c.args.program.now in
-    let items = c.deref-file-items.result.now in
-    given_go seen items seen.loaded.files c.args.roots.now.items c.loop-file.roots.items
-    (ap (map see_facts) c.deref-file-items.ensures.value ∙ ap (λ (l : LoadedFiles). l.files) (sym c.loaded-loaded.ensures))
-    (among_all (IsGivenBy seen) items c.loop-file.file-index c.args.roots.now.items c.loop-file.roots.items c.loop-file-test.false c.loop-file.invariant)
+    on_ok c.push_marked.result c.push_marked.ensures
+    (given_both seen c.args.roots.now.items c.push_all_exports.new.roots.items c.push_marked.new.roots.items c.in_ok-push_all_exports.ensures)
