@@ -1,5 +1,5 @@
 -- Where reach begins.
-use Rattle.std.proofs.Common.{◌≡◌, ◌⊎◌, ◌↔◌, inl, inr, ℕ, ◌+◌, ◌<◌, Bool, true, false, List, [], Some, Result, Ok, Err, length, get_or, map, ap, ◌∙◌, subst, refl, arith}
+use Rattle.std.proofs.Common.{◌≡◌, ◌⊎◌, ◌↔◌, inl, inr, ℕ, ◌+◌, ◌<◌, Bool, true, false, List, [], Some, Result, Ok, Err, length, get_or, ap, ◌∙◌, subst, refl, arith}
 use Rattle.std.specs.Prelude.{Contains, is_ok}
 use Rattle.std.specs.List.{enumerate_from}
 use Rattle.std.specs.List.Sorted.{IsSortedBy, IsNonDecreasingBy, IsPartitionPoint, IsBinarySearchResult, IsSearchInRange}
@@ -12,10 +12,8 @@ use Rattle.std.proofs.lemmas.List.Sorted.{searchable_from_sorted}
 use Rattle.std.proofs.lemmas.Map.Keys.{Less-from_sorted}
 use Rattle.std.proofs.lemmas.Slice.Eq.{bytes_eq-Decides}
 use Rattle.module_table.specs.declared.indicator.Indicator.{Indicator}
-use Rattle.module_table.specs.declared.defined.Defined.{Defined}
-use Rattle.module_table.specs.declared.file_facts.FileFacts.{FileFacts}
-use Rattle.module_table.specs.Defined.{Predicate, see_defined}
-use Rattle.module_table.specs.Facts.{Facts, see_facts}
+use Rattle.module_table.specs.Defined.{Predicate}
+use Rattle.module_table.specs.Facts.{Facts}
 use Rattle.file_library.specs.Asked.{AreInOrder}
 use Rattle.import_rules.specs.Program.{Seen, found}
 use Rattle.call_edges.specs.declared.role.Role.TheVariants.{Goal}
@@ -23,7 +21,7 @@ use Rattle.call_edges.specs.Goals.{Met, place, Adds}
 use Rattle.call_edges.specs.Calls.{IsAmong, IsMetInGoals, GoesTo}
 use Rattle.call_edges.specs.Bodies.{Body, body_in, goals_of_file, goals_in, IsMetInBody}
 use Rattle.call_edges.specs.Roots.{Gives, IsGivenByRoot, IsCalledByGoal, IsRoot}
-use Rattle.call_edges.proofs.AddsLemmas.{adds_as, adds_then, adds_nothing}
+use Rattle.call_edges.proofs.AddsLemmas.{adds_then}
 use Rattle.call_edges.proofs.AmongLemmas.{among_flat, among_map}
 use Rattle.call_edges.proofs.PlaceLemmas.{enumerated, numbered}
 use Rattle.call_edges.proofs.CheckLemmas.{stands_in, place_in}

@@ -1,4 +1,4 @@
-use Rattle.std.proofs.Common.{◌≡◌, List, Bool, sym, subst}
+use Rattle.std.proofs.Common.{sym, subst}
 use Rattle.import_rules.specs.Program.{see_program}
 use Rattle.call_edges.specs.Roots.{AreMarked}
 use Rattle.call_edges.proofs.WalkLemmas.{on_ok}

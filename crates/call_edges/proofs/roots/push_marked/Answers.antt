@@ -1,10 +1,9 @@
-use Rattle.std.proofs.Common.{◌≡◌, ◌<◌, ℕ, List, true, false, All, length, get_or, ap, sym, ◌∙◌, subst, refl, arith}
+use Rattle.std.proofs.Common.{◌≡◌, ◌<◌, ℕ, List, false, length, get_or, sym, subst, refl, arith}
 use Rattle.std.specs.Prelude.{Contains}
 use Rattle.std.proofs.lemmas.Bool.{false≢true}
 use Rattle.std.proofs.lemmas.List.Elements.{Contains-get_or}
 use Rattle.std.proofs.lemmas.Option.{slice_get_within}
-use Rattle.module_table.specs.Facts.{Facts}
-use Rattle.import_rules.specs.Program.{see_program, places_in}
+use Rattle.import_rules.specs.Program.{see_program}
 use Rattle.call_edges.specs.Roots.{IsDefinedByRoot, HasMarked}
 use Rattle.call_edges.specs.Calls.{IsAmong}
 use Rattle.call_edges.proofs.AddsLemmas.{adds_nothing}

@@ -1,9 +1,7 @@
-use Rattle.std.proofs.Common.{◌≡◌, ◌<◌, ◌+◌, ℕ, List, [], length, get_or, take, drop, ap, sym, ◌∙◌, subst, refl, arith}
+use Rattle.std.proofs.Common.{ℕ, List, ap, ◌∙◌, arith}
 use Rattle.std.specs.List.{slice_range}
-use Rattle.std.proofs.lemmas.List.{get_or_read}
 use Rattle.import_rules.specs.Program.{see_program}
 use Rattle.call_edges.specs.Opened.{see_call_lists}
-use Rattle.call_edges.specs.CallLists.{StandsBetween, AreLaidOut}
 use Rattle.call_edges.specs.Successors.{successor_lists}
 use Rattle.call_edges.proofs.LaidOutLemmas.{stands_read}
 use Rattle.call_edges.proofs.laid_out.CallLists.list.Goals as goal
