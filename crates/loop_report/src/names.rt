@@ -1,4 +1,4 @@
-ghost use Rattle.std.specs.Prelude.{◌≡◌, ◌<◌, ◌++◌, IfOk, OnOk, codes, length};
+ghost use Rattle.std.specs.Prelude.{◌≡◌, ◌<◌, ◌+◌, ◌++◌, IfOk, OnOk, codes, length};
 ghost use Rattle.std.specs.Fmt.{decimal};
 ghost use Rattle.std.specs.String.{string_bytes};
 ghost use Rattle.import_rules.specs.Program.{see_program};
@@ -8,10 +8,21 @@ use crate::spelled::push_atom;
 use import_rules::{PredName, Program};
 use std::alloc::{AllocError, Global};
 
-/// Adds the number in decimal digits.
+/// The decimal digit of a number below 10.
+fn digit(number: u64) -> u8
+    requires { number < 10 }
+    ensures { result ≡ 48 + number }
+{
+    b'0' + number as u8
+}
+
+/// Adds the number in decimal digits. One digit takes no memory of its own.
 pub(crate) fn push_number(alloc: Global, text: &mut String, number: u64) -> Result<(), AllocError>
     ensures { OnOk result (string_bytes text.new ≡ string_bytes text.old ++ decimal number) }
 {
+    if number < 10 {
+        return text.push(digit(number) as char);
+    }
     let digits = number.to_string(alloc)?;
     text.push_str(&digits)
 }
