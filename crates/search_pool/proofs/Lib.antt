@@ -1,0 +1,11 @@
+mod TurnBeginning
+mod TurnClosing
+mod TurnCounts
+mod TurnGiving
+mod TurnIdling
+mod TurnLaws
+mod TurnReleasing
+mod TurnRooting
+mod TurnSuspending
+pub mod DrivingJoins
+pub mod EdgesKept

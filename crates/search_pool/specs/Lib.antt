@@ -1,0 +1,4 @@
+pub mod Driving
+pub mod Edges
+pub mod Worker
+pub mod Working

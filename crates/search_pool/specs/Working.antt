@@ -1,0 +1,50 @@
+-- What a worker keeps between two turns, and what it owes for a group that it closes.
+use Rattle.std.specs.Prelude.{◌≡◌, ℕ, ◌-◌, ◌+◌, ◌<◌, ◌≤◌, Bool, false, List, [], ◌++◌, length, slice_index_or, take, None, All, Contains}
+use Rattle.node_counts.specs.Counts.{times, flat}
+use Rattle.search_stack.specs.GoodSearch.{IsGood}
+use Rattle.search_stack.specs.Search.{SearchValue}
+use Rattle.group_release.specs.Book.{BookValue}
+use Rattle.node_claims.specs.Claims.{ClaimsValue, TurnValue}
+use Rattle.search_pool.specs.Worker.{EndsWell, IsWorking}
+use Rattle.search_pool.specs.declared.worker.went.Worker.{Worker}
+use Rattle.search_pool.specs.declared.worker.went.Went.{Went}
+use Rattle.search_pool.specs.declared.worker.went.Went.TheVariants.{On, Ended as ended_as}
+
+-- the pass has just the nodes of the search, which is good for what the pass has seen finished, and so many roots were seen finished
+pub record IsAtWork (claims : ClaimsValue) (worker : Worker) (opened : Bool) : Type 0 where
+  pub working : IsWorking claims worker.pass worker.search None opened
+  pub within : worker.seen_roots ≤ length claims.roots
+  pub seen : All (λ root. 0 < times root worker.pass.view.seen) (take worker.seen_roots claims.roots)
+
+-- it goes on with its last edge settled, or has ended well
+abbrev pub GoesWell : ClaimsValue → Went → Type 0
+GoesWell claims (On worker) = IsAtWork claims worker false
+GoesWell claims (ended_as ended) = EndsWell claims ended
+
+-- the turn is of these claims
+abbrev pub IsTurnOf : ClaimsValue → TurnValue → Type 0
+IsTurnOf claims turn = (turn.table ≡ claims.table) × ((turn.view.lists ≡ claims.lists) × (turn.view.roots ≡ claims.roots))
+
+-- with the turn given back, a worker goes on with this search, which is good for what is released; and so many roots are released or were seen
+pub record GoesOnWith (claims : ClaimsValue) (turn : TurnValue) (search : SearchValue) (seen_roots : ℕ) (opened : Bool) : Type 0 where
+  pub of : IsTurnOf claims turn
+  pub wants_nothing : search.wanted ≡ None
+  pub within : seen_roots ≤ length claims.roots
+  pub roots : All (λ root. 0 < times root (turn.view.seen ++ flat turn.book.groups)) (take seen_roots claims.roots)
+  pub good : IsGood claims.lists claims.roots (flat turn.book.groups) opened search.stack
+
+-- the group that was released last
+abbrev pub last_group : BookValue → List ℕ
+last_group book = slice_index_or book.groups (length book.groups - 1) []
+
+-- the turn with these nodes closed, where none was
+abbrev pub with_closed : TurnValue → List ℕ → TurnValue
+with_closed turn nodes = record turn { taken = record turn.taken { closed = nodes } }
+
+-- a group was released and none of its nodes is closed yet: each stands there once, is a node of the graph, and stood with the pass or was kept
+pub record MayCloseAll (turn : TurnValue) : Type 0 where
+  pub some : 0 < length turn.book.groups
+  pub none_closed : turn.taken.closed ≡ []
+  pub once : (x : ℕ) → times x (last_group turn.book) ≤ 1
+  pub below : (x : ℕ) → Contains (last_group turn.book) x → x < length turn.view.lists
+  pub stood : (x : ℕ) → Contains (last_group turn.book) x → 0 < times x turn.view.nodes + times x turn.taken.book.kept

@@ -1,0 +1,115 @@
+ghost use Rattle.std.specs.Prelude.{◌≡◌, ◌⊎◌, ◌<◌, ℕ, true, false, None, Some, length, IfOk, IfErr};
+ghost use Rattle.graph_law.specs.Graph.{Calls};
+ghost use Rattle.graph_law.specs.Reach.{IsReached};
+ghost use Rattle.search_stack.specs.Search.{IsLastBegun, IsOn};
+ghost use Rattle.search_stack.specs.Stack.{size};
+ghost use Rattle.node_counts.specs.Counts.{times};
+ghost use Rattle.search_pool.specs.Edges.{GoesOn};
+ghost use Rattle.search_pool.specs.Worker.{IsRunning, IsWorking, StopsAt};
+
+use crate::gate::Gate;
+use crate::stopped::Stopped;
+use graph_law::Opener;
+use node_claims::{Claimed, Claims, Pass};
+use search_stack::{Opening, Search};
+use std::alloc::{AllocError, Global};
+use std::sync::Wait;
+
+/// Runs a search without the turn until it is ripe, wants a node of another search, or memory is
+/// wanting: it claims the node of each edge, opens those that it wins, and settles the others.
+pub(crate) fn run_free<O: Opener, G: Gate>(
+    rt: &impl Wait,
+    alloc: Global,
+    claims: &Claims,
+    pass: &mut Pass,
+    search: &mut Search,
+    opener: &O,
+    gate: &G,
+) -> Stopped
+    requires made { claims.now.lists ≡ O.lists opener.now }
+    requires running { IsRunning claims.now pass.old search.old false }
+    ensures stops { StopsAt claims.now pass.new search.new result }
+    ensures seen { (x : ℕ) → 0 < times x pass.old.view.seen → 0 < times x pass.new.view.seen }
+{
+    let _count = opener.count();
+    'edges: for _ in rt.forever() {
+        if search.reserve(1).is_err() {
+            return Stopped::NoRoom;
+        }
+        let Some(node) = search.begin() else {
+            if search.is_ripe() {
+                return Stopped::Ripe;
+            }
+            search.retreat();
+            continue;
+        };
+        if let Some(stopped) = settle(alloc, claims, pass, search, opener, gate, node) {
+            return stopped;
+        }
+    }
+    unreachable!()
+}
+
+/// Claims the node of the edge that the top has begun last, and settles the edge where that can be
+/// done without the turn. Else it tells why the search stops.
+fn settle<O: Opener, G: Gate>(
+    alloc: Global,
+    claims: &Claims,
+    pass: &mut Pass,
+    search: &mut Search,
+    opener: &O,
+    gate: &G,
+    node: u32,
+) -> Option<Stopped>
+    requires made { claims.now.lists ≡ O.lists opener.now }
+    requires below { node < length claims.now.lists }
+    requires running { IsRunning claims.now pass.old search.old true }
+    requires room { 0 < search.old.spare }
+    requires last { IsLastBegun search.old.stack node }
+    ensures goes_on { GoesOn claims.now pass.new search.new result }
+    ensures seen { (x : ℕ) → 0 < times x pass.old.view.seen → 0 < times x pass.new.view.seen }
+{
+    match claims.claim(pass, node) {
+        Claimed::Won => match open_node(alloc, claims, pass, search, opener, gate, node) {
+            Ok(()) => None,
+            Err(_) => Some(Stopped::Unopened(node)),
+        },
+        Claimed::Held => {
+            if search.back(node) {
+                return None;
+            }
+            Some(Stopped::Wants(node))
+        }
+        Claimed::Done => {
+            search.back(node);
+            None
+        }
+    }
+}
+
+/// Opens a node that the pass has won, and pushes it. At want of memory nothing has changed.
+pub(crate) fn open_node<O: Opener, G: Gate>(
+    alloc: Global,
+    claims: &Claims,
+    pass: &Pass,
+    search: &mut Search,
+    opener: &O,
+    gate: &G,
+    node: u32,
+) -> Result<(), AllocError>
+    requires made { claims.now.lists ≡ O.lists opener.now }
+    requires working { IsWorking claims.now pass.now search.old (Some node) true }
+    requires below { node < length claims.now.lists }
+    requires room { 0 < search.old.spare }
+    requires away { IsOn search.old.stack node → ⊥ }
+    requires led { (size search.old.stack ≡ 0) ⊎ IsLastBegun search.old.stack node }
+    requires reached { size search.old.stack ≡ 0 → IsReached (Calls claims.now.lists) claims.now.roots node }
+    ensures running { IfOk result (λ _. IsRunning claims.now pass.now search.new false) }
+    ensures unchanged { IfErr result (λ _. search.new ≡ search.old) }
+{
+    let mut succs = Vec::new(alloc);
+    gate.opened(node);
+    opener.expand(node, &mut succs)?;
+    search.push(Opening { node, succs });
+    Ok(())
+}

@@ -1,0 +1,68 @@
+ghost use Rattle.std.specs.Prelude.{◌≡◌, ◌<◌, false};
+ghost use Rattle.search_stack.specs.Stack.{size};
+ghost use Rattle.search_pool.specs.Working.{IsAtWork, GoesWell};
+
+use super::idling::take_up;
+use super::releasing::release;
+use super::stopping::give_up;
+use super::suspending::suspend;
+use super::went::{Went, Worker};
+use crate::edges::run_free;
+use crate::gate::Gate;
+use crate::stopped::Stopped;
+use graph_law::Opener;
+use node_claims::Claims;
+use std::alloc::Global;
+use std::sync::Wait;
+
+/// Runs the search that the worker has, or takes one up where it is idle, up to the end of a turn.
+pub(crate) fn go_on<O: Opener, G: Gate>(
+    rt: &impl Wait,
+    alloc: Global,
+    claims: &Claims,
+    worker: Worker,
+    opener: &O,
+    gate: &G,
+) -> Went
+    requires made { claims.now.lists ≡ O.lists opener.now }
+    requires at_work { IsAtWork claims.now worker false }
+    ensures { GoesWell claims.now result }
+{
+    if worker.search.is_empty() {
+        return take_up(rt, alloc, claims, worker, opener, gate);
+    }
+    run(rt, alloc, claims, worker, opener, gate)
+}
+
+// Runs the search without the turn as far as it goes, and then does what needs the turn.
+fn run<O: Opener, G: Gate>(
+    rt: &impl Wait,
+    alloc: Global,
+    claims: &Claims,
+    mut worker: Worker,
+    opener: &O,
+    gate: &G,
+) -> Went
+    requires made { claims.now.lists ≡ O.lists opener.now }
+    requires at_work { IsAtWork claims.now worker false }
+    requires some { 0 < size worker.search.stack }
+    ensures { GoesWell claims.now result }
+{
+    let stopped = run_free(
+        rt,
+        alloc,
+        claims,
+        &mut worker.pass,
+        &mut worker.search,
+        opener,
+        gate,
+    );
+    match stopped {
+        Stopped::Ripe => release(rt, claims, worker),
+        Stopped::Wants(node) => suspend(rt, alloc, claims, worker, node),
+        Stopped::Unopened(node) => {
+            Went::Ended(give_up(rt, claims, worker.pass, worker.search, Some(node)))
+        }
+        Stopped::NoRoom => Went::Ended(give_up(rt, claims, worker.pass, worker.search, None)),
+    }
+}

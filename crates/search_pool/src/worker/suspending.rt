@@ -1,0 +1,50 @@
+ghost use Rattle.std.specs.Prelude.{◌≡◌, ◌<◌, true, false};
+ghost use Rattle.search_stack.specs.Stack.{size};
+ghost use Rattle.search_pool.specs.Worker.{IsElsewhere};
+ghost use Rattle.search_pool.specs.Working.{IsAtWork, GoesWell};
+
+use super::giving::give_back;
+use super::stopping::stop;
+use super::went::{Went, Worker};
+use blocked_table::Suspended;
+use node_claims::Claims;
+use search_stack::Search;
+use std::alloc::Global;
+use std::sync::Wait;
+
+/// Puts the search aside until the node is finished that its last edge leads to. Where the node is
+/// released by now, the search goes on; where what it waits for waits for it, that comes on top of it.
+pub(crate) fn suspend(
+    rt: &impl Wait,
+    alloc: Global,
+    claims: &Claims,
+    worker: Worker,
+    node: u32,
+) -> Went
+    requires at_work { IsAtWork claims.now worker true }
+    requires some { 0 < size worker.search.stack }
+    requires elsewhere { IsElsewhere worker.pass worker.search node }
+    ensures { GoesWell claims.now result }
+{
+    let Worker {
+        pass,
+        search,
+        seen_roots,
+        waits: _,
+    } = worker;
+    let mut turn = claims.turn(rt, pass);
+    let book = turn.book();
+    if book.has_failed() {
+        return Went::Ended(stop(turn, search, None));
+    }
+    if book.released().holds(node) {
+        let mut worker = give_back(turn, search, seen_roots);
+        worker.search.back(node);
+        return Went::On(worker);
+    }
+    match book.suspend(search, node) {
+        Ok(Suspended::Kept) => { Went::On(give_back(turn, Search::empty(alloc), seen_roots)) }
+        Ok(Suspended::Moved(search)) => Went::On(give_back(turn, search, seen_roots)),
+        Err((_, search)) => Went::Ended(stop(turn, search, None)),
+    }
+}

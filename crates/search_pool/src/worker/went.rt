@@ -1,0 +1,22 @@
+use crate::ended::Ended;
+use node_claims::Pass;
+use search_stack::Search;
+
+/// A worker between two turns.
+#[derive(Drop)]
+pub(crate) struct Worker {
+    pub(crate) pass: Pass,
+    /// The search that it runs. It is empty where the worker is idle.
+    pub(crate) search: Search,
+    /// So many roots, from the first on, have been seen finished.
+    pub(crate) seen_roots: usize,
+    /// How often it has found nothing to do since it last had a search.
+    pub(crate) waits: u32,
+}
+
+/// What a worker came to: it goes on, or has ended.
+#[derive(Drop)]
+pub(crate) enum Went {
+    On(Worker),
+    Ended(Ended),
+}
