@@ -1,0 +1,36 @@
+use crate::graphs::graph_of;
+use crate::meeting::Meeting;
+use search_pool::{Gate, MeetGate, OpenGate, drive_workers};
+use std::test::Fail;
+
+const LOOPS: u32 = 50_000_000;
+
+#[test]
+fn opens_two_nodes_at_once(rt: HostRuntime) -> Result<(), Fail> {
+    let alloc = rt.alloc();
+    let meeting = Meeting::new();
+    let groups = drive_workers(&rt, alloc, &meeting, &[0, 1], 2, &OpenGate)?;
+    assert_eq!(rt; groups.len(), 2);
+    assert!(rt; meeting.met());
+    assert_eq!(rt; meeting.opened(), (1, 1));
+    Ok(())
+}
+
+#[test]
+fn two_openings_meet_at_a_gate(rt: HostRuntime) -> Result<(), Fail> {
+    let alloc = rt.alloc();
+    let graph = graph_of(alloc, &[&[], &[]], &[0, 1])?;
+    let gate = MeetGate::new(LOOPS);
+    let groups = drive_workers(&rt, alloc, &graph, graph.roots(), 2, &gate)?;
+    assert_eq!(rt; groups.len(), 2);
+    assert!(rt; gate.met());
+    Ok(())
+}
+
+#[test]
+fn openings_one_after_another_never_meet(rt: HostRuntime) {
+    let gate = MeetGate::new(10);
+    gate.opened(0);
+    gate.opened(1);
+    assert!(rt; !gate.met());
+}

@@ -1,0 +1,19 @@
+//! Tests of workers that search one graph side by side.
+#![tactic(auto)]
+
+#[cfg(test)]
+mod agree_tests;
+#[cfg(test)]
+mod gate_tests;
+#[cfg(test)]
+mod graphs;
+#[cfg(test)]
+mod meeting;
+#[cfg(test)]
+mod starved;
+#[cfg(test)]
+mod starved_tests;
+#[cfg(test)]
+mod turn_tests;
+#[cfg(test)]
+mod waiting;

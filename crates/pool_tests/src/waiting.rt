@@ -1,0 +1,19 @@
+use std::sync::atomic::{AtomicBool, Ordering};
+use std::{hint, thread};
+
+// How many loops a test waits for another thread.
+const LOOPS: u32 = 50_000_000;
+
+/// Waits until the flag is set: false where it wasn't within so many loops.
+pub(crate) fn comes(flag: &AtomicBool) -> bool {
+    for turn in 0..LOOPS {
+        if flag.load(Ordering::SeqCst) {
+            return true;
+        }
+        if turn % 1024 == 0 {
+            thread::yield_now();
+        }
+        hint::spin_loop();
+    }
+    false
+}
