@@ -10,8 +10,6 @@ mod graphs;
 #[cfg(test)]
 mod level_tests;
 #[cfg(test)]
-mod machine_tests;
-#[cfg(test)]
 mod plain_tests;
 #[cfg(test)]
 mod step_tests;

@@ -1,0 +1,39 @@
+use graph_law::Graph;
+use std::alloc::{AllocError, Global};
+use std::test::Fail;
+
+/// The graph of these successor lists and roots.
+pub(crate) fn graph_of_lists(
+    alloc: Global,
+    lists: &[&[u32]],
+    roots: &[u32],
+) -> Result<Graph, Fail> {
+    let mut succs = Vec::new(alloc);
+    for list in lists {
+        succs.push(Vec::from_slice(alloc, list)?)?;
+    }
+    let graph = Graph::new(succs, Vec::from_slice(alloc, roots)?).ok_or("refused")?;
+    Ok(graph)
+}
+
+/// A graph by bits, lowest first, which tell for each node which nodes it calls. All nodes are roots.
+pub(crate) fn small_graph(
+    alloc: Global,
+    count: u32,
+    mut edges: u32,
+) -> Result<Option<Graph>, AllocError> {
+    let mut succs = Vec::new(alloc);
+    let mut roots = Vec::new(alloc);
+    for p in 0..count {
+        let mut list = Vec::new(alloc);
+        for q in 0..count {
+            if edges & 1 == 1 {
+                list.push(q)?;
+            }
+            edges >>= 1;
+        }
+        succs.push(list)?;
+        roots.push(p)?;
+    }
+    Ok(Graph::new(succs, roots))
+}
