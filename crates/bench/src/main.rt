@@ -2,6 +2,10 @@
 //! error how many microseconds it took.
 //!
 //! - `search SHAPE COUNT`: the search of a made graph of so many nodes. The number of groups.
+//! - `many SHAPE COUNT SEARCHES SEED`: its search by so many searches that take turns by the schedule of
+//!   the seed. The number of groups.
+//! - `claims COUNT PASSES`: the claims of all of so many nodes by one pass, or by each of two in threads
+//!   of their own. The number of claims that were won.
 //! - `tokens FILE`: the tokens of a text. Their number.
 //! - `clauses FILE`: the clauses of a text one by one, when it is cut into tokens, under the operators
 //!   that each text begins with. Their number.
@@ -10,8 +14,11 @@
 
 ghost use Rattle.std.specs.Prelude.{◌≤◌, length};
 
+mod claim_times;
 mod clause_times;
 mod clauses;
+mod made_graph;
+mod many_times;
 mod measured;
 mod search_times;
 mod shape;
@@ -19,7 +26,9 @@ mod source;
 mod text_times;
 mod token_times;
 
+use crate::claim_times::time_claims;
 use crate::clause_times::time_clauses;
+use crate::many_times::time_many;
 use crate::measured::Measured;
 use crate::search_times::time_search;
 use crate::source::read_source;
@@ -29,6 +38,7 @@ use std::alloc::Global;
 use std::env;
 use std::io::{self, ErrorKind};
 use std::rt::{Clock, Env, Files};
+use std::thread::Threads;
 
 /// The words behind the program's name.
 fn words<R: Env + AllocGlobal>(rt: &R) -> io::Result<Vec<String>> {
@@ -52,7 +62,10 @@ fn measure_text(clock: &impl Clock, alloc: Global, what: &str, text: &str) -> io
 }
 
 /// Does what the words say.
-fn measure<R: Clock + Files + AllocGlobal>(rt: &R, words: &[String]) -> io::Result<Measured> {
+fn measure<R: Clock + Files + AllocGlobal + Threads + Sync>(
+    rt: &R,
+    words: &[String],
+) -> io::Result<Measured> {
     match words {
         [what, name] => {
             let text = read_source(rt, name)?;
@@ -60,6 +73,12 @@ fn measure<R: Clock + Files + AllocGlobal>(rt: &R, words: &[String]) -> io::Resu
         }
         [what, shape, count] if what.as_str() == "search" => {
             time_search(rt, rt.alloc(), shape, count)
+        }
+        [what, count, passes] if what.as_str() == "claims" => {
+            time_claims(rt, rt.alloc(), count, passes)
+        }
+        [what, shape, count, searches, seed] if what.as_str() == "many" => {
+            time_many(rt, rt.alloc(), [shape, count], [searches, seed])
         }
         _ => Err(ErrorKind::InvalidInput.into()),
     }

@@ -1,5 +1,8 @@
 use std::alloc::{AllocError, Global};
 
+/// How many nodes a block has.
+const BLOCK: u32 = 10;
+
 /// Nodes of which each calls the next.
 pub fn chain(alloc: Global, count: u32) -> Result<Vec<Vec<u32>>, AllocError> {
     let mut succs = Vec::with_capacity(alloc, count as usize)?;
@@ -15,6 +18,20 @@ pub fn ring(alloc: Global, count: u32) -> Result<Vec<Vec<u32>>, AllocError> {
     let mut succs = chain(alloc, count)?;
     if let Some(last) = succs.last_mut() {
         last.push(0)?;
+    }
+    Ok(succs)
+}
+
+/// Rings of ten nodes, one after another. The count is a multiple of ten.
+pub fn blocks(alloc: Global, count: u32) -> Result<Vec<Vec<u32>>, AllocError> {
+    let mut succs = Vec::with_capacity(alloc, count as usize)?;
+    for node in 0..count {
+        let next = node + 1;
+        let callee = match next % BLOCK {
+            0 => next.saturating_sub(BLOCK),
+            _ => next,
+        };
+        succs.push(vec![in alloc; callee]?)?;
     }
     Ok(succs)
 }
