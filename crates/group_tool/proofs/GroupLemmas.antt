@@ -18,6 +18,7 @@ use Rattle.call_edges.specs.Successors.{successor_lists}
 use Rattle.call_edges.proofs.SuccessorLemmas.{lists_count, list_has, lists_closed}
 use Rattle.group_words.specs.Settings.{Settings}
 use Rattle.loop_report.specs.Reportable.{AreGroups, AreLeveled, AreReportable}
+use Rattle.group_tool.specs.Driving.{AreInOrder}
 use Rattle.group_tool.specs.Roots.{AreRoots}
 use Rattle.group_tool.specs.LoadedEnd.{IsOutput, ReportsProgram}
 
@@ -91,13 +92,14 @@ reportable seen roots groups levels below is = record {
 }
 
 pub reports : (settings : Settings) (seen : Seen) (roots : List ℕ) (groups : List (List ℕ)) (levels : List Level) (bytes : List ℕ) → AreRoots settings.roots seen roots
-    → AreLeveled (Calls (successor_lists seen)) roots groups levels → IsOutput settings.make settings.order settings.unreached seen groups levels bytes
-    → ReportsProgram settings seen bytes
-reports settings seen roots groups levels bytes are leveled output = record {
+    → AreLeveled (Calls (successor_lists seen)) roots groups levels → AreInOrder settings.searches (successor_lists seen) roots groups
+    → IsOutput settings.make settings.order settings.unreached seen groups levels bytes → ReportsProgram settings seen bytes
+reports settings seen roots groups levels bytes are leveled order output = record {
   roots = roots;
   are_roots = are;
   groups = groups;
   levels = levels;
   leveled = leveled_calls seen roots groups levels leveled.are leveled.leveled;
+  order = order;
   output = output;
 }

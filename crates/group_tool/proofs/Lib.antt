@@ -5,6 +5,7 @@ pub mod ToldEnd
 pub mod OneLoaded
 pub mod OneAnswer
 pub mod EndLemmas
+pub mod CarryingLemmas
 pub mod OneFileLemmas
 pub mod RootLemmas
 pub mod GroupLemmas

@@ -5,6 +5,8 @@ pub mod Say
 pub mod Wanted
 pub mod Roots
 pub mod Lines
+pub mod Carrying
+pub mod Driving
 pub mod End
 pub mod LoadedEnd
 pub mod Answer

@@ -8,10 +8,12 @@ use Rattle.import_rules.specs.Flaws.{AreImportFaults}
 use Rattle.import_rules.specs.Program.{Seen, IsProgram, HasPredicates, most_predicates}
 use Rattle.call_edges.specs.Calls.{NodeCalls}
 use Rattle.call_edges.specs.GoalFaults.{AreGoalFaults}
+use Rattle.call_edges.specs.Successors.{successor_lists}
 use Rattle.group_words.specs.Settings.{Settings}
 use Rattle.loop_report.specs.Report.{IsReport, IsOrderReport, head_line}
 use Rattle.loop_report.specs.Reportable.{AreLeveled}
 use Rattle.group_tool.specs.declared.stop.Limit.TheVariants.{TooManyPredicates}
+use Rattle.group_tool.specs.Driving.{AreInOrder}
 use Rattle.group_tool.specs.Roots.{AreRoots, LacksRoot, HasRoots}
 use Rattle.group_tool.specs.End.{End, faults, missing, limit, report}
 
@@ -49,13 +51,14 @@ IsOutput (Some count) order unreached seen groups levels bytes = bytes ≡ head_
 IsOutput None true unreached seen groups levels bytes = IsOrderReport seen.predicates seen.loaded.files groups levels unreached bytes
 IsOutput None false unreached seen groups levels bytes = IsReport seen.predicates seen.loaded.files groups levels unreached bytes
 
--- the bytes are the report of the groups that the roots reach, in some legal order
+-- the bytes are the report of the groups that the roots reach, in some legal order, or in that of the schedule where one is wanted
 pub record ReportsProgram (settings : Settings) (seen : Seen) (bytes : List ℕ) : Type 0 where
   pub roots : List ℕ
   pub are_roots : AreRoots settings.roots seen roots
   pub groups : List (List ℕ)
   pub levels : List Level
   pub leveled : AreLeveled (NodeCalls seen) roots groups levels
+  pub order : AreInOrder settings.searches (successor_lists seen) roots groups
   pub output : IsOutput settings.make settings.order settings.unreached seen groups levels bytes
 
 -- they are a callable program that has the roots, and the bytes are its report

@@ -1,37 +1,63 @@
-ghost use Rattle.std.specs.Prelude.{◌<◌, List, ℕ, All, IfOk, length};
+//! Who finds the groups: one search, many that take turns on one thread, or workers.
+
+ghost use Rattle.std.specs.Prelude.{◌≡◌, ◌<◌, List, ℕ, None, All, IfOk, length};
 ghost use Rattle.graph_law.specs.Graph.{Calls as ListCalls, lists_of};
 ghost use Rattle.call_edges.specs.Opened.{see_call_lists};
 ghost use Rattle.call_edges.specs.Successors.{successor_lists};
+ghost use Rattle.import_rules.specs.Program.{see_program};
 ghost use Rattle.loop_report.specs.Reportable.{AreGroups};
+ghost use Rattle.group_words.specs.Settings.{AreLawful, see_options};
+ghost use Rattle.group_tool.specs.Driving.{AreInOrder};
 
 use call_edges::CallLists;
+use group_words::{Options, settings_within};
+use import_rules::Program;
+use search_pool::{Gate, drive_workers};
+use search_schedule::drive_many;
 use search_stack::groups_plain;
 use std::alloc::{AllocError, Global};
+use std::sync::Wait;
+use std::thread::Threads;
 
-/// A way to find groups.
-pub trait Driver {
-    /// The groups of all that the roots reach, and of nothing else, in some legal order.
-    fn groups(
-        &self,
-        alloc: Global,
-        calls: &CallLists<'_>,
-        roots: &[u32],
-    ) -> Result<Vec<Vec<u32>>, AllocError>
-        requires { All (λ root. root < length (successor_lists (see_call_lists calls.now))) roots.now }
-        ensures { IfOk result (λ groups. AreGroups (ListCalls (successor_lists (see_call_lists calls.now))) roots.now (lists_of groups.items)) };
+/// The groups of all that the roots reach, and of nothing else, in a legal order: found by one search,
+/// or by many that take turns, and then in the order of their schedule.
+pub fn groups_alone(
+    alloc: Global,
+    options: &Options,
+    program: &Program,
+    calls: &CallLists<'_>,
+    roots: &[u32],
+) -> Result<Vec<Vec<u32>>, AllocError>
+    requires lawful { (words : List (List ℕ)) × AreLawful words (see_options options.now) }
+    requires calls { see_call_lists calls.now ≡ see_program program.now }
+    requires roots { All (λ q. q < length (see_program program.now).predicates) roots.now }
+    ensures groups { IfOk result (λ groups. AreGroups (ListCalls (successor_lists (see_program program.now))) roots.now (lists_of groups.items)) }
+    ensures order { IfOk result (λ groups. AreInOrder (see_options options.now).searches (successor_lists (see_program program.now)) roots.now (lists_of groups.items)) }
+{
+    settings_within();
+    let _program = program;
+    match options.searches {
+        Some((searches, seed)) => drive_many(alloc, calls, roots, searches, seed),
+        None => groups_plain(alloc, calls, roots),
+    }
 }
 
-/// One search after another, on one thread.
-#[derive(Clone, Copy)]
-pub struct OneSearch;
-
-impl Driver for OneSearch {
-    fn groups(
-        &self,
-        alloc: Global,
-        calls: &CallLists<'_>,
-        roots: &[u32],
-    ) -> Result<Vec<Vec<u32>>, AllocError> {
-        groups_plain(alloc, calls, roots)
-    }
+/// The same, found by workers, each in a thread of its own with a search of its own.
+pub fn groups_by_workers<R: Threads + Wait + Sync, G: Gate>(
+    rt: &R,
+    alloc: Global,
+    options: &Options,
+    program: &Program,
+    calls: &CallLists<'_>,
+    roots: &[u32],
+    gate: &G,
+) -> Result<Vec<Vec<u32>>, AllocError>
+    requires lawful { (words : List (List ℕ)) × AreLawful words (see_options options.now) }
+    requires calls { see_call_lists calls.now ≡ see_program program.now }
+    requires roots { All (λ q. q < length (see_program program.now).predicates) roots.now }
+    ensures { IfOk result (λ groups. AreGroups (ListCalls (successor_lists (see_program program.now))) roots.now (lists_of groups.items)) }
+{
+    settings_within();
+    let _program = program;
+    drive_workers(rt, alloc, calls, roots, options.jobs, gate)
 }

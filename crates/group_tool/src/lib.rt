@@ -18,9 +18,9 @@
 
 mod answer;
 mod driver;
-mod gate;
 mod laws;
 mod lines;
+mod loading;
 mod memory_sink;
 mod one_file;
 mod roots;
@@ -30,10 +30,10 @@ mod sink;
 mod stop;
 mod stream_sink;
 
-pub use gate::{Gate, OpenGate};
 pub use group_words::{Options, WordFault, parse_words};
 pub use laws::one_answer;
 pub use memory_sink::MemorySink;
 pub use run::{run_alone, run_groups};
+pub use search_pool::{Gate, MeetGate, OpenGate};
 pub use sink::{Flushed, Put, Sink};
 pub use stream_sink::StreamSink;

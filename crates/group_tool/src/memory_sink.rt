@@ -1,13 +1,15 @@
-ghost use Rattle.std.specs.Prelude.{◌≡◌, ◌≤◌, ◌<◌, Some, IfOk, length, vec_capacity};
+ghost use Rattle.std.specs.Prelude.{◌≡◌, ◌≤◌, ◌<◌, Some, true, false, IfOk, length, vec_capacity};
 
 use crate::sink::{Flushed, Put, Sink};
 use std::alloc::{AllocError, Global};
 
-/// A sink in memory. It takes bytes as long as it has room, and a put fails where none is left.
+/// A sink in memory. It takes bytes as long as it has room, and a put fails where none is left. Its
+/// flushes are done, or each fails.
 #[derive(Drop)]
 pub struct MemorySink {
     bytes: Vec<u8>,
     room: usize,
+    flushes: bool,
     faults: u64,
     settled: bool,
     ghost reserved: { room ≤ vec_capacity bytes },
@@ -18,21 +20,35 @@ impl MemorySink {
 
     /// A sink with room for `room` bytes.
     pub fn with_room(alloc: Global, room: u32) -> Result<MemorySink, AllocError>
-        ensures { IfOk result (λ sink. IsNewSink room sink) }
+        ensures { IfOk result (λ sink. IsNewSink true room sink) }
     {
-        Ok(MemorySink {
-            bytes: Vec::with_capacity(alloc, room as usize)?,
-            room: room as usize,
-            faults: 0,
-            settled: true,
-        })
+        MemorySink::make(alloc, room, true)
     }
 
     /// A sink whose puts fail once it has taken just so many bytes.
     pub fn failing_after(alloc: Global, bytes: u32) -> Result<MemorySink, AllocError>
-        ensures { IfOk result (λ sink. IsNewSink bytes sink) }
+        ensures { IfOk result (λ sink. IsNewSink true bytes sink) }
     {
-        MemorySink::with_room(alloc, bytes)
+        MemorySink::make(alloc, bytes, true)
+    }
+
+    /// A sink with room for `room` bytes, each of whose flushes fails.
+    pub fn failing_flush(alloc: Global, room: u32) -> Result<MemorySink, AllocError>
+        ensures { IfOk result (λ sink. IsNewSink false room sink) }
+    {
+        MemorySink::make(alloc, room, false)
+    }
+
+    fn make(alloc: Global, room: u32, flushes: bool) -> Result<MemorySink, AllocError>
+        ensures { IfOk result (λ sink. IsNewSink flushes room sink) }
+    {
+        Ok(MemorySink {
+            bytes: Vec::with_capacity(alloc, room as usize)?,
+            room: room as usize,
+            flushes,
+            faults: 0,
+            settled: true,
+        })
     }
 
     /// The bytes that the sink has taken.
@@ -76,6 +92,10 @@ impl Sink for MemorySink {
         ensures faults_kept { self.old.faults ≤ self.new.faults }
         ensures done { IsFlushed self.old self.new result }
     {
+        if !self.flushes {
+            self.faults = self.faults.saturating_add(1);
+            return Flushed::Failed;
+        }
         self.settled = true;
         Flushed::Done
     }

@@ -9,9 +9,7 @@ ghost use Rattle.group_tool.specs.Stop.{end_of_stop};
 ghost use Rattle.group_tool.specs.Wanted.{AreJust, AskForNone, HasNoOptions};
 ghost use Rattle.group_tool.specs.Run.{EndsReading, IsRun, IsSettled, AreAskedFor, SaysAnswer, SaysNoMemory, SaidWith, SaidEnd, HasReported, HasUsage, HasNoRoot, HasFaults, HasPassed, HasUnread, IsCutOff};
 
-use crate::answer::report_options;
-use crate::driver::{Driver, OneSearch};
-use crate::gate::Gate;
+use crate::answer::{report_alone, report_by_workers};
 use crate::lines::{fault_lines, limit_line, missing_line, unread_line};
 use crate::say::say;
 use crate::sink::Sink;
@@ -19,6 +17,7 @@ use crate::stop::Stop;
 use file_library::Library;
 use group_words::{Options, parse_words};
 use prolog_tokens::Text;
+use search_pool::Gate;
 use std::alloc::{AllocError, Global};
 use std::sync::Wait;
 use std::thread::Threads;
@@ -64,12 +63,11 @@ fn say_stop<S: Sink>(alloc: Global, sink: &mut S, stop: &Stop) -> u8
     }
 }
 
-/// Puts what the options come to on the sink that it goes to, where the driver finds the groups.
-fn run_options<R: Threads + Sync, D: Driver, L: Library, O: Sink, E: Sink>(
+/// Puts what the options come to on the sink that it goes to, where the groups are found on one thread.
+fn run_on_one_thread<R: Threads + Sync, L: Library, O: Sink, E: Sink>(
     rt: &R,
     alloc: Global,
     options: &Options,
-    driver: &D,
     library: &mut L,
     out: &mut O,
     err: &mut E,
@@ -84,8 +82,35 @@ fn run_options<R: Threads + Sync, D: Driver, L: Library, O: Sink, E: Sink>(
     ensures out_left { result ≢ 0 → result ≢ 5 → out.new ≡ out.old }
     ensures one_left { (out.new ≡ out.old) ⊎ (err.new ≡ err.old) }
 {
-    match report_options(rt, alloc, options, driver, library) {
+    match report_alone(rt, alloc, options, library) {
         Ok(report) => say_with(out, &report, 0),
+        Err(stop) => say_stop(alloc, err, &stop),
+    }
+}
+
+/// The same, where workers find the groups.
+fn run_with_workers<R: Threads + Wait + Sync, L: Library, O: Sink, E: Sink, G: Gate>(
+    rt: &R,
+    alloc: Global,
+    options: &Options,
+    library: &mut L,
+    out: &mut O,
+    err: &mut E,
+    gate: &G,
+) -> u8
+    requires lawful { (words : List (List ℕ)) × AreLawful words (see_options options.now) }
+    requires workers { (see_options options.now).searches ≡ None }
+    ensures run { IsRun (AreJust (see_options options.now))
+        (record { told = L.files library.old; asked = L.asked library.old; asked' = L.asked library.new; faults = L.faults library.old; faults' = L.faults library.new; misses = L.misses library.old; misses' = L.misses library.new })
+        (record { taken = O.taken out.old; taken' = O.taken out.new; faults = O.faults out.old; faults' = O.faults out.new; settled' = O.settled out.new })
+        (record { taken = E.taken err.old; taken' = E.taken err.new; faults = E.faults err.old; faults' = E.faults err.new; settled' = E.settled err.new })
+        result }
+    ensures err_left { result ≡ 0 → err.new ≡ err.old }
+    ensures out_left { result ≢ 0 → result ≢ 5 → out.new ≡ out.old }
+    ensures one_left { (out.new ≡ out.old) ⊎ (err.new ≡ err.old) }
+{
+    match report_by_workers(rt, alloc, options, library, gate) {
+        Ok(bytes) => say_with(out, &bytes, 0),
         Err(stop) => say_stop(alloc, err, &stop),
     }
 }
@@ -99,7 +124,7 @@ fn run_lawful<R: Threads + Wait + Sync, L: Library, O: Sink, E: Sink, G: Gate>(
     library: &mut L,
     out: &mut O,
     err: &mut E,
-    _gate: &G,
+    gate: &G,
 ) -> u8
     requires { (words : List (List ℕ)) × AreLawful words (see_options options.now) }
     ensures run { IsRun (AreJust (see_options options.now))
@@ -117,7 +142,7 @@ fn run_lawful<R: Threads + Wait + Sync, L: Library, O: Sink, E: Sink, G: Gate>(
     if options.jobs == 1 {
         return run_alone(rt, alloc, options, library, out, err);
     }
-    run_options(rt, alloc, options, &OneSearch, library, out, err)
+    run_with_workers(rt, alloc, options, library, out, err, gate)
 }
 
 /// Puts what the words come to on the sink that it goes to.
@@ -258,5 +283,5 @@ pub fn run_alone<R: Threads + Sync, L: Library, O: Sink, E: Sink>(
     ensures out_left { result ≢ 0 → result ≢ 5 → out.new ≡ out.old }
     ensures one_left { (out.new ≡ out.old) ⊎ (err.new ≡ err.old) }
 {
-    run_options(rt, alloc, options, &OneSearch, library, out, err)
+    run_on_one_thread(rt, alloc, options, library, out, err)
 }

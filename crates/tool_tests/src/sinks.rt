@@ -75,6 +75,46 @@ fn ends_where_a_sink_fails(rt: HostRuntime) -> Result<(), Fail> {
     Ok(())
 }
 
+#[test]
+fn ends_where_a_flush_fails(rt: HostRuntime) -> Result<(), Fail> {
+    let alloc = rt.alloc();
+    let words = words_of(alloc, &["f.pl"])?;
+    let mut library = library_of(alloc, &[("f.pl", TEXT)], &[])?;
+    let mut out = MemorySink::failing_flush(alloc, 1000)?;
+    let mut err = MemorySink::with_room(alloc, 10)?;
+    let status = run_groups(
+        &rt,
+        alloc,
+        &words,
+        &mut library,
+        &mut out,
+        &mut err,
+        &OpenGate,
+    );
+    assert_eq!(rt; (status, shown(&out), shown(&err)), (5, REPORT, ""));
+    Ok(())
+}
+
+#[test]
+fn ends_where_lines_of_faults_are_cut_off(rt: HostRuntime) -> Result<(), Fail> {
+    let alloc = rt.alloc();
+    let words = words_of(alloc, &["m.pl"])?;
+    let mut library = library_of(alloc, &[("m.pl", b":- use_module(gone).\n")], &[])?;
+    let mut out = MemorySink::with_room(alloc, 10)?;
+    let mut err = MemorySink::failing_after(alloc, 5)?;
+    let status = run_groups(
+        &rt,
+        alloc,
+        &words,
+        &mut library,
+        &mut out,
+        &mut err,
+        &OpenGate,
+    );
+    assert_eq!(rt; (status, shown(&out), shown(&err)), (5, "", "m.pl:"));
+    Ok(())
+}
+
 /// A stream that takes two bytes at a time, and counts its flushes, until it has taken four.
 #[derive(Drop)]
 struct Narrow {

@@ -2,7 +2,7 @@ use Rattle.std.proofs.Common.{refl, sym, ◌∙◌}
 use Rattle.group_words.specs.Settings.{see_options}
 use Rattle.group_tool.specs.Wanted.{AreJust}
 use Rattle.group_tool.proofs.EndLemmas.{stop_run}
-use Rattle.group_tool.proofs.run.run_options.Goals as goal
+use Rattle.group_tool.proofs.run.run_with_workers.Goals as goal
 
 pub returns-in-Err-clause-run : goal.returns-in-Err-clause-run
 returns-in-Err-clause-run g c =

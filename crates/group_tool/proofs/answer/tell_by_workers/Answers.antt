@@ -5,7 +5,7 @@ use Rattle.group_words.specs.Settings.{see_options}
 use Rattle.group_tool.specs.Answer.{IsLoadedEnd}
 use Rattle.group_tool.specs.Stop.{of_checking}
 use Rattle.group_tool.proofs.EndLemmas.{handed_on, check_end, root_end}
-use Rattle.group_tool.proofs.answer.report_program.Goals as goal
+use Rattle.group_tool.proofs.answer.tell_by_workers.Goals as goal
 
 pub returns-in_err-calls : goal.returns-in_err-calls
 returns-in_err-calls g c found program =
@@ -16,6 +16,10 @@ pub returns-in_err-roots : goal.returns-in_err-roots
 returns-in_err-roots g c found program =
     handed_on (IsLoadedEnd (see_options c.args.options.now) found) c.from_residual-in_err-roots.result c.in_err-roots.field-0.0 c.from_residual-in_err-roots.ensures.1
     (root_end (see_options c.args.options.now) found (see_program c.args.program.now) c.in_err-roots.field-0.0 program c.in_ok-calls.ensures.callable c.in_err-roots.ensures.err)
+
+pub returns-in_err-groups : goal.returns-in_err-groups
+returns-in_err-groups g c found program =
+    handed_on (IsLoadedEnd (see_options c.args.options.now) found) c.from_residual-in_err-groups.result NoMemory c.from_residual-in_err-groups.ensures.1 (inl refl)
 
 pub returns-in_err-bytes : goal.returns-in_err-bytes
 returns-in_err-bytes g c found program =

@@ -1,0 +1,11 @@
+use Rattle.std.proofs.Common.{◌<◌, length, sym, subst}
+use Rattle.graph_law.specs.Graph.{lists_of}
+use Rattle.import_rules.specs.Program.{Seen, see_program}
+use Rattle.call_edges.specs.Successors.{successor_lists}
+use Rattle.group_tool.proofs.GroupLemmas.{members_listed}
+use Rattle.group_tool.proofs.answer.levels_of.Goals as goal
+
+pub levels-requires-clause-nodes : goal.levels-requires-clause-nodes
+levels-requires-clause-nodes c κs p has =
+    subst (λ (s : Seen). p < length (successor_lists s)) (sym c.requires.calls)
+    (members_listed (see_program c.args.program.now) c.args.roots.now (lists_of c.args.groups.now) c.requires.below c.requires.groups p has)
