@@ -4,11 +4,12 @@
 - each prefix of an example, cut at every byte: status 0 or 3, and at 3 one line or more;
 - files of random bytes, of quotes, of opening brackets, of `:- ` again and again, and one long line,
   each of a MiB, and one file that is a byte too large;
-- a run over three files in which the Nth allocation fails, for each N in turn: status 7 with nothing
-  on standard output and its line on standard error, or with no line where the words were not read
-  yet, or the answer of a run in which none fails. This needs a C compiler, `cc`.
+- a run over three files in which the Nth allocation fails, for each N in turn, with one search, with
+  three that take turns, and with two workers: status 7 with nothing on standard output and its line on
+  standard error, or with no line where the words were not read yet, or the answer of a run in which
+  none fails. This needs a C compiler, `cc`.
 
-Ends with status 1 where an answer is wrong. The whole takes about a minute.
+Ends with status 1 where an answer is wrong. The whole takes about two minutes.
 """
 
 import argparse
@@ -88,8 +89,8 @@ def hostile_files(folder):
         wrong.append(f"a file that is too large: {answer}")
 
 
-def memory(folder):
-    """Fails each allocation of a run in turn, by a library that is loaded before the program."""
+def memory(folder, *options):
+    """Fails each allocation of a run with these options in turn, by a library that is loaded before the program."""
     shim, count = folder / "failing_malloc.so", folder / "count"
     source = ROOT / "checks" / "failing_malloc.c"
     subprocess.run(["cc", "-O1", "-shared", "-fPIC", "-o", shim, source, "-ldl"], check=True)
@@ -98,7 +99,7 @@ def memory(folder):
 
     def answer(number):
         env = {"LD_PRELOAD": str(shim), "FAIL_AT": str(number), "COUNT_TO": str(count)}
-        done = subprocess.run([PROGRAM, "calculator.pl", "module.pl"], cwd=folder, capture_output=True, env=env, timeout=60)
+        done = subprocess.run([PROGRAM, *options, "calculator.pl", "module.pl"], cwd=folder, capture_output=True, env=env, timeout=60)
         return done.returncode, done.stdout, done.stderr
 
     whole = answer(0)
@@ -108,11 +109,11 @@ def memory(folder):
     for number in range(1, total + 1):
         seen.append(answer(number))
         if seen[-1] not in (silent, wanting, whole):
-            wrong.append(f"allocation {number}: status {seen[-1][0]}, {len(seen[-1][1])} bytes on out")
+            wrong.append(f"allocation {number} {options}: status {seen[-1][0]}, {len(seen[-1][1])} bytes on out")
     if wanting in seen and silent in seen[seen.index(wanting) :]:
         wrong.append("no line of status 7, though the words were read")
     failed = seen.count(silent) + seen.count(wanting)
-    print(f"{total} allocations: {failed} times out of memory, {seen.count(whole)} as without")
+    print(f"{total} allocations {' '.join(options)}: {failed} times out of memory, {seen.count(whole)} as without")
 
 
 def main():
@@ -123,6 +124,8 @@ def main():
         prefixes(folder)
         hostile_files(folder)
         memory(folder)
+        memory(folder, "--searches", "3", "--seed", "5")
+        memory(folder, "--jobs", "2")
     for line in wrong:
         print("WRONG", line)
     sys.exit(1 if wrong else 0)
