@@ -7,12 +7,14 @@ use Rattle.std.specs.Prelude.{Bool, true, not, Contains}
 use Rattle.search_stack.specs.Search.{SearchValue}
 use Rattle.blocked_table.specs.declared.blocked.Blocked.TheInside.{Inside}
 use Rattle.blocked_table.specs.Blocked.{HasReady, IsReadyAt, IsTable, IsTaken}
-use Rattle.blocked_table.specs.BlockedFields.{IsBlocked, value_of}
+use Rattle.blocked_table.specs.BlockedFields.{AreWaiting, IsBlocked, value_of}
 use Rattle.blocked_table.specs.Kept.{kept_at}
 use Rattle.blocked_table.specs.Listed.{AreJust}
+use Rattle.blocked_table.specs.Waiters.{WaitersValue}
 use Rattle.blocked_table.proofs.Chain.{none_is_not, place_within, some_is}
 use Rattle.blocked_table.proofs.Listed.{just_few}
 use Rattle.blocked_table.proofs.Tables.{take_vacant}
+use Rattle.blocked_table.proofs.Waits.{waiting_none}
 
 -- the last of the ready places
 pub ready_last : {fields : Inside} → IsBlocked fields → (rest : List ℕ) (p : ℕ) → fields.ready.items ≡ rest ++ p ∷ []
@@ -109,10 +111,10 @@ no_place {P} places none never = record {
 }
 
 pub empty_blocked : (fields : Inside) (count : ℕ) → fields.kept.items ≡ [] → fields.vacant.items ≡ [] → fields.ready.items ≡ []
-    → fields.holders.items ≡ replicate count 0 → length fields.waited.items ≡ length fields.holders.items
+    → fields.holders.items ≡ replicate count 0 → fields.waiters ≡ record { count = count; words = replicate fields.most 0 }
     → fields.most ≤ vec_capacity fields.kept → fields.most ≤ vec_capacity fields.vacant → fields.most ≤ vec_capacity fields.ready
     → IsBlocked fields
-empty_blocked fields count none no_vacant no_ready zeros marks kept_room vacant_places ready_places = record {
+empty_blocked fields count none no_vacant no_ready zeros no_waiters kept_room vacant_places ready_places = record {
   table = empty_table fields none;
   words = λ p v. (
     λ word.
@@ -124,8 +126,13 @@ empty_blocked fields count none no_vacant no_ready zeros marks kept_room vacant_
         absurd (omega (arith, word, zero_word)),
     λ holds. absurd (nothing_kept fields.kept.items p holds.search none holds.at),
   );
-  waited = λ p w search at wanted. absurd (nothing_kept fields.kept.items p search none at);
-  marks = marks;
+  waiting =
+      subst (λ words. AreWaiting words fields.kept.items) (sym (ap (λ (all : WaitersValue). all.words) no_waiters))
+      (waiting_none fields.kept.items fields.most (ap length none));
+  nodes =
+      ap (λ (all : WaitersValue). all.count) no_waiters ∙ sym (length-replicate {A = ℕ} count 0) ∙ sym (ap length zeros);
+  places =
+      omega (arith, ap (λ (all : WaitersValue). length all.words) no_waiters, length-replicate {A = ℕ} fields.most 0);
   vacant = no_place fields.vacant.items no_vacant (λ p vacant. let lt = vacant.0 in omega (arith, lt, ap length none));
   ready = no_place fields.ready.items no_ready (λ p ready. nothing_kept fields.kept.items p ready.search none ready.at);
   kept_room = kept_room;

@@ -1,11 +1,11 @@
 -- What becomes of the tables where one more search is kept.
-use Rattle.std.proofs.Common.{◌≡◌, ◌⊎◌, inl, inr, ℕ, ◌<◌, ◌≤◌, ◌+◌, List, [], ◌∷◌, ◌++◌, length, get_or, set, Option, Some, ap, ◌∙◌, sym, subst, arith, get_or-set_same, get_or-set_other}
+use Rattle.std.proofs.Common.{◌≡◌, ◌⊎◌, inl, inr, ℕ, ◌<◌, ◌≤◌, ◌+◌, List, [], ◌∷◌, ◌++◌, length, get_or, Option, Some, ap, ◌∙◌, sym, subst, arith}
 use Rattle.std.proofs.lemmas.Bool.{cases_eq}
-use Rattle.std.specs.Prelude.{Bool, true, false, ◌↔◌}
+use Rattle.std.specs.Prelude.{◌↔◌}
 use Rattle.search_stack.specs.Stack.{size}
 use Rattle.search_stack.specs.Search.{SearchValue, IsOn}
 use Rattle.blocked_table.specs.Blocked.{IsKept, IsTable, IsReadyAt}
-use Rattle.blocked_table.specs.BlockedFields.{AreWaited, AreWords, IsVacant}
+use Rattle.blocked_table.specs.BlockedFields.{AreWords, IsVacant}
 use Rattle.blocked_table.specs.Kept.{kept_at, Holds, ComesTo}
 use Rattle.blocked_table.specs.Listed.{AreJust}
 use Rattle.blocked_table.specs.Suspending.{Adds}
@@ -59,19 +59,6 @@ module _ {old new : List (Option SearchValue)} {place : ℕ} {search : SearchVal
                   elim (held_before adds i v holds) as (λ _. get_or after v 0 ≡ i + 1)
                   [ inl before ↦ same ∙ (are i v).1 before | inr now ↦ absurd (none now.1) ],
             )
-      ]
-
-  pub keep_waited : (waited : List Bool) → on < length waited → AreWaited waited old → AreWaited (set waited on true) new
-  keep_waited waited lt are i w one at wanted =
-      elim (cases_eq w on) as (λ _. get_or (set waited on true) w false ≡ true) [
-        | inl same ↦ ap (λ k. get_or (set waited on true) k false) same ∙ get_or-set_same waited on true false lt
-        | inr ne ↦
-            elim (was_there i one at) as (λ _. get_or (set waited on true) w false ≡ true) [
-              | inl before ↦ get_or-set_other waited on w true false ne ∙ are i w one before wanted
-              | inr here ↦
-                  absurd
-                  (ne (some_is w on (sym wanted ∙ ap (λ (one : SearchValue). one.wanted) here.1 ∙ wants)))
-            ]
       ]
 
   pub keep_ready : {ready : List ℕ} → AreJust (IsReadyAt old) ready → AreJust (IsReadyAt new) ready

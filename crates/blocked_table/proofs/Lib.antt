@@ -15,3 +15,7 @@ pub mod EndSteps
 pub mod WakeSteps
 pub mod WakeTables
 pub mod WakeGood
+pub mod Linked
+pub mod LinkedMore
+pub mod WaiterSteps
+pub mod Waits

@@ -1,13 +1,13 @@
 -- What becomes of the tables where a kept search is cut and its upper part moves away.
-use Rattle.std.proofs.Common.{◌≡◌, ◌⊎◌, inl, inr, ℕ, ◌<◌, ◌+◌, List, [], ◌∷◌, ◌++◌, length, get_or, set, Option, None, Some, ap, ◌∙◌, sym, subst, arith, get_or-set_same, get_or-set_other}
+use Rattle.std.proofs.Common.{◌≡◌, ◌⊎◌, inl, inr, ℕ, ◌<◌, ◌+◌, List, [], ◌∷◌, ◌++◌, length, get_or, Option, None, Some, ap, ◌∙◌, sym, subst, arith}
 use Rattle.std.proofs.lemmas.Bool.{cases_eq}
-use Rattle.std.specs.Prelude.{Bool, true, false, ◌↔◌}
+use Rattle.std.specs.Prelude.{◌↔◌}
 use Rattle.search_stack.specs.Stack.{Stack, size, node, position}
 use Rattle.search_stack.specs.GoodSearch.{StandsIn}
 use Rattle.search_stack.specs.Search.{SearchValue, IsOn}
 use Rattle.search_stack.proofs.Frames.{position_le}
 use Rattle.blocked_table.specs.Blocked.{IsKept, IsTable, IsReadyAt}
-use Rattle.blocked_table.specs.BlockedFields.{AreWaited, AreWords, IsVacant}
+use Rattle.blocked_table.specs.BlockedFields.{AreWords, IsVacant}
 use Rattle.blocked_table.specs.Kept.{kept_at, Holds}
 use Rattle.blocked_table.specs.Listed.{AreJust}
 use Rattle.blocked_table.specs.Transfer.{IsCutAway}
@@ -144,24 +144,6 @@ module _ {lists : List (List ℕ)} {roots done : List ℕ} {now : List (Option S
       (λ i new.
       let other : i ≡ cut.0 → ⊥ = λ is. none_is_not rest (kept_at away.next i) new.1 (ap (kept_at away.next) is ∙ some) in
       (omega (arith, new.0, same_length), sym (away.same i other) ∙ new.1))
-
-  -- what each kept search wants is marked, where the rest's is
-  pub part_waited : (waited : List Bool) → kept_at away.next cut.0 ≡ None → AreWaited waited now → AreWaited waited away.next
-  part_waited waited none are i w search at wanted =
-      let other : i ≡ cut.0 → ⊥ = λ is. none_is_not search (kept_at away.next i) (ap (kept_at away.next) is ∙ none) at in
-      are i w search (sym (away.same i other) ∙ at) wanted
-
-  pub part_marked : (waited : List Bool) (wants : ℕ) (rest : SearchValue) → wants < length waited → kept_at away.next cut.0 ≡ Some rest
-      → rest.wanted ≡ Some wants → AreWaited waited now → AreWaited (set waited wants true) away.next
-  part_marked waited wants rest lt some wanted_is are i w search at wanted =
-      elim (cases_eq w wants) as (λ _. get_or (set waited wants true) w false ≡ true) [
-        | inl same ↦ ap (λ k. get_or (set waited wants true) k false) same ∙ get_or-set_same waited wants true false lt
-        | inr ne ↦
-            let other : i ≡ cut.0 → ⊥ = λ is.
-            let one : search ≡ rest = some_is search rest (sym at ∙ ap (kept_at away.next) is ∙ some) in
-            ne (some_is w wants (sym wanted ∙ ap (λ (one : SearchValue). one.wanted) one ∙ wanted_is)) in
-            get_or-set_other waited wants w true false ne ∙ are i w search (sym (away.same i other) ∙ at) wanted
-      ]
 
   -- what the rest wants stands on the donor
   pub rest_held : (rest : SearchValue) (w : ℕ) → kept_at away.next cut.0 ≡ Some rest → rest.wanted ≡ Some w → Holds now cut.0 w

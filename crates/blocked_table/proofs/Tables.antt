@@ -1,11 +1,11 @@
 -- What becomes of the tables where a ready search is taken.
 use Rattle.std.proofs.Common.{◌≡◌, ◌⊎◌, inl, inr, ℕ, ◌+◌, List, [], ◌∷◌, ◌++◌, get_or, Option, Some, ap, ◌∙◌, sym, subst, arith}
 use Rattle.std.proofs.lemmas.Bool.{cases_eq}
-use Rattle.std.specs.Prelude.{Bool, ◌↔◌}
+use Rattle.std.specs.Prelude.{◌↔◌}
 use Rattle.search_stack.specs.Stack.{size}
 use Rattle.search_stack.specs.Search.{SearchValue, IsOn}
 use Rattle.blocked_table.specs.Blocked.{IsTable, IsReadyAt, IsTaken}
-use Rattle.blocked_table.specs.BlockedFields.{AreWaited, AreWords, IsVacant}
+use Rattle.blocked_table.specs.BlockedFields.{AreWords, IsVacant}
 use Rattle.blocked_table.specs.Kept.{kept_at, Holds, IsApart, Follows, IsChain, IsFree, IsAtReady, Ends}
 use Rattle.blocked_table.specs.Listed.{AreJust}
 use Rattle.blocked_table.specs.Words.{AreWritten}
@@ -124,9 +124,6 @@ module _ {old new : List (Option SearchValue)} {search : SearchValue} (taken : I
               λ holds. same ∙ (are i v).1 (still i v holds).before,
             )
       ]
-
-  pub take_waited : (waited : List Bool) → AreWaited waited old → AreWaited waited new
-  take_waited waited are i w one at wanted = are i w one (was_at i one at) wanted
 
   pub take_vacant : (vacant : List ℕ) → AreJust (IsVacant old) vacant → AreJust (IsVacant new) (vacant ++ taken.place ∷ [])
   take_vacant vacant are =

@@ -1,50 +1,21 @@
--- How kept searches are made ready by the marks that are left.
-use Rattle.std.proofs.Common.{◌≡◌, inl, inr, ℕ, ◌<◌, ◌≤◌, ◌+◌, List, [], ◌∷◌, ◌++◌, length, get_or, set, get_or-set_same, get_or-set_other, length-set, Option, None, Some, if◌then◌else◌, refl, ap, ◌∙◌, sym, subst, arith, true≢false}
-use Rattle.std.proofs.lemmas.Bool.{cases_eq, cases_lt}
+-- How kept searches are made ready one by one.
+use Rattle.std.proofs.Common.{◌≡◌, ◌⊎◌, inl, inr, ℕ, ◌<◌, ◌≤◌, ◌+◌, List, [], ◌∷◌, ◌++◌, length, get_or, set, get_or-set_same, get_or-set_other, length-set, Option, None, Some, refl, ap, ◌∙◌, sym, subst, arith}
+use Rattle.std.proofs.lemmas.Bool.{cases_eq}
 use Rattle.std.proofs.lemmas.List.{length_push}
-use Rattle.std.proofs.lemmas.List.Elements.{Contains-append_left, Contains-push, Contains-push_cases}
-use Rattle.std.specs.Prelude.{Bool, true, false, not, Contains}
+use Rattle.std.proofs.lemmas.List.Elements.{Contains-push_cases}
+use Rattle.std.specs.Prelude.{Contains}
 use Rattle.search_stack.specs.Search.{SearchValue}
 use Rattle.blocked_table.specs.Blocked.{IsReadyAt, IsWoken}
-use Rattle.blocked_table.specs.BlockedFields.{AreWaited}
+use Rattle.blocked_table.specs.BlockedFields.{AreWaiting}
 use Rattle.blocked_table.specs.Kept.{kept_at}
 use Rattle.blocked_table.specs.Listed.{AreJust}
-use Rattle.blocked_table.specs.Waking.{AreUnmarked, AreWoken, wants_unmarked, woken_by}
+use Rattle.blocked_table.specs.Waking.{AreSomeWoken, IsOneWoken, IsReadied, IsUnwanted}
 use Rattle.blocked_table.proofs.Chain.{none_is_not, place_within, some_is}
-use Rattle.blocked_table.proofs.Listed.{just_few, just_push, just_same}
+use Rattle.blocked_table.proofs.FieldSteps.{read_kept}
+use Rattle.blocked_table.proofs.Listed.{just_few, just_push}
+use Rattle.blocked_table.proofs.Waits.{IsWaiting, waiting_here}
 
--- a search with the same stack
-woken_search : List Bool → SearchValue → SearchValue
-woken_search waited search = if wants_unmarked waited search.wanted then record search { wanted = None } else search
-
--- the loop over the places
-
-pub woken_none : (waited : List Bool) (kept : List (Option SearchValue)) → AreWoken waited 0 kept kept
-woken_none waited kept = record { each = refl; woken = λ i lt. absurd (omega (arith, lt)); same = λ i le. refl }
-
--- one place more
-pub woken_more : {waited : List Bool} {i : ℕ} {old now : List (Option SearchValue)} (new : List (Option SearchValue)) → AreWoken waited i old now
-    → length new ≡ length now → kept_at new i ≡ woken_by waited (kept_at now i)
-    → ((j : ℕ) → (j ≡ i → ⊥) → kept_at new j ≡ kept_at now j) → AreWoken waited (i + 1) old new
-woken_more {waited} {i} {old} {now} new was same_length here others = record {
-  each = same_length ∙ was.each;
-  woken = λ j lt.
-      elim (cases_eq j i) as (λ _. kept_at new j ≡ woken_by waited (kept_at old j)) [
-        | inl is ↦
-            ap (kept_at new) is ∙ here ∙ ap (woken_by waited) (was.same i (omega arith)) ∙ ap (λ k. woken_by waited (kept_at old k)) (sym is)
-        | inr ne ↦ others j ne ∙ was.woken j (omega (arith, lt, ne))
-      ];
-  same = λ j le. others j (λ is. omega (arith, is, le)) ∙ was.same j (omega (arith, le));
-}
-
--- the list of ready places, where nothing changes
-pub ready_same : {now new : List (Option SearchValue)} {ready : List ℕ} → ((j : ℕ) → kept_at new j ≡ kept_at now j)
-    → AreJust (IsReadyAt now) ready → AreJust (IsReadyAt new) ready
-ready_same {now} {new} {ready} same are =
-    just_same are (λ j was. record { search = was.search; at = same j ∙ was.at; wants_nothing = was.wants_nothing })
-    (λ j is. record { search = is.search; at = sym (same j) ∙ is.at; wants_nothing = is.wants_nothing })
-
--- and where the search at a place is woken
+-- the list of ready places, where the search at a place is woken
 pub ready_more : {now new : List (Option SearchValue)} (ready : List ℕ) (i w : ℕ) (search : SearchValue) → kept_at now i ≡ Some search
     → search.wanted ≡ Some w → kept_at new i ≡ Some (record search { wanted = None }) → ((j : ℕ) → (j ≡ i → ⊥) → kept_at new j ≡ kept_at now j)
     → AreJust (IsReadyAt now) ready → AreJust (IsReadyAt new) (ready ++ i ∷ [])
@@ -81,110 +52,112 @@ put_others now i gone after j ne = get_or-set_other (set now i gone) i j after N
 pub put_length : (now : List (Option SearchValue)) (i : ℕ) (gone after : Option SearchValue) → length (set (set now i gone) i after) ≡ length now
 put_length now i gone after = length-set (set now i gone) i after ∙ length-set now i gone
 
-pub everywhere : (now new : List (Option SearchValue)) (i : ℕ) → kept_at new i ≡ kept_at now i
-    → ((j : ℕ) → (j ≡ i → ⊥) → kept_at new j ≡ kept_at now j) → (j : ℕ) → kept_at new j ≡ kept_at now j
-everywhere now new i here others j =
-    elim (cases_eq j i) as (λ _. kept_at new j ≡ kept_at now j)
-    [ inl is ↦ ap (kept_at new) is ∙ here ∙ ap (kept_at now) (sym is) | inr ne ↦ others j ne ]
+-- one search is woken
 
--- marks that are taken away
+abbrev pub one_woken : (kept : List (Option SearchValue)) (place w : ℕ) (search : SearchValue) (gone after : Option SearchValue) → kept_at kept place ≡ Some search
+    → search.wanted ≡ Some w → after ≡ Some (record search { wanted = None }) → IsOneWoken w kept (set (set kept place gone) place after)
+one_woken kept place w search gone after at wants is = record {
+  place = place;
+  search = search;
+  at = at;
+  wants = wants;
+  each = put_length kept place gone after;
+  ready = put_at kept place gone after (place_within kept place search at) ∙ is;
+  same = put_others kept place gone after;
+}
 
-no_member : (w : ℕ) → Contains {X = ℕ} [] w → ⊥
-no_member w member = let lt : member.0 < 0 = member.1 in omega (arith, lt)
+-- the search at a place that waits is woken
+abbrev pub woken_here : (words : List ℕ) (kept : List (Option SearchValue)) → AreWaiting words kept → (place w : ℕ) (read : Option SearchValue)
+    (search : SearchValue) (gone after : Option SearchValue) → get_or words place 0 ≡ w + 1 → read ≡ get_or kept place read → read ≡ Some search
+    → after ≡ Some (record search { wanted = None }) → IsOneWoken w kept (set (set kept place gone) place after)
+woken_here words kept are place w read search gone after word here some is =
+    let waits : IsWaiting kept place w = waiting_here words kept are place w word in
+    let at : kept_at kept place ≡ Some search = read_kept kept place read (place_within kept place waits.search waits.at) here ∙ some in
+    one_woken kept place w search gone after at
+    (ap (λ (one : SearchValue). one.wanted) (some_is search waits.search (sym at ∙ waits.at)) ∙ waits.wants) is
 
-pub unmarked_none : (marks : List Bool) → AreUnmarked [] marks marks
-unmarked_none marks = record { each = refl; unmarked = λ w member. absurd (no_member w member); kept = λ w out. refl }
+one_none : {w : ℕ} {old new : List (Option SearchValue)} → (one : IsOneWoken w old new) → (i : ℕ) → kept_at old i ≡ None → kept_at new i ≡ None
+one_none {w} {old} {new} one i at =
+    one.same i (λ is. none_is_not one.search (kept_at old i) at (ap (kept_at old) is ∙ one.at)) ∙ at
 
-pub unmarked_more : {xs : List ℕ} {old now : List Bool} (node : ℕ) → AreUnmarked xs old now → node < length now
-    → AreUnmarked (xs ++ node ∷ []) old (set now node false)
-unmarked_more {xs} {old} {now} node was lt = record {
-  each = length-set now node false ∙ was.each;
-  unmarked = λ w member.
-      elim (cases_eq w node) as (λ _. get_or (set now node false) w false ≡ false) [
-        | inl is ↦ ap (λ k. get_or (set now node false) k false) is ∙ get_or-set_same now node false false lt
-        | inr ne ↦
-            get_or-set_other now node w false false ne
-            ∙ was.unmarked w
-            (elim (Contains-push_cases xs node w member) as (λ _. Contains xs w) [ inl before ↦ before | inr is ↦ absurd (ne (sym is)) ])
+pub one_some : {w : ℕ} {old new : List (Option SearchValue)} → IsOneWoken w old new → AreSomeWoken (λ u. u ≡ w) old new
+one_some {w} {old} {new} one = record {
+  each = one.each;
+  none = one_none one;
+  some = λ i search at.
+      elim (cases_eq i one.place) as (λ _. (kept_at new i ≡ Some search) ⊎ IsReadied (λ u. u ≡ w) new i search) [
+        | inr ne ↦ inl (one.same i ne ∙ at)
+        | inl is ↦
+            let same : one.search ≡ search = some_is one.search search (sym one.at ∙ ap (kept_at old) (sym is) ∙ at) in
+            inr
+            (record {
+              wanted = w;
+              wants = ap (λ (one : SearchValue). one.wanted) (sym same) ∙ one.wants;
+              holds = refl;
+              ready =
+                  ap (kept_at new) is ∙ one.ready ∙ ap (λ (one : SearchValue). Some (record one { wanted = None })) same;
+            })
       ];
-  kept = λ w out.
-      get_or-set_other now node w false false (λ is. out (subst (Contains (xs ++ node ∷ [])) (sym is) (Contains-push xs node)))
-      ∙ was.kept w (λ before. out (Contains-append_left xs (node ∷ []) w before));
 }
 
--- a node that has no mark
-pub unmarked_same : {xs : List ℕ} {old now : List Bool} (node : ℕ) → AreUnmarked xs old now → get_or now node false ≡ false
-    → AreUnmarked (xs ++ node ∷ []) old now
-unmarked_same {xs} {old} {now} node was none = record {
-  each = was.each;
-  unmarked = λ w member.
-      elim (Contains-push_cases xs node w member) as (λ _. get_or now w false ≡ false)
-      [ inl before ↦ was.unmarked w before | inr is ↦ ap (λ k. get_or now k false) (sym is) ∙ none ];
-  kept = λ w out. was.kept w (λ before. out (Contains-append_left xs (node ∷ []) w before));
+-- several are woken, one after another
+
+pub some_none : {P : ℕ → Type 0} (kept : List (Option SearchValue)) → AreSomeWoken P kept kept
+some_none kept = record { each = refl; none = λ i at. at; some = λ i search at. inl at }
+
+pub some_more : {P Q : ℕ → Type 0} {old now new : List (Option SearchValue)} → AreSomeWoken P old now → AreSomeWoken Q now new
+    → ((w : ℕ) → Q w → P w) → AreSomeWoken P old new
+some_more {P} {Q} {old} {now} {new} before then wider = record {
+  each = then.each ∙ before.each;
+  none = λ i at. then.none i (before.none i at);
+  some = λ i search at.
+      elim (before.some i search at) as (λ _. (kept_at new i ≡ Some search) ⊎ IsReadied P new i search) [
+        | inl stays ↦
+            elim (then.some i search stays) as (λ _. (kept_at new i ≡ Some search) ⊎ IsReadied P new i search) [
+              | inl still ↦ inl still
+              | inr is ↦ inr (record { wanted = is.wanted; wants = is.wants; holds = wider is.wanted is.holds; ready = is.ready })
+            ]
+        | inr was ↦
+            let ready : SearchValue = record search { wanted = None } in
+            elim (then.some i ready was.ready) as (λ _. (kept_at new i ≡ Some search) ⊎ IsReadied P new i search) [
+              | inl still ↦ inr (record { wanted = was.wanted; wants = was.wants; holds = was.holds; ready = still })
+              | inr is ↦ absurd (none_is_not is.wanted ready.wanted refl is.wants)
+            ]
+      ];
 }
 
-pub none_more : {xs : List ℕ} {old now : List Bool} (node : ℕ) → AreUnmarked xs old now → get_or now node false ≡ false
-    → ((w : ℕ) → Contains xs w → get_or old w false ≡ false) → (w : ℕ) → Contains (xs ++ node ∷ []) w → get_or old w false ≡ false
-none_more {xs} {old} {now} node was none before w member =
-    elim (get_or old w false) as (λ b. get_or old w false ≡ b → get_or old w false ≡ false) [
-      | false ↦ λ is. is
-      | true ↦
-          λ is.
-          elim (Contains-push_cases xs node w member) as (λ _. get_or old w false ≡ false) [
-            | inl inside ↦ before w inside
-            | inr here ↦
-                sym (was.kept w (λ inside. true≢false (sym is ∙ before w inside))) ∙ ap (λ k. get_or now k false) (sym here) ∙ none
-          ]
-    ]
-    refl
+-- what no search wants is wanted by none then
+pub unwanted_still : {P : ℕ → Type 0} {old new : List (Option SearchValue)} (w : ℕ) → AreSomeWoken P old new → IsUnwanted old w
+    → IsUnwanted new w
+unwanted_still {P} {old} {new} w some none i after at wants = by_place (kept_at old i) refl
+  where
+    by_place : (o : Option SearchValue) → kept_at old i ≡ o → ⊥
+    by_place None was = none_is_not after (kept_at new i) (some.none i was) at
+    by_place (Some before) was =
+        elim (some.some i before was) as (λ _. ⊥) [
+          | inl stays ↦ none i before was (ap (λ (one : SearchValue). one.wanted) (some_is before after (sym stays ∙ at)) ∙ wants)
+          | inr is ↦
+              let same : record before { wanted = None } ≡ after = some_is (record before { wanted = None }) after (sym is.ready ∙ at) in
+              none_is_not w after.wanted (sym (ap (λ (one : SearchValue). one.wanted) same)) wants
+        ]
 
--- what the marks say of a search
+-- one more node of the group is wanted by none
+pub none_more : {P : ℕ → Type 0} {old new : List (Option SearchValue)} (xs : List ℕ) (node : ℕ) → AreSomeWoken P old new
+    → ((w : ℕ) → Contains xs w → IsUnwanted old w) → IsUnwanted new node → (w : ℕ) → Contains (xs ++ node ∷ []) w → IsUnwanted new w
+none_more {P} {old} {new} xs node some before here w member =
+    elim (Contains-push_cases xs node w member) as (λ _. IsUnwanted new w)
+    [ inl earlier ↦ unwanted_still w some (before w earlier) | inr is ↦ subst (IsUnwanted new) is here ]
 
-pub wants_some : (waited : List Bool) (wanted : Option ℕ) → wants_unmarked waited wanted ≡ true → (w : ℕ) × (wanted ≡ Some w)
-wants_some waited None is = absurd (true≢false (sym is))
-wants_some waited (Some w) is = (w, refl)
-
-pub kept_as_is : (waited : List Bool) (search : SearchValue) → wants_unmarked waited search.wanted ≡ false
-    → woken_by waited (Some search) ≡ Some search
-kept_as_is waited search is = ap (λ b. Some (if b then record search { wanted = None } else search)) is
-
-pub made_ready : (waited : List Bool) (search : SearchValue) → wants_unmarked waited search.wanted ≡ true
-    → woken_by waited (Some search) ≡ Some (record search { wanted = None })
-made_ready waited search is = ap (λ b. Some (if b then record search { wanted = None } else search)) is
-
--- the whole list
-
-module _ {waited marks : List Bool} {group : List ℕ} {old new : List (Option SearchValue)} (woken : AreWoken marks (length old) old new)
-    (unmarked : AreUnmarked group waited marks) (are : AreWaited waited old) where
-  pub at_new : (i : ℕ) (o : Option SearchValue) → kept_at old i ≡ o → kept_at new i ≡ woken_by marks o
-  at_new i o at =
-      elim (cases_lt i (length old)) as (λ _. kept_at new i ≡ woken_by marks o) [
-        | inl lt ↦ woken.woken i lt ∙ ap (woken_by marks) at
-        | inr past ↦ woken.same i past ∙ past_is i o past at
-      ]
-    where
-      past_is : (i : ℕ) (o : Option SearchValue) → length old ≤ i → kept_at old i ≡ o → kept_at old i ≡ woken_by marks o
-      past_is i None past at = at
-      past_is i (Some search) past at = absurd (omega (arith, past, place_within old i search at))
-
-  -- a search that wants a node is woken just where the node is in the group
-  is_marked : (i w : ℕ) (search : SearchValue) → kept_at old i ≡ Some search → search.wanted ≡ Some w → (Contains group w → ⊥)
-      → wants_unmarked marks search.wanted ≡ false
-  is_marked i w search at wants out =
-      ap (wants_unmarked marks) wants ∙ ap not (unmarked.kept w out ∙ are i w search at wants)
-
-  isnt_marked : (w : ℕ) (search : SearchValue) → search.wanted ≡ Some w → Contains group w → wants_unmarked marks search.wanted ≡ true
-  isnt_marked w search wants member = ap (wants_unmarked marks) wants ∙ ap not (unmarked.unmarked w member)
-
-  pub is_woken : IsWoken group old new
-  is_woken = record {
-    each = woken.each;
-    none = λ i at. at_new i None at;
-    woken = λ i w search at wants member. at_new i (Some search) at ∙ made_ready marks search (isnt_marked w search wants member);
-    same = λ i search at out. at_new i (Some search) at ∙ kept_as_is marks search (stays_marked i search at out search.wanted refl);
-  }
-    where
-      stays_marked : (i : ℕ) (search : SearchValue) → kept_at old i ≡ Some search → ((w : ℕ) → search.wanted ≡ Some w → Contains group w → ⊥)
-          → (wanted : Option ℕ) → search.wanted ≡ wanted → wants_unmarked marks search.wanted ≡ false
-      stays_marked i search at out None is = ap (wants_unmarked marks) is
-      stays_marked i search at out (Some w) is = is_marked i w search at is (out w is)
+-- no search wants a node of the group then
+pub all_woken : {group : List ℕ} {old new : List (Option SearchValue)} → AreSomeWoken (Contains group) old new
+    → ((w : ℕ) → Contains group w → IsUnwanted new w) → IsWoken group old new
+all_woken {group} {old} {new} some none = record {
+  each = some.each;
+  none = some.none;
+  woken = λ i w search at wants member.
+      elim (some.some i search at) as (λ _. kept_at new i ≡ Some (record search { wanted = None }))
+      [ inl stays ↦ absurd (none w member i search stays wants) | inr is ↦ is.ready ];
+  same = λ i search at out.
+      elim (some.some i search at) as (λ _. kept_at new i ≡ Some search)
+      [ inl stays ↦ stays | inr is ↦ absurd (out is.wanted is.wants is.holds) ];
+}

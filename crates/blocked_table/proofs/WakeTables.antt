@@ -1,61 +1,47 @@
--- What becomes of the tables where kept searches are woken.
-use Rattle.std.proofs.Common.{◌≡◌, ◌⊎◌, inl, inr, ℕ, List, [], ◌∷◌, length, get_or, Option, None, Some, refl, ap, ◌∙◌, sym, subst, arith, true≢false}
-use Rattle.std.specs.Prelude.{Bool, true, false, not, Contains}
+-- What becomes of the tables where some kept searches are woken.
+use Rattle.std.proofs.Common.{◌≡◌, ◌⊎◌, inl, inr, ℕ, List, [], ◌∷◌, Option, None, Some, refl, ap, ◌∙◌, sym, subst, arith}
 use Rattle.search_stack.specs.Stack.{size}
 use Rattle.search_stack.specs.Search.{SearchValue, IsDistinct, IsOn}
-use Rattle.blocked_table.specs.Blocked.{IsKept, IsTable, IsWoken}
-use Rattle.blocked_table.specs.BlockedFields.{AreWaited, AreWords, IsVacant}
+use Rattle.blocked_table.specs.Blocked.{IsKept, IsTable}
+use Rattle.blocked_table.specs.BlockedFields.{AreWords, IsVacant}
 use Rattle.blocked_table.specs.Kept.{kept_at, Holds, Follows, IsChain, IsFree, IsAtReady, Ends}
 use Rattle.blocked_table.specs.Listed.{AreJust}
-use Rattle.blocked_table.specs.Waking.{AreUnmarked, AreWoken, wants_unmarked}
+use Rattle.blocked_table.specs.Waking.{AreSomeWoken}
 use Rattle.blocked_table.proofs.Chain.{none_is_not, same_search}
 use Rattle.blocked_table.proofs.Listed.{just_same}
-use Rattle.blocked_table.proofs.WakeSteps.{at_new, kept_as_is, made_ready}
 
 -- what became of a search: it stays as it was, or is ready
-pub record Becomes (new : List (Option SearchValue)) (marks : List Bool) (i : ℕ) (search : SearchValue) : Type 0 where
+pub record Becomes (new : List (Option SearchValue)) (i : ℕ) (search : SearchValue) : Type 0 where
   pub after : SearchValue
   pub at : kept_at new i ≡ Some after
   pub stack_is : after.stack ≡ search.stack
-  pub either : ((after ≡ search) × (wants_unmarked marks search.wanted ≡ false)) ⊎ (after.wanted ≡ None)
+  pub either : (after ≡ search) ⊎ (after.wanted ≡ None)
 
-module _ {waited marks : List Bool} {group : List ℕ} {old new : List (Option SearchValue)} (woken : AreWoken marks (length old) old new)
-    (unmarked : AreUnmarked group waited marks) (are : AreWaited waited old) where
-  becomes_by : (i : ℕ) (search : SearchValue) → kept_at old i ≡ Some search → (b : Bool) → wants_unmarked marks search.wanted ≡ b
-      → Becomes new marks i search
-  becomes_by i search at true is = record {
-    after = record search { wanted = None };
-    at = at_new woken unmarked are i (Some search) at ∙ made_ready marks search is;
-    stack_is = refl;
-    either = inr refl;
-  }
-  becomes_by i search at false is = record {
-    after = search;
-    at = at_new woken unmarked are i (Some search) at ∙ kept_as_is marks search is;
-    stack_is = refl;
-    either = inl (refl, is);
-  }
-
-  pub becomes : (i : ℕ) (search : SearchValue) → kept_at old i ≡ Some search → Becomes new marks i search
-  becomes i search at = becomes_by i search at (wants_unmarked marks search.wanted) refl
+module _ {P : ℕ → Type 0} {old new : List (Option SearchValue)} (some : AreSomeWoken P old new) where
+  becomes : (i : ℕ) (search : SearchValue) → kept_at old i ≡ Some search → Becomes new i search
+  becomes i search at =
+      elim (some.some i search at) as (λ _. Becomes new i search) [
+        | inl stays ↦ record { after = search; at = stays; stack_is = refl; either = inl refl }
+        | inr is ↦ record { after = record search { wanted = None }; at = is.ready; stack_is = refl; either = inr refl }
+      ]
 
   -- where a search that is kept now comes from
   record ComesFrom (i : ℕ) (after : SearchValue) : Type 0 where
     before : SearchValue
     at : kept_at old i ≡ Some before
     stack_is : after.stack ≡ before.stack
-    either : ((after ≡ before) × (wants_unmarked marks before.wanted ≡ false)) ⊎ (after.wanted ≡ None)
+    either : (after ≡ before) ⊎ (after.wanted ≡ None)
 
   comes_by : (i : ℕ) (after : SearchValue) → kept_at new i ≡ Some after → (o : Option SearchValue) → kept_at old i ≡ o → ComesFrom i after
-  comes_by i after at None was = absurd (none_is_not after (kept_at new i) (at_new woken unmarked are i None was) at)
+  comes_by i after at None was = absurd (none_is_not after (kept_at new i) (some.none i was) at)
   comes_by i after at (Some before) was =
-      let is : Becomes new marks i before = becomes i before was in
+      let is : Becomes new i before = becomes i before was in
       let same : is.after ≡ after = same_search new i is.after after is.at at in
       record {
         before = before;
         at = was;
         stack_is = sym (ap (λ (one : SearchValue). one.stack) same) ∙ is.stack_is;
-        either = subst (λ (one : SearchValue). ((one ≡ before) × (wants_unmarked marks before.wanted ≡ false)) ⊎ (one.wanted ≡ None)) same is.either;
+        either = subst (λ (one : SearchValue). (one ≡ before) ⊎ (one.wanted ≡ None)) same is.either;
       }
 
   comes : (i : ℕ) (after : SearchValue) → kept_at new i ≡ Some after → ComesFrom i after
@@ -63,7 +49,7 @@ module _ {waited marks : List Bool} {group : List ℕ} {old new : List (Option S
 
   held_now : (i v : ℕ) → Holds old i v → Holds new i v
   held_now i v holds =
-      let is : Becomes new marks i holds.search = becomes i holds.search holds.at in
+      let is : Becomes new i holds.search = becomes i holds.search holds.at in
       record { search = is.after; at = is.at; on = subst (λ stack. IsOn stack v) (sym is.stack_is) holds.on }
 
   held_then : (i v : ℕ) → Holds new i v → Holds old i v
@@ -80,7 +66,7 @@ module _ {waited marks : List Bool} {group : List ℕ} {old new : List (Option S
       elim is as (λ _. Ends new v) [
         | inl free ↦ record { end = end; steps = []; chain = chain; is = inl (free_now end free) }
         | inr ready ↦
-            let there : Becomes new marks ready.place ready.holds.search = becomes ready.place ready.holds.search ready.holds.at in
+            let there : Becomes new ready.place ready.holds.search = becomes ready.place ready.holds.search ready.holds.at in
             record {
               end = end;
               steps = [];
@@ -97,7 +83,7 @@ module _ {waited marks : List Bool} {group : List ℕ} {old new : List (Option S
                         };
                     ready =
                         elim there.either as (λ _. there.after.wanted ≡ None) [
-                          | inl same ↦ ap (λ (one : SearchValue). one.wanted) same.0 ∙ ready.ready
+                          | inl same ↦ ap (λ (one : SearchValue). one.wanted) same ∙ ready.ready
                           | inr none ↦ none
                         ];
                   });
@@ -105,7 +91,7 @@ module _ {waited marks : List Bool} {group : List ℕ} {old new : List (Option S
       ]
   ends_now v (x ∷ xs) end chain is =
       let follows : Follows old v x = chain.0 in
-      let there : Becomes new marks follows.place follows.holds.search = becomes follows.place follows.holds.search follows.holds.at in
+      let there : Becomes new follows.place follows.holds.search = becomes follows.place follows.holds.search follows.holds.at in
       let on : IsOn there.after.stack v = subst (λ stack. IsOn stack v) (sym there.stack_is) follows.holds.on in
       elim there.either as (λ _. Ends new v) [
         | inl same ↦
@@ -117,7 +103,7 @@ module _ {waited marks : List Bool} {group : List ℕ} {old new : List (Option S
                 record {
                   place = follows.place;
                   holds = record { search = there.after; at = there.at; on = on };
-                  wants = ap (λ (one : SearchValue). one.wanted) same.0 ∙ follows.wants;
+                  wants = ap (λ (one : SearchValue). one.wanted) same ∙ follows.wants;
                 },
                 then.chain,
               );
@@ -135,7 +121,7 @@ module _ {waited marks : List Bool} {group : List ℕ} {old new : List (Option S
   pub wake_table : (count most : ℕ) → IsTable (record { count = count; most = most; kept = old })
       → IsTable (record { count = count; most = most; kept = new })
   wake_table count most table = record {
-    few = omega (arith, table.few, woken.each);
+    few = omega (arith, table.few, some.each);
     each = λ i after at.
         let from : ComesFrom i after = comes i after at in
         let kept : IsKept from.before = table.each i from.before from.at in
@@ -149,7 +135,7 @@ module _ {waited marks : List Bool} {group : List ℕ} {old new : List (Option S
         let from : ComesFrom i after = comes i after at in
         elim from.either as (λ _. Ends new w) [
           | inl same ↦
-              let ends : Ends old w = table.ends i w from.before from.at (sym (ap (λ (one : SearchValue). one.wanted) same.0) ∙ wanted) in
+              let ends : Ends old w = table.ends i w from.before from.at (sym (ap (λ (one : SearchValue). one.wanted) same) ∙ wanted) in
               ends_now w ends.steps ends.end ends.chain ends.is
           | inr none ↦ absurd (none_is_not w after.wanted none wanted)
         ];
@@ -158,44 +144,14 @@ module _ {waited marks : List Bool} {group : List ℕ} {old new : List (Option S
   pub wake_words : (words : List ℕ) → AreWords words old → AreWords words new
   wake_words words hold i v = (λ word. held_now i v ((hold i v).0 word), λ holds. (hold i v).1 (held_then i v holds))
 
-  pub wake_waited : AreWaited marks new
-  wake_waited i w after at wanted =
-      let from : ComesFrom i after = comes i after at in
-      elim from.either as (λ _. get_or marks w false ≡ true) [
-        | inr none ↦ absurd (none_is_not w after.wanted none wanted)
-        | inl same ↦
-            let wants : from.before.wanted ≡ Some w = sym (ap (λ (one : SearchValue). one.wanted) same.0) ∙ wanted in
-            marked (get_or marks w false) (sym (ap (wants_unmarked marks) wants) ∙ same.1)
-      ]
-    where
-      marked : (b : Bool) → not b ≡ false → b ≡ true
-      marked true is = refl
-      marked false is = sym is
-
   pub wake_vacant : {vacant : List ℕ} → AreJust (IsVacant old) vacant → AreJust (IsVacant new) vacant
   wake_vacant {vacant} are_vacant =
       just_same are_vacant
-      (λ i was. (omega (arith, was.0, woken.each), at_new woken unmarked are i None was.1))
-      (λ i now. (omega (arith, now.0, woken.each), was_none i now.1 (kept_at old i) refl))
+      (λ i was. (omega (arith, was.0, some.each), some.none i was.1))
+      (λ i now. (omega (arith, now.0, some.each), was_none i now.1 (kept_at old i) refl))
     where
       was_none : (i : ℕ) → kept_at new i ≡ None → (o : Option SearchValue) → kept_at old i ≡ o → kept_at old i ≡ None
       was_none i none None is = is
       was_none i none (Some search) is =
-          let there : Becomes new marks i search = becomes i search is in
+          let there : Becomes new i search = becomes i search is in
           absurd (none_is_not there.after (kept_at new i) none there.at)
-
--- where no node of the group was marked, none of them is wanted
-
-pub not_wanted : (waited : List Bool) (group : List ℕ) (kept : List (Option SearchValue))
-    → ((w : ℕ) → Contains group w → get_or waited w false ≡ false) → AreWaited waited kept → (i w : ℕ) (search : SearchValue)
-    → kept_at kept i ≡ Some search → search.wanted ≡ Some w → Contains group w → ⊥
-not_wanted waited group kept none are i w search at wants member = true≢false (sym (are i w search at wants) ∙ none w member)
-
-pub none_woken : (waited : List Bool) (group : List ℕ) (kept : List (Option SearchValue))
-    → ((w : ℕ) → Contains group w → get_or waited w false ≡ false) → AreWaited waited kept → IsWoken group kept kept
-none_woken waited group kept none are = record {
-  each = refl;
-  none = λ i at. at;
-  woken = λ i w search at wants member. absurd (not_wanted waited group kept none are i w search at wants member);
-  same = λ i search at out. at;
-}

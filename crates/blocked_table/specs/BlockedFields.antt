@@ -1,5 +1,5 @@
 -- How the fields hold the kept searches.
-use Rattle.std.specs.Prelude.{Bool, ◌≡◌, ℕ, ◌+◌, ◌<◌, ◌≤◌, ◌↔◌, true, false, List, length, Option, None, Some, slice_index_or, vec_capacity}
+use Rattle.std.specs.Prelude.{◌≡◌, ℕ, ◌+◌, ◌<◌, ◌≤◌, ◌↔◌, List, length, Option, None, Some, slice_index_or, vec_capacity}
 use Rattle.search_stack.specs.Search.{SearchValue}
 use Rattle.blocked_table.specs.declared.blocked.Blocked.TheInside.{Inside}
 use Rattle.blocked_table.specs.Blocked.{BlockedValue, IsTable, IsReadyAt}
@@ -17,17 +17,26 @@ IsVacant kept place = (place < length kept) × (kept_at kept place ≡ None)
 abbrev pub AreWords : List ℕ → List (Option SearchValue) → Type 0
 AreWords holders kept = (place v : ℕ) → (slice_index_or holders v 0 ≡ place + 1) ↔ Holds kept place v
 
--- each node that a kept search wants is marked
-abbrev pub AreWaited : List Bool → List (Option SearchValue) → Type 0
-AreWaited waited kept = (place w : ℕ) (search : SearchValue) → kept_at kept place ≡ Some search → search.wanted ≡ Some w
-    → slice_index_or waited w false ≡ true
+-- the word of what may be wanted, and of a search that may be there: one more than the node that it wants, or 0
+abbrev pub wanted_word : Option ℕ → ℕ
+wanted_word None = 0
+wanted_word (Some w) = w + 1
 
--- the table has its words and marks, its lists of vacant and of ready places, and room for one of each place
+abbrev pub wait_word : Option SearchValue → ℕ
+wait_word None = 0
+wait_word (Some search) = wanted_word search.wanted
+
+-- each place waits for the node that its search wants
+abbrev pub AreWaiting : List ℕ → List (Option SearchValue) → Type 0
+AreWaiting words kept = (place : ℕ) → slice_index_or words place 0 ≡ wait_word (kept_at kept place)
+
+-- the table has its words and the lists of what waits for each node, its lists of vacant and of ready places, and room for one of each place
 pub record IsBlocked (fields : Inside) : Type 0 where
   pub table : IsTable (value_of fields)
   pub words : AreWords fields.holders.items fields.kept.items
-  pub waited : AreWaited fields.waited.items fields.kept.items
-  pub marks : length fields.waited.items ≡ length fields.holders.items
+  pub waiting : AreWaiting fields.waiters.words fields.kept.items
+  pub nodes : fields.waiters.count ≡ length fields.holders.items
+  pub places : fields.most ≤ length fields.waiters.words
   pub vacant : AreJust (IsVacant fields.kept.items) fields.vacant.items
   pub ready : AreJust (IsReadyAt fields.kept.items) fields.ready.items
   pub kept_room : fields.most ≤ vec_capacity fields.kept

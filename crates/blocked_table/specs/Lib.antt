@@ -5,5 +5,7 @@ pub mod Listed
 pub mod Paths
 pub mod Suspending
 pub mod Transfer
+pub mod Waiters
+pub mod WaitersFields
 pub mod Waking
 pub mod Words

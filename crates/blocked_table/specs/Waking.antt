@@ -1,26 +1,32 @@
--- Which kept searches are woken, by the marks that are left.
-use Rattle.std.specs.Prelude.{◌≡◌, ℕ, ◌<◌, ◌≤◌, Bool, false, not, List, length, Option, None, Some, slice_index_or, if◌then◌else◌, Contains}
+-- Which kept searches are woken on the way.
+use Rattle.std.specs.Prelude.{◌≡◌, ℕ, ◌⊎◌, List, length, Option, None, Some}
 use Rattle.search_stack.specs.Search.{SearchValue}
 use Rattle.blocked_table.specs.Kept.{kept_at}
 
--- the nodes of the group have no mark, and the others have what they had
-pub record AreUnmarked (group : List ℕ) (old new : List Bool) : Type 0 where
+-- no kept search wants the node
+abbrev pub IsUnwanted : List (Option SearchValue) → ℕ → Type 0
+IsUnwanted kept w = (place : ℕ) (search : SearchValue) → kept_at kept place ≡ Some search → search.wanted ≡ Some w → ⊥
+
+-- a kept search that wants the node is ready, and the others stay
+pub record IsOneWoken (w : ℕ) (old new : List (Option SearchValue)) : Type 0 where
+  pub place : ℕ
+  pub search : SearchValue
+  pub at : kept_at old place ≡ Some search
+  pub wants : search.wanted ≡ Some w
   pub each : length new ≡ length old
-  pub unmarked : (w : ℕ) → Contains group w → slice_index_or new w false ≡ false
-  pub kept : (w : ℕ) → (Contains group w → ⊥) → slice_index_or new w false ≡ slice_index_or old w false
+  pub ready : kept_at new place ≡ Some (record search { wanted = None })
+  pub same : (i : ℕ) → (i ≡ place → ⊥) → kept_at new i ≡ kept_at old i
 
--- a node is wanted that has no mark
-abbrev pub wants_unmarked : List Bool → Option ℕ → Bool
-wants_unmarked waited None = false
-wants_unmarked waited (Some w) = not (slice_index_or waited w false)
+-- the search wanted a node of which this holds, and is ready
+pub record IsReadied (P : ℕ → Type 0) (new : List (Option SearchValue)) (place : ℕ) (search : SearchValue) : Type 0 where
+  pub wanted : ℕ
+  pub wants : search.wanted ≡ Some wanted
+  pub holds : P wanted
+  pub ready : kept_at new place ≡ Some (record search { wanted = None })
 
--- a search that wants a node without a mark is ready then, and others stay
-abbrev pub woken_by : List Bool → Option SearchValue → Option SearchValue
-woken_by waited None = None
-woken_by waited (Some search) = Some (if wants_unmarked waited search.wanted then record search { wanted = None } else search)
-
--- the searches at the places below a bound are woken by their marks, and the others stay
-pub record AreWoken (waited : List Bool) (bound : ℕ) (old new : List (Option SearchValue)) : Type 0 where
+-- some of the searches that want such nodes are ready, and the others stay
+pub record AreSomeWoken (P : ℕ → Type 0) (old new : List (Option SearchValue)) : Type 0 where
   pub each : length new ≡ length old
-  pub woken : (i : ℕ) → i < bound → kept_at new i ≡ woken_by waited (kept_at old i)
-  pub same : (i : ℕ) → bound ≤ i → kept_at new i ≡ kept_at old i
+  pub none : (place : ℕ) → kept_at old place ≡ None → kept_at new place ≡ None
+  pub some : (place : ℕ) (search : SearchValue) → kept_at old place ≡ Some search
+      → (kept_at new place ≡ Some search) ⊎ IsReadied P new place search

@@ -3,6 +3,7 @@ ghost use Rattle.search_stack.specs.Search.{SearchValue};
 ghost use Rattle.blocked_table.specs.Blocked.{HasReady, IsTaken, IsTable};
 ghost use Rattle.blocked_table.specs.Kept.{Holds, IsFree};
 
+use crate::waiters::Waiters;
 use crate::words::write_words;
 use search_stack::Search;
 use std::alloc::{AllocError, Global};
@@ -22,8 +23,8 @@ pub struct Blocked {
     kept: Vec<Option<Search>>,
     /// For each node one more than the place of the search that holds it, or 0.
     holders: Vec<u32>,
-    /// Marks of the nodes that kept searches want, and maybe of others.
-    waited: Vec<bool>,
+    /// For each node the places of the searches that want it.
+    waiters: Waiters,
     vacant: Vec<u32>,
     ready: Vec<u32>,
     most: u32,
@@ -49,7 +50,7 @@ impl Blocked {
         Ok(Blocked {
             kept: Vec::with_capacity(alloc, most as usize)?,
             holders: vec![in alloc; 0u32; count as usize]?,
-            waited: vec![in alloc; false; count as usize]?,
+            waiters: Waiters::make(alloc, count, most)?,
             vacant: Vec::with_capacity(alloc, most as usize)?,
             ready: Vec::with_capacity(alloc, most as usize)?,
             most,

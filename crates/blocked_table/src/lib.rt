@@ -10,6 +10,7 @@
 
 mod blocked;
 mod suspended;
+mod waiters;
 mod words;
 
 pub use blocked::Blocked;

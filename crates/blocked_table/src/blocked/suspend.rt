@@ -74,14 +74,15 @@ impl Blocked {
         ensures kept { (place : ℕ) × Adds self.old.kept self.new.kept place (record search { wanted = Some on }) }
     {
         search.set_wanted(on);
-        self.waited[on as usize] = true;
         let Some(place) = self.vacant.pop() else {
             let place = self.kept.len() as u32;
             write_words(&mut self.holders, &search, 0, place + 1);
+            self.waiters.add(place, on);
             self.kept.push(Some(search)).unwrap();
             return;
         };
         write_words(&mut self.holders, &search, 0, place + 1);
+        self.waiters.add(place, on);
         self.kept[place as usize] = Some(search);
     }
 }

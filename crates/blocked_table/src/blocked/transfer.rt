@@ -83,11 +83,12 @@ impl Blocked {
         };
         write_words(&mut self.holders, &donor, cut.position, 0);
         search.append(&mut donor, cut);
+        self.waiters.remove(place);
         let Some(wants) = donor.wanted() else {
             self.vacant.push(place).unwrap();
             return wanted;
         };
-        self.waited[wants as usize] = true;
+        self.waiters.add(place, wants);
         self.kept[place as usize] = Some(donor);
         wanted
     }

@@ -1,14 +1,15 @@
-use Rattle.std.proofs.Common.{ℕ, ◌≡◌, ◌<◌, ◌∙◌, length, set, Some, ap, sym, subst, arith, length-set}
+use Rattle.std.proofs.Common.{ℕ, ◌≡◌, ◌<◌, ◌+◌, ◌∙◌, length, set, Some, ap, sym, subst, arith, length-set}
 use Rattle.std.proofs.lemmas.List.{append-nil, length_push}
-use Rattle.std.specs.Prelude.{true}
 use Rattle.search_stack.specs.Stack.{size}
 use Rattle.search_stack.specs.Search.{SearchValue, IsOn}
-use Rattle.blocked_table.specs.BlockedFields.{IsVacant}
+use Rattle.blocked_table.specs.BlockedFields.{IsVacant, wait_word}
 use Rattle.blocked_table.specs.Kept.{ComesTo, Holds}
 use Rattle.blocked_table.specs.Listed.{AreJust}
 use Rattle.blocked_table.specs.Suspending.{Adds}
+use Rattle.blocked_table.specs.Waiters.{WaitersValue}
 use Rattle.blocked_table.proofs.EndSteps.{adds_at, adds_last, room_left, vacant_last}
-use Rattle.blocked_table.proofs.KeepTables.{keep_popped, keep_pushed, keep_ready, keep_table, keep_waited, keep_words}
+use Rattle.blocked_table.proofs.KeepTables.{keep_popped, keep_pushed, keep_ready, keep_table, keep_words}
+use Rattle.blocked_table.proofs.Waits.{waiting_put, word_some}
 use Rattle.blocked_table.proofs.blocked.Blocked.keep.Goals as goal
 
 pub write_words-requires-clause-below : goal.write_words-requires-clause-below
@@ -23,6 +24,17 @@ write_words-requires-clause-below c =
     λ v on. below v (subst (λ stack. IsOn stack v) stack_is on) in
     low
 
+pub add-requires-clause-place : goal.add-requires-clause-place
+add-requires-clause-place c =
+    let room = room_left c.self.invariant c.in_default.ensures.cases.0 (rw (← c.self.view_is) at c.requires.room) in
+    omega (arith, room, c.len-place.ensures, c.self.inside.kept.ok.0, c.self.invariant.places)
+
+pub add-requires-clause-none : goal.add-requires-clause-none
+add-requires-clause-none c =
+    let last : c.len-place.result ≡ length c.self.inside.kept.items = omega (arith, c.len-place.ensures, c.self.inside.kept.ok.0) in
+    c.self.invariant.waiting c.len-place.result
+    ∙ ap wait_word (adds_last c.self.inside.kept.items c.len-place.result c.set_wanted.new.self last).vacant
+
 pub invariant_of-self : goal.invariant_of-self
 invariant_of-self c =
     let stack_is = ap (λ (one : SearchValue). one.stack) c.set_wanted.ensures in
@@ -35,7 +47,6 @@ invariant_of-self c =
     λ v on. below v (subst (λ stack. IsOn stack v) stack_is on) in
     let never : ComesTo c.self.inside.kept.items c.set_wanted.new.self.stack c.args.on → ⊥ =
     subst (λ stack. ComesTo c.self.inside.kept.items stack c.args.on → ⊥) (sym stack_is) (rw (← c.self.view_is) at c.requires.never) in
-    let marked : c.args.on < length c.self.inside.waited.items = omega (arith, rw (← c.self.view_is) at c.requires.on_below, c.self.invariant.marks) in
     let pushed = rw c.unwrap.ensures at c.push.ensures.items in
     let last : c.len-place.result ≡ length c.self.inside.kept.items = omega (arith, c.len-place.ensures, c.self.inside.kept.ok.0) in
     let adds : Adds c.self.inside.kept.items c.push.new.self.items c.len-place.result c.set_wanted.new.self =
@@ -52,8 +63,19 @@ invariant_of-self c =
           ))
           (record { some = omega (arith, c.requires.some, ap size stack_is); distinct = c.write_words.ensures.distinct }) low never c.self.invariant.table);
       words = keep_words adds c.args.on wants off c.self.invariant.words c.write_words.ensures.written;
-      waited = keep_waited adds c.args.on wants off c.self.inside.waited.items marked c.self.invariant.waited;
-      marks = length-set c.self.inside.waited.items c.args.on true ∙ c.self.invariant.marks ∙ sym c.write_words.ensures.written.each;
+      waiting =
+          rw c.add.ensures
+          (waiting_put c.self.inside.kept.items c.push.new.self.items c.self.inside.waiters.words c.len-place.result (c.args.on + 1) c.self.invariant.waiting
+          (omega (arith, room, last, c.self.invariant.places)) (word_some c.push.new.self.items c.len-place.result c.args.on c.set_wanted.new.self adds.at wants) adds.same);
+      nodes =
+          ap (λ (all : WaitersValue). all.count) c.add.ensures ∙ c.self.invariant.nodes ∙ sym c.write_words.ensures.written.each;
+      places =
+          omega (
+            arith,
+            c.self.invariant.places,
+            ap (λ (all : WaitersValue). length all.words) c.add.ensures,
+            length-set c.self.inside.waiters.words c.len-place.result (c.args.on + 1),
+          );
       vacant = subst (AreJust (IsVacant c.push.new.self.items)) (c.in_default.ensures.items ∙ append-nil c.pop.new.self.items)
           (keep_pushed adds c.args.on wants off last (ap length pushed ∙ length_push c.self.inside.kept.items (Some c.set_wanted.new.self))
           c.self.invariant.vacant);
@@ -90,8 +112,18 @@ write_words-requires-2-clause-below c =
     λ v on. below v (subst (λ stack. IsOn stack v) stack_is on) in
     low
 
-pub index_mut-requires-2 : goal.index_mut-requires-2
-index_mut-requires-2 c =
+pub add-requires-2-clause-place : goal.add-requires-2-clause-place
+add-requires-2-clause-place c =
+    let vacant = vacant_last c.self.invariant c.pop.new.self.items c.in-Some.place c.in-Some.ensures.items in
+    omega (arith, vacant.0, c.self.invariant.table.few, c.self.invariant.places)
+
+pub add-requires-2-clause-none : goal.add-requires-2-clause-none
+add-requires-2-clause-none c =
+    let vacant = vacant_last c.self.invariant c.pop.new.self.items c.in-Some.place c.in-Some.ensures.items in
+    c.self.invariant.waiting c.in-Some.place ∙ ap wait_word vacant.1
+
+pub index_mut-requires : goal.index_mut-requires
+index_mut-requires c =
     let vacant = vacant_last c.self.invariant c.pop.new.self.items c.in-Some.place c.in-Some.ensures.items in
     let adds = adds_at c.self.inside.kept.items c.in-Some.place c.set_wanted.new.self vacant.0 vacant.1 in
     omega (arith, vacant.0, c.self.inside.kept.ok.0)
@@ -108,7 +140,6 @@ invariant_of-self-2 c =
     λ v on. below v (subst (λ stack. IsOn stack v) stack_is on) in
     let never : ComesTo c.self.inside.kept.items c.set_wanted.new.self.stack c.args.on → ⊥ =
     subst (λ stack. ComesTo c.self.inside.kept.items stack c.args.on → ⊥) (sym stack_is) (rw (← c.self.view_is) at c.requires.never) in
-    let marked : c.args.on < length c.self.inside.waited.items = omega (arith, rw (← c.self.view_is) at c.requires.on_below, c.self.invariant.marks) in
     let vacant = vacant_last c.self.invariant c.pop.new.self.items c.in-Some.place c.in-Some.ensures.items in
     let adds = adds_at c.self.inside.kept.items c.in-Some.place c.set_wanted.new.self vacant.0 vacant.1 in
     record {
@@ -121,8 +152,19 @@ invariant_of-self-2 c =
           ))
           (record { some = omega (arith, c.requires.some, ap size stack_is); distinct = c.write_words-2.ensures.distinct }) low never c.self.invariant.table);
       words = keep_words adds c.args.on wants off c.self.invariant.words c.write_words-2.ensures.written;
-      waited = keep_waited adds c.args.on wants off c.self.inside.waited.items marked c.self.invariant.waited;
-      marks = length-set c.self.inside.waited.items c.args.on true ∙ c.self.invariant.marks ∙ sym c.write_words-2.ensures.written.each;
+      waiting =
+          rw c.add-2.ensures
+          (waiting_put c.self.inside.kept.items (set c.self.inside.kept.items c.in-Some.place (Some c.set_wanted.new.self)) c.self.inside.waiters.words c.in-Some.place (c.args.on + 1) c.self.invariant.waiting
+          (omega (arith, vacant.0, c.self.invariant.table.few, c.self.invariant.places)) (word_some (set c.self.inside.kept.items c.in-Some.place (Some c.set_wanted.new.self)) c.in-Some.place c.args.on c.set_wanted.new.self adds.at wants) adds.same);
+      nodes =
+          ap (λ (all : WaitersValue). all.count) c.add-2.ensures ∙ c.self.invariant.nodes ∙ sym c.write_words-2.ensures.written.each;
+      places =
+          omega (
+            arith,
+            c.self.invariant.places,
+            ap (λ (all : WaitersValue). length all.words) c.add-2.ensures,
+            length-set c.self.inside.waiters.words c.in-Some.place (c.args.on + 1),
+          );
       vacant = keep_popped adds c.args.on wants off c.pop.new.self.items
           (length-set c.self.inside.kept.items c.in-Some.place (Some c.set_wanted.new.self))
           (subst (AreJust (IsVacant c.self.inside.kept.items)) c.in-Some.ensures.items c.self.invariant.vacant);

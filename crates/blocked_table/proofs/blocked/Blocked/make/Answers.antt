@@ -1,6 +1,4 @@
-use Rattle.std.proofs.Common.{ℕ, ap, length, arith}
-use Rattle.std.specs.Prelude.{Bool, false}
-use Rattle.std.proofs.lemmas.List.{length-replicate}
+use Rattle.std.proofs.Common.{arith}
 use Rattle.blocked_table.proofs.FieldSteps.{empty_blocked}
 use Rattle.blocked_table.proofs.blocked.Blocked.make.Goals as goal
 
@@ -10,18 +8,11 @@ invariant_of-result c =
     (record {
       kept = c.in_ok-with_capacity.field-0;
       holders = c.in_ok-vec.field-0;
-      waited = c.in_ok-vec-2.field-0;
+      waiters = c.in_ok-make.field-0;
       vacant = c.in_ok-with_capacity-2.field-0;
       ready = c.in_ok-with_capacity-3.field-0;
       most = c.args.most;
     }) c.args.count c.in_ok-with_capacity.ensures.items c.in_ok-with_capacity-2.ensures.items c.in_ok-with_capacity-3.ensures.items
-    (c.in_ok-vec.ensures.items_if_clones_equal (λ y is. is))
-    (omega (
-      arith,
-      ap length (c.in_ok-vec.ensures.items_if_clones_equal (λ y is. is)),
-      ap length (c.in_ok-vec-2.ensures.items_if_clones_equal (λ y is. is)),
-      length-replicate {A = ℕ} c.args.count 0,
-      length-replicate {A = Bool} c.args.count false,
-    ))
+    (c.in_ok-vec.ensures.items_if_clones_equal (λ y is. is)) c.in_ok-make.ensures
     (omega (arith, c.in_ok-with_capacity.ensures.capacity)) (omega (arith, c.in_ok-with_capacity-2.ensures.capacity))
     (omega (arith, c.in_ok-with_capacity-3.ensures.capacity))

@@ -1,12 +1,14 @@
-use Rattle.std.proofs.Common.{◌≡◌, ◌<◌, ◌∙◌, length, set, None, Some, refl, ap, sym, subst, arith, get_or-set_same, length-set}
-use Rattle.std.specs.Prelude.{true}
+use Rattle.std.proofs.Common.{◌≡◌, ◌<◌, ◌+◌, ◌∙◌, length, set, None, Some, refl, ap, sym, subst, arith, get_or-set_same, get_or-set_other, length-set}
 use Rattle.search_stack.specs.Stack.{size}
 use Rattle.search_stack.specs.Search.{SearchValue}
+use Rattle.blocked_table.specs.BlockedFields.{wait_word}
+use Rattle.blocked_table.specs.Waiters.{WaitersValue}
 use Rattle.blocked_table.specs.Words.{AreWritten}
 use Rattle.blocked_table.proofs.Chain.{none_is_not, place_within, some_is}
 use Rattle.blocked_table.proofs.MovedSteps.{way_of}
 use Rattle.blocked_table.proofs.PartSteps.{away_none, away_some, donor_read, room_for}
-use Rattle.blocked_table.proofs.PartTables.{part_kept, part_marked, part_ready, part_table, part_vacant, part_waited, part_words, rest_held}
+use Rattle.blocked_table.proofs.PartTables.{part_kept, part_ready, part_table, part_vacant, part_words, rest_held}
+use Rattle.blocked_table.proofs.Waits.{waiting_put, word_some}
 use Rattle.blocked_table.proofs.blocked.Blocked.move_part.Goals as goal
 
 pub invariant_of-self-in_default-wanted : goal.invariant_of-self-in_default-wanted
@@ -91,8 +93,20 @@ invariant_of-self-in_default-wanted-2 c =
           rw c.write_words.ensures.written.each
           (part_table (c.args.place, c.in-Some-cut.cut.frame) way away (length c.self.inside.holders.items) c.self.inside.most same c.self.invariant.table);
       words = part_words (c.args.place, c.in-Some-cut.cut.frame) way away c.self.invariant.words written;
-      waited = part_waited (c.args.place, c.in-Some-cut.cut.frame) way away c.self.inside.waited.items gone c.self.invariant.waited;
-      marks = c.self.invariant.marks ∙ sym c.write_words.ensures.written.each;
+      waiting =
+          rw c.remove.ensures
+          (waiting_put c.self.inside.kept.items away.next c.self.inside.waiters.words c.args.place 0 c.self.invariant.waiting
+          (omega (arith, place_within c.self.inside.kept.items c.args.place c.in-Some.donor donor.at, c.self.invariant.table.few, c.self.invariant.places))
+          (ap wait_word gone) away.same);
+      nodes =
+          ap (λ (all : WaitersValue). all.count) c.remove.ensures ∙ c.self.invariant.nodes ∙ sym c.write_words.ensures.written.each;
+      places =
+          omega (
+            arith,
+            c.self.invariant.places,
+            ap (λ (all : WaitersValue). length all.words) c.remove.ensures,
+            length-set c.self.inside.waiters.words c.args.place 0,
+          );
       vacant = rw pushed vacant;
       ready = part_ready (c.args.place, c.in-Some-cut.cut.frame) way away c.self.invariant.ready;
       kept_room = c.self.invariant.kept_room;
@@ -132,8 +146,24 @@ returns-in_default-wanted-2-clause-spare c =
     let same : one ≡ c.in-Some.donor = some_is one c.in-Some.donor (sym at ∙ donor.at) in
     omega (arith, c.append.ensures.spare, ap (λ (search : SearchValue). size search.stack) same))
 
-pub index_mut-requires-2 : goal.index_mut-requires-2
-index_mut-requires-2 c =
+pub remove-requires-clause-place : goal.remove-requires-clause-place
+remove-requires-clause-place c =
+    let step = rw (← c.self.view_is) at c.requires.step.1 in
+    let donor = donor_read c.requires.step.0 c.index_mut.result.now c.in-Some.donor step c.index_mut.ensures.value (sym c.take.ensures.value ∙ c.in-Some.is) in
+    omega (arith, place_within c.self.inside.kept.items c.args.place c.in-Some.donor donor.at, c.self.invariant.table.few, c.self.invariant.places)
+
+pub remove-requires-clause-waits : goal.remove-requires-clause-waits
+remove-requires-clause-waits c =
+    let step = rw (← c.self.view_is) at c.requires.step.1 in
+    let donor = donor_read c.requires.step.0 c.index_mut.result.now c.in-Some.donor step c.index_mut.ensures.value (sym c.take.ensures.value ∙ c.in-Some.is) in
+    omega (
+      arith,
+      c.self.invariant.waiting c.args.place,
+      word_some c.self.inside.kept.items c.args.place donor.wants c.in-Some.donor donor.at donor.wanted,
+    )
+
+pub add-requires-clause-node : goal.add-requires-clause-node
+add-requires-clause-node c =
     let step = rw (← c.self.view_is) at c.requires.step.1 in
     let donor = donor_read c.requires.step.0 c.index_mut.result.now c.in-Some.donor step c.index_mut.ensures.value (sym c.take.ensures.value ∙ c.in-Some.is) in
     let good = rw (← c.self.view_is) at c.requires.good.3 in
@@ -154,12 +184,16 @@ index_mut-requires-2 c =
       length-set c.self.inside.kept.items c.args.place c.take.new.self,
     )) in
     let held = rest_held (c.args.place, c.in-Some-cut.cut.frame) way away c.append.new.donor c.in-Some-wanted-2.wants there (sym c.in-Some-wanted-2.ensures) in
-    omega (
-      arith,
-      c.self.invariant.table.below c.args.place c.in-Some-wanted-2.wants held,
-      c.self.invariant.marks,
-      c.self.inside.waited.ok.0,
-    )
+    let below = c.self.invariant.table.below c.args.place c.in-Some-wanted-2.wants held in
+    omega (arith, below, c.self.invariant.nodes, ap (λ (all : WaitersValue). all.count) c.remove.ensures)
+
+pub add-requires-clause-none : goal.add-requires-clause-none
+add-requires-clause-none c =
+    let step = rw (← c.self.view_is) at c.requires.step.1 in
+    let donor = donor_read c.requires.step.0 c.index_mut.result.now c.in-Some.donor step c.index_mut.ensures.value (sym c.take.ensures.value ∙ c.in-Some.is) in
+    let place_in : c.args.place < length c.self.inside.waiters.words =
+    omega (arith, place_within c.self.inside.kept.items c.args.place c.in-Some.donor donor.at, c.self.invariant.table.few, c.self.invariant.places) in
+    rw c.remove.ensures (get_or-set_same c.self.inside.waiters.words c.args.place 0 0 place_in)
 
 pub invariant_of-self-2 : goal.invariant_of-self-2
 invariant_of-self-2 c =
@@ -186,18 +220,40 @@ invariant_of-self-2 c =
     subst (λ from. AreWritten c.in-Some.donor.stack from (size c.in-Some.donor.stack) 0 c.self.inside.holders.items c.write_words.new.holders.items)
     c.in-Some-cut.ensures.position c.write_words.ensures.written in
     let held = rest_held (c.args.place, c.in-Some-cut.cut.frame) way away c.append.new.donor c.in-Some-wanted-2.wants there (sym c.in-Some-wanted-2.ensures) in
-    let inside : c.in-Some-wanted-2.wants < length c.self.inside.waited.items =
-    omega (arith, c.self.invariant.table.below c.args.place c.in-Some-wanted-2.wants held, c.self.invariant.marks) in
+    let place_in : c.args.place < length c.self.inside.waiters.words =
+    omega (arith, place_within c.self.inside.kept.items c.args.place c.in-Some.donor donor.at, c.self.invariant.table.few, c.self.invariant.places) in
+    let cleared = length-set c.self.inside.waiters.words c.args.place 0 in
     record {
       table =
           rw c.write_words.ensures.written.each
           (part_table (c.args.place, c.in-Some-cut.cut.frame) way away (length c.self.inside.holders.items) c.self.inside.most same c.self.invariant.table);
       words = part_words (c.args.place, c.in-Some-cut.cut.frame) way away c.self.invariant.words written;
-      waited =
-          part_marked (c.args.place, c.in-Some-cut.cut.frame) way away c.self.inside.waited.items c.in-Some-wanted-2.wants c.append.new.donor inside there
-          (sym c.in-Some-wanted-2.ensures) c.self.invariant.waited;
-      marks =
-          length-set c.self.inside.waited.items c.in-Some-wanted-2.wants true ∙ c.self.invariant.marks ∙ sym c.write_words.ensures.written.each;
+      waiting =
+          rw (c.add.ensures, c.remove.ensures)
+          (waiting_put (set c.self.inside.kept.items c.args.place c.take.new.self) away.next (set c.self.inside.waiters.words c.args.place 0) c.args.place
+          (c.in-Some-wanted-2.wants + 1)
+          (waiting_put c.self.inside.kept.items (set c.self.inside.kept.items c.args.place c.take.new.self) c.self.inside.waiters.words c.args.place 0
+          c.self.invariant.waiting place_in
+          (ap wait_word
+          (get_or-set_same c.self.inside.kept.items c.args.place c.take.new.self None
+          (place_within c.self.inside.kept.items c.args.place c.in-Some.donor donor.at)
+          ∙ c.take.ensures.after))
+          (λ i ne. get_or-set_other c.self.inside.kept.items c.args.place i c.take.new.self None ne))
+          (omega (arith, place_in, cleared))
+          (word_some away.next c.args.place c.in-Some-wanted-2.wants c.append.new.donor there (sym c.in-Some-wanted-2.ensures))
+          (λ i ne. get_or-set_other (set c.self.inside.kept.items c.args.place c.take.new.self) c.args.place i (Some c.append.new.donor) None ne));
+      nodes =
+          ap (λ (all : WaitersValue). all.count) c.add.ensures ∙ ap (λ (all : WaitersValue). all.count) c.remove.ensures
+          ∙ c.self.invariant.nodes ∙ sym c.write_words.ensures.written.each;
+      places =
+          omega (
+            arith,
+            c.self.invariant.places,
+            ap (λ (all : WaitersValue). length all.words) c.add.ensures,
+            ap (λ (all : WaitersValue). length all.words) c.remove.ensures,
+            cleared,
+            length-set c.remove.new.self.words c.args.place (c.in-Some-wanted-2.wants + 1),
+          );
       vacant = part_kept (c.args.place, c.in-Some-cut.cut.frame) way away c.append.new.donor same there c.self.invariant.vacant;
       ready = part_ready (c.args.place, c.in-Some-cut.cut.frame) way away c.self.invariant.ready;
       kept_room = c.self.invariant.kept_room;

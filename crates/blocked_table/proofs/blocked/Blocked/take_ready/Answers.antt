@@ -3,15 +3,17 @@ use Rattle.std.proofs.lemmas.List.{append-nil}
 use Rattle.blocked_table.specs.Blocked.{IsReadyAt}
 use Rattle.blocked_table.specs.Listed.{AreJust}
 use Rattle.blocked_table.proofs.FieldSteps.{ready_is_kept, ready_within, taken_from, vacant_room}
-use Rattle.blocked_table.proofs.Tables.{take_ready_list, take_table, take_vacant, take_waited, take_words}
+use Rattle.blocked_table.proofs.Tables.{take_ready_list, take_table, take_vacant, take_words}
+use Rattle.blocked_table.proofs.Waits.{waiting_taken}
 use Rattle.blocked_table.proofs.blocked.Blocked.take_ready.Goals as goal
 
 pub invariant_of-self : goal.invariant_of-self
 invariant_of-self c = record {
   table = c.self.invariant.table;
   words = c.self.invariant.words;
-  waited = c.self.invariant.waited;
-  marks = c.self.invariant.marks;
+  waiting = c.self.invariant.waiting;
+  nodes = c.self.invariant.nodes;
+  places = c.self.invariant.places;
   vacant = c.self.invariant.vacant;
   ready =
       subst (AreJust (IsReadyAt c.self.inside.kept.items)) (c.in_err-place.ensures.items ∙ append-nil c.pop.new.self.items) c.self.invariant.ready;
@@ -73,8 +75,9 @@ invariant_of-self-2 c =
       table =
           rw c.write_words.ensures.written.each (take_table taken (length c.self.inside.holders.items) c.self.inside.most c.self.invariant.table);
       words = take_words taken c.self.invariant.table.apart c.self.invariant.words c.write_words.ensures.written;
-      waited = take_waited taken c.self.inside.waited.items c.self.invariant.waited;
-      marks = c.self.invariant.marks ∙ sym c.write_words.ensures.written.each;
+      waiting = waiting_taken c.self.inside.waiters.words taken c.self.invariant.waiting;
+      nodes = c.self.invariant.nodes ∙ sym c.write_words.ensures.written.each;
+      places = c.self.invariant.places;
       vacant = rw pushed (take_vacant taken c.self.inside.vacant.items c.self.invariant.vacant);
       ready =
           take_ready_list taken c.pop.new.self.items
