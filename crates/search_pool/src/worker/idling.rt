@@ -1,8 +1,8 @@
-ghost use Rattle.std.specs.Prelude.{◌≡◌, ◌≤◌, take, length, All, Contains, IfNone, IfSome, false};
-ghost use Rattle.std.specs.Bool.{OnTrue};
+ghost use Rattle.std.specs.Prelude.{◌≡◌, ◌⊎◌, ◌<◌, ◌≤◌, ℕ, take, slice_index, length, All, Contains, IfNone, IfSome, false};
+ghost use Rattle.std.specs.Bool.{OnFalse, OnTrue};
 ghost use Rattle.graph_law.specs.Classes.{HasMember};
 ghost use Rattle.search_stack.specs.Stack.{size};
-ghost use Rattle.blocked_table.specs.Kept.{IsFree};
+ghost use Rattle.blocked_table.specs.Kept.{Holds, IsFree};
 ghost use Rattle.search_pool.specs.Working.{IsAtWork, GoesWell};
 
 use super::giving::give_back;
@@ -89,12 +89,13 @@ fn next_open_root(book: &mut Book) -> Option<u32>
 fn is_loose(book: &Book, node: u32) -> bool
     ensures open { OnTrue result (HasMember book.now.groups node → ⊥) }
     ensures free { OnTrue result (IsFree book.now.kept node) }
+    ensures held { OnFalse result (HasMember book.now.groups node ⊎ ((place : ℕ) × Holds book.now.kept place node)) }
 {
     if book.released().holds(node) {
         return false;
     }
     match book.blocked().holder(node) {
-        Some(_) => false,
+        Some(_place) => false,
         None => true,
     }
 }
@@ -105,6 +106,7 @@ fn released_roots(book: &Book, from: usize) -> usize
     requires before { All (λ root. HasMember book.now.groups root) (take from book.now.roots) }
     ensures within { result ≤ length book.now.roots }
     ensures released { All (λ root. HasMember book.now.groups root) (take result book.now.roots) }
+    ensures all { result < length book.now.roots → HasMember book.now.groups (slice_index book.now.roots result) → ⊥ }
 {
     let roots = book.roots();
     for index in from..roots.len() {
