@@ -2,8 +2,11 @@
 //! error how many microseconds it took.
 //!
 //! - `search SHAPE COUNT`: the search of a made graph of so many nodes. The number of groups.
+//! - `search SHAPE COUNT COST`: the same, where opening a node costs so many rounds of arithmetic.
 //! - `many SHAPE COUNT SEARCHES SEED`: its search by so many searches that take turns by the schedule of
 //!   the seed. The number of groups.
+//! - `workers SHAPE COUNT JOBS COST`: its search by so many workers in threads of their own, from 1 to 64,
+//!   where opening a node costs so many rounds. The number of groups.
 //! - `claims COUNT PASSES`: the claims of all of so many nodes by one pass, or by each of two in threads
 //!   of their own. The number of claims that were won.
 //! - `tokens FILE`: the tokens of a text. Their number.
@@ -17,6 +20,7 @@ ghost use Rattle.std.specs.Prelude.{◌≤◌, length};
 mod claim_times;
 mod clause_times;
 mod clauses;
+mod costly;
 mod made_graph;
 mod many_times;
 mod measured;
@@ -25,19 +29,22 @@ mod shape;
 mod source;
 mod text_times;
 mod token_times;
+mod worker_times;
 
 use crate::claim_times::time_claims;
 use crate::clause_times::time_clauses;
 use crate::many_times::time_many;
 use crate::measured::Measured;
-use crate::search_times::time_search;
+use crate::search_times::{time_costly_search, time_search};
 use crate::source::read_source;
 use crate::text_times::time_text;
 use crate::token_times::time_tokens;
+use crate::worker_times::time_workers;
 use std::alloc::Global;
 use std::env;
 use std::io::{self, ErrorKind};
 use std::rt::{Clock, Env, Files};
+use std::sync::Wait;
 use std::thread::Threads;
 
 /// The words behind the program's name.
@@ -62,7 +69,7 @@ fn measure_text(clock: &impl Clock, alloc: Global, what: &str, text: &str) -> io
 }
 
 /// Does what the words say.
-fn measure<R: Clock + Files + AllocGlobal + Threads + Sync>(
+fn measure<R: Clock + Files + AllocGlobal + Threads + Wait + Sync>(
     rt: &R,
     words: &[String],
 ) -> io::Result<Measured> {
@@ -74,11 +81,17 @@ fn measure<R: Clock + Files + AllocGlobal + Threads + Sync>(
         [what, shape, count] if what.as_str() == "search" => {
             time_search(rt, rt.alloc(), shape, count)
         }
+        [what, shape, count, cost] if what.as_str() == "search" => {
+            time_costly_search(rt, rt.alloc(), [shape, count], cost)
+        }
         [what, count, passes] if what.as_str() == "claims" => {
             time_claims(rt, rt.alloc(), count, passes)
         }
         [what, shape, count, searches, seed] if what.as_str() == "many" => {
             time_many(rt, rt.alloc(), [shape, count], [searches, seed])
+        }
+        [what, shape, count, jobs, cost] if what.as_str() == "workers" => {
+            time_workers(rt, rt.alloc(), [shape, count], [jobs, cost])
         }
         _ => Err(ErrorKind::InvalidInput.into()),
     }

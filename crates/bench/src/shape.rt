@@ -36,7 +36,14 @@ pub fn blocks(alloc: Global, count: u32) -> Result<Vec<Vec<u32>>, AllocError> {
     Ok(succs)
 }
 
-/// Nine calls for each two nodes, from and to nodes by a linear congruential generator.
+/// The next state of a linear congruential generator.
+pub fn next_state(state: u64) -> u64 {
+    state
+        .wrapping_mul(6364136223846793005)
+        .wrapping_add(1442695040888963407)
+}
+
+/// Nine calls for each two nodes, from and to nodes by that generator.
 pub fn random(alloc: Global, count: u32) -> Result<Vec<Vec<u32>>, AllocError> {
     let mut succs = Vec::with_capacity(alloc, count as usize)?;
     for _ in 0..count {
@@ -55,8 +62,6 @@ pub fn random(alloc: Global, count: u32) -> Result<Vec<Vec<u32>>, AllocError> {
 
 /// The generator's next number, below the count where that isn't 0.
 fn next_below(state: &mut u64, count: u32) -> u32 {
-    *state = state
-        .wrapping_mul(6364136223846793005)
-        .wrapping_add(1442695040888963407);
+    *state = next_state(*state);
     ((*state >> 33) as u32).checked_rem(count).unwrap_or(0)
 }
