@@ -10,6 +10,8 @@ mod graphs;
 #[cfg(test)]
 mod meeting;
 #[cfg(test)]
+mod seen_tests;
+#[cfg(test)]
 mod starved;
 #[cfg(test)]
 mod starved_tests;

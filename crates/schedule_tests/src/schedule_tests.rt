@@ -18,6 +18,8 @@ fn rings_come_out_whole(rt: HostRuntime) -> Result<(), Fail> {
     assert!(rt; agrees(alloc, &joined)?);
     let bound = graph_of_lists(alloc, &[&[2], &[2], &[3], &[1, 0]], &[0, 1])?;
     assert!(rt; agrees(alloc, &bound)?);
+    let rest = graph_of_lists(alloc, &[&[2], &[2], &[3], &[1, 0], &[1]], &[0, 4])?;
+    assert!(rt; agrees(alloc, &rest)?);
     Ok(())
 }
 
