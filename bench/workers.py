@@ -13,8 +13,8 @@ import sys
 
 from common import best, built
 
-# A round is a multiplication and an addition that wait for those before them, about 1.3 nanoseconds.
-ROUNDS = 1_500
+# A round is a shift, a multiplication and two more steps, each of which waits for the one before: about two nanoseconds.
+ROUNDS = 1_000
 GRAPHS = [
     ("blocks", 1_000_000, 0),
     ("ring", 1_000_000, 0),

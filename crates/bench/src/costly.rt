@@ -30,7 +30,8 @@ impl<'a> Opener for Costly<'a> {
 fn spent(node: u32, rounds: u32) -> u64 {
     let mut state = node as u64;
     for _ in 0..rounds {
-        state = next_state(state);
+        // Without the shift a compiler makes one round of several.
+        state = next_state(state ^ (state >> 32));
     }
     state
 }
