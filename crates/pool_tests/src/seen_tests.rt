@@ -1,10 +1,13 @@
 ghost use Rattle.std.specs.Prelude.{◌≡◌, ◌≤◌, [], length, IfSome};
 ghost use Rattle.node_claims.specs.Claims.{IsPassOf};
+ghost use Rattle.search_pool.specs.Worker.{EndsWell};
+ghost use Rattle.search_pool.specs.declared.ended.Ended.TheVariants.{Finished};
 
 use crate::graphs::graph_of;
 use graph_law::Opener;
 use node_claims::{Claimed, Claims, Looked, Pass};
 use search_pool::{Ended, OpenGate, work};
+use std::sync::Wait;
 use std::test::Fail;
 
 #[test]
@@ -18,10 +21,19 @@ fn a_pass_that_did_nothing_sees_what_a_worker_finished(rt: HostRuntime) -> Resul
         return Err("the worker has not finished".into());
     };
     let second = sees_the_end(&claims, second).ok_or("a node is not finished")?;
-    let pass = claims.join(first, second);
-    let groups = claims.finish(&rt, pass);
+    let groups = groups_of(&rt, claims, first, second);
     assert_eq!(rt; format!(in alloc; "{groups:?}")?.as_str(), "[[0, 1, 2]]");
     Ok(())
+}
+
+/// The groups, where the first pass has seen each root finished.
+fn groups_of(rt: &impl Wait, claims: Claims, first: Pass, second: Pass) -> Vec<Vec<u32>>
+    requires through { EndsWell claims (Finished first) }
+    requires of { IsPassOf claims second }
+    requires idle { second.view.nodes ≡ [] }
+{
+    let pass = claims.join(first, second);
+    claims.finish(rt, pass)
 }
 
 /// The pass, which finds two nodes finished and wins none; or none where that isn't so.
