@@ -26,6 +26,7 @@ use import_rules::Program;
 use loop_report::{head_line, order_report, report};
 use search_pool::Gate;
 use std::alloc::{AllocError, Global};
+use std::mem::forget;
 use std::sync::Wait;
 use std::thread::Threads;
 
@@ -48,7 +49,9 @@ pub fn report_alone<R: Threads + Sync, L: Library>(
     }) (end_of result) }
 {
     let program = load_program(rt, alloc, options, library)?;
-    tell_alone(rt, alloc, options, &program)
+    let told = tell_alone(rt, alloc, options, &program);
+    leave(program);
+    told
 }
 
 /// The same, where workers find the groups.
@@ -72,7 +75,15 @@ pub fn report_by_workers<R: Threads + Wait + Sync, L: Library, G: Gate>(
     }) (end_of result) }
 {
     let program = load_program(rt, alloc, options, library)?;
-    tell_by_workers(rt, alloc, options, &program, gate)
+    let told = tell_by_workers(rt, alloc, options, &program, gate);
+    leave(program);
+    told
+}
+
+/// Leaves the memory of the program to the end of the process, which comes next: to give it back term
+/// by term would take a fifth of the run.
+fn leave(program: Program) {
+    forget(program);
 }
 
 /// The report of the program, where each of its goals is callable and it has all roots. The groups are
