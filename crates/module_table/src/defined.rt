@@ -73,13 +73,21 @@ fn begun(alloc: Global, definition: Definition) -> Result<Defined, AllocError>
     ensures { IfOk result (λ predicate. see_defined predicate
         ≡ record { name = definition.name; arity = definition.arity; clauses = option_to_list (see_definition definition).clause }) }
 {
-    let mut clauses = Vec::new(alloc);
-    push_clause(&mut clauses, definition.clause)?;
     Ok(Defined {
         name: definition.name,
         arity: definition.arity,
-        clauses,
+        clauses: first_clauses(alloc, definition.clause)?,
     })
+}
+
+/// The clause alone, in just its room, since most predicates of a large file have one.
+fn first_clauses(alloc: Global, clause: Option<Clause>) -> Result<Vec<Clause>, AllocError>
+    ensures { IfOk result (λ clauses. clauses.items ≡ option_to_list clause) }
+{
+    match clause {
+        Some(clause) => Ok(vec![in alloc; clause]?),
+        None => Ok(Vec::new(alloc)),
+    }
 }
 
 fn push_clause(clauses: &mut Vec<Clause>, clause: Option<Clause>) -> Result<(), AllocError>
