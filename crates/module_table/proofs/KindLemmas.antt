@@ -1,10 +1,10 @@
--- One part more, by kind.
-use Rattle.std.proofs.Common.{◌≡◌, List, [], ◌∷◌, ◌++◌, Option, Some, None, map, refl, ap, ◌∙◌, append-nil}
+-- What is said, by kind.
+use Rattle.std.proofs.Common.{◌≡◌, List, [], ◌∷◌, ◌++◌, Option, Some, None, Result, Ok, Err, refl, ap, sym, ◌∙◌, append_assoc, append-nil}
 use Rattle.std.specs.List.{filter_map}
-use Rattle.std.proofs.lemmas.List.{map-append}
 use Rattle.std.proofs.lemmas.List.Elements.{filter_map-append}
-use Rattle.module_table.specs.Said.{Part, Declares}
-use Rattle.module_table.specs.Kinds.{first_of, first_module_seen}
+use Rattle.module_table.specs.declared.kinds.Kinds.{Kinds}
+use Rattle.module_table.specs.Said.{Said, Part, Refusal, Declares, declares, loads, defines, goal, more, in_turn}
+use Rattle.module_table.specs.Kinds.{declared_part, load_part, defined_part, goal_part, first_of, first_module_seen, ByKind, see_kinds, none_said, with_part, with_parts, with_said, AreSaid}
 
 module _ {B : Type 0} (f : Part → Option B) (parts : List Part) (part : Part) where
   only_none : (found : Option B) → f part ≡ found → found ≡ None → filter_map f (part ∷ []) ≡ []
@@ -13,15 +13,93 @@ module _ {B : Type 0} (f : Part → Option B) (parts : List Part) (part : Part) 
   only_some : (x : B) → f part ≡ Some x → filter_map f (part ∷ []) ≡ x ∷ []
   only_some x is = rw is refl
 
-  pub kept : f part ≡ None → filter_map f (parts ++ part ∷ []) ≡ filter_map f parts
+  kept : f part ≡ None → filter_map f (parts ++ part ∷ []) ≡ filter_map f parts
   kept is = filter_map-append f parts (part ∷ []) ∙ (ap (λ l. filter_map f parts ++ l) (only_none (f part) refl is) ∙ append-nil (filter_map f parts))
 
-  pub added : (x : B) → f part ≡ Some x → filter_map f (parts ++ part ∷ []) ≡ filter_map f parts ++ x ∷ []
+  added : (x : B) → f part ≡ Some x → filter_map f (parts ++ part ∷ []) ≡ filter_map f parts ++ x ∷ []
   added x is = filter_map-append f parts (part ∷ []) ∙ ap (λ l. filter_map f parts ++ l) (only_some x is)
 
-pub pushed : {A B : Type 0} (see : A → B) (old new : List A) (x : A) (all : List B) → new ≡ old ++ x ∷ [] → map see old ≡ all → map see new ≡ all ++ see x ∷ []
-pushed see old new x all is are = ap (map see) is ∙ (map-append see old (x ∷ []) ∙ ap (λ l. l ++ see x ∷ []) are)
-
-pub first_more : (all : List Declares) (own : Declares) → first_module_seen (first_of all) own ≡ first_of (all ++ own ∷ [])
+first_more : (all : List Declares) (own : Declares) → first_module_seen (first_of all) own ≡ first_of (all ++ own ∷ [])
 first_more [] own = refl
 first_more (first ∷ all) own = refl
+
+-- the parts of each kind
+
+abbrev by_kind : List Part → ByKind
+by_kind parts = record {
+  declared = first_of (filter_map declared_part parts);
+  loads = filter_map load_part parts;
+  definitions = filter_map defined_part parts;
+  goals = filter_map goal_part parts;
+}
+
+one_more : (before : List Part) (part : Part) → with_part (by_kind before) part ≡ by_kind (before ++ part ∷ [])
+one_more before (declares own) =
+    let part = declares own in
+    let declared = first_more (filter_map declared_part before) own ∙ ap first_of (sym (added declared_part before part own refl)) in
+    let loads_kept = sym (kept load_part before part refl) in
+    let definitions = sym (kept defined_part before part refl) in
+    let goals = sym (kept goal_part before part refl) in
+    λ i. record { declared = declared i; loads = loads_kept i; definitions = definitions i; goals = goals i }
+one_more before (loads own) =
+    let part = loads own in
+    let declared = ap first_of (sym (kept declared_part before part refl)) in
+    let loads_more = sym (added load_part before part own refl) in
+    let definitions = sym (kept defined_part before part refl) in
+    let goals = sym (kept goal_part before part refl) in
+    λ i. record { declared = declared i; loads = loads_more i; definitions = definitions i; goals = goals i }
+one_more before (defines own) =
+    let part = defines own in
+    let declared = ap first_of (sym (kept declared_part before part refl)) in
+    let loads_kept = sym (kept load_part before part refl) in
+    let definitions = sym (added defined_part before part own refl) in
+    let goals = sym (kept goal_part before part refl) in
+    λ i. record { declared = declared i; loads = loads_kept i; definitions = definitions i; goals = goals i }
+one_more before (goal own) =
+    let part = goal own in
+    let declared = ap first_of (sym (kept declared_part before part refl)) in
+    let loads_kept = sym (kept load_part before part refl) in
+    let definitions = sym (kept defined_part before part refl) in
+    let goals = sym (added goal_part before part own refl) in
+    λ i. record { declared = declared i; loads = loads_kept i; definitions = definitions i; goals = goals i }
+
+some_more : (before parts : List Part) → with_parts (by_kind before) parts ≡ by_kind (before ++ parts)
+some_more before [] = ap by_kind (sym (append-nil before))
+some_more before (part ∷ parts) =
+    ap (λ k. with_parts k parts) (one_more before part) ∙ (some_more (before ++ part ∷ []) parts ∙ ap by_kind (append_assoc before (part ∷ []) parts))
+
+abbrev told : ByKind → Result ByKind Refusal
+told k = Ok k
+
+told_once : (j k : ByKind) → told j ≡ told k → j ≡ k
+told_once j k is = cc
+
+-- kinds that begin with none are of all that is said
+pub are_said : (said : Said) (kinds : Kinds) → with_said none_said said ≡ Ok (see_kinds kinds) → AreSaid said kinds
+are_said (Ok parts) kinds is =
+    let same : see_kinds kinds ≡ by_kind parts = sym (told_once (with_parts none_said parts) (see_kinds kinds) is) ∙ some_more [] parts in
+    record {
+      parts = parts;
+      is = refl;
+      are = record { declared = ap (λ k. k.declared) same; loads = ap (λ k. k.loads) same; definitions = ap (λ k. k.definitions) same; goals = ap (λ k. k.goals) same };
+    }
+are_said (Err refusal) kinds is = let both : Err refusal ≡ told (see_kinds kinds) = is in absurd (cc)
+
+-- what is said in turn
+
+pub parts_append : (k : ByKind) (parts others : List Part) → with_parts k (parts ++ others) ≡ with_parts (with_parts k parts) others
+parts_append k [] others = refl
+parts_append k (part ∷ parts) others = parts_append (with_part k part) parts others
+
+with_more : (k : ByKind) (parts : List Part) (said : Said) → with_said k (more parts said) ≡ with_said (with_parts k parts) said
+with_more k parts (Ok others) = ap (λ j. Ok j) (parts_append k parts others)
+with_more k parts (Err refusal) = refl
+
+pub kinds_go_on : (old mid new : ByKind) (a b : Said) → with_said old a ≡ Ok mid → with_said mid b ≡ Ok new → with_said old (in_turn a b) ≡ Ok new
+kinds_go_on old mid new (Ok parts) b is also = with_more old parts b ∙ (ap (λ k. with_said k b) (told_once (with_parts old parts) mid is) ∙ also)
+kinds_go_on old mid new (Err refusal) b is also = let both : Err refusal ≡ told mid = is in absurd (cc)
+
+-- the parts that were added
+pub added_parts : (old new : ByKind) (said : Said) → with_said old said ≡ Ok new → (parts : List Part) × (said ≡ Ok parts)
+added_parts old new (Ok parts) is = (parts, refl)
+added_parts old new (Err refusal) is = let both : Err refusal ≡ told new = is in absurd (cc)

@@ -1,11 +1,11 @@
 -- The parts of a file by kind.
-use Rattle.std.specs.Prelude.{ℕ, ◌≡◌, List, [], ◌∷◌, Option, Some, None, Bool, true, false, codes, map, option_map}
+use Rattle.std.specs.Prelude.{ℕ, ◌≡◌, List, [], ◌∷◌, ◌++◌, Option, Some, None, Result, Ok, Err, Bool, true, false, codes, map, option_map}
 use Rattle.std.specs.List.{filter_map}
 use Rattle.prolog_terms.specs.Tree.{Tree, tree_of}
 use Rattle.module_table.specs.declared.indicator.Indicator.{Indicator}
 use Rattle.module_table.specs.declared.kinds.Kinds.{Kinds}
 use Rattle.module_table.specs.Defined.{Defines, see_definition}
-use Rattle.module_table.specs.Said.{Part, Declares, Loads, declares, loads, defines, goal, see_module, see_load}
+use Rattle.module_table.specs.Said.{Part, Said, Refusal, Declares, Loads, declares, loads, defines, goal, see_module, see_load}
 
 abbrev pub declared_part : Part → Option Declares
 declared_part (declares own) = Some own
@@ -43,3 +43,43 @@ pub record AreKinds (parts : List Part) (kinds : Kinds) : Type 0 where
   pub loads : map see_load kinds.loads.items ≡ filter_map load_part parts
   pub definitions : map see_definition kinds.definitions.items ≡ filter_map defined_part parts
   pub goals : map tree_of kinds.goals.items ≡ filter_map goal_part parts
+
+-- what is said, by kind
+pub record ByKind : Type 0 where
+  pub declared : Option Declares
+  pub loads : List Loads
+  pub definitions : List Defines
+  pub goals : List Tree
+
+abbrev pub see_kinds : Kinds → ByKind
+see_kinds k = record {
+  declared = option_map see_module k.declared;
+  loads = map see_load k.loads.items;
+  definitions = map see_definition k.definitions.items;
+  goals = map tree_of k.goals.items;
+}
+
+abbrev pub none_said : ByKind
+none_said = record { declared = None; loads = []; definitions = []; goals = [] }
+
+-- one part more
+abbrev pub with_part : ByKind → Part → ByKind
+with_part k (declares own) = record k { declared = first_module_seen k.declared own }
+with_part k (loads own) = record k { loads = k.loads ++ own ∷ [] }
+with_part k (defines own) = record k { definitions = k.definitions ++ own ∷ [] }
+with_part k (goal own) = record k { goals = k.goals ++ own ∷ [] }
+
+abbrev pub with_parts : ByKind → List Part → ByKind
+with_parts k [] = k
+with_parts k (part ∷ parts) = with_parts (with_part k part) parts
+
+-- these, and what is said behind them
+abbrev pub with_said : ByKind → Said → Result ByKind Refusal
+with_said k (Ok parts) = Ok (with_parts k parts)
+with_said k (Err refusal) = Err refusal
+
+-- the kinds are of all that is said
+pub record AreSaid (said : Said) (kinds : Kinds) : Type 0 where
+  pub parts : List Part
+  pub is : said ≡ Ok parts
+  pub are : AreKinds parts kinds

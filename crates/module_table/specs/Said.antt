@@ -1,5 +1,5 @@
 -- What a file says, part by part, or why it is refused.
-use Rattle.std.specs.Prelude.{ℕ, ◌≡◌, List, [], ◌∷◌, ◌++◌, Result, Ok, Err, map}
+use Rattle.std.specs.Prelude.{ℕ, ◌≡◌, List, [], ◌∷◌, ◌++◌, Result, Ok, Err}
 use Rattle.prolog_terms.specs.Tree.{Tree, tree_of}
 use Rattle.prolog_terms.specs.Views.{start_of}
 use Rattle.clause_text.specs.declared.cause.Cause.{Cause}
@@ -84,6 +84,3 @@ see_part (kept.Module own) = declares (see_module own)
 see_part (kept.Load own) = loads (see_load own)
 see_part (kept.Definition own) = defines (see_definition own)
 see_part (kept.Goal own) = goal (tree_of own)
-
-abbrev pub see_parts : List PartKept → List Part
-see_parts parts = map see_part parts

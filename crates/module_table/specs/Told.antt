@@ -1,5 +1,5 @@
 -- What is told of a directive, and terms taken apart.
-use Rattle.std.specs.Prelude.{◌≡◌, List, Some, None, Ok, codes}
+use Rattle.std.specs.Prelude.{◌≡◌, Some, None, Ok, codes}
 use Rattle.prolog_terms.specs.Tree.{Tree, tree_of}
 use Rattle.prolog_terms.specs.Views.{inside, sides_of}
 use Rattle.module_table.specs.declared.directive.Told.{Told}
@@ -9,13 +9,14 @@ use Rattle.module_table.specs.declared.taken.Sides.TheVariants.{Both, Alone}
 use Rattle.module_table.specs.declared.taken.Taken.{Taken}
 use Rattle.module_table.specs.declared.taken.Taken.TheVariants.{Directive, Headed}
 use Rattle.module_table.specs.Defined.{clause_tree}
-use Rattle.module_table.specs.Said.{Said, Part, only, goal, more}
+use Rattle.module_table.specs.Said.{Said, only, goal}
+use Rattle.module_table.specs.Kinds.{ByKind, with_said}
 use Rattle.clause_text.specs.Items.{directive_of}
 
 -- the directive is a goal and nothing was added, or all that it says was
-abbrev pub IsTold : Told → List Part → Said → Tree → List Part → Type 0
+abbrev pub IsTold : Told → ByKind → Said → Tree → ByKind → Type 0
 IsTold Goal old said tree new = (said ≡ only (goal tree)) × (new ≡ old)
-IsTold Done old said tree new = more old said ≡ Ok new
+IsTold Done old said tree new = with_said old said ≡ Ok new
 
 -- the sides of a comma, or a term that is none, without the brackets round it
 abbrev pub AreSides : Sides → Tree → Type 0

@@ -1,16 +1,18 @@
 //! What directives say.
 
-ghost use Rattle.std.specs.Prelude.{◌≡◌, IfOk, IfErr, OnOk, Ok, List};
+ghost use Rattle.std.specs.Prelude.{◌≡◌, IfOk, IfErr, OnOk, Ok};
 ghost use Rattle.prolog_terms.specs.Tree.{tree_of};
-ghost use Rattle.module_table.specs.Said.{IsWhy, more, see_parts, Part as SaidPart};
+ghost use Rattle.module_table.specs.Said.{IsWhy};
+ghost use Rattle.module_table.specs.Kinds.{ByKind, see_kinds, with_said};
 ghost use Rattle.module_table.specs.Told.{IsTold};
 ghost use Rattle.module_table.specs.Directives.{dynamic_said, use_some_said, one_said, two_said, three_said, shallow_said, directive_said};
 
 use crate::defined::Definition;
 use crate::indicator::{declared_indicators, listed_indicators};
+use crate::kinds::{Kinds, push_part};
 use crate::load::{LoadKind, push_load, push_loads, push_use_all};
 use crate::module_directive::module_of;
-use crate::said::{FactFault, Part, push_part, refusal};
+use crate::said::{FactFault, Part, refusal};
 use crate::taken::{Sides, sides_taken};
 use crate::terms::is_one_of;
 use clause_text::Cause;
@@ -25,8 +27,8 @@ pub enum Told {
 }
 
 /// Adds what `dynamic` and `multifile` define.
-fn push_dynamic(alloc: Global, list: &Term, parts: &mut Vec<Part>) -> Result<(), FactFault>
-    ensures ok { OnOk result (more (see_parts parts.old.items) (dynamic_said (tree_of list.now)) ≡ Ok (see_parts parts.new.items)) }
+fn push_dynamic(alloc: Global, list: &Term, kinds: &mut Kinds) -> Result<(), FactFault>
+    ensures ok { OnOk result (with_said (see_kinds kinds.old) (dynamic_said (tree_of list.now)) ≡ Ok (see_kinds kinds.new)) }
     ensures refused { IfErr result (λ fault. IsWhy (dynamic_said (tree_of list.now)) fault) }
 {
     for one in declared_indicators(alloc, list)? {
@@ -35,7 +37,7 @@ fn push_dynamic(alloc: Global, list: &Term, parts: &mut Vec<Part>) -> Result<(),
             arity: one.arity,
             clause: None,
         };
-        push_part(parts, Part::Definition(definition))?;
+        push_part(kinds, Part::Definition(definition))?;
     }
     Ok(())
 }
@@ -46,16 +48,16 @@ fn push_use_some(
     user: &str,
     spec: &Term,
     list: &Term,
-    parts: &mut Vec<Part>,
+    kinds: &mut Kinds,
 ) -> Result<(), FactFault>
-    ensures ok { OnOk result (more (see_parts parts.old.items) (use_some_said user.now (tree_of spec.now) (tree_of list.now)) ≡ Ok (see_parts parts.new.items)) }
+    ensures ok { OnOk result (with_said (see_kinds kinds.old) (use_some_said user.now (tree_of spec.now) (tree_of list.now)) ≡ Ok (see_kinds kinds.new)) }
     ensures refused { IfErr result (λ fault. IsWhy (use_some_said user.now (tree_of spec.now) (tree_of list.now)) fault) }
 {
     match listed_indicators(alloc, list) {
-        Ok(items) => push_load(alloc, user, LoadKind::UseSome, items, spec, parts),
+        Ok(items) => push_load(alloc, user, LoadKind::UseSome, items, spec, kinds),
         Err(FactFault::NoMemory) => Err(FactFault::NoMemory),
         Err(FactFault::At(cause, offset)) => {
-            push_load(alloc, user, LoadKind::UseSome, Vec::new(alloc), spec, parts)?;
+            push_load(alloc, user, LoadKind::UseSome, Vec::new(alloc), spec, kinds)?;
             Err(FactFault::At(cause, offset))
         }
     }
@@ -68,13 +70,13 @@ fn one_told(
     name: &str,
     argument: &Term,
     directive: &Term,
-    parts: &mut Vec<Part>,
+    kinds: &mut Kinds,
 ) -> Result<Told, FactFault>
-    ensures ok { IfOk result (λ told. IsTold told (see_parts parts.old.items) (one_said user.now name.now (tree_of argument.now) (tree_of directive.now)) (tree_of directive.now) (see_parts parts.new.items)) }
+    ensures ok { IfOk result (λ told. IsTold told (see_kinds kinds.old) (one_said user.now name.now (tree_of argument.now) (tree_of directive.now)) (tree_of directive.now) (see_kinds kinds.new)) }
     ensures refused { IfErr result (λ fault. IsWhy (one_said user.now name.now (tree_of argument.now) (tree_of directive.now)) fault) }
 {
     if name == "use_module" {
-        push_use_all(alloc, user, argument, parts)?;
+        push_use_all(alloc, user, argument, kinds)?;
         return Ok(Told::Done);
     }
     if is_one_of(&["ensure_loaded", "consult"], name) {
@@ -84,12 +86,12 @@ fn one_told(
             LoadKind::Ensure,
             Vec::new(alloc),
             argument,
-            parts,
+            kinds,
         )?;
         return Ok(Told::Done);
     }
     if is_one_of(&["dynamic", "multifile"], name) {
-        push_dynamic(alloc, argument, parts)?;
+        push_dynamic(alloc, argument, kinds)?;
         return Ok(Told::Done);
     }
     let silent = ["discontiguous", "meta_predicate", "mode", "public", "table"];
@@ -111,9 +113,9 @@ fn two_told(
     left: &Term,
     right: &Term,
     directive: &Term,
-    parts: &mut Vec<Part>,
+    kinds: &mut Kinds,
 ) -> Result<Told, FactFault>
-    ensures ok { IfOk result (λ told. IsTold told (see_parts parts.old.items) (two_said user.now first name.now (tree_of left.now) (tree_of right.now) (tree_of directive.now)) (tree_of directive.now) (see_parts parts.new.items)) }
+    ensures ok { IfOk result (λ told. IsTold told (see_kinds kinds.old) (two_said user.now first name.now (tree_of left.now) (tree_of right.now) (tree_of directive.now)) (tree_of directive.now) (see_kinds kinds.new)) }
     ensures refused { IfErr result (λ fault. IsWhy (two_said user.now first name.now (tree_of left.now) (tree_of right.now) (tree_of directive.now)) fault) }
 {
     if name == "module" {
@@ -121,11 +123,11 @@ fn two_told(
             return Err(refusal(Cause::LateModule, directive));
         }
         let own = module_of(alloc, left, right, start_of(directive))?;
-        push_part(parts, Part::Module(own))?;
+        push_part(kinds, Part::Module(own))?;
         return Ok(Told::Done);
     }
     if name == "use_module" {
-        push_use_some(alloc, user, left, right, parts)?;
+        push_use_some(alloc, user, left, right, kinds)?;
         return Ok(Told::Done);
     }
     if name == "set_prolog_flag" {
@@ -139,7 +141,7 @@ fn two_told(
 
 /// A directive of three arguments.
 fn three_told(name: &str, directive: &Term) -> Result<Told, FactFault>
-    ensures ok { IfOk result (λ told. (parts : List SaidPart) → IsTold told parts (three_said name.now (tree_of directive.now)) (tree_of directive.now) parts) }
+    ensures ok { IfOk result (λ told. (kinds : ByKind) → IsTold told kinds (three_said name.now (tree_of directive.now)) (tree_of directive.now) kinds) }
     ensures refused { IfErr result (λ fault. IsWhy (three_said name.now (tree_of directive.now)) fault) }
 {
     if name == "op" {
@@ -157,20 +159,20 @@ fn tell(
     user: &str,
     first: bool,
     directive: &Term,
-    parts: &mut Vec<Part>,
+    kinds: &mut Kinds,
 ) -> Result<Told, FactFault>
-    ensures ok { IfOk result (λ told. IsTold told (see_parts parts.old.items) (shallow_said user.now first (tree_of directive.now)) (tree_of directive.now) (see_parts parts.new.items)) }
+    ensures ok { IfOk result (λ told. IsTold told (see_kinds kinds.old) (shallow_said user.now first (tree_of directive.now)) (tree_of directive.now) (see_kinds kinds.new)) }
     ensures refused { IfErr result (λ fault. IsWhy (shallow_said user.now first (tree_of directive.now)) fault) }
 {
     match directive {
         Term::Compound { name, args, .. } => {
             let name = name.as_str();
             if args.len() == 1 {
-                return one_told(alloc, user, name, &args[0], directive, parts);
+                return one_told(alloc, user, name, &args[0], directive, kinds);
             }
             if args.len() == 2 {
                 return two_told(
-                    alloc, user, first, name, &args[0], &args[1], directive, parts,
+                    alloc, user, first, name, &args[0], &args[1], directive, kinds,
                 );
             }
             if args.len() == 3 {
@@ -187,7 +189,7 @@ fn tell(
         Term::List { items, tail, .. } => match tail {
             Some(_) => Err(refusal(Cause::BadSpec, directive)),
             None => {
-                push_loads(alloc, user, LoadKind::Ensure, items, parts)?;
+                push_loads(alloc, user, LoadKind::Ensure, items, kinds)?;
                 Ok(Told::Done)
             }
         },
@@ -201,18 +203,18 @@ pub fn push_directive(
     user: &str,
     first: bool,
     directive: Term,
-    parts: &mut Vec<Part>,
+    kinds: &mut Kinds,
 ) -> Result<(), FactFault>
-    ensures ok { OnOk result (more (see_parts parts.old.items) (directive_said user.now first (tree_of directive)) ≡ Ok (see_parts parts.new.items)) }
+    ensures ok { OnOk result (with_said (see_kinds kinds.old) (directive_said user.now first (tree_of directive)) ≡ Ok (see_kinds kinds.new)) }
     ensures refused { IfErr result (λ fault. IsWhy (directive_said user.now first (tree_of directive)) fault) }
 {
     match sides_taken(directive) {
         Sides::Both(left, right) => {
-            push_directive(alloc, user, false, left, parts)?;
-            push_directive(alloc, user, false, right, parts)
+            push_directive(alloc, user, false, left, kinds)?;
+            push_directive(alloc, user, false, right, kinds)
         }
-        Sides::Alone(alone) => match tell(alloc, user, first, &alone, parts)? {
-            Told::Goal => push_part(parts, Part::Goal(alone)),
+        Sides::Alone(alone) => match tell(alloc, user, first, &alone, kinds)? {
+            Told::Goal => push_part(kinds, Part::Goal(alone)),
             Told::Done => Ok(()),
         },
     }

@@ -4,16 +4,17 @@ ghost use Rattle.std.specs.Prelude.{◌≡◌, ◌≤◌, ◌+◌, IfOk, IfErr, 
 ghost use Rattle.prolog_terms.specs.Tree.{tree_of};
 ghost use Rattle.prolog_terms.specs.Weight.{weight};
 ghost use Rattle.module_table.specs.Defined.{clause_tree};
-ghost use Rattle.module_table.specs.Said.{IsWhy, more, see_parts};
+ghost use Rattle.module_table.specs.Said.{IsWhy};
+ghost use Rattle.module_table.specs.Kinds.{AreSaid, see_kinds, with_said};
 ghost use Rattle.module_table.specs.Facts.{clause_head, headed, clause_said, file_said, AreFacts, Facts, see_facts};
 
 use crate::defined::{Defined, Definition, group};
 use crate::directive::push_directive;
 use crate::head::{grammar_head, head};
 use crate::indicator::Indicator;
-use crate::kinds::{by_kind, module_of_file};
+use crate::kinds::{Kinds, module_of_file, none_said, push_definition};
 use crate::load::Load;
-use crate::said::{FactFault, Part, push_part};
+use crate::said::FactFault;
 use crate::taken::{Taken, directive_taken};
 use clause_text::Clause;
 use prolog_terms::{Term, binary};
@@ -81,9 +82,9 @@ fn owned_head(alloc: Global, clause: &Term) -> Result<Head, FactFault>
 }
 
 /// Adds a clause that is no directive.
-fn push_headed(alloc: Global, clause: Clause, parts: &mut Vec<Part>) -> Result<(), FactFault>
+fn push_headed(alloc: Global, clause: Clause, kinds: &mut Kinds) -> Result<(), FactFault>
     requires { weight (clause_tree clause) ≤ 8388608 }
-    ensures ok { OnOk result (more (see_parts parts.old.items) (headed (clause_head (clause_tree clause)) (clause_tree clause)) ≡ Ok (see_parts parts.new.items)) }
+    ensures ok { OnOk result (with_said (see_kinds kinds.old) (headed (clause_head (clause_tree clause)) (clause_tree clause)) ≡ Ok (see_kinds kinds.new)) }
     ensures refused { IfErr result (λ fault. IsWhy (headed (clause_head (clause_tree clause)) (clause_tree clause)) fault) }
 {
     let head = owned_head(alloc, &clause.term)?;
@@ -92,7 +93,8 @@ fn push_headed(alloc: Global, clause: Clause, parts: &mut Vec<Part>) -> Result<(
         arity: head.arity,
         clause: Some(clause),
     };
-    push_part(parts, Part::Definition(definition))
+    push_definition(kinds, definition)?;
+    Ok(())
 }
 
 /// Adds what a clause says; first tells whether it is the first of the file.
@@ -101,31 +103,31 @@ fn push_clause(
     file: &str,
     first: bool,
     clause: Clause,
-    parts: &mut Vec<Part>,
+    kinds: &mut Kinds,
 ) -> Result<(), FactFault>
     requires { weight (clause_tree clause) ≤ 8388608 }
-    ensures ok { OnOk result (more (see_parts parts.old.items) (clause_said file.now first (clause_tree clause)) ≡ Ok (see_parts parts.new.items)) }
+    ensures ok { OnOk result (with_said (see_kinds kinds.old) (clause_said file.now first (clause_tree clause)) ≡ Ok (see_kinds kinds.new)) }
     ensures refused { IfErr result (λ fault. IsWhy (clause_said file.now first (clause_tree clause)) fault) }
 {
     match directive_taken(clause) {
-        Taken::Directive(directive) => push_directive(alloc, file, first, directive, parts),
-        Taken::Headed(clause) => push_headed(alloc, clause, parts),
+        Taken::Directive(directive) => push_directive(alloc, file, first, directive, kinds),
+        Taken::Headed(clause) => push_headed(alloc, clause, kinds),
     }
 }
 
-/// All that the clauses say, in order.
-fn said(alloc: Global, file: &str, clauses: Vec<Clause>) -> Result<Vec<Part>, FactFault>
+/// All that the clauses say, by kind.
+fn said(alloc: Global, file: &str, clauses: Vec<Clause>) -> Result<Kinds, FactFault>
     requires { All (λ tree. weight tree ≤ 8388608) (map clause_tree clauses.items) }
-    ensures ok { IfOk result (λ parts. file_said file.now (map clause_tree clauses.items) ≡ Ok (see_parts parts.items)) }
+    ensures ok { IfOk result (λ kinds. AreSaid (file_said file.now (map clause_tree clauses.items)) kinds) }
     ensures refused { IfErr result (λ fault. IsWhy (file_said file.now (map clause_tree clauses.items)) fault) }
 {
-    let mut parts = Vec::new(alloc);
+    let mut kinds = none_said(alloc);
     let mut first = true;
     for clause in clauses {
-        push_clause(alloc, file, first, clause, &mut parts)?;
+        push_clause(alloc, file, first, clause, &mut kinds)?;
         first = false;
     }
-    Ok(parts)
+    Ok(kinds)
 }
 
 /// The facts of a file with these clauses (ISO/IEC 13211-1, 7.4).
@@ -135,7 +137,7 @@ pub fn facts(alloc: Global, file: &str, clauses: Vec<Clause>) -> Result<FileFact
     ensures only { IfOk result (λ found. (other : Facts) → AreFacts file.now (map clause_tree clauses.items) other → other ≡ see_facts found) }
     ensures refused { IfErr result (λ fault. IsWhy (file_said file.now (map clause_tree clauses.items)) fault) }
 {
-    let kinds = by_kind(alloc, said(alloc, file, clauses)?)?;
+    let kinds = said(alloc, file, clauses)?;
     let own = module_of_file(alloc, kinds.declared)?;
     Ok(FileFacts {
         file: Text::new(alloc, file)?,

@@ -1,13 +1,15 @@
-//! The parts of a file by kind.
+//! What a file says, by kind.
 
-ghost use Rattle.std.specs.Prelude.{◌≡◌, ◌++◌, ◌∷◌, [], IfOk, OnOk, List, option_map, map};
-ghost use Rattle.module_table.specs.Said.{Part as SaidPart, see_part, see_parts, see_module};
-ghost use Rattle.module_table.specs.Kinds.{AreKinds, IsModule, first_module_seen};
+ghost use Rattle.std.specs.Prelude.{◌≡◌, IfErr, IfOk, OnOk, option_map};
+ghost use Rattle.module_table.specs.declared.said.FactFault.TheVariants.{NoMemory};
+ghost use Rattle.module_table.specs.Defined.{see_definition};
+ghost use Rattle.module_table.specs.Said.{declares, defines, see_module, see_part};
+ghost use Rattle.module_table.specs.Kinds.{IsModule, none_said, see_kinds, with_part};
 
 use crate::defined::Definition;
 use crate::indicator::Indicator;
 use crate::load::Load;
-use crate::said::{Module, Part};
+use crate::said::{FactFault, Module, Part};
 use prolog_terms::Term;
 use prolog_tokens::Text;
 use std::alloc::{AllocError, Global};
@@ -21,55 +23,63 @@ pub struct Kinds {
     pub goals: Vec<Term>,
 }
 
-/// The module, where none was there.
-fn first_module(before: Option<Module>, own: Module) -> Option<Module>
-    ensures { option_map see_module result ≡ first_module_seen (option_map see_module before) (see_module own) }
+/// Nothing said so far.
+pub fn none_said(alloc: Global) -> Kinds
+    ensures { see_kinds result ≡ none_said }
 {
-    match before {
-        Some(first) => Some(first),
-        None => Some(own),
-    }
-}
-
-/// The kinds with one part more.
-fn with_part(kinds: Kinds, part: Part) -> Result<Kinds, AllocError>
-    ensures { IfOk result (λ made. (parts : List SaidPart) → AreKinds parts kinds → AreKinds (parts ++ see_part part ∷ []) made) }
-{
-    let mut kinds = kinds;
-    match part {
-        Part::Module(own) => {
-            kinds.declared = first_module(kinds.declared, own);
-            Ok(kinds)
-        }
-        Part::Load(load) => {
-            kinds.loads.push(load)?;
-            Ok(kinds)
-        }
-        Part::Definition(definition) => {
-            kinds.definitions.push(definition)?;
-            Ok(kinds)
-        }
-        Part::Goal(goal) => {
-            kinds.goals.push(goal)?;
-            Ok(kinds)
-        }
-    }
-}
-
-/// The parts by kind.
-pub fn by_kind(alloc: Global, parts: Vec<Part>) -> Result<Kinds, AllocError>
-    ensures { IfOk result (λ kinds. AreKinds (see_parts parts.items) kinds) }
-{
-    let mut kinds = Kinds {
+    Kinds {
         declared: None,
         loads: Vec::new(alloc),
         definitions: Vec::new(alloc),
         goals: Vec::new(alloc),
-    };
-    for part in parts {
-        kinds = with_part(kinds, part)?;
     }
-    Ok(kinds)
+}
+
+/// Keeps the module, where none was there.
+fn keep_module(kinds: &mut Kinds, own: Module)
+    ensures { see_kinds kinds.new ≡ with_part (see_kinds kinds.old) (declares (see_module own)) }
+{
+    if kinds.declared.is_some() {
+        return;
+    }
+    kinds.declared = Some(own);
+}
+
+/// Adds one definition.
+pub fn push_definition(kinds: &mut Kinds, definition: Definition) -> Result<(), AllocError>
+    ensures { OnOk result (see_kinds kinds.new ≡ with_part (see_kinds kinds.old) (defines (see_definition definition))) }
+{
+    kinds.definitions.push(definition)?;
+    Ok(())
+}
+
+/// Adds one thing that the file says.
+pub fn push_part(kinds: &mut Kinds, part: Part) -> Result<(), FactFault>
+    ensures ok { OnOk result (see_kinds kinds.new ≡ with_part (see_kinds kinds.old) (see_part part)) }
+    ensures refused { IfErr result (λ fault. fault ≡ NoMemory) }
+{
+    match part {
+        Part::Module(own) => {
+            keep_module(kinds, own);
+            Ok(())
+        }
+        Part::Load(load) => {
+            if kinds.loads.push(load).is_err() {
+                return Err(FactFault::NoMemory);
+            }
+            Ok(())
+        }
+        Part::Definition(definition) => {
+            push_definition(kinds, definition)?;
+            Ok(())
+        }
+        Part::Goal(goal) => {
+            if kinds.goals.push(goal).is_err() {
+                return Err(FactFault::NoMemory);
+            }
+            Ok(())
+        }
+    }
 }
 
 /// The module that a file belongs to, with what it exports.

@@ -3,12 +3,14 @@
 ghost use Rattle.std.specs.Prelude.{◌≡◌, IfOk, IfErr, OnOk, Ok, [], map, option_map};
 ghost use Rattle.std.specs.String.{string_bytes};
 ghost use Rattle.prolog_terms.specs.Tree.{tree_of};
-ghost use Rattle.module_table.specs.Said.{IsWhy, more, see_parts};
+ghost use Rattle.module_table.specs.Said.{IsWhy};
+ghost use Rattle.module_table.specs.Kinds.{see_kinds, with_said};
 ghost use Rattle.module_table.specs.Loading.{path_text, file_of, is_system, load_said, loads_said, use_all_said};
 
 use crate::file_name::resolve_name;
 use crate::indicator::Indicator;
-use crate::said::{FactFault, Part, push_part, refusal};
+use crate::kinds::{Kinds, push_part};
+use crate::said::{FactFault, Part, refusal};
 use clause_text::{Cause, written_items};
 use prolog_terms::{Form, Term, atom_name, inside, sides, start_of};
 use prolog_tokens::Text;
@@ -86,9 +88,9 @@ pub fn push_load(
     kind: LoadKind,
     items: Vec<Indicator>,
     spec: &Term,
-    parts: &mut Vec<Part>,
+    kinds: &mut Kinds,
 ) -> Result<(), FactFault>
-    ensures ok { OnOk result (more (see_parts parts.old.items) (load_said user.now kind items.items (tree_of spec.now)) ≡ Ok (see_parts parts.new.items)) }
+    ensures ok { OnOk result (with_said (see_kinds kinds.old) (load_said user.now kind items.items (tree_of spec.now)) ≡ Ok (see_kinds kinds.new)) }
     ensures refused { IfErr result (λ fault. IsWhy (load_said user.now kind items.items (tree_of spec.now)) fault) }
 {
     if is_system(spec) {
@@ -103,7 +105,7 @@ pub fn push_load(
         items,
         from: start_of(spec),
     };
-    push_part(parts, Part::Load(load))
+    push_part(kinds, Part::Load(load))
 }
 
 /// Adds one load for each specification.
@@ -112,13 +114,13 @@ pub fn push_loads(
     user: &str,
     kind: LoadKind,
     specs: &[Term],
-    parts: &mut Vec<Part>,
+    kinds: &mut Kinds,
 ) -> Result<(), FactFault>
-    ensures ok { OnOk result (more (see_parts parts.old.items) (loads_said user.now kind (map tree_of specs.now)) ≡ Ok (see_parts parts.new.items)) }
+    ensures ok { OnOk result (with_said (see_kinds kinds.old) (loads_said user.now kind (map tree_of specs.now)) ≡ Ok (see_kinds kinds.new)) }
     ensures refused { IfErr result (λ fault. IsWhy (loads_said user.now kind (map tree_of specs.now)) fault) }
 {
     for spec in specs {
-        push_load(alloc, user, kind, Vec::new(alloc), spec, parts)?;
+        push_load(alloc, user, kind, Vec::new(alloc), spec, kinds)?;
     }
     Ok(())
 }
@@ -128,13 +130,13 @@ pub fn push_use_all(
     alloc: Global,
     user: &str,
     spec: &Term,
-    parts: &mut Vec<Part>,
+    kinds: &mut Kinds,
 ) -> Result<(), FactFault>
-    ensures ok { OnOk result (more (see_parts parts.old.items) (use_all_said user.now (tree_of spec.now)) ≡ Ok (see_parts parts.new.items)) }
+    ensures ok { OnOk result (with_said (see_kinds kinds.old) (use_all_said user.now (tree_of spec.now)) ≡ Ok (see_kinds kinds.new)) }
     ensures refused { IfErr result (λ fault. IsWhy (use_all_said user.now (tree_of spec.now)) fault) }
 {
     match written_items(spec) {
-        Some(specs) => push_loads(alloc, user, LoadKind::UseAll, specs, parts),
-        None => push_load(alloc, user, LoadKind::UseAll, Vec::new(alloc), spec, parts),
+        Some(specs) => push_loads(alloc, user, LoadKind::UseAll, specs, kinds),
+        None => push_load(alloc, user, LoadKind::UseAll, Vec::new(alloc), spec, kinds),
     }
 }

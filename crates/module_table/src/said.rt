@@ -1,7 +1,6 @@
-ghost use Rattle.std.specs.Prelude.{◌≡◌, ◌++◌, ◌∷◌, [], IfErr, OnOk};
+ghost use Rattle.std.specs.Prelude.{◌≡◌};
 ghost use Rattle.prolog_terms.specs.Tree.{tree_of};
 ghost use Rattle.module_table.specs.declared.said.FactFault.TheVariants.{NoMemory};
-ghost use Rattle.module_table.specs.Said.{see_part, see_parts};
 ghost use Rattle.prolog_terms.specs.Views.{start_of};
 
 use crate::defined::Definition;
@@ -49,15 +48,4 @@ pub fn refusal(cause: Cause, term: &Term) -> FactFault
     ensures { result ≡ FactFault.At cause (start_of (tree_of term.now)) }
 {
     FactFault::At(cause, start_of(term))
-}
-
-/// Adds one thing that the file says.
-pub fn push_part(parts: &mut Vec<Part>, part: Part) -> Result<(), FactFault>
-    ensures ok { OnOk result (see_parts parts.new.items ≡ see_parts parts.old.items ++ see_part part ∷ []) }
-    ensures refused { IfErr result (λ fault. fault ≡ FactFault.NoMemory) }
-{
-    if parts.push(part).is_err() {
-        return Err(FactFault::NoMemory);
-    }
-    Ok(())
 }

@@ -1,13 +1,14 @@
-use Rattle.std.proofs.Common.{◌≡◌, [], ◌∷◌, false, sym, ◌∙◌, ap, subst, arith, codes}
+use Rattle.std.proofs.Common.{◌≡◌, [], false, sym, ◌∙◌, ap, subst, arith, codes}
 use Rattle.prolog_terms.specs.Tree.{tree_of}
 use Rattle.std.specs.Prelude.{Ok}
-use Rattle.std.proofs.Common.{◌++◌}
 use Rattle.std.proofs.lemmas.Result.{err_from_is_err_and, on_ok_weaker, IfErr-weaker}
-use Rattle.module_table.specs.Said.{IsWhy, more, see_parts, goal as goal_said}
+use Rattle.module_table.specs.Said.{IsWhy, goal as goal_said}
+use Rattle.module_table.specs.Kinds.{see_kinds, with_part, with_said}
 use Rattle.module_table.specs.declared.directive.Told.TheVariants.{Goal, Done}
 use Rattle.module_table.specs.Told.{IsTold}
 use Rattle.module_table.specs.Directives.{shallow_said, directive_said}
-use Rattle.module_table.proofs.SaidLemmas.{stops_first, stops_second, goes_on}
+use Rattle.module_table.proofs.SaidLemmas.{more_none, stops_first, stops_second}
+use Rattle.module_table.proofs.KindLemmas.{kinds_go_on, added_parts}
 use Rattle.prolog_terms.proofs.ViewLemmas.{AreBelow, sides_below}
 use Rattle.module_table.proofs.Parts.{directive_sides, directive_alone}
 use Rattle.module_table.proofs.directive.+push_directive.Goals as goal
@@ -45,11 +46,11 @@ returns-in_ok-push_directive-in-Both-clause-ok t c =
     let both = directive_sides user c.args.first tree left right c.in-Both.ensures in
     let a = directive_said user false left in
     let b = directive_said user false right in
-    let old = see_parts c.args.parts.now.items in
-    let mid = see_parts c.push_directive.new.parts.items in
-    let new = see_parts c.push_directive-in-Both.new.parts.items in
+    let old = see_kinds c.args.kinds.now in
+    let mid = see_kinds c.push_directive.new.kinds in
+    let new = see_kinds c.push_directive-in-Both.new.kinds in
     on_ok_weaker c.push_directive-in-Both.result
-    (λ is. subst (λ said. more old said ≡ Ok new) (sym both) (goes_on old mid new a b c.in_ok-push_directive-in-Both.ensures.ok is)) c.push_directive-in-Both.ensures.ok
+    (λ is. subst (λ said. with_said old said ≡ Ok new) (sym both) (kinds_go_on old mid new a b c.in_ok-push_directive-in-Both.ensures.ok is)) c.push_directive-in-Both.ensures.ok
 
 pub returns-in_ok-push_directive-in-Both-clause-refused : goal.returns-in_ok-push_directive-in-Both-clause-refused
 returns-in_ok-push_directive-in-Both-clause-refused t c =
@@ -60,10 +61,11 @@ returns-in_ok-push_directive-in-Both-clause-refused t c =
     let both = directive_sides user c.args.first tree left right c.in-Both.ensures in
     let a = directive_said user false left in
     let b = directive_said user false right in
-    let old = see_parts c.args.parts.now.items in
-    let mid = see_parts c.push_directive.new.parts.items in
+    let old = see_kinds c.args.kinds.now in
+    let mid = see_kinds c.push_directive.new.kinds in
+    let added = added_parts old mid a c.in_ok-push_directive-in-Both.ensures.ok in
     IfErr-weaker c.push_directive-in-Both.result (λ fault. IsWhy b fault) (λ fault. IsWhy (directive_said user c.args.first tree) fault)
-    (λ fault why. subst (λ said. IsWhy said fault) (sym both) (stops_second old mid a b fault c.in_ok-push_directive-in-Both.ensures.ok why))
+    (λ fault why. subst (λ said. IsWhy said fault) (sym both) (stops_second [] added.0 a b fault (more_none a ∙ added.1) why))
     c.push_directive-in-Both.ensures.refused
 
 pub returns-in_err-tell-in-Alone-clause-refused : goal.returns-in_err-tell-in-Alone-clause-refused
@@ -83,12 +85,12 @@ returns-in-Goal-clause-ok t c =
     let own = tree_of c.in-Alone.alone in
     let same : shallow_said user c.args.first own ≡ directive_said user c.args.first tree =
     ap (shallow_said user c.args.first) c.in-Alone.ensures.1 ∙ sym (directive_alone user c.args.first tree c.in-Alone.ensures.0) in
-    let old = see_parts c.args.parts.now.items in
-    let mid = see_parts c.tell.new.parts.items in
+    let old = see_kinds c.args.kinds.now in
+    let mid = see_kinds c.tell.new.kinds in
     let told : IsTold Goal old (shallow_said user c.args.first own) own mid =
     subst (λ told. IsTold told old (shallow_said user c.args.first own) own mid) c.in-Goal.is c.in_ok-tell-in-Alone.ensures.ok in
     on_ok_weaker c.push_part.result
-    (λ is. ap (more old) (sym same ∙ told.0) ∙ ap (λ l. Ok l) (sym (is ∙ ap (λ l. l ++ goal_said own ∷ []) told.1))) c.push_part.ensures.ok
+    (λ is. ap (with_said old) (sym same ∙ told.0) ∙ ap (λ k. Ok k) (sym (is ∙ ap (λ k. with_part k (goal_said own)) told.1))) c.push_part.ensures.ok
 
 pub returns-in-Done-clause-ok : goal.returns-in-Done-clause-ok
 returns-in-Done-clause-ok t c =
@@ -97,8 +99,8 @@ returns-in-Done-clause-ok t c =
     let own = tree_of c.in-Alone.alone in
     let same : shallow_said user c.args.first own ≡ directive_said user c.args.first tree =
     ap (shallow_said user c.args.first) c.in-Alone.ensures.1 ∙ sym (directive_alone user c.args.first tree c.in-Alone.ensures.0) in
-    let old = see_parts c.args.parts.now.items in
-    let mid = see_parts c.tell.new.parts.items in
+    let old = see_kinds c.args.kinds.now in
+    let mid = see_kinds c.tell.new.kinds in
     let told : IsTold Done old (shallow_said user c.args.first own) own mid =
     subst (λ told. IsTold told old (shallow_said user c.args.first own) own mid) c.in-Done.is c.in_ok-tell-in-Alone.ensures.ok in
-    ap (more old) (sym same) ∙ told
+    ap (with_said old) (sym same) ∙ told

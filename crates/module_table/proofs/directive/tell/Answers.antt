@@ -1,4 +1,4 @@
-use Rattle.std.proofs.Common.{◌≡◌, ◌≢◌, List, length, map, refl, sym, ◌∙◌, ap, subst, arith}
+use Rattle.std.proofs.Common.{◌≡◌, ◌≢◌, length, map, refl, sym, ◌∙◌, ap, subst, arith}
 use Rattle.std.proofs.lemmas.List.{length-map}
 use Rattle.prolog_terms.specs.Tree.{tree_of, compound, listed, trees_from}
 use Rattle.prolog_terms.proofs.ViewLemmas.{compound_seen, list_seen, trees_back}
@@ -6,7 +6,8 @@ use Rattle.std.specs.Prelude.{IfOk, IfErr, Ok}
 use Rattle.std.proofs.lemmas.Result.{err_from_is_err_and, IfOk-weaker}
 use Rattle.prolog_terms.specs.declared.term.Term.TheVariants.{List as list_term}
 use Rattle.module_table.specs.declared.load.LoadKind.TheVariants.{Ensure}
-use Rattle.module_table.specs.Said.{Part, IsWhy, more, see_parts, only, goal as goal_said}
+use Rattle.module_table.specs.Said.{IsWhy, only, goal as goal_said}
+use Rattle.module_table.specs.Kinds.{ByKind, see_kinds, with_said}
 use Rattle.module_table.specs.Told.{IsTold}
 use Rattle.module_table.specs.Loading.{loads_said}
 use Rattle.module_table.specs.Directives.{three_said, shallow_said}
@@ -26,9 +27,9 @@ returns-then-len-eq3-clause-ok c =
     let same : three_said c.as_str-name.result.now tree ≡ shallow_said user first tree =
     ap (λ n. three_said n tree) c.as_str-name.ensures ∙ (ap (λ t. three_said v.name t) is
     ∙ (shallow_three user first v.name v.form v.span parts count ∙ ap (shallow_said user first) (sym is))) in
-    let old = see_parts c.args.parts.now.items in
+    let old = see_kinds c.args.kinds.now in
     subst (λ said. IfOk c.three_told.result (λ told. IsTold told old said tree old)) same
-    (IfOk-weaker c.three_told.result (λ told. (parts : List Part) → IsTold told parts (three_said c.as_str-name.result.now tree) tree parts)
+    (IfOk-weaker c.three_told.result (λ told. (kinds : ByKind) → IsTold told kinds (three_said c.as_str-name.result.now tree) tree kinds)
     (λ told. IsTold told old (three_said c.as_str-name.result.now tree) tree old) (λ told is. is old) c.three_told.ensures.ok)
 
 pub returns-then-len-eq3-clause-refused : goal.returns-then-len-eq3-clause-refused
@@ -88,4 +89,4 @@ returns-in_ok-push_loads-in-None-clause-ok c =
     list_seen c.args.directive.now v.items v.span (v.is ∙ bare) in
     let same : loads_said user Ensure (map tree_of c.deref.result.now) ≡ shallow_said user first tree =
     ap (λ l. loads_said user Ensure (map tree_of l)) c.deref.ensures.value ∙ (ap (loads_said user Ensure) (sym (trees_back parts)) ∙ ap (shallow_said user first) (sym is)) in
-    subst (λ said. more (see_parts c.args.parts.now.items) said ≡ Ok (see_parts c.push_loads.new.parts.items)) same c.in_ok-push_loads-in-None.ensures.ok
+    subst (λ said. with_said (see_kinds c.args.kinds.now) said ≡ Ok (see_kinds c.push_loads.new.kinds)) same c.in_ok-push_loads-in-None.ensures.ok

@@ -1,7 +1,6 @@
 use Rattle.std.proofs.Common.{map, subst}
 use Rattle.module_table.specs.declared.file_facts.FileFacts.{FileFacts}
 use Rattle.module_table.specs.Defined.{clause_tree, AreDefined, see_defined}
-use Rattle.module_table.specs.Said.{see_parts}
 use Rattle.module_table.specs.Kinds.{IsModule}
 use Rattle.module_table.specs.Facts.{AreFacts, see_facts}
 use Rattle.module_table.proofs.OneFacts.{one_facts}
@@ -11,6 +10,7 @@ pub returns-clause-only : goal.returns-clause-only
 returns-clause-only c = λ other are.
     let own = c.in_ok-own.own in
     let kinds = c.in_ok-kinds.kinds in
+    let said = c.in_ok-kinds.ensures.ok in
     let found : FileFacts = record {
       file = c.in_ok-new.field-0;
       «module» = own.name;
@@ -22,14 +22,14 @@ returns-clause-only c = λ other are.
       goals = kinds.goals;
     } in
     let mine : AreFacts c.args.file.now (map clause_tree c.args.clauses.items) (see_facts found) = record {
-      parts = see_parts c.in_ok-said.field-0.items;
-      said = c.in_ok-said.ensures.ok;
+      parts = said.parts;
+      said = said.is;
       are = record {
         file = c.in_ok-new.ensures;
-        of_module = subst (λ m. IsModule m own.name own.is_declared own.from own.exports.items) c.in_ok-kinds.ensures.declared c.in_ok-own.ensures;
-        loads = c.in_ok-kinds.ensures.loads;
-        defined = subst (λ ds. AreDefined ds (map see_defined c.in_ok-group.field-0.items)) c.in_ok-kinds.ensures.definitions c.in_ok-group.ensures;
-        goals = c.in_ok-kinds.ensures.goals;
+        of_module = subst (λ m. IsModule m own.name own.is_declared own.from own.exports.items) said.are.declared c.in_ok-own.ensures;
+        loads = said.are.loads;
+        defined = subst (λ ds. AreDefined ds (map see_defined c.in_ok-group.field-0.items)) said.are.definitions c.in_ok-group.ensures;
+        goals = said.are.goals;
       };
     } in
     one_facts c.args.file.now (map clause_tree c.args.clauses.items) other (see_facts found) are mine

@@ -1,10 +1,10 @@
-use Rattle.std.proofs.Common.{◌≡◌, ◌<◌, ◌≤◌, List, [], ◌∷◌, false, length, map, sym, ◌∙◌, ap, subst, arith}
+use Rattle.std.proofs.Common.{◌≡◌, ◌<◌, ◌≤◌, List, [], ◌∷◌, Ok, false, length, map, sym, ◌∙◌, ap, subst, arith}
 use Rattle.std.proofs.lemmas.List.{length-map}
 use Rattle.std.proofs.Common.{◌++◌, get_or, take, drop}
 use Rattle.std.specs.Prelude.{suc}
 use Rattle.std.proofs.lemmas.Result.{err_from_is_err_and}
 use Rattle.std.proofs.lemmas.Iterator.Adapters.{YieldsList-from_vec}
-use Rattle.std.proofs.lemmas.Iterator.Consumers.{YieldsList-turn, YieldsList-so_far}
+use Rattle.std.proofs.lemmas.Iterator.Consumers.{YieldsList-end, YieldsList-turn, YieldsList-so_far}
 use Rattle.std.proofs.lemmas.List.{map-append, map-id, take-append-drop}
 use Rattle.std.proofs.lemmas.List.Elements.{All-get_or}
 use Rattle.std.proofs.Math.ListN.{get_or-map}
@@ -13,8 +13,10 @@ use Rattle.prolog_terms.specs.Tree.{Tree}
 use Rattle.prolog_terms.specs.Weight.{weight}
 use Rattle.clause_text.specs.declared.Clause.{Clause}
 use Rattle.module_table.specs.Defined.{clause_tree}
-use Rattle.module_table.specs.Said.{IsWhy, see_parts, in_turn}
+use Rattle.module_table.specs.Said.{IsWhy}
+use Rattle.module_table.specs.Kinds.{none_said, see_kinds, with_said}
 use Rattle.module_table.specs.Facts.{clause_said, file_said}
+use Rattle.module_table.proofs.KindLemmas.{kinds_go_on, added_parts, are_said}
 use Rattle.module_table.proofs.FileLemmas.{IsFirst, file_one, file_stops, more_first}
 use Rattle.module_table.proofs.file_facts.said.Goals as goal
 
@@ -52,11 +54,12 @@ returns-in_err-push_clause-clause-refused c =
     let whole : map clause_tree done ++ clause_tree clause ∷ map clause_tree behind ≡ map clause_tree clauses =
     sym (map-append clause_tree done (clause ∷ behind)) ∙ ap (map clause_tree) (split clauses done clause so_far turn.0 turn.1) in
     let exit = err_from_is_err_and c.from_residual.result c.from_residual.ensures.1 in
+    let added = added_parts none_said (see_kinds c.loop-clause.kinds) (file_said c.args.file.now (map clause_tree done)) c.loop-clause.invariant.0 in
     let fault = c.in_err-push_clause.field-0.0 in
     rw (exit.1, exit.2)
     (subst (λ trees. IsWhy (file_said c.args.file.now trees) fault) whole
-    (file_stops c.args.file.now c.loop-clause.first (map clause_tree done) (clause_tree clause) (map clause_tree behind) (see_parts c.loop-clause.parts.items) fault
-    c.loop-clause.invariant.1 c.loop-clause.invariant.0 c.in_err-push_clause.ensures.refused))
+    (file_stops c.args.file.now c.loop-clause.first (map clause_tree done) (clause_tree clause) (map clause_tree behind) added.0 fault
+    c.loop-clause.invariant.1 added.1 c.in_err-push_clause.ensures.refused))
 
 pub loop-clause-preserved : goal.loop-clause-preserved
 loop-clause-preserved c =
@@ -64,7 +67,18 @@ loop-clause-preserved c =
     let tree = clause_tree c.in-Some.clause in
     let file = c.args.file.now in
     let all : map clause_tree (c.loop-clause.yielded ++ c.in-Some.clause ∷ []) ≡ done ++ tree ∷ [] = map-append clause_tree c.loop-clause.yielded (c.in-Some.clause ∷ []) in (
-      ap (file_said file) all ∙ (file_one file c.loop-clause.first done tree c.loop-clause.invariant.1
-          ∙ (ap (λ said. in_turn said (clause_said file c.loop-clause.first tree)) c.loop-clause.invariant.0 ∙ c.in_ok-push_clause.ensures.ok)),
+      ap (with_said none_said) (ap (file_said file) all ∙ file_one file c.loop-clause.first done tree c.loop-clause.invariant.1)
+          ∙ kinds_go_on none_said (see_kinds c.loop-clause.kinds) (see_kinds c.push_clause.new.kinds) (file_said file done) (clause_said file c.loop-clause.first tree)
+          c.loop-clause.invariant.0 c.in_ok-push_clause.ensures.ok,
       subst (IsFirst false) (sym all) (more_first done tree),
     )
+
+pub returns-clause-ok : goal.returns-clause-ok
+returns-clause-ok c =
+    let done = c.loop-clause.yielded in
+    let gives = c.into_iter-clause-iterator.ensures.into_iter_gives in
+    let road = YieldsList-from_vec {s = c.into_iter-clause-iterator.result} c.args.clauses.items gives.0 (gives.1 ∙ c.args.clauses.ok.0) in
+    let all : done ≡ c.args.clauses.items =
+    sym (map-id done) ∙ (YieldsList-end road done c.loop-clause.clause-iterator c.loop-clause.yielded_by c.next.result c.next.new.self c.in-None.is c.next.ensures.steps).0 in
+    are_said (file_said c.args.file.now (map clause_tree c.args.clauses.items)) c.loop-clause.kinds
+    (subst (λ clauses. with_said none_said (file_said c.args.file.now (map clause_tree clauses)) ≡ Ok (see_kinds c.loop-clause.kinds)) all c.loop-clause.invariant.0)

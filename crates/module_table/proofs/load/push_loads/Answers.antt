@@ -1,23 +1,27 @@
 use Rattle.std.proofs.Common.{◌≡◌, [], Ok, map, take, ap, ◌∙◌, subst}
 use Rattle.std.proofs.lemmas.Result.{err_from_is_err_and}
 use Rattle.prolog_terms.specs.Tree.{tree_of}
-use Rattle.module_table.specs.Said.{more, see_parts, IsWhy}
+use Rattle.module_table.specs.Said.{IsWhy}
+use Rattle.module_table.specs.Kinds.{see_kinds, with_said}
 use Rattle.module_table.specs.Loading.{load_said, loads_said}
-use Rattle.module_table.proofs.SaidLemmas.{each_step, each_stops, goes_on}
+use Rattle.module_table.proofs.SaidLemmas.{each_step, each_stops, more_none}
+use Rattle.module_table.proofs.KindLemmas.{kinds_go_on, added_parts}
 use Rattle.module_table.proofs.load.push_loads.Goals as goal
 
 pub returns-in_err-push_load-clause-refused : goal.returns-in_err-push_load-clause-refused
 returns-in_err-push_load-clause-refused c =
+    let before = loads_said c.args.user.now c.args.kind (map tree_of (take c.loop-spec.spec-index c.args.specs.now)) in
+    let added = added_parts (see_kinds c.args.kinds.now) (see_kinds c.loop-spec.kinds) before c.loop-spec.invariant in
     let exit = err_from_is_err_and c.from_residual.result c.from_residual.ensures.1 in
     rw (exit.1, exit.2)
     (each_stops (load_said c.args.user.now c.args.kind []) c.args.specs.now c.loop-spec.spec-index c.spec-item.result c.in_err-push_load.field-0.0
-    (see_parts c.args.parts.now.items) (see_parts c.loop-spec.parts.items) c.loop-spec-test.true c.spec-item.is c.loop-spec.invariant
+    [] added.0 c.loop-spec-test.true c.spec-item.is (more_none before ∙ added.1)
     (subst (λ items. IsWhy (load_said c.args.user.now c.args.kind items (tree_of c.spec-item.result)) c.in_err-push_load.field-0.0) c.new.ensures.items c.in_err-push_load.ensures.refused))
 
 pub loop-spec-preserved : goal.loop-spec-preserved
 loop-spec-preserved c =
     let says = load_said c.args.user.now c.args.kind [] in
-    ap (more (see_parts c.args.parts.now.items)) (each_step says c.args.specs.now c.loop-spec.spec-index c.spec-item.result c.loop-spec-test.true c.spec-item.is)
-    ∙ goes_on (see_parts c.args.parts.now.items) (see_parts c.loop-spec.parts.items) (see_parts c.push_load.new.parts.items)
+    ap (with_said (see_kinds c.args.kinds.now)) (each_step says c.args.specs.now c.loop-spec.spec-index c.spec-item.result c.loop-spec-test.true c.spec-item.is)
+    ∙ kinds_go_on (see_kinds c.args.kinds.now) (see_kinds c.loop-spec.kinds) (see_kinds c.push_load.new.kinds)
     (loads_said c.args.user.now c.args.kind (map tree_of (take c.loop-spec.spec-index c.args.specs.now))) (says (tree_of c.spec-item.result)) c.loop-spec.invariant
-    (subst (λ items. more (see_parts c.loop-spec.parts.items) (load_said c.args.user.now c.args.kind items (tree_of c.spec-item.result)) ≡ Ok (see_parts c.push_load.new.parts.items)) c.new.ensures.items c.in_ok-push_load.ensures.ok)
+    (subst (λ items. with_said (see_kinds c.loop-spec.kinds) (load_said c.args.user.now c.args.kind items (tree_of c.spec-item.result)) ≡ Ok (see_kinds c.push_load.new.kinds)) c.new.ensures.items c.in_ok-push_load.ensures.ok)
