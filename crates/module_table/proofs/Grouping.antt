@@ -15,6 +15,7 @@ use Rattle.clause_text.specs.declared.Clause.{Clause}
 use Rattle.module_table.specs.declared.defined.Defined.{Defined}
 use Rattle.module_table.specs.declared.defined.Definition.{Definition}
 use Rattle.module_table.specs.Defined.{Defines, Predicate, IsDefined, AreDefined, NoneIsAfter, key, predicate_cmp, clause_for, clauses_for, clause_tree, see_defined, see_definition}
+use Rattle.module_table.specs.Fronts.{front_of}
 use Rattle.module_table.proofs.PredicateOrder.{predicate_cmp_total, same, same_ties, same_parts, same_itself, apart_from_Less, Less-from_apart, sorted_push, sorted_front, sorted_below, not_itself, one_sorted_list}
 
 -- the predicate of that name and arity, with its clauses
@@ -223,7 +224,7 @@ tree_of_one (Some clause) = refl
 pub add_to_last : (ds : List Defines) (d : Definition) (old kept new : List Defined) (last longer : Defined) → old ≡ kept ++ last ∷ []
     → new ≡ kept ++ longer ∷ [] → longer.name ≡ last.name → longer.arity ≡ last.arity
     → longer.clauses.items ≡ last.clauses.items ++ option_to_list d.clause
-    → same last.name last.arity d.name d.arity ≡ true
+    → same last.name last.arity d.name.text d.arity ≡ true
     → AreDefined ds (map see_defined old) → AreDefined (ds ++ see_definition d ∷ []) (map see_defined new)
 add_to_last ds d old kept new last longer was is names arities clauses own are =
     let front = map see_defined kept in
@@ -252,10 +253,10 @@ none_defined = record {
 
 -- whether a definition is of a predicate that comes before another's
 abbrev pub comes_before : Definition → Definition → Bool
-comes_before a b = is_lt (predicate_cmp (key a.name a.arity) (key b.name b.arity))
+comes_before a b = is_lt (predicate_cmp (key a.name.text a.arity) (key b.name.text b.arity))
 
 pub comes_before_ranks : IsStrictWeakOrder comes_before
-comes_before_ranks = ranks_by predicate_cmp_total (λ (d : Definition). key d.name d.arity)
+comes_before_ranks = ranks_by predicate_cmp_total (λ (d : Definition). key d.name.text d.arity)
 
 tied_is_same : (r back : Ordering) → back ≡ ordering_reverse r → (not (is_lt r) && not (is_lt back)) ≡ is_eq r
 tied_is_same Less back e = refl
@@ -263,13 +264,13 @@ tied_is_same Equal back e = rw e refl
 tied_is_same Greater back e = rw e refl
 
 abbrev asked_for : List ℕ → ℕ → Definition
-asked_for name arity = record { name = name; arity = arity; clause = None }
+asked_for name arity = record { name = record { text = name; front = front_of name; fronts = refl }; arity = arity; clause = None }
 
-ties_same : (name : List ℕ) (arity : ℕ) (d : Definition) → ties comes_before (asked_for name arity) d ≡ same name arity d.name d.arity
+ties_same : (name : List ℕ) (arity : ℕ) (d : Definition) → ties comes_before (asked_for name arity) d ≡ same name arity d.name.text d.arity
 ties_same name arity d =
-    tied_is_same (predicate_cmp (key name arity) (key d.name d.arity)) (predicate_cmp (key d.name d.arity) (key name arity))
-    (predicate_cmp_total.antisymm (key d.name d.arity) (key name arity))
-    ∙ sym (same_ties name arity d.name d.arity)
+    tied_is_same (predicate_cmp (key name arity) (key d.name.text d.arity)) (predicate_cmp (key d.name.text d.arity) (key name arity))
+    (predicate_cmp_total.antisymm (key d.name.text d.arity) (key name arity))
+    ∙ sym (same_ties name arity d.name.text d.arity)
 
 -- the clauses of a predicate are those of its own definitions
 clauses_of_own : (name : List ℕ) (arity : ℕ) (ds : List Definition)
@@ -315,7 +316,7 @@ from_sorted xs ys out moved stable are = record {
 pub none_after_next : (ds done : List Definition) (d : Definition) → IsSortedBy comes_before ds → done ≡ take (length done) ds
     → length done < length ds → d ≡ get_or ds (length done) d → NoneIsAfter (see_definition d) (map see_definition done)
 none_after_next ds done d up so_far within is =
-    All-map (λ (e : Defines). is_lt (predicate_cmp (key d.name d.arity) (key e.name e.arity)) ≡ false) see_definition done
+    All-map (λ (e : Defines). is_lt (predicate_cmp (key d.name.text d.arity) (key e.name e.arity)) ≡ false) see_definition done
     (All-from_get_or (λ (e : Definition). comes_before d e ≡ false) done d
     (λ k below.
     let earlier : get_or done k d ≡ get_or ds k d = ap (λ xs. get_or xs k d) so_far ∙ get_or-take (length done) ds k d below in

@@ -1,6 +1,7 @@
 pub mod SaidLemmas
 pub mod Shapes
 pub mod FileNameLemmas
+pub mod FrontLemmas
 pub mod Grouping
 pub mod PredicateOrder
 pub mod HeadLemmas

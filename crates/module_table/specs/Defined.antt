@@ -26,7 +26,7 @@ abbrev pub clause_tree : Clause → Tree
 clause_tree clause = tree_of clause.term
 
 abbrev pub see_definition : Definition → Defines
-see_definition d = record { name = d.name; arity = d.arity; clause = option_map clause_tree d.clause }
+see_definition d = record { name = d.name.text; arity = d.arity; clause = option_map clause_tree d.clause }
 
 abbrev pub see_defined : Defined → Predicate
 see_defined d = record { name = d.name; arity = d.arity; clauses = map clause_tree d.clauses.items }

@@ -1,3 +1,4 @@
+pub mod Fronts
 pub mod Defined
 pub mod FileName
 pub mod Paths

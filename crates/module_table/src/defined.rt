@@ -2,6 +2,7 @@ ghost use Rattle.std.specs.Prelude.{◌≡◌, ◌++◌, ◌∷◌, [], ◌&&◌
 ghost use Rattle.std.specs.Str.{bytes_eq};
 ghost use Rattle.module_table.specs.Defined.{AreDefined, Defines, NoneIsAfter, key, predicate_cmp, see_defined, see_definition};
 
+use crate::sorted_name::SortedName;
 use clause_text::Clause;
 use prolog_tokens::Text;
 use std::alloc::{AllocError, Global};
@@ -18,7 +19,7 @@ pub struct Defined {
 /// One thing that defines a predicate: a clause of it, or a directive without one.
 #[derive(Drop)]
 pub struct Definition {
-    pub name: Text,
+    pub name: SortedName,
     pub arity: u32,
     pub clause: Option<Clause>,
 }
@@ -37,9 +38,9 @@ pub fn group(alloc: Global, mut definitions: Vec<Definition>) -> Result<Vec<Defi
 }
 
 fn compare(a: &Definition, b: &Definition) -> Ordering
-    ensures { result ≡ predicate_cmp (key a.now.name a.now.arity) (key b.now.name b.now.arity) }
+    ensures { result ≡ predicate_cmp (key a.now.name.text a.now.arity) (key b.now.name.text b.now.arity) }
 {
-    a.name.cmp(&b.name).then(a.arity.cmp(&b.arity))
+    a.name.compare(&b.name).then(a.arity.cmp(&b.arity))
 }
 
 /// Adds one more definition, of the last predicate or of one after it.
@@ -63,18 +64,18 @@ fn add(alloc: Global, defined: &mut Vec<Defined>, definition: Definition) -> Res
 }
 
 fn is_of(definition: &Definition, predicate: &Defined) -> bool
-    ensures { result ≡ (bytes_eq predicate.now.name definition.now.name && nat_eq predicate.now.arity definition.now.arity) }
+    ensures { result ≡ (bytes_eq predicate.now.name definition.now.name.text && nat_eq predicate.now.arity definition.now.arity) }
 {
-    predicate.name == definition.name && predicate.arity == definition.arity
+    predicate.name == definition.name.text && predicate.arity == definition.arity
 }
 
 /// The predicate with the clause that the definition has.
 fn begun(alloc: Global, definition: Definition) -> Result<Defined, AllocError>
     ensures { IfOk result (λ predicate. see_defined predicate
-        ≡ record { name = definition.name; arity = definition.arity; clauses = option_to_list (see_definition definition).clause }) }
+        ≡ record { name = definition.name.text; arity = definition.arity; clauses = option_to_list (see_definition definition).clause }) }
 {
     Ok(Defined {
-        name: definition.name,
+        name: definition.name.text,
         arity: definition.arity,
         clauses: first_clauses(alloc, definition.clause)?,
     })

@@ -13,6 +13,7 @@ use crate::kinds::{Kinds, push_part};
 use crate::load::{LoadKind, push_load, push_loads, push_use_all};
 use crate::module_directive::module_of;
 use crate::said::{FactFault, Part, refusal};
+use crate::sorted_name::SortedName;
 use crate::taken::{Sides, sides_taken};
 use crate::terms::is_one_of;
 use clause_text::Cause;
@@ -33,7 +34,7 @@ fn push_dynamic(alloc: Global, list: &Term, kinds: &mut Kinds) -> Result<(), Fac
 {
     for one in declared_indicators(alloc, list)? {
         let definition = Definition {
-            name: one.name,
+            name: SortedName::new(one.name),
             arity: one.arity,
             clause: None,
         };

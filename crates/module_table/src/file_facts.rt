@@ -15,6 +15,7 @@ use crate::indicator::Indicator;
 use crate::kinds::{Kinds, module_of_file, none_said, push_definition};
 use crate::load::Load;
 use crate::said::FactFault;
+use crate::sorted_name::SortedName;
 use crate::taken::{Taken, directive_taken};
 use clause_text::Clause;
 use prolog_terms::{Term, binary};
@@ -89,7 +90,7 @@ fn push_headed(alloc: Global, clause: Clause, kinds: &mut Kinds) -> Result<(), F
 {
     let head = owned_head(alloc, &clause.term)?;
     let definition = Definition {
-        name: head.name,
+        name: SortedName::new(head.name),
         arity: head.arity,
         clause: Some(clause),
     };

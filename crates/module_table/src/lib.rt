@@ -19,6 +19,7 @@ mod laws;
 mod load;
 mod module_directive;
 mod said;
+mod sorted_name;
 mod taken;
 mod terms;
 
