@@ -1,0 +1,15 @@
+//! What holds of the tokens of each clause, as a law: a function with nothing to run.
+
+ghost use Rattle.std.specs.Prelude.{◌⊎◌, ℕ, List};
+ghost use Rattle.prolog_ops.specs.Table.{Ops, IsOps};
+ghost use Rattle.prolog_terms.specs.Tree.{Tree};
+ghost use Rattle.prolog_terms.specs.Words.{table_of};
+ghost use Rattle.prolog_terms.specs.Clause.{ArePart, IsOneClause, IsClauseOf, IsReadFault};
+
+use prolog_terms::ReadFault;
+use prolog_tokens::Token;
+
+/// Tokens with an End at most at their last place are a clause, or there is a fault of reading them.
+pub fn clause_or_fault()
+    ensures { (ops : Ops) → IsOps ops → (text : List ℕ) (ts : List Token) → ArePart text ts → IsOneClause ts → ((tree : Tree) × IsClauseOf (table_of ops) text ts tree) ⊎ ((fault : ReadFault) × IsReadFault (table_of ops) text ts fault) }
+{}

@@ -1,0 +1,10 @@
+pub mod Turns
+pub mod Causes
+pub mod Modules
+pub mod TextCauses
+pub mod Joined
+pub mod Grouped
+pub mod Utf8Cases
+pub mod FirstPart
+pub mod EachText
+pub mod Refused
