@@ -49,16 +49,14 @@ fn add(alloc: Global, defined: &mut Vec<Defined>, definition: Definition) -> Res
         → AreDefined ds (map see_defined defined.old.items)
         → AreDefined (ds ++ see_definition definition ∷ []) (map see_defined defined.new.items)) }
 {
-    let Some(mut last) = defined.pop() else {
+    let Some(last) = defined.last_mut() else {
         defined.push(begun(alloc, definition)?)?;
         return Ok(());
     };
-    if is_of(&definition, &last) {
+    if is_of(&definition, last) {
         push_clause(&mut last.clauses, definition.clause)?;
-        defined.push(last)?;
         return Ok(());
     }
-    defined.push(last)?;
     defined.push(begun(alloc, definition)?)?;
     Ok(())
 }

@@ -122,7 +122,7 @@ fn said(alloc: Global, file: &str, clauses: Vec<Clause>) -> Result<Kinds, FactFa
     ensures ok { IfOk result (λ kinds. AreSaid (file_said file.now (map clause_tree clauses.items)) kinds) }
     ensures refused { IfErr result (λ fault. IsWhy (file_said file.now (map clause_tree clauses.items)) fault) }
 {
-    let mut kinds = none_said(alloc);
+    let mut kinds = none_said(alloc, clauses.len())?;
     let mut first = true;
     for clause in clauses {
         push_clause(alloc, file, first, clause, &mut kinds)?;

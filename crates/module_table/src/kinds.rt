@@ -23,16 +23,16 @@ pub struct Kinds {
     pub goals: Vec<Term>,
 }
 
-/// Nothing said so far.
-pub fn none_said(alloc: Global) -> Kinds
-    ensures { see_kinds result ≡ none_said }
+/// Nothing said so far, with room for so many definitions.
+pub fn none_said(alloc: Global, room: usize) -> Result<Kinds, AllocError>
+    ensures { IfOk result (λ kinds. see_kinds kinds ≡ none_said) }
 {
-    Kinds {
+    Ok(Kinds {
         declared: None,
         loads: Vec::new(alloc),
-        definitions: Vec::new(alloc),
+        definitions: Vec::with_capacity(alloc, room)?,
         goals: Vec::new(alloc),
-    }
+    })
 }
 
 /// Keeps the module, where none was there.

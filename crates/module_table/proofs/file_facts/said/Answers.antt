@@ -53,7 +53,7 @@ returns-in_err-push_clause-clause-refused c =
     let behind = drop (suc (length done)) clauses in
     let whole : map clause_tree done ++ clause_tree clause ∷ map clause_tree behind ≡ map clause_tree clauses =
     sym (map-append clause_tree done (clause ∷ behind)) ∙ ap (map clause_tree) (split clauses done clause so_far turn.0 turn.1) in
-    let exit = err_from_is_err_and c.from_residual.result c.from_residual.ensures.1 in
+    let exit = err_from_is_err_and c.from_residual-in_err-push_clause.result c.from_residual-in_err-push_clause.ensures.1 in
     let added = added_parts none_said (see_kinds c.loop-clause.kinds) (file_said c.args.file.now (map clause_tree done)) c.loop-clause.invariant.0 in
     let fault = c.in_err-push_clause.field-0.0 in
     rw (exit.1, exit.2)
