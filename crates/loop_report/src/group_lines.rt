@@ -6,6 +6,7 @@ ghost use Rattle.import_rules.specs.Program.{see_program};
 ghost use Rattle.loop_report.specs.Names.{member_name};
 ghost use Rattle.loop_report.specs.Report.{group_line, kind_of, place_line};
 
+use crate::last_module::LastModule;
 use crate::names::{push_member, push_number};
 use group_release::Level;
 use import_rules::Program;
@@ -26,16 +27,17 @@ pub(crate) fn push_groups(
     ensures { OnOk result (string_bytes text.new
         ≡ string_bytes text.old ++ flat_map (place_line (see_program program.now).predicates (lists_of groups.now) levels.now) order.now) }
 {
+    let mut last = LastModule::none(alloc);
     for &place in order {
-        push_group(alloc, text, program, &groups[place], levels[place])?;
+        push_group(text, program, &mut last, &groups[place], levels[place])?;
     }
     Ok(())
 }
 
-fn push_group(
-    alloc: Global,
+fn push_group<'a>(
     text: &mut String,
-    program: &Program,
+    program: &'a Program,
+    last: &mut LastModule<'a>,
     members: &[u32],
     level: Level,
 ) -> Result<(), AllocError>
@@ -43,9 +45,9 @@ fn push_group(
     ensures { OnOk result (string_bytes text.new
         ≡ string_bytes text.old ++ group_line (see_program program.now).predicates members.now level) }
 {
-    push_number(alloc, text, u64::from(level.height))?;
+    push_number(text, u64::from(level.height))?;
     text.push_str(kind_name(level.recursive))?;
-    push_members(alloc, text, program, members)?;
+    push_members(text, program, last, members)?;
     text.push_str("\n")?;
     Ok(())
 }
@@ -56,10 +58,10 @@ fn kind_name(recursive: bool) -> &'static str
     if recursive { " recursive" } else { " plain" }
 }
 
-fn push_members(
-    alloc: Global,
+fn push_members<'a>(
     text: &mut String,
-    program: &Program,
+    program: &'a Program,
+    last: &mut LastModule<'a>,
     members: &[u32],
 ) -> Result<(), AllocError>
     requires { All (λ member. member < length (see_program program.now).predicates) members.now }
@@ -67,7 +69,7 @@ fn push_members(
         ≡ string_bytes text.old ++ flat_map (member_name (see_program program.now).predicates) members.now) }
 {
     for &member in members {
-        push_member(alloc, text, program, member)?;
+        push_member(text, program, last, member)?;
     }
     Ok(())
 }

@@ -21,13 +21,12 @@ pub fn head_line(
     ensures { IfOk result (λ bytes. bytes.items ≡ head_line (lists_of groups.now) levels.now) }
 {
     let mut text = String::new(alloc);
-    push_head(alloc, &mut text, groups, levels)?;
+    push_head(&mut text, groups, levels)?;
     Ok(text.into_bytes())
 }
 
 /// Adds the first line.
 pub(crate) fn push_head(
-    alloc: Global,
     text: &mut String,
     groups: &[Vec<u32>],
     levels: &[Level],
@@ -37,20 +36,20 @@ pub(crate) fn push_head(
     ensures { OnOk result (string_bytes text.new
         ≡ string_bytes text.old ++ head_line (lists_of groups.now) levels.now) }
 {
-    push_count(alloc, text, "predicates ", member_count(groups))?;
-    push_count(alloc, text, " groups ", groups.len() as u64)?;
-    push_count(alloc, text, " recursive ", recursive_count(levels))?;
-    push_count(alloc, text, " levels ", height_count(levels))?;
+    push_count(text, "predicates ", member_count(groups))?;
+    push_count(text, " groups ", groups.len() as u64)?;
+    push_count(text, " recursive ", recursive_count(levels))?;
+    push_count(text, " levels ", height_count(levels))?;
     text.push_str("\n")?;
     Ok(())
 }
 
-fn push_count(alloc: Global, text: &mut String, word: &str, count: u64) -> Result<(), AllocError>
+fn push_count(text: &mut String, word: &str, count: u64) -> Result<(), AllocError>
     ensures { OnOk result (string_bytes text.new
         ≡ string_bytes text.old ++ (word.now ++ decimal count)) }
 {
     text.push_str(word)?;
-    push_number(alloc, text, count)
+    push_number(text, count)
 }
 
 /// The members of all groups together.

@@ -18,6 +18,7 @@
 
 mod group_lines;
 mod head;
+mod last_module;
 mod laws;
 mod line_order;
 mod loops;

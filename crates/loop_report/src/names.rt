@@ -2,8 +2,9 @@ ghost use Rattle.std.specs.Prelude.{◌≡◌, ◌<◌, ◌+◌, ◌++◌, IfOk,
 ghost use Rattle.std.specs.Fmt.{decimal};
 ghost use Rattle.std.specs.String.{string_bytes};
 ghost use Rattle.import_rules.specs.Program.{see_program};
-ghost use Rattle.loop_report.specs.Names.{member_name, name_text};
+ghost use Rattle.loop_report.specs.Names.{member_name, name_text, own_text};
 
+use crate::last_module::LastModule;
 use crate::spelled::push_atom;
 use import_rules::{PredName, Program};
 use std::alloc::{AllocError, Global};
@@ -16,26 +17,34 @@ fn digit(number: u64) -> u8
     b'0' + number as u8
 }
 
-/// Adds the number in decimal digits. One digit takes no memory of its own.
-pub(crate) fn push_number(alloc: Global, text: &mut String, number: u64) -> Result<(), AllocError>
+/// Adds the number in decimal digits. It takes no memory but that of the text.
+pub(crate) fn push_number(text: &mut String, number: u64) -> Result<(), AllocError>
     ensures { OnOk result (string_bytes text.new ≡ string_bytes text.old ++ decimal number) }
 {
     if number < 10 {
         return text.push(digit(number) as char);
     }
-    let digits = number.to_string(alloc)?;
-    text.push_str(&digits)
+    push_number(text, number / 10)?;
+    text.push(digit(number % 10) as char)
 }
 
-fn push_name(alloc: Global, text: &mut String, predicate: &PredName) -> Result<(), AllocError>
+/// Adds the name without its module.
+fn push_own(text: &mut String, predicate: &PredName) -> Result<(), AllocError>
+    ensures { OnOk result (string_bytes text.new
+        ≡ string_bytes text.old ++ own_text predicate.now) }
+{
+    push_atom(text, predicate.name.as_str())?;
+    text.push_str("/")?;
+    push_number(text, u64::from(predicate.arity))
+}
+
+fn push_name(text: &mut String, predicate: &PredName) -> Result<(), AllocError>
     ensures { OnOk result (string_bytes text.new
         ≡ string_bytes text.old ++ name_text predicate.now) }
 {
     push_atom(text, predicate.module.as_str())?;
     text.push_str(":")?;
-    push_atom(text, predicate.name.as_str())?;
-    text.push_str("/")?;
-    push_number(alloc, text, u64::from(predicate.arity))
+    push_own(text, predicate)
 }
 
 /// The name of a predicate as reports have it: `MODULE:NAME/ARITY`, where module and name are spelled
@@ -44,21 +53,24 @@ pub fn predicate_name(alloc: Global, predicate: &PredName) -> Result<String, All
     ensures { IfOk result (λ text. string_bytes text ≡ name_text predicate.now) }
 {
     let mut text = String::new(alloc);
-    push_name(alloc, &mut text, predicate)?;
+    push_name(&mut text, predicate)?;
     Ok(text)
 }
 
-/// Adds a space and the name of the predicate with that number.
-pub(crate) fn push_member(
-    alloc: Global,
+/// Adds a space and the name of the predicate with that number. Its module is the last one from then
+/// on.
+pub(crate) fn push_member<'a>(
     text: &mut String,
-    program: &Program,
+    program: &'a Program,
+    last: &mut LastModule<'a>,
     member: u32,
 ) -> Result<(), AllocError>
     requires { member < length (see_program program.now).predicates }
     ensures { OnOk result (string_bytes text.new
         ≡ string_bytes text.old ++ member_name (see_program program.now).predicates member) }
 {
-    text.push_str(" ")?;
-    push_name(alloc, text, program.name_of(member))
+    let predicate = program.name_of(member);
+    last.take(predicate.module.as_str())?;
+    text.push_str(last.text.as_str())?;
+    push_own(text, predicate)
 }

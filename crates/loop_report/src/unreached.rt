@@ -5,6 +5,7 @@ ghost use Rattle.graph_law.specs.Graph.{lists_of};
 ghost use Rattle.import_rules.specs.Program.{see_program};
 ghost use Rattle.loop_report.specs.Report.{is_grouped, unreached_line, unreached_lines};
 
+use crate::last_module::LastModule;
 use crate::names::push_member;
 use graph_law::stamp;
 use import_rules::Program;
@@ -23,10 +24,10 @@ fn marks_of(alloc: Global, count: u32, groups: &[Vec<u32>]) -> Result<Vec<bool>,
 }
 
 /// Adds the line of a predicate that is in no group.
-fn push_line(
-    alloc: Global,
+fn push_line<'a>(
     text: &mut String,
-    program: &Program,
+    program: &'a Program,
+    last: &mut LastModule<'a>,
     node: u32,
 ) -> Result<(), AllocError>
     requires { node < length (see_program program.now).predicates }
@@ -34,7 +35,7 @@ fn push_line(
         ≡ string_bytes text.old ++ unreached_line (see_program program.now).predicates node) }
 {
     text.push_str("unreached")?;
-    push_member(alloc, text, program, node)?;
+    push_member(text, program, last, node)?;
     text.push_str("\n")
 }
 
@@ -50,11 +51,12 @@ pub(crate) fn push_unreached(
         ≡ string_bytes text.old ++ unreached_lines (see_program program.now).predicates (lists_of groups.now)) }
 {
     let marks = marks_of(alloc, program.count(), groups)?;
+    let mut last = LastModule::none(alloc);
     for node in 0..program.count() {
         if marks[node as usize] {
             continue;
         }
-        push_line(alloc, text, program, node)?;
+        push_line(text, program, &mut last, node)?;
     }
     Ok(())
 }

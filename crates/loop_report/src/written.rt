@@ -63,7 +63,7 @@ fn written(
         IsReportIn (see_program program.now).predicates (see_program program.now).loaded.files (lists_of groups.now) levels.now unreached order.now bytes.items) }
 {
     let mut text = String::with_capacity(alloc, 32 * program.count() as usize)?;
-    push_head(alloc, &mut text, groups, levels)?;
+    push_head(&mut text, groups, levels)?;
     push_groups(alloc, &mut text, program, groups, levels, order)?;
     push_loops(&mut text, &import_loops(alloc, program)?)?;
     if unreached {
