@@ -1,7 +1,7 @@
 -- The places of all goals that aren't callable, from those of predicates and of directives.
-use Rattle.std.proofs.Common.{◌≡◌, ◌⊎◌, ◌↔◌, inl, inr, ℕ, ◌+◌, ◌<◌, Bool, true, false, ◌&&◌, nat_eq, List, [], ◌++◌, Option, Some, Result, Ok, Err, IfOk, All, AllPairs, length, get_or, slice_get, ap, sym, ◌∙◌, subst, refl, arith}
-use Rattle.std.specs.Prelude.{Contains, IsOk, alloc_error}
-use Rattle.std.specs.List.{range_with_len, enumerate_from, dedup}
+use Rattle.std.proofs.Common.{◌≡◌, ◌⊎◌, ◌↔◌, inl, inr, ℕ, ◌*◌, ◌/◌, ◌<◌, Bool, true, ◌&&◌, nat_eq, List, [], ◌++◌, Option, Some, Result, Ok, IfOk, AllPairs, length, map, get_or, slice_get, ap, sym, ◌∙◌, subst, refl, arith}
+use Rattle.std.specs.Prelude.{Contains}
+use Rattle.std.specs.List.{AllZip, range_with_len, enumerate_from, dedup}
 use Rattle.std.specs.List.Retain.{IsFiltered, DiffersFromLast}
 use Rattle.std.specs.List.Sorted.{IsSorted, IsPermutation}
 use Rattle.std.specs.Cmp.{IsTotalOrder, IsEquivalence, both_tied, unsigned_ties}
@@ -10,25 +10,26 @@ use Rattle.std.specs.declared.alloc.AllocError.{AllocError}
 use Rattle.std.specs.declared.cmp.Ordering.TheVariants.{Less}
 use Rattle.std.proofs.lemmas.Bool.{and_parts, eqb-true}
 use Rattle.std.proofs.lemmas.Cmp.{then_total, on_total, nat_cmp_total, and_equiv, on_equiv, nat_eq_equiv}
-use Rattle.std.proofs.lemmas.List.Elements.{Contains-append_left, Contains-append_right, Contains-append_cases, Contains-get_or, All-contains}
+use Rattle.std.proofs.lemmas.List.{length-map, get_or-map}
+use Rattle.std.proofs.lemmas.List.Elements.{Contains-append_left, Contains-append_right, Contains-append_cases, All-contains}
 use Rattle.std.proofs.lemmas.List.Filters.{dedup_is}
 use Rattle.std.proofs.lemmas.List.FromFn.{length-range_with_len, get_or-range_with_len}
 use Rattle.std.proofs.lemmas.List.Kept.{Contains-dedup, Contains-from_dedup, IsStrictlySortedBy-dedup}
 use Rattle.std.proofs.lemmas.List.Sorted.{Contains-permutation, IsPermutation-sym}
 use Rattle.std.proofs.lemmas.Map.Keys.{Less-from_sorted}
-use Rattle.std.proofs.lemmas.Option.{slice_get-get_or, slice_get_within, get_or_from_slice_get}
+use Rattle.std.proofs.lemmas.Option.{slice_get-get_or, slice_get_cases, slice_get_within, get_or_from_slice_get}
 use Rattle.module_table.specs.Defined.{Predicate}
 use Rattle.module_table.specs.Facts.{Facts}
 use Rattle.import_rules.specs.declared.names.PredName.{PredName}
 use Rattle.import_rules.specs.Files.{pair_cmp, name_in, defined_in, all_defined, IsDefinedAt}
 use Rattle.import_rules.specs.Numbers.{places_for, parts_in}
 use Rattle.import_rules.specs.Program.{Seen, places_in, places_at, IsKnown}
-use Rattle.call_edges.specs.declared.opened.Opened.{Opened}
+use Rattle.call_edges.specs.declared.piece.Piece.{Piece}
 use Rattle.call_edges.specs.declared.role.Role.TheVariants.{Goal}
 use Rattle.call_edges.specs.Goals.{fault, place, plain_rows, IsMet, Adds}
 use Rattle.call_edges.specs.Calls.{IsAmong, IsMetInClause, IsMetAt}
 use Rattle.call_edges.specs.Bodies.{body_in, bodies_at, bodies_in, goals_of_file, goals_in}
-use Rattle.call_edges.specs.CallLists.{IsOpened, AreOpened}
+use Rattle.call_edges.specs.CallLists.{IsPiece, AreOpened, ArePieces}
 use Rattle.call_edges.specs.FaultPlaces.{HasPlace, IsFaultIn, AreFaultsIn, IsFaultPlace, AreFaultPlaces}
 use Rattle.call_edges.proofs.AmongLemmas.{among_flat, among_map, flat_has, map_has}
 use Rattle.call_edges.proofs.PlaceLemmas.{enumerated, numbered, stands_place}
@@ -43,14 +44,10 @@ adds_append old more = record {
   );
 }
 
-abbrev pub Found : Type 0
-Found = Result Opened AllocError
-
-pub list_adds : (one : Found) (opened : Opened) (old new : List (ℕ × ℕ)) → one ≡ Ok opened → new ≡ old ++ opened.faults.items → Adds (HasPlace one) old new
-list_adds one opened old new is same =
-    let P : Found → Type 0 = λ one. Adds (HasPlace one) old new in
-    let Q : List (ℕ × ℕ) → Type 0 = λ xs. Adds (HasPlace (Ok opened)) old xs in
-    subst P (sym is) (subst Q (sym same) (adds_append old opened.faults.items))
+pub place_adds : (piece : Piece) (old new : List (ℕ × ℕ)) → new ≡ old ++ piece.faults.items → Adds (HasPlace piece) old new
+place_adds piece old new same =
+    let P : List (ℕ × ℕ) → Type 0 = λ xs. Adds (HasPlace piece) old xs in
+    subst P (sym same) (adds_append old piece.faults.items)
 
 -- elements by their places
 
@@ -60,30 +57,47 @@ stands_in xs k x is = (k, slice_get_within xs k x is, get_or_from_slice_get xs k
 pub place_in : {X : Type 0} (xs : List X) (x : X) → Contains xs x → (k : ℕ) × (slice_get xs k ≡ Some x)
 place_in xs x (k, lt, is) = (k, slice_get-get_or xs k x lt ∙ ap (λ y. Some y) is)
 
--- the places of predicates
+pub some_in : {X : Type 0} (xs : List X) (k : ℕ) → k < length xs → (x : X) × (slice_get xs k ≡ Some x)
+some_in xs k lt =
+    elim (slice_get_cases xs k).1 [
+      | inl there ↦ (there.0, there.2)
+      | inr past ↦ absurd (omega (arith, lt, past.0))
+    ]
 
-abbrev pub IsOf : Seen → ℕ → Found → Type 0
-IsOf seen node one = IfOk one (IsOpened seen node)
+-- the pieces, where memory was wanting for none
 
--- what is found of a number
-pub opened_at : (seen : Seen) (each : List Found) (k : ℕ) (d : Found) → AreOpened seen each → k < length seen.predicates → IsOf seen k (get_or each k d)
-opened_at seen each k d zip lt =
-    let n = length seen.predicates in
-    let nodes = range_with_len 0 n in
-    let count_up : 0 + k ≡ k = omega arith in
-    let here : get_or nodes k 0 ≡ k = get_or-range_with_len 0 n k 0 lt ∙ count_up in
-    subst (λ (node : ℕ). IsOf seen node (get_or each k d)) here (zip_at (IsOf seen) nodes each k 0 d zip (omega (arith, lt, length-range_with_len 0 n)))
+pub opened_of : (seen : Seen) (each : List (Result Piece AllocError)) (count : ℕ) → ((number : ℕ) → number < count ↔ number * 512 < length seen.predicates)
+    → AllZip (λ number one. IfOk one (IsPiece seen number)) (range_with_len 0 count) each → AreOpened seen each
+opened_of seen each count so_many zip =
+    let R : ℕ → Result Piece AllocError → Type 0 = λ number one. IfOk one (IsPiece seen number) in
+    let as_long : count ≡ length each = sym (length-range_with_len 0 count) ∙ zip_count R (range_with_len 0 count) each zip in
+    record {
+      as_many = λ number inside. omega (arith, (so_many number).1 inside, as_long);
+      each = subst (λ (n : ℕ). AllZip R (range_with_len 0 n) each) as_long zip;
+    }
 
-pub one_opened : (seen : Seen) (each : List Found) (k : ℕ) (one : Found) (opened : Opened) → AreOpened seen each → k < length seen.predicates → one ≡ get_or each k one
-    → one ≡ Ok opened → IsOpened seen k opened
-one_opened seen each k one opened zip lt read is =
-    let here : IsOf seen k one = subst (IsOf seen k) (sym read) (opened_at seen each k one zip lt) in
-    subst (IsOf seen k) is here
+one_piece : (seen : Seen) (number : ℕ) (one : Result Piece AllocError) (piece : Piece) → one ≡ Ok piece → IfOk one (IsPiece seen number) → IsPiece seen number piece
+one_piece seen number one piece is if_ok = let P : Result Piece AllocError → Type 0 = λ one. IfOk one (IsPiece seen number) in subst P is if_ok
 
-pub opened_count : (seen : Seen) (each : List Found) → AreOpened seen each → length each ≡ length seen.predicates
-opened_count seen each zip =
-    let n = length seen.predicates in
-    sym (zip_count (IsOf seen) (range_with_len 0 n) each zip) ∙ length-range_with_len 0 n
+pub all_opened : (seen : Seen) (each : List (Result Piece AllocError)) (pieces : List Piece) → AreOpened seen each → each ≡ map (λ piece. Ok piece) pieces → ArePieces seen pieces
+all_opened seen each pieces opened are =
+    let as_long : length each ≡ length pieces = ap length are ∙ length-map pieces (λ piece. Ok piece) in
+    record {
+      as_many = λ number inside. omega (arith, opened.as_many number inside, as_long);
+      each = λ number piece is.
+          let lt : number < length pieces = slice_get_within pieces number piece is in
+          let within : number < length each = omega (arith, lt, as_long) in
+          let one : Result Piece AllocError = get_or each number (Ok piece) in
+          let here : get_or (range_with_len 0 (length each)) number 0 ≡ number = omega (arith, get_or-range_with_len 0 (length each) number 0 within) in
+          let R : ℕ → Result Piece AllocError → Type 0 = λ number one. IfOk one (IsPiece seen number) in
+          let found : R number one =
+          subst (λ (n : ℕ). R n one) here (zip_at R (range_with_len 0 (length each)) each number 0 (Ok piece) opened.each (omega (arith, within, length-range_with_len 0 (length each)))) in
+          let read : one ≡ Ok piece =
+          ap (λ (xs : List (Result Piece AllocError)). get_or xs number (Ok piece)) are
+          ∙ get_or-map (λ piece. Ok piece) pieces number piece (Ok piece) lt
+          ∙ ap (λ x. Ok x) (get_or_from_slice_get pieces number piece piece is) in
+          one_piece seen number one piece read found;
+    }
 
 -- a goal of a predicate isn't callable, there
 pub record IsNodeFault (seen : Seen) (p : ℕ × ℕ) : Type 0 where
@@ -91,32 +105,21 @@ pub record IsNodeFault (seen : Seen) (p : ℕ × ℕ) : Type 0 where
   pub below : node < length seen.predicates
   pub is : IsAmong IsFaultIn (bodies_in seen node) p
 
-has_of : (seen : Seen) (node : ℕ) (one : Found) (p : ℕ × ℕ) → IsOf seen node one → HasPlace one p → IsAmong IsFaultIn (bodies_in seen node) p
-has_of seen node (Ok opened) p are has = (are.faults.each p).0 has
-has_of seen node (Err error) p are has = absurd has
-
-of_has : (seen : Seen) (node : ℕ) (one : Found) (p : ℕ × ℕ) → IsOk one → IsOf seen node one → IsAmong IsFaultIn (bodies_in seen node) p → HasPlace one p
-of_has seen node (Ok opened) p ok are is = (are.faults.each p).1 is
-of_has seen node (Err error) p ok are is = let both : false ≡ true = ok in absurd (cc)
-
-pub each_faults : (seen : Seen) (each : List Found) (p : ℕ × ℕ) → AreOpened seen each → All IsOk each → IsAmong HasPlace each p ↔ IsNodeFault seen p
-each_faults seen each p zip whole =
-    let count = opened_count seen each zip in (
-      λ among.
-          let k = among.has.0 in
-          let lt : k < length seen.predicates = omega (arith, among.has.1, count) in
-          let are : IsOf seen k among.one = subst (IsOf seen k) among.has.2 (opened_at seen each k among.one zip lt) in
-          record { node = k; below = lt; is = has_of seen k among.one p are among.is },
-      λ fault.
-          let k = fault.node in
-          let within : k < length each = omega (arith, fault.below, count) in
-          let d : Found = Err alloc_error in
-          record {
-            one = get_or each k d;
-            has = Contains-get_or each k d within;
-            is = of_has seen k (get_or each k d) p (whole k d within) (opened_at seen each k d zip fault.below) fault.is;
-          },
-    )
+pub each_faults : (seen : Seen) (pieces : List Piece) (p : ℕ × ℕ) → ArePieces seen pieces → IsAmong HasPlace pieces p ↔ IsNodeFault seen p
+each_faults seen pieces p are = (
+  λ among.
+      let at = place_in pieces among.one among.has in
+      let fault = ((are.each at.0 among.one at.1).faults p).0 among.is in
+      record { node = fault.node; below = fault.below; is = fault.is },
+  λ fault.
+      let number = fault.node / 512 in
+      let at = some_in pieces number (are.as_many number (omega (arith, fault.below))) in
+      record {
+        one = at.0;
+        has = stands_in pieces number at.0 at.1;
+        is = ((are.each number at.0 at.1).faults p).1 (record { node = fault.node; below = fault.below; in_piece = refl; is = fault.is });
+      },
+)
 
 -- a goal of a clause of the predicate at a place
 
@@ -256,14 +259,14 @@ pairs_have xs sorted kept p moved filtered =
     )
 
 -- the places of all, sorted and each once
-pub all_places : (seen : Seen) (each : List Found) (lists others all sorted kept : List (ℕ × ℕ)) → IsKnown seen → AreOpened seen each → All IsOk each → ((p : ℕ × ℕ) → Contains lists p ↔ IsAmong HasPlace each p)
+pub all_places : (seen : Seen) (pieces : List Piece) (lists others all sorted kept : List (ℕ × ℕ)) → IsKnown seen → ArePieces seen pieces → ((p : ℕ × ℕ) → Contains lists p ↔ IsAmong HasPlace pieces p)
     → AreFaultsIn (goals_in seen.loaded.files) others → all ≡ lists ++ others
     → IsPermutation all sorted → IsSorted pair_cmp sorted → IsFiltered (DiffersFromLast pair_eq) [] sorted kept → AreFaultPlaces seen kept
-all_places seen each lists others all sorted kept known zip whole told goals joins moved in_order filtered = record {
+all_places seen pieces lists others all sorted kept known are told goals joins moved in_order filtered = record {
   ordered = pairs_rise sorted kept in_order filtered;
   each = λ p.
       let has = pairs_have all sorted kept p moved filtered in
-      let node = each_faults seen each p zip whole in
+      let node = each_faults seen pieces p are in
       let is = there_is seen p known in (
         λ in_kept.
             is.0

@@ -60,6 +60,11 @@ body_faults body met none old new empty walked adds =
     (λ p of. record { in_file = of.0; met = (has (fault p.1)).0 of.1 })
     (λ p is. (is.in_file, (has (fault p.1)).1 is.met)) adds
 
+pub seen_faults : (bodies : List BodyKept) (old new : List (ℕ × ℕ)) → Adds (IsAmong IsSeenFault bodies) old new → Adds (IsAmong IsFaultIn (map see_body bodies)) old new
+seen_faults bodies old new adds =
+    adds_as (IsAmong IsSeenFault bodies) (IsAmong IsFaultIn (map see_body bodies)) old new (λ p. (among_map IsFaultIn see_body bodies p).1)
+    (λ p. (among_map IsFaultIn see_body bodies p).0) adds
+
 pub bodies_faults : (bodies : List BodyKept) (faults : List (ℕ × ℕ)) → Adds (IsAmong IsSeenFault bodies) [] faults → AreFaultsIn (map see_body bodies) faults
 bodies_faults bodies faults adds = record {
   each = λ p.

@@ -1,9 +1,11 @@
 -- Lists that are laid out one behind the other.
-use Rattle.std.proofs.Common.{◌≡◌, ℕ, ◌+◌, ◌-◌, ◌<◌, inl, inr, List, [], ◌∷◌, ◌++◌, length, get_or, take, drop, ap, sym, ◌∙◌, subst, refl, arith}
+use Rattle.std.proofs.Common.{◌≡◌, ℕ, ◌+◌, ◌-◌, ◌*◌, ◌/◌, ◌%◌, ◌<◌, min, inl, inr, List, [], ◌∷◌, ◌++◌, length, get_or, take, drop, ap, sym, ◌∙◌, subst, refl, arith}
 use Rattle.std.proofs.lemmas.Bool.{cases_lt}
-use Rattle.std.proofs.lemmas.List.{drop-append-le, take-append-le, length-append, length-drop, take_all, get_or_append_left, get_or_push, get_or_read, length_push}
+use Rattle.std.proofs.lemmas.List.{drop-append-le, take-append-le, length-append, length-drop, length-take, get_or-take, get_or-drop, take_all, get_or_append_left, get_or_push, get_or_read, length_push}
+use Rattle.std.proofs.lemmas.Option.{slice_get_read}
 use Rattle.std.proofs.Math.Seq.{drop-append_seam}
-use Rattle.call_edges.specs.CallLists.{StandsBetween, AreLaidOut}
+use Rattle.call_edges.specs.declared.piece.Piece.{Piece}
+use Rattle.call_edges.specs.CallLists.{StandsBetween, AreLaidOut, piece_lists, AreListed}
 
 -- the first of the lists are laid out, and nothing else
 pub record AreFirst (lists : List (List ℕ)) (count : ℕ) (starts all : List ℕ) : Type 0 where
@@ -77,3 +79,45 @@ stands_read lists starts all p from to laid below left right =
     let second : get_or starts (p + 1) 0 ≡ to = sym (get_or_read starts (p + 1) to (omega (arith, below, laid.as_many)) right 0) in
     subst (λ (x : ℕ). StandsBetween all x to (get_or lists p [])) first
     (subst (λ (y : ℕ). StandsBetween all (get_or starts p 0) y (get_or lists p [])) second (laid.each p below))
+
+-- the lists of a piece
+
+pub piece_count : (lists : List (List ℕ)) (number : ℕ) → length (piece_lists lists number) ≡ min 512 (length lists - number * 512)
+piece_count lists number = length-take 512 (drop (number * 512) lists) ∙ ap (min 512) (length-drop (number * 512) lists)
+
+pub piece_list : (lists : List (List ℕ)) (number k : ℕ) → k < 512 → get_or (piece_lists lists number) k [] ≡ get_or lists (number * 512 + k) []
+piece_list lists number k lt = get_or-take 512 (drop (number * 512) lists) k [] lt ∙ get_or-drop (number * 512) lists k []
+
+-- where a node stands in its piece
+pub in_its_piece : (node : ℕ) → ((node / 512) * 512 + node % 512 ≡ node) × (node % 512 < 512)
+in_its_piece node = (omega arith, omega arith)
+
+pub piece_has : (lists : List (List ℕ)) (node : ℕ) → node < length lists → node % 512 < length (piece_lists lists (node / 512))
+piece_has lists node lt = omega (arith, lt, piece_count lists (node / 512), in_its_piece node)
+
+pub piece_list_is : (lists : List (List ℕ)) (node : ℕ) → get_or (piece_lists lists (node / 512)) (node % 512) [] ≡ get_or lists node []
+piece_list_is lists node =
+    let at = in_its_piece node in
+    piece_list lists (node / 512) (node % 512) at.1 ∙ ap (λ n. get_or lists n []) at.0
+
+-- the list of a node, in the piece of the node
+
+pub piece_there : (lists : List (List ℕ)) (pieces : List Piece) (node : ℕ) → AreListed lists pieces → node < length lists → node / 512 < length pieces
+piece_there lists pieces node listed lt = listed.as_many (node / 512) (omega (arith, lt, in_its_piece node))
+
+pub piece_laid : (lists : List (List ℕ)) (pieces : List Piece) (node : ℕ) (piece : Piece) → AreListed lists pieces → node < length lists → piece ≡ get_or pieces (node / 512) piece
+    → AreLaidOut (piece_lists lists (node / 512)) piece.starts.items piece.callees.items
+piece_laid lists pieces node piece listed lt is =
+    listed.each (node / 512) piece (slice_get_read pieces (length pieces) (node / 512) piece refl (piece_there lists pieces node listed lt) is)
+
+pub starts_there : (lists : List (List ℕ)) (pieces : List Piece) (node : ℕ) (piece : Piece) → AreListed lists pieces → node < length lists → piece ≡ get_or pieces (node / 512) piece
+    → node % 512 + 1 < length piece.starts.items
+starts_there lists pieces node piece listed lt is =
+    omega (arith, (piece_laid lists pieces node piece listed lt is).as_many, piece_has lists node lt)
+
+pub node_read : (lists : List (List ℕ)) (pieces : List Piece) (node from to : ℕ) (piece : Piece) → AreListed lists pieces → node < length lists → piece ≡ get_or pieces (node / 512) piece
+    → from ≡ get_or piece.starts.items (node % 512) from → to ≡ get_or piece.starts.items (node % 512 + 1) to → StandsBetween piece.callees.items from to (get_or lists node [])
+node_read lists pieces node from to piece listed lt is left right =
+    subst (λ (list : List ℕ). StandsBetween piece.callees.items from to list) (piece_list_is lists node)
+    (stands_read (piece_lists lists (node / 512)) piece.starts.items piece.callees.items (node % 512) from to (piece_laid lists pieces node piece listed lt is)
+    (piece_has lists node lt) left right)

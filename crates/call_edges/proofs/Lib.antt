@@ -5,6 +5,7 @@ pub mod MetLemmas
 pub mod AddedLemmas
 pub mod ListedMets
 pub mod WalkLemmas
+pub mod PieceLemmas
 pub mod PlaceLemmas
 pub mod BodyLemmas
 pub mod SuccessorLemmas

@@ -1,23 +1,19 @@
 -- What is found at predicates, and lists that stand one behind the other.
-use Rattle.std.specs.Prelude.{ℕ, ◌≡◌, ◌<◌, ◌≤◌, ◌+◌, ◌↔◌, List, [], Contains, Result, IfOk, length, slice_index_or, slice_range}
+use Rattle.std.specs.Prelude.{ℕ, ◌≡◌, ◌<◌, ◌≤◌, ◌+◌, ◌*◌, ◌/◌, ◌↔◌, List, [], Some, Contains, Result, IfOk, length, take, drop, slice_get, slice_index_or, slice_range}
 use Rattle.std.specs.List.{AllZip, range_with_len}
 use Rattle.std.specs.List.Sorted.{IsStrictlyIncreasing}
 use Rattle.std.specs.declared.alloc.AllocError.{AllocError}
 use Rattle.import_rules.specs.Program.{Seen}
-use Rattle.call_edges.specs.declared.opened.Opened.{Opened}
+use Rattle.call_edges.specs.declared.piece.Piece.{Piece}
 use Rattle.call_edges.specs.Bodies.{bodies_in}
-use Rattle.call_edges.specs.Calls.{NodeCalls}
-use Rattle.call_edges.specs.FaultPlaces.{AreFaultsIn}
+use Rattle.call_edges.specs.Calls.{IsAmong, NodeCalls}
+use Rattle.call_edges.specs.FaultPlaces.{IsFaultIn}
+use Rattle.call_edges.specs.Successors.{successor_lists}
 
--- what the predicate of that number calls, ascending and each once, and where its goals aren't callable
-pub record IsOpened (seen : Seen) (node : ℕ) (opened : Opened) : Type 0 where
-  pub ascending : IsStrictlyIncreasing opened.callees.items
-  pub calls : (q : ℕ) → Contains opened.callees.items q ↔ NodeCalls seen node q
-  pub faults : AreFaultsIn (bodies_in seen node) opened.faults.items
-
--- that of each predicate, in the order of their numbers
-abbrev pub AreOpened : Seen → List (Result Opened AllocError) → Type 0
-AreOpened seen each = AllZip (λ node one. IfOk one (IsOpened seen node)) (range_with_len 0 (length seen.predicates)) each
+-- what the predicate of that number calls, ascending and each once
+pub record IsOpened (seen : Seen) (node : ℕ) (callees : List ℕ) : Type 0 where
+  pub ascending : IsStrictlyIncreasing callees
+  pub calls : (q : ℕ) → Contains callees q ↔ NodeCalls seen node q
 
 -- the list stands between the two places
 pub record StandsBetween (all : List ℕ) (from to : ℕ) (list : List ℕ) : Type 0 where
@@ -29,3 +25,34 @@ pub record StandsBetween (all : List ℕ) (from to : ℕ) (list : List ℕ) : Ty
 pub record AreLaidOut (lists : List (List ℕ)) (starts all : List ℕ) : Type 0 where
   pub as_many : length starts ≡ length lists + 1
   pub each : (p : ℕ) → p < length lists → StandsBetween all (slice_index_or starts p 0) (slice_index_or starts (p + 1) 0) (slice_index_or lists p [])
+
+-- those of the lists that are in the piece of that number
+abbrev pub piece_lists : List (List ℕ) → ℕ → List (List ℕ)
+piece_lists lists number = take 512 (drop (number * 512) lists)
+
+-- a goal of a predicate of the piece isn't callable, there
+pub record IsPieceFault (seen : Seen) (number : ℕ) (p : ℕ × ℕ) : Type 0 where
+  pub node : ℕ
+  pub below : node < length seen.predicates
+  pub in_piece : node / 512 ≡ number
+  pub is : IsAmong IsFaultIn (bodies_in seen node) p
+
+-- what the predicates of the piece call, and where their goals aren't callable
+pub record IsPiece (seen : Seen) (number : ℕ) (piece : Piece) : Type 0 where
+  pub laid_out : AreLaidOut (piece_lists (successor_lists seen) number) piece.starts.items piece.callees.items
+  pub faults : (p : ℕ × ℕ) → Contains piece.faults.items p ↔ IsPieceFault seen number p
+
+-- what is found in each piece, in the order of their numbers: so many that no predicate is left out
+pub record AreOpened (seen : Seen) (found : List (Result Piece AllocError)) : Type 0 where
+  pub as_many : (number : ℕ) → number * 512 < length seen.predicates → number < length found
+  pub each : AllZip (λ number one. IfOk one (IsPiece seen number)) (range_with_len 0 (length found)) found
+
+-- the pieces of all predicates
+pub record ArePieces (seen : Seen) (pieces : List Piece) : Type 0 where
+  pub as_many : (number : ℕ) → number * 512 < length seen.predicates → number < length pieces
+  pub each : (number : ℕ) (piece : Piece) → slice_get pieces number ≡ Some piece → IsPiece seen number piece
+
+-- the lists of all predicates, piece by piece
+pub record AreListed (lists : List (List ℕ)) (pieces : List Piece) : Type 0 where
+  pub as_many : (number : ℕ) → number * 512 < length lists → number < length pieces
+  pub each : (number : ℕ) (piece : Piece) → slice_get pieces number ≡ Some piece → AreLaidOut (piece_lists lists number) piece.starts.items piece.callees.items

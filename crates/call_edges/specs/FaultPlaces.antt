@@ -1,6 +1,5 @@
 -- Where goals aren't callable: the place of a file, and an offset.
-use Rattle.std.specs.Prelude.{ℕ, ◌≡◌, ◌↔◌, List, Option, Some, None, Result, Ok, Err, AllPairs, Contains, slice_get}
-use Rattle.std.specs.declared.alloc.AllocError.{AllocError}
+use Rattle.std.specs.Prelude.{ℕ, ◌≡◌, ◌↔◌, List, Option, Some, None, AllPairs, Contains, slice_get}
 use Rattle.std.specs.declared.cmp.Ordering.TheVariants.{Less}
 use Rattle.prolog_tokens.specs.Places.{IsPlace}
 use Rattle.clause_text.specs.declared.cause.Cause.TheVariants.{NotCallable}
@@ -9,7 +8,7 @@ use Rattle.file_library.specs.declared.fault.Fault.{Fault}
 use Rattle.file_library.specs.Loaded.{NamedText}
 use Rattle.import_rules.specs.Files.{pair_cmp}
 use Rattle.import_rules.specs.Program.{Seen}
-use Rattle.call_edges.specs.declared.opened.Opened.{Opened}
+use Rattle.call_edges.specs.declared.piece.Piece.{Piece}
 use Rattle.call_edges.specs.Goals.{Met, call, fault}
 use Rattle.call_edges.specs.Calls.{IsAmong}
 use Rattle.call_edges.specs.Bodies.{Body, IsMetInBody}
@@ -29,10 +28,9 @@ pub record IsFaultIn (body : Body) (p : ℕ × ℕ) : Type 0 where
 pub record AreFaultsIn (bodies : List Body) (faults : List (ℕ × ℕ)) : Type 0 where
   pub each : (p : ℕ × ℕ) → Contains faults p ↔ IsAmong IsFaultIn bodies p
 
--- just those of one predicate or another, where all are opened
-abbrev pub HasPlace : Result Opened AllocError → ℕ × ℕ → Type 0
-HasPlace (Ok opened) p = Contains opened.faults.items p
-HasPlace (Err error) p = ⊥
+-- just those of one piece or another
+abbrev pub HasPlace : Piece → ℕ × ℕ → Type 0
+HasPlace piece p = Contains piece.faults.items p
 
 -- such a goal stands there, in the file
 pub record IsFaultPlace (seen : Seen) (p : ℕ × ℕ) : Type 0 where

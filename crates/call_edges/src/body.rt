@@ -68,6 +68,24 @@ fn push_bodies<'a>(
     Ok(())
 }
 
+/// Adds the bodies of the clauses of a predicate.
+pub fn push_bodies_of<'a>(
+    program: &'a Program,
+    node: u32,
+    bodies: &mut Vec<Body<'a>>,
+) -> Result<(), AllocError>
+    requires { node < length (see_program program.now).predicates }
+    ensures { OnOk result (map see_body bodies.new.items ≡ map see_body bodies.old.items ++ bodies_in (see_program program.now) node) }
+{
+    let files = &program.loaded().files;
+    for place in program.places_of(node) {
+        let file = &files[place.0 as usize];
+        let predicate = &file.defined[place.1 as usize];
+        push_bodies(place.0, file.module.as_str(), &predicate.clauses, bodies)?;
+    }
+    Ok(())
+}
+
 /// The bodies of the clauses of a predicate.
 pub fn bodies_of<'a>(
     alloc: Global,
@@ -77,18 +95,8 @@ pub fn bodies_of<'a>(
     requires { node < length (see_program program.now).predicates }
     ensures { IfOk result (λ bodies. map see_body bodies.items ≡ bodies_in (see_program program.now) node) }
 {
-    let files = &program.loaded().files;
     let mut bodies = Vec::new(alloc);
-    for place in program.places_of(node) {
-        let file = &files[place.0 as usize];
-        let predicate = &file.defined[place.1 as usize];
-        push_bodies(
-            place.0,
-            file.module.as_str(),
-            &predicate.clauses,
-            &mut bodies,
-        )?;
-    }
+    push_bodies_of(program, node, &mut bodies)?;
     Ok(bodies)
 }
 

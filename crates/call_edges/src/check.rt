@@ -1,9 +1,9 @@
 //! Whether every goal of a program is callable, and what its predicates call.
 
-ghost use Rattle.std.specs.Prelude.{[], ◌≡◌, ◌<◌, ◌↔◌, ℕ, All, Contains, length, IfOk, OnOk, IfErr, IsOk};
+ghost use Rattle.std.specs.Prelude.{[], ◌≡◌, ◌*◌, ◌<◌, ◌↔◌, ℕ, Ok, Contains, length, map, IfOk, OnOk, IfErr};
 ghost use Rattle.import_rules.specs.Program.{see_program};
 ghost use Rattle.call_edges.specs.Calls.{IsAmong};
-ghost use Rattle.call_edges.specs.CallLists.{IsOpened, AreOpened};
+ghost use Rattle.call_edges.specs.CallLists.{IsPiece, AreOpened, ArePieces};
 ghost use Rattle.call_edges.specs.FaultPlaces.{AreFaultPlaces, HasPlace};
 ghost use Rattle.call_edges.specs.GoalFaults.{AreGoalFaults, IsGoalStop};
 ghost use Rattle.call_edges.specs.Opened.{see_call_lists};
@@ -11,43 +11,66 @@ ghost use Rattle.call_edges.specs.Opened.{see_call_lists};
 use crate::faults::directive_faults;
 use crate::goal_stop::GoalStop;
 use crate::laid_out::CallLists;
-use crate::opened::{Opened, open};
+use crate::piece::{Piece, open_piece, piece_count};
 use crate::placed::placed;
 use import_rules::Program;
 use rayon::prelude::*;
 use std::alloc::{AllocError, Global};
 use std::thread::Threads;
 
-/// What is found at each predicate, in the order of their numbers. They are walked side by side.
+/// What is found in each piece, in the order of their numbers. They are walked side by side.
 fn open_each<R: Threads + Sync>(
     rt: &R,
     alloc: Global,
     program: &Program,
-) -> Result<Vec<Result<Opened, AllocError>>, AllocError>
+) -> Result<Vec<Result<Piece, AllocError>>, AllocError>
     ensures { IfOk result (λ each. AreOpened (see_program program.now) each.items) }
 {
-    (0..program.count())
+    (0..piece_count(program.count()))
         .into_par_iter()
         .map(
-            |node: u32| -> Result<Opened, AllocError>
-                requires { node < length (see_program program.now).predicates }
-                ensures { IfOk result (IsOpened (see_program program.entry.now) node) }
-            { open(alloc, program, node) },
+            |number: u32| -> Result<Piece, AllocError>
+                requires { number * 512 < length (see_program program.now).predicates }
+                ensures { IfOk result (IsPiece (see_program program.entry.now) number) }
+            { open_piece(alloc, program, number) },
         )
         .collect(rt, alloc)
 }
 
-/// The places of goals that aren't callable, of all predicates, where memory was wanting for none.
-fn joined(alloc: Global, each: &[Result<Opened, AllocError>]) -> Result<Vec<(u32, u32)>, AllocError>
-    ensures told { IfOk result (λ places. (p : ℕ × ℕ) → Contains places.items p ↔ IsAmong HasPlace each.now p) }
-    ensures whole { OnOk result (All IsOk each.now) }
+/// The pieces, where memory was wanting for none.
+fn whole(alloc: Global, each: Vec<Result<Piece, AllocError>>) -> Result<Vec<Piece>, AllocError>
+    ensures { IfOk result (λ pieces. each.items ≡ map (λ piece. Ok piece) pieces.items) }
 {
-    let mut places = Vec::new(alloc);
+    let mut pieces = Vec::with_capacity(alloc, each.len())?;
     for one in each {
         match one {
-            Ok(opened) => places.extend_from_slice(&opened.faults)?,
-            Err(error) => return Err(*error),
+            Ok(piece) => pieces.push(piece)?,
+            Err(error) => return Err(error),
         }
+    }
+    Ok(pieces)
+}
+
+/// The pieces of a program.
+fn open_all<R: Threads + Sync>(
+    rt: &R,
+    alloc: Global,
+    program: &Program,
+) -> Result<Vec<Piece>, AllocError>
+    ensures { IfOk result (λ pieces. ArePieces (see_program program.now) pieces.items) }
+{
+    let each = open_each(rt, alloc, program)?;
+    let pieces = whole(alloc, each)?;
+    Ok(pieces)
+}
+
+/// The places of goals that aren't callable, of all pieces.
+fn joined(alloc: Global, pieces: &[Piece]) -> Result<Vec<(u32, u32)>, AllocError>
+    ensures { IfOk result (λ places. (p : ℕ × ℕ) → Contains places.items p ↔ IsAmong HasPlace pieces.now p) }
+{
+    let mut places = Vec::new(alloc);
+    for piece in pieces {
+        places.extend_from_slice(&piece.faults)?;
     }
     Ok(places)
 }
@@ -56,13 +79,13 @@ fn joined(alloc: Global, each: &[Result<Opened, AllocError>]) -> Result<Vec<(u32
 fn fault_places(
     alloc: Global,
     program: &Program,
-    each: &[Result<Opened, AllocError>],
+    pieces: &[Piece],
 ) -> Result<Vec<(u32, u32)>, AllocError>
-    requires { AreOpened (see_program program.now) each.now }
+    requires { ArePieces (see_program program.now) pieces.now }
     ensures { IfOk result (λ faults. AreFaultPlaces (see_program program.now) faults.items) }
 {
     program.is_known();
-    let mut faults = joined(alloc, each)?;
+    let mut faults = joined(alloc, pieces)?;
     let others = directive_faults(alloc, program)?;
     faults.extend_from_slice(&others)?;
     faults.sort_unstable();
@@ -83,10 +106,10 @@ pub fn call_lists<'a, R: Threads + Sync>(
     ensures refused { IfErr result (IsGoalStop (see_program program.now)) }
 {
     program.is_known();
-    let each = open_each(rt, alloc, program)?;
-    let faults = fault_places(alloc, program, &each)?;
+    let pieces = open_all(rt, alloc, program)?;
+    let faults = fault_places(alloc, program, &pieces)?;
     if faults.is_empty() {
-        return Ok(CallLists::lay_out(alloc, program, &each)?);
+        return Ok(CallLists::of_pieces(program, pieces));
     }
     Err(GoalStop::Faults(placed(alloc, program, &faults)?))
 }

@@ -20,6 +20,7 @@ mod goal_stop;
 mod laid_out;
 mod laws;
 mod opened;
+mod piece;
 mod placed;
 mod role;
 mod roots;

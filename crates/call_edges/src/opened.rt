@@ -1,55 +1,78 @@
 //! What is found in the clauses of one predicate.
 
-ghost use Rattle.std.specs.Prelude.{◌<◌, [], All, Contains, length, map, IfOk};
+ghost use Rattle.std.specs.Prelude.{◌<◌, All, length, map, OnOk};
 ghost use Rattle.import_rules.specs.Program.{see_program};
 ghost use Rattle.call_edges.specs.Goals.{Adds};
 ghost use Rattle.call_edges.specs.Calls.{GoesTo, IsAmong};
-ghost use Rattle.call_edges.specs.Bodies.{see_body, IsLight, IsMetInBody};
-ghost use Rattle.call_edges.specs.FaultPlaces.{AreFaultsIn};
+ghost use Rattle.call_edges.specs.Bodies.{see_body, bodies_in, IsLight, IsMetInBody};
+ghost use Rattle.call_edges.specs.FaultPlaces.{IsFaultIn};
 ghost use Rattle.call_edges.specs.CallLists.{IsOpened};
 
-use crate::body::{Body, bodies_of};
+use crate::body::{Body, push_bodies_of};
 use crate::calls::push_targets;
 use crate::faults::push_places;
+use crate::role::Met;
 use crate::walking::walk;
 use import_rules::Program;
 use std::alloc::{AllocError, Global};
 
-/// The predicates that a predicate calls, and the places of its goals that aren't callable.
+/// Lists whose memory serves one predicate after another.
 #[derive(Drop)]
-pub struct Opened {
-    pub callees: Vec<u32>,
-    pub faults: Vec<(u32, u32)>,
+pub struct Buffers<'a> {
+    bodies: Vec<Body<'a>>,
+    met: Vec<Met<'a>>,
 }
 
-/// What bodies call, in their order, and where goals in them aren't callable.
-fn found_in(alloc: Global, program: &Program, bodies: &[Body]) -> Result<Opened, AllocError>
+impl<'a> Buffers<'a> {
+    /// Empty lists. They take no memory.
+    pub fn new(alloc: Global) -> Buffers<'a> {
+        Buffers {
+            bodies: Vec::new(alloc),
+            met: Vec::new(alloc),
+        }
+    }
+}
+
+/// Adds what bodies call, in their order, and where goals in them aren't callable.
+fn found_in<'a>(
+    program: &Program,
+    bodies: &[Body<'a>],
+    met: &mut Vec<Met<'a>>,
+    callees: &mut Vec<u32>,
+    faults: &mut Vec<(u32, u32)>,
+) -> Result<(), AllocError>
     requires { All IsLight (map see_body bodies.now) }
-    ensures callees { IfOk result (λ opened. Adds (GoesTo (see_program program.now) (IsAmong IsMetInBody (map see_body bodies.now))) [] opened.callees.items) }
-    ensures faults { IfOk result (λ opened. AreFaultsIn (map see_body bodies.now) opened.faults.items) }
+    ensures callees { OnOk result (Adds (GoesTo (see_program program.now) (IsAmong IsMetInBody (map see_body bodies.now))) callees.old.items callees.new.items) }
+    ensures faults { OnOk result (Adds (IsAmong IsFaultIn (map see_body bodies.now)) faults.old.items faults.new.items) }
 {
-    let mut met = Vec::new(alloc);
-    let mut callees = Vec::new(alloc);
-    let mut faults = Vec::new(alloc);
     for body in bodies {
         met.clear();
-        walk(body.term, body.owner, body.role, &mut met)?;
-        push_targets(program, &met, &mut callees)?;
-        push_places(body.file, &met, &mut faults)?;
+        walk(body.term, body.owner, body.role, met)?;
+        push_targets(program, met, callees)?;
+        push_places(body.file, met, faults)?;
     }
-    Ok(Opened { callees, faults })
+    Ok(())
 }
 
-/// What is found in the clauses of the predicate of that number, by one walk: what it calls,
-/// ascending and each once, and where its goals aren't callable.
-pub fn open(alloc: Global, program: &Program, node: u32) -> Result<Opened, AllocError>
+/// What is found in the clauses of the predicate of that number, by one walk: `callees` is what it
+/// calls, ascending and each once, and to `faults` is added where its goals aren't callable.
+pub fn open<'a>(
+    program: &'a Program,
+    node: u32,
+    buffers: &mut Buffers<'a>,
+    callees: &mut Vec<u32>,
+    faults: &mut Vec<(u32, u32)>,
+) -> Result<(), AllocError>
     requires { node < length (see_program program.now).predicates }
-    ensures { IfOk result (IsOpened (see_program program.now) node) }
+    ensures callees { OnOk result (IsOpened (see_program program.now) node callees.new.items) }
+    ensures faults { OnOk result (Adds (IsAmong IsFaultIn (bodies_in (see_program program.now) node)) faults.old.items faults.new.items) }
 {
     program.is_known();
-    let bodies = bodies_of(alloc, program, node)?;
-    let mut opened = found_in(alloc, program, &bodies)?;
-    opened.callees.sort_unstable();
-    opened.callees.dedup();
-    Ok(opened)
+    callees.clear();
+    buffers.bodies.clear();
+    push_bodies_of(program, node, &mut buffers.bodies)?;
+    found_in(program, &buffers.bodies, &mut buffers.met, callees, faults)?;
+    callees.sort_unstable();
+    callees.dedup();
+    Ok(())
 }

@@ -1,5 +1,6 @@
-use Rattle.std.proofs.Common.{◌≡◌, ◌<◌, ℕ, ◌++◌, List, Some, length, map, get_or, slice_get, ap, sym, ◌∙◌, subst, arith}
+use Rattle.std.proofs.Common.{◌≡◌, ◌<◌, ℕ, ◌++◌, List, Some, length, map, take, get_or, slice_get, ap, sym, ◌∙◌, subst, append_assoc, arith}
 use Rattle.std.specs.Prelude.{Contains}
+use Rattle.std.specs.List.{flat_map}
 use Rattle.std.proofs.lemmas.List.{length-map}
 use Rattle.std.proofs.lemmas.List.Elements.{Contains-get_or}
 use Rattle.std.proofs.lemmas.Option.{slice_get_within}
@@ -9,7 +10,7 @@ use Rattle.file_library.specs.Loaded.{LoadedFiles}
 use Rattle.import_rules.specs.Program.{Seen, see_program, places_in}
 use Rattle.call_edges.specs.Bodies.{see_body, clause_bodies, bodies_at}
 use Rattle.call_edges.proofs.BodyLemmas.{IsThere, places_there, bodies_there, flat_more, seen_at}
-use Rattle.call_edges.proofs.body.bodies_of.Goals as goal
+use Rattle.call_edges.proofs.body.push_bodies_of.Goals as goal
 
 -- the place is one of a file and of a part of it
 there : (places : List (ℕ × ℕ)) (k : ℕ) (seen : Seen) (node : ℕ) → places ≡ places_in seen node → k < length places → IsThere seen.loaded.files (get_or places k (0, 0))
@@ -60,9 +61,12 @@ loop-place-preserved c =
     let here : slice_get all at.0 ≡ Some (see_facts file) = loaded ∙ ap (λ f. Some f) (sym same) in
     let inner : see_defined predicate ≡ is.predicate = seen_at see_defined file.defined.items at.1 predicate is.predicate c.index-predicate.ensures part in
     let own : slice_get (see_facts file).defined at.1 ≡ Some (see_defined predicate) = part ∙ ap (λ p. Some p) (sym inner) in
+    let start = map see_body c.args.bodies.now.items in
     let before = map see_body c.loop-place.bodies.items in
     c.in_ok-push_bodies.ensures
     ∙ (ap (λ name. before ++ clause_bodies at.0 name (map clause_tree c.deref.result.now)) c.as_str.ensures
     ∙ (ap (λ xs. before ++ clause_bodies at.0 file.module (map clause_tree xs)) c.deref.ensures.value
     ∙ (ap (λ xs. before ++ xs) (sym (bodies_there all at (see_facts file) (see_defined predicate) here own))
-    ∙ (ap (λ xs. xs ++ bodies_at all at) c.loop-place.invariant ∙ sym (flat_more (bodies_at all) places k (0, 0) c.loop-place-test.true)))))
+    ∙ (ap (λ xs. xs ++ bodies_at all at) c.loop-place.invariant
+    ∙ (append_assoc start (flat_map (bodies_at all) (take k places)) (bodies_at all at)
+    ∙ ap (λ xs. start ++ xs) (sym (flat_more (bodies_at all) places k (0, 0) c.loop-place-test.true)))))))

@@ -13,6 +13,6 @@ returns c =
     let others = c.in_ok-others.others.items in
     let joins : c.extend_from_slice.new.self.items ≡ lists ++ others =
     joined_is c.extend_from_slice.new.self.items lists c.deref.result.now others c.in_ok-extend_from_slice.ensures.items c.deref.ensures.value in
-    all_places seen c.args.each.now lists others c.extend_from_slice.new.self.items c.sort_unstable.new.self.items c.dedup.new.self.items
-    c.is_known.ensures c.requires c.in_ok-faults.ensures.whole c.in_ok-faults.ensures.told c.in_ok-others.ensures
+    all_places seen c.args.pieces.now lists others c.extend_from_slice.new.self.items c.sort_unstable.new.self.items c.dedup.new.self.items
+    c.is_known.ensures c.requires c.in_ok-faults.ensures c.in_ok-others.ensures
     joins c.sort_unstable.ensures.permutation c.sort_unstable.ensures.sorted c.dedup.ensures.filtered

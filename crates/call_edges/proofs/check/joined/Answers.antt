@@ -1,27 +1,21 @@
-use Rattle.std.proofs.Common.{[], sym, ◌∙◌, subst, refl}
-use Rattle.std.specs.Prelude.{IsOk}
-use Rattle.std.proofs.lemmas.List.Elements.{All-more}
+use Rattle.std.proofs.Common.{[], refl}
 use Rattle.call_edges.specs.Calls.{IsAmong}
 use Rattle.call_edges.specs.FaultPlaces.{HasPlace}
 use Rattle.call_edges.proofs.AmongLemmas.{among_more, among_all}
 use Rattle.call_edges.proofs.CallLemmas.{adds_from_none}
-use Rattle.call_edges.proofs.CheckLemmas.{list_adds}
+use Rattle.call_edges.proofs.CheckLemmas.{place_adds}
 use Rattle.call_edges.proofs.check.joined.Goals as goal
 
-pub loop-one-preserved : goal.loop-one-preserved
-loop-one-preserved c =
-    let each = c.args.each.now in
-    let k = c.loop-one.one-index in
-    let item = c.one-item.result in
-    let mid = c.loop-one.places.items in
-    let new = c.extend_from_slice.new.self.items in record {
-      told = among_more HasPlace each k item [] mid new c.loop-one-test.true c.one-item.is c.loop-one.invariant.told
-          (list_adds item c.in-Ok.opened mid new c.in-Ok.is (rw c.deref.ensures.value at c.in_ok-extend_from_slice-in-Ok.ensures.items));
-      whole = All-more IsOk each k item c.loop-one-test.true c.loop-one.invariant.whole (subst IsOk (sym c.in-Ok.is ∙ c.one-item.is) refl);
-    }
+pub loop-piece-preserved : goal.loop-piece-preserved
+loop-piece-preserved c =
+    let piece = c.piece-item.result in
+    let mid = c.loop-piece.places.items in
+    let new = c.extend_from_slice.new.self.items in
+    among_more HasPlace c.args.pieces.now c.loop-piece.piece-index piece [] mid new c.loop-piece-test.true c.piece-item.is c.loop-piece.invariant
+    (place_adds piece mid new (rw c.deref.ensures.value at c.in_ok-extend_from_slice.ensures.items))
 
-pub returns-clause-told : goal.returns-clause-told
-returns-clause-told c =
-    let each = c.args.each.now in
-    adds_from_none (IsAmong HasPlace each) [] c.loop-one.places.items refl
-    (among_all HasPlace each c.loop-one.one-index [] c.loop-one.places.items c.loop-one-test.false c.loop-one.invariant.told)
+pub returns : goal.returns
+returns c =
+    let pieces = c.args.pieces.now in
+    adds_from_none (IsAmong HasPlace pieces) [] c.loop-piece.places.items refl
+    (among_all HasPlace pieces c.loop-piece.piece-index [] c.loop-piece.places.items c.loop-piece-test.false c.loop-piece.invariant)

@@ -1,11 +1,11 @@
-use Rattle.std.proofs.Common.{◌≡◌, [], map, get_or, ap, sym, ◌∙◌, subst, arith}
+use Rattle.std.proofs.Common.{◌≡◌, map, get_or, ap, sym, ◌∙◌, subst, arith}
 use Rattle.std.proofs.lemmas.List.{length-map, get_or-map}
 use Rattle.import_rules.specs.Program.{see_program}
 use Rattle.call_edges.specs.Seen.{see_mets}
 use Rattle.call_edges.specs.Bodies.{see_body, IsLight}
 use Rattle.call_edges.proofs.AmongLemmas.{among_more, among_all}
 use Rattle.call_edges.proofs.CallLemmas.{IsCalledIn, body_goes, bodies_go}
-use Rattle.call_edges.proofs.FaultLemmas.{IsSeenFault, body_faults, bodies_faults}
+use Rattle.call_edges.proofs.FaultLemmas.{IsSeenFault, body_faults, seen_faults}
 use Rattle.call_edges.proofs.opened.found_in.Goals as goal
 
 pub walk-requires : goal.walk-requires
@@ -31,11 +31,11 @@ loop-body-preserved c =
     let placed = c.push_places.new.places.items in
     let so_far = c.loop-body.invariant in record {
       callees =
-          among_more (IsCalledIn seen) bodies k body [] callees called c.loop-body-test.true c.body-item.is so_far.callees
+          among_more (IsCalledIn seen) bodies k body c.args.callees.now.items callees called c.loop-body-test.true c.body-item.is so_far.callees
           (body_goes seen (see_body body) met (see_mets c.clear.new.self.items) callees called empty c.in_ok-walk.ensures
           (rw c.deref.ensures.value at c.in_ok-push_targets.ensures));
       faults =
-          among_more IsSeenFault bodies k body [] faults placed c.loop-body-test.true c.body-item.is so_far.faults
+          among_more IsSeenFault bodies k body c.args.faults.now.items faults placed c.loop-body-test.true c.body-item.is so_far.faults
           (body_faults (see_body body) met (see_mets c.clear.new.self.items) faults placed empty c.in_ok-walk.ensures
           (rw c.deref-in-loop-body.ensures.value at c.in_ok-push_places.ensures));
     }
@@ -45,11 +45,12 @@ returns-clause-callees c =
     let seen = see_program c.args.program.now in
     let bodies = c.args.bodies.now in
     let callees = c.loop-body.callees.items in
-    bodies_go seen bodies [] callees
-    (among_all (IsCalledIn seen) bodies c.loop-body.body-index [] callees c.loop-body-test.false c.loop-body.invariant.callees)
+    bodies_go seen bodies c.args.callees.now.items callees
+    (among_all (IsCalledIn seen) bodies c.loop-body.body-index c.args.callees.now.items callees c.loop-body-test.false c.loop-body.invariant.callees)
 
 pub returns-clause-faults : goal.returns-clause-faults
 returns-clause-faults c =
     let bodies = c.args.bodies.now in
     let faults = c.loop-body.faults.items in
-    bodies_faults bodies faults (among_all IsSeenFault bodies c.loop-body.body-index [] faults c.loop-body-test.false c.loop-body.invariant.faults)
+    let old = c.args.faults.now.items in
+    seen_faults bodies old faults (among_all IsSeenFault bodies c.loop-body.body-index old faults c.loop-body-test.false c.loop-body.invariant.faults)

@@ -1,0 +1,79 @@
+//! What predicates call whose numbers stand side by side.
+
+ghost use Rattle.std.specs.Prelude.{◌≡◌, ◌∷◌, ◌++◌, ◌+◌, ◌*◌, ◌<◌, ◌↔◌, ℕ, [], length, IfOk, OnOk};
+ghost use Rattle.import_rules.specs.Program.{see_program};
+ghost use Rattle.call_edges.specs.CallLists.{IsPiece};
+
+use crate::opened::{Buffers, open};
+use import_rules::Program;
+use std::alloc::{AllocError, Global};
+
+/// How many predicates are opened one after another. Only the last piece holds fewer.
+pub const SIZE: u32 = 512;
+
+/// What predicates call whose numbers stand side by side, and where goals of theirs aren't callable.
+#[derive(Drop)]
+pub struct Piece {
+    /// For each predicate where its list begins in `callees`, and at last where all lists end.
+    pub starts: Vec<usize>,
+    /// The lists, one behind the other.
+    pub callees: Vec<u32>,
+    /// The places of files among the files, and the offsets there.
+    pub faults: Vec<(u32, u32)>,
+}
+
+impl Piece {
+    /// No predicate, with room for a whole piece.
+    fn none(alloc: Global) -> Result<Piece, AllocError>
+        ensures starts { IfOk result (λ piece. piece.starts.items ≡ 0 ∷ []) }
+        ensures callees { IfOk result (λ piece. piece.callees.items ≡ []) }
+        ensures faults { IfOk result (λ piece. piece.faults.items ≡ []) }
+    {
+        let mut starts = Vec::with_capacity(alloc, SIZE as usize + 1)?;
+        starts.push(0usize)?;
+        Ok(Piece {
+            starts,
+            callees: Vec::new(alloc),
+            faults: Vec::new(alloc),
+        })
+    }
+
+    /// Adds the list of one more predicate.
+    fn push(&mut self, list: &[u32]) -> Result<(), AllocError>
+        ensures callees { OnOk result (self.new.callees.items ≡ self.old.callees.items ++ list.now) }
+        ensures starts { OnOk result (self.new.starts.items ≡ self.old.starts.items ++ (length (self.old.callees.items ++ list.now) ∷ [])) }
+        ensures faults { OnOk result (self.new.faults.items ≡ self.old.faults.items) }
+    {
+        self.callees.extend_from_slice(list)?;
+        self.starts.push(self.callees.len())?;
+        Ok(())
+    }
+}
+
+/// How many pieces so many predicates make.
+pub fn piece_count(count: u32) -> u32
+    ensures { (number : ℕ) → number < result ↔ number * 512 < count }
+{
+    if count % SIZE == 0 {
+        return count / SIZE;
+    }
+    count / SIZE + 1
+}
+
+/// What is found in the predicates of the piece of that number.
+pub fn open_piece(alloc: Global, program: &Program, number: u32) -> Result<Piece, AllocError>
+    requires { number * 512 < length (see_program program.now).predicates }
+    ensures { IfOk result (IsPiece (see_program program.now) number) }
+{
+    let count = program.count();
+    let from = number * SIZE;
+    let to = from + (count - from).min(SIZE);
+    let mut piece = Piece::none(alloc)?;
+    let mut buffers = Buffers::new(alloc);
+    let mut callees = Vec::new(alloc);
+    for node in from..to {
+        open(program, node, &mut buffers, &mut callees, &mut piece.faults)?;
+        piece.push(&callees)?;
+    }
+    Ok(piece)
+}
