@@ -1,0 +1,27 @@
+use Rattle.load_law.specs.TextsAreTold.{TextsAreTold}
+use Rattle.answer_law.proofs.ReportBytes.{GraphLaws}
+use Rattle.answer_law.proofs.LoadedEnds.{LoadedLaws}
+use Rattle.answer_law.proofs.Answers as of_words
+use Rattle.answer_law.proofs.laws.some_answer.Goals as goal
+
+pub returns : goal.returns
+returns c =
+    let graphs : GraphLaws = record {
+      ends = c.schedule_ends.ensures;
+      legal = c.schedules_answer.ensures.legal;
+      complete = c.schedules_answer.ensures.complete;
+      reached = c.schedules_answer.ensures.reached;
+      ordered = c.order_exists.ensures;
+      leveled = c.levels_exist.ensures;
+    } in
+    let laws : LoadedLaws = record {
+      graphs = graphs;
+      reported = c.reports_exist.ensures.lines;
+      in_order = c.reports_exist.ensures.order;
+      programs = c.program_or_faults.ensures;
+      goals = c.goal_faults_exist.ensures;
+      roots = c.roots_exist.ensures;
+      below = c.roots_below.ensures;
+    } in
+    let told : TextsAreTold = c.file_or_fault.ensures.each c.cut_or_fault.ensures c.clause_or_fault.ensures in
+    of_words.some_answer c.settings_within.ensures laws (c.load_or_faults.ensures told) c.lawful_or_not.ensures

@@ -1,0 +1,147 @@
+-- Lists of roots and of files that options are given.
+use Rattle.std.proofs.Common.{◌≡◌, ◌⊎◌, inl, inr, ℕ, zero, suc, ◌+◌, ◌<◌, ◌≤◌, List, [], ◌∷◌, Option, Some, None, append-nil, ap, codes, length, map, option_map, refl, slice_get, subst, sym, ◌∙◌, arith}
+use Rattle.std.specs.Str.{IsAscii, IsUtf8}
+use Rattle.std.proofs.lemmas.Bool.{cases_lt}
+use Rattle.std.proofs.lemmas.Str.{IsUtf8-append, IsUtf8-from_ascii}
+use Rattle.prolog_tokens.specs.declared.token.Kind.{Kind}
+use Rattle.prolog_tokens.specs.declared.token.Kind.TheVariants.{End}
+use Rattle.prolog_tokens.specs.declared.token.Token.{Token}
+use Rattle.prolog_tokens.specs.declared.token.TokenFault.{TokenFault}
+use Rattle.prolog_tokens.specs.Cut.{HasFault, IsCut}
+use Rattle.prolog_tokens.proofs.Between.{one_cut}
+use Rattle.prolog_tokens.proofs.Faults.{fault_no_cut}
+use Rattle.prolog_ops.specs.Table.{IsOps, Ops}
+use Rattle.prolog_terms.specs.declared.reader.ReadFault.{ReadFault}
+use Rattle.prolog_terms.specs.Clause.{ArePart, IsClauseOf, IsOneClause, IsReadFault}
+use Rattle.prolog_terms.specs.Tree.{Tree}
+use Rattle.prolog_terms.specs.Views.{joined}
+use Rattle.prolog_terms.specs.Words.{Table, table_of}
+use Rattle.prolog_terms.proofs.ClausesOf.{clause_no_fault, clause_once}
+use Rattle.prolog_terms.proofs.ReaderTables.{IsTable, table_is}
+use Rattle.prolog_terms.proofs.TokenWords.{cut_spelled}
+use Rattle.clause_text.specs.Clauses.{opening_ops}
+use Rattle.clause_text.proofs.OneReading.{opening_ops_are}
+use Rattle.module_table.specs.FileName.{resolved}
+use Rattle.import_rules.specs.declared.names.PredName.{PredName}
+use Rattle.group_words.specs.RootList.{IsList, IsRootList, all_there, list_text, named_predicate}
+use Rattle.group_words.specs.Settings.{FilesAre, RootsAre, each_once}
+use Rattle.group_words.proofs.RootLists.{not_all_there}
+use Rattle.word_law.proofs.Known.{IsFound, IsKnown}
+
+-- each text in UTF-8 is tokens or has a fault
+abbrev pub AreTokens : Type 0
+AreTokens = (text : List ℕ) → IsUtf8 text → ((ts : List Token) × IsCut text ts) ⊎ ((fault : TokenFault) × HasFault text fault)
+
+-- tokens with an End at most at their last place are a clause or have a fault
+abbrev pub AreClauses : Type 0
+AreClauses = (ops : Ops) → IsOps ops → (text : List ℕ) (ts : List Token) → ArePart text ts → IsOneClause ts
+    → ((tree : Tree) × IsClauseOf (table_of ops) text ts tree) ⊎ ((fault : ReadFault) × IsReadFault (table_of ops) text ts fault)
+
+-- whether an End stands before the last token
+
+known_end : (kind : Kind) → IsKnown (kind ≡ End)
+known_end End = inl refl
+known_end kind = inr (λ e. cc)
+
+one_more : (t u : Token) (us : List Token) → (t.kind ≡ End → ⊥) → IsOneClause (u ∷ us) → IsOneClause (t ∷ u ∷ us)
+one_more t u us first rest = record { some = omega arith; one_end = go }
+  where
+    go : (k : ℕ) (token : Token) → k + 1 < length (t ∷ u ∷ us) → slice_get (t ∷ u ∷ us) k ≡ Some token → token.kind ≡ End → ⊥
+    go zero token below stands is = let same : t ≡ token = cc in first (ap (λ (x : Token). x.kind) same ∙ is)
+    go (suc k) token below stands is = rest.one_end k token (omega (arith, below)) stands is
+
+one_less : (t u : Token) (us : List Token) → IsOneClause (t ∷ u ∷ us) → IsOneClause (u ∷ us)
+one_less t u us one = record { some = omega arith; one_end = λ k token below stands. one.one_end (suc k) token (omega (arith, below)) stands }
+
+known_one : (ts : List Token) → IsKnown (IsOneClause ts)
+known_one [] = inr (λ one. omega (arith, one.some))
+known_one (t ∷ []) = inl (record { some = omega arith; one_end = λ k token below. absurd (omega (arith, below)) })
+known_one (t ∷ u ∷ us) = go (known_end t.kind) (known_one (u ∷ us))
+  where
+    go : IsKnown (t.kind ≡ End) → IsKnown (IsOneClause (u ∷ us)) → IsKnown (IsOneClause (t ∷ u ∷ us))
+    go (inl is) rest = inr (λ one. one.one_end 0 t (omega arith) refl is)
+    go (inr first) (inl rest) = inl (one_more t u us first rest)
+    go (inr first) (inr never) = inr (λ one. never (one_less t u us one))
+
+-- the table that lists are read by
+abbrev opening_table : Table
+opening_table = table_of opening_ops
+
+opening_table_is : IsTable opening_table
+opening_table_is = table_is opening_ops opening_ops_are
+
+clause_one : (text : List ℕ) (ts : List Token) (tree : Tree) → IsClauseOf opening_table text ts tree → IsOneClause ts
+clause_one text ts tree clause =
+    let once = clause_once opening_table opening_table_is text ts tree clause in
+    record {
+      some = once.some;
+      one_end = λ k token below stands is. once.no_other k below (ap (option_map (λ (t : Token). t.kind)) stands ∙ ap (λ x. Some x) is);
+    }
+
+whole_part : (text : List ℕ) (ts : List Token) → IsCut text ts → ArePart text ts
+whole_part text ts cut = record { before = []; after = []; cut = subst (λ us. IsCut text us) (sym (append-nil ts)) cut }
+
+-- the tokens of a whole text are one clause, or aren't
+clause_found : AreClauses → (text : List ℕ) (ts : List Token) → IsCut text ts → IsFound (IsClauseOf opening_table text ts)
+clause_found clauses text ts cut = go (known_one ts)
+  where
+    by_clause : ((tree : Tree) × IsClauseOf opening_table text ts tree) ⊎ ((fault : ReadFault) × IsReadFault opening_table text ts fault) → IsFound (IsClauseOf opening_table text ts)
+    by_clause (inl found) = inl found
+    by_clause (inr fault) = inr (λ tree clause. clause_no_fault opening_table text ts tree fault.0 (cut_spelled text ts cut) clause fault.1)
+
+    go : IsKnown (IsOneClause ts) → IsFound (IsClauseOf opening_table text ts)
+    go (inl one) = by_clause (clauses opening_ops opening_ops_are text ts (whole_part text ts cut) one)
+    go (inr never) = inr (λ tree clause. never (clause_one text ts tree clause))
+
+ascii_end : IsAscii (codes " .")
+ascii_end zero = omega arith
+ascii_end (suc zero) = omega arith
+ascii_end (suc (suc i)) = omega arith
+
+list_found : AreTokens → AreClauses → (text : List ℕ) → IsUtf8 text → IsFound (IsList text)
+list_found tokens clauses text utf8 = by_cut (tokens (list_text text) (IsUtf8-append text (codes " .") utf8 (IsUtf8-from_ascii (codes " .") ascii_end)))
+  where
+    by_clause : (ts : List Token) → IsCut (list_text text) ts → IsFound (IsClauseOf opening_table (list_text text) ts) → IsFound (IsList text)
+    by_clause ts cut (inl found) = inl (found.0, record { tokens = ts; cut = cut; clause = found.1 })
+    by_clause ts cut (inr never) =
+        inr (λ tree list.
+        never tree (subst (λ us. IsClauseOf opening_table (list_text text) us tree) (one_cut (list_text text) list.tokens ts list.cut cut) list.clause))
+
+    by_cut : ((ts : List Token) × IsCut (list_text text) ts) ⊎ ((fault : TokenFault) × HasFault (list_text text) fault) → IsFound (IsList text)
+    by_cut (inl found) = by_clause found.0 found.1 (clause_found clauses (list_text text) found.0 found.1)
+    by_cut (inr fault) = inr (λ tree list. fault_no_cut (list_text text) fault.0 list.tokens fault.1 list.cut)
+
+root_list_found : AreTokens → AreClauses → (text : List ℕ) → IsUtf8 text → IsFound (IsRootList text)
+root_list_found tokens clauses text utf8 = by_size (cases_lt 65536 (length text))
+  where
+    by_names : length text ≤ 65536 → (tree : Tree) → IsList text tree → (found : Option (List PredName)) → all_there (map named_predicate (joined tree)) ≡ found
+        → IsFound (IsRootList text)
+    by_names small tree list (Some roots) is = inl (roots, record { small = small; tree = tree; list = list; are = is })
+    by_names small tree list None is = inr (not_all_there text tree list is)
+
+    by_list : length text ≤ 65536 → IsFound (IsList text) → IsFound (IsRootList text)
+    by_list small (inl found) = by_names small found.0 found.1 (all_there (map named_predicate (joined found.0))) refl
+    by_list small (inr never) = inr (λ roots is. never is.tree is.list)
+
+    by_size : (65536 < length text) ⊎ (length text ≤ 65536) → IsFound (IsRootList text)
+    by_size (inl large) = inr (λ roots is. omega (arith, large, is.small))
+    by_size (inr small) = by_list small (list_found tokens clauses text utf8)
+
+pub roots_found : AreTokens → AreClauses → (given : Option (List ℕ)) → ((text : List ℕ) → given ≡ Some text → IsUtf8 text) → IsFound (RootsAre given)
+roots_found tokens clauses None utf8 = inl (None, tt)
+roots_found tokens clauses (Some text) utf8 = go (root_list_found tokens clauses text (utf8 text refl))
+  where
+    none : ((roots : List PredName) → IsRootList text roots → ⊥) → (roots : Option (List PredName)) → RootsAre (Some text) roots → ⊥
+    none never None are = are
+    none never (Some roots) are = never roots are
+
+    go : IsFound (IsRootList text) → IsFound (RootsAre (Some text))
+    go (inl found) = inl (Some found.0, found.1)
+    go (inr never) = inr (none never)
+
+pub files_found : (words : List (List ℕ)) → IsFound (FilesAre words)
+files_found words = go (all_there (map (resolved []) words)) refl
+  where
+    go : (found : Option (List (List ℕ))) → all_there (map (resolved []) words) ≡ found → IsFound (FilesAre words)
+    go (Some names) is = inl (each_once names, record { names = names; resolve = is; each = refl })
+    go None is = inr (λ named are. let both : None ≡ Some are.names = sym is ∙ are.resolve in cc)

@@ -1,0 +1,32 @@
+-- Whether what is given may stand together.
+use Rattle.std.proofs.Common.{◌≡◌, inl, inr, ℕ, true, List, [], Option, None, is_some}
+use Rattle.group_words.specs.Words.{Key, Jobs, Searches, Roots, Order, Unreached, Make}
+use Rattle.group_words.specs.Settings.{GoTogether}
+use Rattle.word_law.proofs.Known.{IsKnown, known_bool, known_empty, known_if, known_none, known_not}
+
+module _ (given : Key → Option (List ℕ)) (files : List (List ℕ)) where
+  -- what a made program excludes
+  abbrev StandsAlone : Type 0
+  StandsAlone = (given Roots ≡ None) × (given Order ≡ None) × (given Unreached ≡ None) × (files ≡ [])
+
+  stands_alone : IsKnown StandsAlone
+  stands_alone = go (known_none (given Roots)) (known_none (given Order)) (known_none (given Unreached)) (known_empty files)
+    where
+      go : IsKnown (given Roots ≡ None) → IsKnown (given Order ≡ None) → IsKnown (given Unreached ≡ None) → IsKnown (files ≡ []) → IsKnown StandsAlone
+      go (inr never) order unreached empty = inr (λ all. never all.0)
+      go (inl roots) (inr never) unreached empty = inr (λ all. never all.1)
+      go (inl roots) (inl order) (inr never) empty = inr (λ all. never all.2)
+      go (inl roots) (inl order) (inl unreached) (inr never) = inr (λ all. never all.3)
+      go (inl roots) (inl order) (inl unreached) (inl empty) = inl (roots, order, unreached, empty)
+
+  pub known_together : IsKnown (GoTogether given files)
+  known_together =
+      go (known_if (known_bool (is_some (given Searches)) true) (known_none (given Jobs))) (known_if (known_bool (is_some (given Make)) true) stands_alone)
+      (known_if (known_none (given Make)) (known_not (known_empty files)))
+    where
+      go : IsKnown (is_some (given Searches) ≡ true → given Jobs ≡ None) → IsKnown (is_some (given Make) ≡ true → StandsAlone) → IsKnown (given Make ≡ None → files ≡ [] → ⊥)
+          → IsKnown (GoTogether given files)
+      go (inr never) made read = inr (λ all. never all.one_way)
+      go (inl one_way) (inr never) read = inr (λ all. never all.made)
+      go (inl one_way) (inl made) (inr never) = inr (λ all. never all.read)
+      go (inl one_way) (inl made) (inl read) = inl (record { one_way = one_way; made = made; read = read })
