@@ -18,6 +18,9 @@ use rayon::prelude::*;
 use std::alloc::{AllocError, Global};
 use std::thread::Threads;
 
+/// How few pieces are worth a thread of their own.
+const FEWEST: usize = 2;
+
 /// What is found in each piece, in the order of their numbers. They are walked side by side.
 fn open_each<R: Threads + Sync>(
     rt: &R,
@@ -28,6 +31,7 @@ fn open_each<R: Threads + Sync>(
 {
     (0..piece_count(program.count()))
         .into_par_iter()
+        .with_min_len(FEWEST)
         .map(
             |number: u32| -> Result<Piece, AllocError>
                 requires { number * 512 < length (see_program program.now).predicates }

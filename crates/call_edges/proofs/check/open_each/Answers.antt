@@ -20,7 +20,7 @@ returns g c =
     let pieces = c.piece_count.result in
     let whole : pieces - 0 ≡ pieces = omega arith in
     IfOk-then c.collect.result _ _ c.collect.ensures (λ v h.
-    let chain = rw (c.map.ensures.base, c.map.ensures.f) at h.1 in
+    let chain = rw (c.map.ensures.base, c.map.ensures.f, c.with_min_len.ensures.base) at h.1 in
     let places = chain.1 ∙ (λ i. nat_range (ends.0 i) (ends.1 i)) ∙ ap (range_with_len 0) whole in
     rw h.2
     (opened_of seen h.0 pieces (so_many seen c.count.result pieces c.count.ensures c.piece_count.ensures)
@@ -32,4 +32,4 @@ collect-requires-clause-ready g c κs within =
     let seen = see_program c.args.program.now in
     let pieces = c.piece_count.result in
     let inside = nat_range-All (λ i. i * 512 < length seen.predicates) 0 pieces (λ i low high. (so_many seen c.count.result pieces c.count.ensures c.piece_count.ensures i).0 high) in
-    rw (c.map.ensures.base, c.map.ensures.f, ends.0, ends.1) (λ k d lt. (inside k d lt, λ y p. tt))
+    rw (c.map.ensures.base, c.map.ensures.f, c.with_min_len.ensures.base, ends.0, ends.1) (λ k d lt. (inside k d lt, λ y p. tt))
