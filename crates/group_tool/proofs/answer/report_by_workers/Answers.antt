@@ -10,4 +10,4 @@ returns-in_err-program g c =
     handed_on (EndIs (AreJust (see_options c.args.options.now)) _) c.from_residual.result c.in_err-program.field-0.0 c.from_residual.ensures.1 c.in_err-program.ensures
 
 pub returns : goal.returns
-returns g c = c.in_ok-program.ensures (end_of c.tell_by_workers.result) c.tell_by_workers.ensures
+returns g c = c.in_ok-program.ensures (end_of c.tell_by_workers-told.result) c.tell_by_workers-told.ensures
