@@ -26,7 +26,7 @@ abbrev AreRooted : List (List ℕ) → List ℕ → Type 0
 AreRooted lists roots = All (λ root. root < length lists) roots
 
 pub record GraphLaws : Type 0 where
-  pub ends : (lists : List (List ℕ)) (roots : List ℕ) (searches seed : ℕ) → IsClosed lists → AreRooted lists roots → 0 < searches
+  pub ends : (lists : List (List ℕ)) (roots : List ℕ) (searches seed : ℕ) → IsClosed lists → AreRooted lists roots
       → (groups : List (List ℕ)) × IsScheduled lists roots searches seed groups
   pub legal : (lists : List (List ℕ)) (roots : List ℕ) (searches seed : ℕ) (groups : List (List ℕ)) → IsClosed lists → AreRooted lists roots
       → IsScheduled lists roots searches seed groups → IsLegalOrder (Calls lists) groups
@@ -36,7 +36,7 @@ pub record GraphLaws : Type 0 where
       → IsScheduled lists roots searches seed groups → (v : ℕ) → HasMember groups v → IsReached (Calls lists) roots v
   pub ordered : (lists : List (List ℕ)) (roots : List ℕ) → IsClosed lists → AreRooted lists roots
       → (groups : List (List ℕ)) × (IsLegalOrder (Calls lists) groups × IsComplete roots groups × ((v : ℕ) → HasMember groups v → IsReached (Calls lists) roots v))
-  pub leveled : (lists : List (List ℕ)) (groups : List (List ℕ)) → IsClosed lists → IsLegalOrder (Calls lists) groups
+  pub leveled : (lists : List (List ℕ)) (groups : List (List ℕ)) → IsLegalOrder (Calls lists) groups
       → (levels : List Level) × AreLevels (Calls lists) groups levels
 
 -- the groups of lists of successors, in the order that is wanted
@@ -55,7 +55,7 @@ module _ (laws : GraphLaws) where
       let groups = laws.ordered lists roots closed rooted in
       record { groups = groups.0; are = record { legal = groups.1.0; complete = groups.1.1; reached = groups.1.2 }; order = tt }
   some_groups (Some both) lists roots some closed rooted =
-      let groups = laws.ends lists roots both.0 both.1 closed rooted some in
+      let groups = laws.ends lists roots both.0 both.1 closed rooted in
       record {
         groups = groups.0;
         are = record {
@@ -80,7 +80,7 @@ module _ (laws : GraphLaws) where
         let lists = successor_lists seen in
         let closed = lists_closed seen in
         let found : HasGroups settings.searches lists roots = some_groups settings.searches lists roots some closed (roots_listed seen roots below) in
-        let levels = laws.leveled lists found.groups closed found.are.legal in
+        let levels = laws.leveled lists found.groups found.are.legal in
         let leveled : AreLeveled (Calls lists) roots found.groups levels.0 = record { are = found.are; leveled = levels.1 } in
         let output =
         some_output settings.make settings.order settings.unreached seen found.groups levels.0 (reportable seen roots found.groups levels.0 below leveled) in

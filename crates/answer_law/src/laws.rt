@@ -7,9 +7,6 @@ ghost use Rattle.group_tool.specs.Answer.{IsAnswer};
 ghost use Rattle.group_tool.specs.End.{End};
 
 use call_edges::roots_below;
-use clause_law::clause_or_fault;
-use cut_law::cut_or_fault;
-use file_law::file_or_fault;
 use group_words::settings_within;
 use load_law::load_or_faults;
 use program_law::{goal_faults_exist, program_or_faults, roots_exist};
@@ -23,9 +20,6 @@ pub fn some_answer()
     ensures { (words : List (List ℕ)) (files : Files) → All IsUtf8 words → (end : End) × IsAnswer (AreLawful words) files end }
 {
     lawful_or_not();
-    cut_or_fault();
-    clause_or_fault();
-    file_or_fault();
     load_or_faults();
     program_or_faults();
     goal_faults_exist();

@@ -4,12 +4,12 @@ ghost use Rattle.std.specs.Prelude.{◌⊎◌, ℕ, List};
 ghost use Rattle.prolog_ops.specs.Table.{Ops, IsOps};
 ghost use Rattle.prolog_terms.specs.Tree.{Tree};
 ghost use Rattle.prolog_terms.specs.Words.{table_of};
-ghost use Rattle.prolog_terms.specs.Clause.{ArePart, IsOneClause, IsClauseOf, IsReadFault};
+ghost use Rattle.prolog_terms.specs.Clause.{ArePart, IsClauseOf, IsReadFault};
 
 use prolog_terms::ReadFault;
 use prolog_tokens::Token;
 
-/// Tokens with an End at most at their last place are a clause, or there is a fault of reading them.
+/// A part of the tokens of a text is a clause, or there is a fault of reading it.
 pub fn clause_or_fault()
-    ensures { (ops : Ops) → IsOps ops → (text : List ℕ) (ts : List Token) → ArePart text ts → IsOneClause ts → ((tree : Tree) × IsClauseOf (table_of ops) text ts tree) ⊎ ((fault : ReadFault) × IsReadFault (table_of ops) text ts fault) }
+    ensures { (ops : Ops) → IsOps ops → (text : List ℕ) (ts : List Token) → ArePart text ts → ((tree : Tree) × IsClauseOf (table_of ops) text ts tree) ⊎ ((fault : ReadFault) × IsReadFault (table_of ops) text ts fault) }
 {}

@@ -105,7 +105,7 @@ module _ (text : List ℕ) (reads : IsReadOrFaulty text) where
   one_part : (table : Ops) → IsOps table → (before ts : List Token) → IsCut text (before ++ ts) → (found : HasPart ts)
       → ((left : Ops) → IsOps left → IsCut text ((before ++ found.part) ++ found.rest) → Clauses left text found.rest ⊎ Faulty left text found.rest)
       → Clauses table text ts ⊎ Faulty table text ts
-  one_part table ok before ts cut found behind = by_reading (reads table ok found.part part found.first.one)
+  one_part table ok before ts cut found behind = by_reading (reads table ok found.part part)
     where
       whole : IsCut text (before ++ (found.part ++ found.rest))
       whole = subst (λ us. IsCut text (before ++ us)) found.are cut

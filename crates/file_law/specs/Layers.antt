@@ -8,24 +8,16 @@ use Rattle.prolog_ops.specs.Table.{Ops, IsOps}
 use Rattle.prolog_terms.specs.declared.reader.ReadFault.{ReadFault}
 use Rattle.prolog_terms.specs.Tree.{Tree}
 use Rattle.prolog_terms.specs.Words.{table_of}
-use Rattle.prolog_terms.specs.Clause.{IsClauseOf, IsReadFault, ArePart, IsOneClause}
+use Rattle.prolog_terms.specs.Clause.{IsClauseOf, IsReadFault, ArePart}
 
 -- the text, where it is UTF-8, is tokens with layout between them, or has a fault
 abbrev pub IsCutOrFaulty : List ℕ → Type 0
 IsCutOrFaulty text = IsUtf8 text → ((ts : List Token) × IsCut text ts) ⊎ ((fault : TokenFault) × HasFault text fault)
 
--- so is each text
-abbrev pub CutsOrFaults : Type 0
-CutsOrFaults = (text : List ℕ) → IsCutOrFaulty text
-
 -- under the table the tokens are a clause of the text, or have a fault of reading
 abbrev pub ReadOrFault : Ops → List ℕ → List Token → Type 0
 ReadOrFault ops text ts = ((tree : Tree) × IsClauseOf (table_of ops) text ts tree) ⊎ ((fault : ReadFault) × IsReadFault (table_of ops) text ts fault)
 
--- under each lawful table, tokens of the text with an End at most at their last place are a clause, or have a fault of reading
+-- under each lawful table, a part of the text's tokens is a clause, or has a fault of reading
 abbrev pub IsReadOrFaulty : List ℕ → Type 0
-IsReadOrFaulty text = (ops : Ops) → IsOps ops → (ts : List Token) → ArePart text ts → IsOneClause ts → ReadOrFault ops text ts
-
--- so are those of each text
-abbrev pub ReadsOrFaults : Type 0
-ReadsOrFaults = (ops : Ops) → IsOps ops → (text : List ℕ) (ts : List Token) → ArePart text ts → IsOneClause ts → ReadOrFault ops text ts
+IsReadOrFaulty text = (ops : Ops) → IsOps ops → (ts : List Token) → ArePart text ts → ReadOrFault ops text ts

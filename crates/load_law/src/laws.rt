@@ -3,9 +3,12 @@
 ghost use Rattle.std.specs.Prelude.{ℕ, List};
 ghost use Rattle.file_library.specs.Library.{Files};
 ghost use Rattle.file_library.specs.Asking.{LoadEnd, LoadEndIs, IsDecided};
-ghost use Rattle.load_law.specs.TextsAreTold.{TextsAreTold};
+
+use file_law::file_or_fault;
 
 /// Over each map of files, the asking for the roots ends in a way that the map alone decides.
 pub fn load_or_faults()
-    ensures { TextsAreTold → (files : Files) (roots : List (List ℕ)) → (names : List (List ℕ)) × ((load : LoadEnd) × (IsDecided load × LoadEndIs files roots names load)) }
-{}
+    ensures { (files : Files) (roots : List (List ℕ)) → (names : List (List ℕ)) × ((load : LoadEnd) × (IsDecided load × LoadEndIs files roots names load)) }
+{
+    file_or_fault();
+}

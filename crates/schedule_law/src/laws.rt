@@ -14,7 +14,7 @@ use search_schedule::schedules_answer;
 /// Each schedule comes to an end, and releases groups.
 pub fn schedule_ends()
     ensures { (lists : List (List ℕ)) (roots : List ℕ) (searches seed : ℕ) → IsClosed lists → All (λ root. root < length lists) roots
-        → 0 < searches → (groups : List (List ℕ)) × IsScheduled lists roots searches seed groups }
+        → (groups : List (List ℕ)) × IsScheduled lists roots searches seed groups }
 {}
 
 /// What the roots reach has a legal order of its classes of mutual reach.
@@ -29,6 +29,6 @@ pub fn order_exists()
 
 /// The groups of a legal order have levels.
 pub fn levels_exist()
-    ensures { (lists : List (List ℕ)) (groups : List (List ℕ)) → IsClosed lists → IsLegalOrder (Calls lists) groups
+    ensures { (lists : List (List ℕ)) (groups : List (List ℕ)) → IsLegalOrder (Calls lists) groups
         → (levels : List Level) × AreLevels (Calls lists) groups levels }
 {}

@@ -1,10 +1,8 @@
 -- Lists of roots and of files that options are given.
-use Rattle.std.proofs.Common.{◌≡◌, ◌⊎◌, inl, inr, ℕ, zero, suc, ◌+◌, ◌<◌, ◌≤◌, List, [], ◌∷◌, Option, Some, None, append-nil, ap, codes, length, map, option_map, refl, slice_get, subst, sym, ◌∙◌, arith}
+use Rattle.std.proofs.Common.{◌≡◌, ◌⊎◌, inl, inr, ℕ, zero, suc, ◌<◌, ◌≤◌, List, [], ◌∷◌, Option, Some, None, append-nil, codes, length, map, refl, subst, sym, ◌∙◌, arith}
 use Rattle.std.specs.Str.{IsAscii, IsUtf8}
 use Rattle.std.proofs.lemmas.Bool.{cases_lt}
 use Rattle.std.proofs.lemmas.Str.{IsUtf8-append, IsUtf8-from_ascii}
-use Rattle.prolog_tokens.specs.declared.token.Kind.{Kind}
-use Rattle.prolog_tokens.specs.declared.token.Kind.TheVariants.{End}
 use Rattle.prolog_tokens.specs.declared.token.Token.{Token}
 use Rattle.prolog_tokens.specs.declared.token.TokenFault.{TokenFault}
 use Rattle.prolog_tokens.specs.Cut.{HasFault, IsCut}
@@ -12,11 +10,11 @@ use Rattle.prolog_tokens.proofs.Between.{one_cut}
 use Rattle.prolog_tokens.proofs.Faults.{fault_no_cut}
 use Rattle.prolog_ops.specs.Table.{IsOps, Ops}
 use Rattle.prolog_terms.specs.declared.reader.ReadFault.{ReadFault}
-use Rattle.prolog_terms.specs.Clause.{ArePart, IsClauseOf, IsOneClause, IsReadFault}
+use Rattle.prolog_terms.specs.Clause.{ArePart, IsClauseOf, IsReadFault}
 use Rattle.prolog_terms.specs.Tree.{Tree}
 use Rattle.prolog_terms.specs.Views.{joined}
 use Rattle.prolog_terms.specs.Words.{Table, table_of}
-use Rattle.prolog_terms.proofs.ClausesOf.{clause_no_fault, clause_once}
+use Rattle.prolog_terms.proofs.ClausesOf.{clause_no_fault}
 use Rattle.prolog_terms.proofs.ReaderTables.{IsTable, table_is}
 use Rattle.prolog_terms.proofs.TokenWords.{cut_spelled}
 use Rattle.clause_text.specs.Clauses.{opening_ops}
@@ -26,42 +24,16 @@ use Rattle.import_rules.specs.declared.names.PredName.{PredName}
 use Rattle.group_words.specs.RootList.{IsList, IsRootList, all_there, list_text, named_predicate}
 use Rattle.group_words.specs.Settings.{FilesAre, RootsAre, each_once}
 use Rattle.group_words.proofs.RootLists.{not_all_there}
-use Rattle.word_law.proofs.Known.{IsFound, IsKnown}
+use Rattle.word_law.proofs.Known.{IsFound}
 
 -- each text in UTF-8 is tokens or has a fault
 abbrev pub AreTokens : Type 0
 AreTokens = (text : List ℕ) → IsUtf8 text → ((ts : List Token) × IsCut text ts) ⊎ ((fault : TokenFault) × HasFault text fault)
 
--- tokens with an End at most at their last place are a clause or have a fault
+-- a part of a text's tokens is a clause or has a fault
 abbrev pub AreClauses : Type 0
-AreClauses = (ops : Ops) → IsOps ops → (text : List ℕ) (ts : List Token) → ArePart text ts → IsOneClause ts
+AreClauses = (ops : Ops) → IsOps ops → (text : List ℕ) (ts : List Token) → ArePart text ts
     → ((tree : Tree) × IsClauseOf (table_of ops) text ts tree) ⊎ ((fault : ReadFault) × IsReadFault (table_of ops) text ts fault)
-
--- whether an End stands before the last token
-
-known_end : (kind : Kind) → IsKnown (kind ≡ End)
-known_end End = inl refl
-known_end kind = inr (λ e. cc)
-
-one_more : (t u : Token) (us : List Token) → (t.kind ≡ End → ⊥) → IsOneClause (u ∷ us) → IsOneClause (t ∷ u ∷ us)
-one_more t u us first rest = record { some = omega arith; one_end = go }
-  where
-    go : (k : ℕ) (token : Token) → k + 1 < length (t ∷ u ∷ us) → slice_get (t ∷ u ∷ us) k ≡ Some token → token.kind ≡ End → ⊥
-    go zero token below stands is = let same : t ≡ token = cc in first (ap (λ (x : Token). x.kind) same ∙ is)
-    go (suc k) token below stands is = rest.one_end k token (omega (arith, below)) stands is
-
-one_less : (t u : Token) (us : List Token) → IsOneClause (t ∷ u ∷ us) → IsOneClause (u ∷ us)
-one_less t u us one = record { some = omega arith; one_end = λ k token below stands. one.one_end (suc k) token (omega (arith, below)) stands }
-
-known_one : (ts : List Token) → IsKnown (IsOneClause ts)
-known_one [] = inr (λ one. omega (arith, one.some))
-known_one (t ∷ []) = inl (record { some = omega arith; one_end = λ k token below. absurd (omega (arith, below)) })
-known_one (t ∷ u ∷ us) = go (known_end t.kind) (known_one (u ∷ us))
-  where
-    go : IsKnown (t.kind ≡ End) → IsKnown (IsOneClause (u ∷ us)) → IsKnown (IsOneClause (t ∷ u ∷ us))
-    go (inl is) rest = inr (λ one. one.one_end 0 t (omega arith) refl is)
-    go (inr first) (inl rest) = inl (one_more t u us first rest)
-    go (inr first) (inr never) = inr (λ one. never (one_less t u us one))
 
 -- the table that lists are read by
 abbrev opening_table : Table
@@ -70,28 +42,16 @@ opening_table = table_of opening_ops
 opening_table_is : IsTable opening_table
 opening_table_is = table_is opening_ops opening_ops_are
 
-clause_one : (text : List ℕ) (ts : List Token) (tree : Tree) → IsClauseOf opening_table text ts tree → IsOneClause ts
-clause_one text ts tree clause =
-    let once = clause_once opening_table opening_table_is text ts tree clause in
-    record {
-      some = once.some;
-      one_end = λ k token below stands is. once.no_other k below (ap (option_map (λ (t : Token). t.kind)) stands ∙ ap (λ x. Some x) is);
-    }
-
 whole_part : (text : List ℕ) (ts : List Token) → IsCut text ts → ArePart text ts
 whole_part text ts cut = record { before = []; after = []; cut = subst (λ us. IsCut text us) (sym (append-nil ts)) cut }
 
 -- the tokens of a whole text are one clause, or aren't
 clause_found : AreClauses → (text : List ℕ) (ts : List Token) → IsCut text ts → IsFound (IsClauseOf opening_table text ts)
-clause_found clauses text ts cut = go (known_one ts)
+clause_found clauses text ts cut = by_clause (clauses opening_ops opening_ops_are text ts (whole_part text ts cut))
   where
     by_clause : ((tree : Tree) × IsClauseOf opening_table text ts tree) ⊎ ((fault : ReadFault) × IsReadFault opening_table text ts fault) → IsFound (IsClauseOf opening_table text ts)
     by_clause (inl found) = inl found
     by_clause (inr fault) = inr (λ tree clause. clause_no_fault opening_table text ts tree fault.0 (cut_spelled text ts cut) clause fault.1)
-
-    go : IsKnown (IsOneClause ts) → IsFound (IsClauseOf opening_table text ts)
-    go (inl one) = by_clause (clauses opening_ops opening_ops_are text ts (whole_part text ts cut) one)
-    go (inr never) = inr (λ tree clause. never (clause_one text ts tree clause))
 
 ascii_end : IsAscii (codes " .")
 ascii_end zero = omega arith

@@ -1,4 +1,3 @@
-use Rattle.load_law.specs.TextsAreTold.{TextsAreTold}
 use Rattle.answer_law.proofs.ReportBytes.{GraphLaws}
 use Rattle.answer_law.proofs.LoadedEnds.{LoadedLaws}
 use Rattle.answer_law.proofs.Answers as of_words
@@ -23,5 +22,4 @@ returns c =
       roots = c.roots_exist.ensures;
       below = c.roots_below.ensures;
     } in
-    let told : TextsAreTold = c.file_or_fault.ensures.each c.cut_or_fault.ensures c.clause_or_fault.ensures in
-    of_words.some_answer c.settings_within.ensures laws (c.load_or_faults.ensures told) c.lawful_or_not.ensures
+    of_words.some_answer c.settings_within.ensures laws c.load_or_faults.ensures c.lawful_or_not.ensures

@@ -5,4 +5,4 @@ use Rattle.clause_law.proofs.Answered.{answered}
 use Rattle.clause_law.proofs.laws.clause_or_fault.Goals as goal
 
 pub returns : goal.returns
-returns c = λ ops is text ts part one. answered (table_of ops) (table_is ops is) text ts (token_spelled text ts part)
+returns c = λ ops is text ts part. answered (table_of ops) (table_is ops is) text ts (token_spelled text ts part)

@@ -4,7 +4,7 @@ use Rattle.schedule_law.proofs.laws.order_exists.Goals as goal
 
 pub returns : goal.returns
 returns c = λ lists roots closed rooted.
-    let end : (groups : List (List ℕ)) × IsScheduled lists roots 1 0 groups = c.schedule_ends.ensures lists roots 1 0 closed rooted (omega arith) in (
+    let end : (groups : List (List ℕ)) × IsScheduled lists roots 1 0 groups = c.schedule_ends.ensures lists roots 1 0 closed rooted in (
       end.0,
       (
         c.schedules_answer.ensures.legal lists roots 1 0 end.0 closed rooted end.1,
