@@ -1,8 +1,8 @@
 -- An idle worker takes a ready search or a root, or has seen each root finished.
-use Rattle.std.proofs.Common.{◌≡◌, inl, ℕ, ◌<◌, ◌≤◌, ◌+◌, ◌-◌, false, List, [], ◌∷◌, ◌++◌, length, map, take, get_or, None, refl, ap, ◌∙◌, sym, subst, arith, inr, Some}
-use Rattle.std.proofs.lemmas.List.{append-nil, take_all, take_more}
-use Rattle.std.proofs.lemmas.List.Elements.{All-contains, All-push}
-use Rattle.std.proofs.lemmas.Option.{slice_get_cases}
+use Rattle.std.proofs.Common.{◌≡◌, inl, ℕ, ◌<◌, ◌≤◌, ◌+◌, ◌-◌, false, List, [], ◌∷◌, ◌++◌, length, map, take, drop, get_or, None, refl, ap, ◌∙◌, sym, subst, arith, inr, Some}
+use Rattle.std.proofs.lemmas.List.{append-nil, get_or-drop, length-drop, take_all, take_more}
+use Rattle.std.proofs.lemmas.List.Elements.{All-contains, All-more, All-push}
+use Rattle.std.proofs.lemmas.Option.{get_or_from_slice_get, slice_get_cases}
 use Rattle.std.specs.Prelude.{All, Contains, slice_get}
 use Rattle.node_counts.specs.Counts.{times, flat}
 use Rattle.node_counts.proofs.Counting.{counted}
@@ -20,7 +20,7 @@ use Rattle.node_claims.specs.Views.{outline_of}
 use Rattle.search_pool.specs.declared.ended.Ended.TheVariants.{Finished}
 use Rattle.search_pool.specs.declared.worker.went.Worker.{Worker}
 use Rattle.search_pool.specs.Worker.{EndsWell, IsWorking}
-use Rattle.search_pool.specs.Working.{GoesOnWith, IsAtWork}
+use Rattle.search_pool.specs.Working.{AreReleasedOrKept, GoesOnWith, IsAtWork, IsReleasedOrKept}
 use Rattle.search_pool.proofs.TurnLaws.{TookTurn, good_released, is_turn_of, lists_are, may_shift, released_more, roots_are}
 
 no_nodes : (es : List Entry) → length es ≡ 0 → map (λ entry. entry.node) es ≡ []
@@ -49,6 +49,40 @@ one_less book now root read is =
     let roots : length now.roots ≡ length book.roots = ap (λ (b : BookValue). length b.roots) is in
     let given : now.given ≡ book.given + 1 = ap (λ (b : BookValue). b.given) is in
     omega (arith, roots, given, index_within book.roots book.given root read)
+
+-- one root more is given out
+module _ (old book now : BookValue) (only : book ≡ record old { given = book.given }) (is : now ≡ record book { given = book.given + 1 }) where
+  one_given : now.given ≡ book.given + 1
+  one_given = ap (λ (b : BookValue). b.given) is
+
+  pub still_only : now ≡ record old { given = now.given }
+  still_only =
+      is ∙ ap (λ (b : BookValue). record b { given = book.given + 1 }) only
+      ∙ ap (λ (n : ℕ). record old { given = n }) (sym one_given)
+
+  -- and the others before it are released or on a kept search
+  pub passed_before : AreReleasedOrKept old old.given book.given → AreReleasedOrKept old old.given (now.given - 1)
+  passed_before before =
+      let last : book.given ≡ now.given - 1 = omega (arith, one_given) in
+      subst (AreReleasedOrKept old old.given) last before
+
+  -- and so is this one
+  pub one_more_passed : (root : ℕ) → old.given ≤ book.given → Some root ≡ slice_get book.roots book.given → IsReleasedOrKept now root
+      → AreReleasedOrKept old old.given book.given → AreReleasedOrKept old old.given now.given
+  one_more_passed root on read here before =
+      let roots : book.roots ≡ old.roots = ap (λ (b : BookValue). b.roots) only in
+      let lt : book.given < length book.roots = index_within book.roots book.given root read in
+      let place : old.given + (book.given - old.given) ≡ book.given = omega (arith, on) in
+      let count : book.given - old.given + 1 ≡ now.given - old.given = omega (arith, on, one_given) in
+      let within : book.given - old.given < length (drop old.given old.roots) =
+      omega (arith, on, length-drop old.given old.roots, lt, ap (λ (r : List ℕ). length r) roots) in
+      let at : get_or (drop old.given old.roots) (book.given - old.given) 0 ≡ root =
+      get_or-drop old.given old.roots (book.given - old.given) 0 ∙ ap (λ i. get_or old.roots i 0) place
+      ∙ ap (λ r. get_or r book.given 0) (sym roots) ∙ get_or_from_slice_get book.roots book.given root 0 (sym read) in
+      let kept : IsReleasedOrKept old root = subst (λ (b : BookValue). IsReleasedOrKept b root) still_only here in
+      subst (λ n. All (IsReleasedOrKept old) (take n (drop old.given old.roots))) count
+      (All-more (IsReleasedOrKept old) (drop old.given old.roots) (book.given - old.given) 0 within before
+      (subst (IsReleasedOrKept old) (sym at) kept))
 
 -- roots that are given out release no group
 pub given_groups : (book now : BookValue) → now ≡ record book { given = now.given } → now.groups ≡ book.groups

@@ -1,8 +1,10 @@
--- What a worker keeps between two turns, and what it owes for a group that it closes.
-use Rattle.std.specs.Prelude.{◌≡◌, ℕ, ◌-◌, ◌+◌, ◌<◌, ◌≤◌, Bool, false, List, [], ◌++◌, length, slice_index_or, take, None, All, Contains}
+-- What a worker keeps between two turns, which roots it may pass over, and what it owes for a group that it closes.
+use Rattle.std.specs.Prelude.{◌≡◌, ◌⊎◌, ℕ, ◌-◌, ◌+◌, ◌<◌, ◌≤◌, Bool, false, List, [], ◌++◌, length, slice_index_or, slice_range, take, None, All, Contains}
 use Rattle.node_counts.specs.Counts.{times, flat}
+use Rattle.graph_law.specs.Classes.{HasMember}
 use Rattle.search_stack.specs.GoodSearch.{IsGood}
 use Rattle.search_stack.specs.Search.{SearchValue}
+use Rattle.blocked_table.specs.Kept.{Holds}
 use Rattle.group_release.specs.Book.{BookValue}
 use Rattle.node_claims.specs.Claims.{ClaimsValue, TurnValue}
 use Rattle.search_pool.specs.Worker.{EndsWell, IsWorking}
@@ -32,6 +34,14 @@ pub record GoesOnWith (claims : ClaimsValue) (turn : TurnValue) (search : Search
   pub within : seen_roots ≤ length claims.roots
   pub roots : All (λ root. 0 < times root (turn.view.seen ++ flat turn.book.groups)) (take seen_roots claims.roots)
   pub good : IsGood claims.lists claims.roots (flat turn.book.groups) opened search.stack
+
+-- the node is released, or on a kept search
+abbrev pub IsReleasedOrKept : BookValue → ℕ → Type 0
+IsReleasedOrKept book node = HasMember book.groups node ⊎ ((place : ℕ) × Holds book.kept place node)
+
+-- so is each root from one place up to another
+abbrev pub AreReleasedOrKept : BookValue → ℕ → ℕ → Type 0
+AreReleasedOrKept book from to = All (IsReleasedOrKept book) (slice_range book.roots from to)
 
 -- the group that was released last
 abbrev pub last_group : BookValue → List ℕ

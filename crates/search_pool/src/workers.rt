@@ -85,11 +85,15 @@ fn run_all<R: Threads + Wait + Sync, O: Opener, G: Gate>(
 
 /// One pass that knows what all knew, where each worker has finished.
 fn join_all(claims: &Claims, ended: Vec<Ended>) -> Result<Pass, AllocError>
-    requires { All (EndsWell claims.now) ended.items }
+    requires some { 0 < length ended.items }
+    requires well { All (EndsWell claims.now) ended.items }
     ensures { IfOk result (IsThrough claims.now) }
 {
     let mut others = ended;
-    let Some(Ended::Finished { mut pass }) = others.pop() else {
+    let Some(last) = others.pop() else {
+        unreachable!()
+    };
+    let Ended::Finished { mut pass } = last else {
         return Err(AllocError);
     };
     'others: while let Some(other) = others.pop() {

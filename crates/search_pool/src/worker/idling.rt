@@ -1,9 +1,9 @@
-ghost use Rattle.std.specs.Prelude.{◌≡◌, ◌⊎◌, ◌<◌, ◌≤◌, ℕ, take, slice_index, length, All, Contains, IfNone, IfSome, false};
+ghost use Rattle.std.specs.Prelude.{◌≡◌, ◌<◌, ◌≤◌, ◌-◌, take, slice_get, slice_index, length, All, Contains, IfNone, IfSome, Some, false};
 ghost use Rattle.std.specs.Bool.{OnFalse, OnTrue};
 ghost use Rattle.graph_law.specs.Classes.{HasMember};
 ghost use Rattle.search_stack.specs.Stack.{size};
-ghost use Rattle.blocked_table.specs.Kept.{Holds, IsFree};
-ghost use Rattle.search_pool.specs.Working.{IsAtWork, GoesWell};
+ghost use Rattle.blocked_table.specs.Kept.{IsFree};
+ghost use Rattle.search_pool.specs.Working.{IsAtWork, GoesWell, IsReleasedOrKept, AreReleasedOrKept};
 
 use super::giving::give_back;
 use super::rooting::open_root;
@@ -73,9 +73,12 @@ pub(crate) fn take_up<O: Opener, G: Gate>(
 fn next_open_root(book: &mut Book) -> Option<u32>
     ensures only { book.new ≡ record book.old { given = book.new.given } }
     ensures root { IfSome result (Contains book.old.roots) }
+    ensures last { IfSome result (λ root. slice_get book.old.roots (book.new.given - 1) ≡ Some root) }
     ensures open { IfSome result (λ root. HasMember book.old.groups root → ⊥) }
     ensures free { IfSome result (IsFree book.old.kept) }
+    ensures passed { IfSome result (λ _. AreReleasedOrKept book.old book.old.given (book.new.given - 1)) }
     ensures all { IfNone result (book.new.given ≡ length book.old.roots) }
+    ensures none { IfNone result (AreReleasedOrKept book.old book.old.given (length book.old.roots)) }
 {
     'roots: while let Some(root) = book.next_root() {
         if is_loose(book, root) {
@@ -89,7 +92,7 @@ fn next_open_root(book: &mut Book) -> Option<u32>
 fn is_loose(book: &Book, node: u32) -> bool
     ensures open { OnTrue result (HasMember book.now.groups node → ⊥) }
     ensures free { OnTrue result (IsFree book.now.kept node) }
-    ensures held { OnFalse result (HasMember book.now.groups node ⊎ ((place : ℕ) × Holds book.now.kept place node)) }
+    ensures held { OnFalse result (IsReleasedOrKept book.now node) }
 {
     if book.released().holds(node) {
         return false;

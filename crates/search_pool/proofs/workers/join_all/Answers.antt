@@ -11,8 +11,8 @@ others-preserved c =
     let well : Ended → Type 0 = EndsWell c.args.claims.now in
     let popped =
     All-pop well c.others.others.items c.pop-in-others.new.self.items c.pop-in-others.result c.pop-in-others.ensures.items c.others.invariant.1 in
-    let one = subst (λ (r : Option Ended). IfSome r well) c.in-Some.is popped.1 in
-    let right = subst well c.in-Finished.is one in (
-      joins_through c.args.claims.now c.others.pass c.in-Finished.right c.join-pass.result c.others.invariant.0 right c.join-pass.ensures,
+    let one = subst (λ (r : Option Ended). IfSome r well) c.in-Some-pop.is popped.1 in
+    let right = subst well c.in-Finished-other.is one in (
+      joins_through c.args.claims.now c.others.pass c.in-Finished-other.right c.join-pass.result c.others.invariant.0 right c.join-pass.ensures,
       popped.0,
     )
