@@ -12,3 +12,4 @@ pub mod Places
 pub mod Ends
 pub mod Begins
 pub mod BareNames
+pub mod Text

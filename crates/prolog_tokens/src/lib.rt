@@ -18,6 +18,7 @@ mod layout;
 mod numbers;
 mod places;
 mod quoted;
+mod short;
 mod spelling;
 mod text;
 mod token;

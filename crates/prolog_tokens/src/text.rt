@@ -1,23 +1,32 @@
 ghost use Rattle.std.specs.Prelude.{◌≡◌, IfOk};
 ghost use Rattle.std.specs.String.{string_bytes};
 
+use crate::short::{MOST, Short};
 use std::alloc::{AllocError, Global};
 use std::cmp::Ordering;
+use std::fmt;
 use std::marker::Model;
 
+/// Where the bytes of a text stand: of a short one, as most names are, in the value itself.
+#[derive(Drop)]
+enum Room {
+    Short(Short),
+    Long(String),
+}
+
 /// A name, a word or a file's name. Texts are ordered by their bytes.
-#[derive(Debug, Drop)]
+#[derive(Drop)]
 pub struct Text {
-    text: String,
+    room: Room,
 }
 
 impl Model for Text {
     ghost use Rattle.std.specs.Prelude.{List, ℕ};
-    ghost use Rattle.std.specs.String.{string_bytes};
+    ghost use Rattle.prolog_tokens.specs.Text.{room_bytes};
 
     ghost Value = { List ℕ };
 
-    ghost view = { λ t. string_bytes t.text };
+    ghost view = { λ t. room_bytes t.room };
 }
 
 impl Text {
@@ -25,22 +34,46 @@ impl Text {
     pub fn new(alloc: Global, text: &str) -> Result<Text, AllocError>
         ensures { IfOk result (λ t. t ≡ text.now) }
     {
+        if text.len() <= MOST {
+            return Ok(Text {
+                room: Room::Short(Short::new(text)),
+            });
+        }
         Ok(Text {
-            text: String::from_str(alloc, text)?,
+            room: Room::Long(String::from_str(alloc, text)?),
         })
     }
 
-    /// The text of a string, without a copy.
+    /// The text of a string: of a long one without a copy. A short one is copied, and its memory
+    /// given back.
     pub fn from_string(text: String) -> Text
         ensures { result ≡ string_bytes text }
     {
-        Text { text }
+        if text.len() <= MOST {
+            return Text {
+                room: Room::Short(Short::new(text.as_str())),
+            };
+        }
+        Text {
+            room: Room::Long(text),
+        }
     }
 
     pub fn as_str(&self) -> &str
         ensures { result.now ≡ self.now }
     {
-        self.text.as_str()
+        match &self.room {
+            Room::Short(text) => text.as_str(),
+            Room::Long(text) => text.as_str(),
+        }
+    }
+}
+
+impl fmt::Debug for Text {
+    fn fmt<W: fmt::Write>(&self, f: &mut fmt::Formatter<W>) -> fmt::Result {
+        f.debug_struct("Text")
+            .field("text", &self.as_str())
+            .finish()
     }
 }
 

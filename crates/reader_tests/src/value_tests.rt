@@ -1,7 +1,7 @@
 ghost use Rattle.std.specs.Prelude.{◌≤◌, ◌⊎◌, length, IfOk};
 ghost use Rattle.prolog_tokens.specs.Cut.{IsTokenOf};
 
-use prolog_tokens::{Kind, Token, cut_tokens, integer_value, name_slice, name_text, tokens};
+use prolog_tokens::{Kind, Text, Token, cut_tokens, integer_value, name_slice, name_text, tokens};
 use std::alloc::Global;
 use std::process::Abort;
 use std::test::Fail;
@@ -100,6 +100,29 @@ fn reads_integers(rt: HostRuntime) -> Result<(), Fail> {
         assert!(rt; text.len() <= 32);
         let token = token_at(&rt, rt.alloc(), text, 0)?;
         assert_eq!(rt; integer_value(text, token), wanted, "in {text}");
+    }
+    Ok(())
+}
+
+/// Texts of 1, 22, 23, 24 and more bytes.
+const TEXTS: &str = "\
+a
+abcdefghijklmnopqrstuv
+abcdefghijklmnopqrstuvw
+abcdefghijklmnopqrstuvwx
+abcdefghijklmnopqrstuvwxyz, and then from the beginning";
+
+#[test]
+fn keeps_texts_of_any_length(rt: HostRuntime) -> Result<(), Fail> {
+    let alloc = rt.alloc();
+    let mut before = Text::new(alloc, "")?;
+    for line in TEXTS.lines() {
+        let text = Text::new(alloc, line)?;
+        assert_eq!(rt; text.as_str(), line);
+        let same = Text::from_string(String::from_str(alloc, line)?);
+        assert!(rt; same == text);
+        assert!(rt; before < text);
+        before = text;
     }
     Ok(())
 }
