@@ -1,13 +1,16 @@
 #!/usr/bin/env python3
-"""Times `read_clause` and `read_text` beside SWI-Prolog's `read_term/2`, on the same generated text of 8 MiB.
+"""Times `read_clause` and `read_text` beside SWI-Prolog's `read_term/2`, and a whole run of `groups`, on the same generated text of 8 MiB.
 
 Needs `rt` and `swipl`. Prints a table: the best of five runs of each, in milliseconds and in
-nanoseconds a token. With `--keep FOLDER` the text stays there.
+nanoseconds a token. `read_text` and `groups` use all processors, the others one. With `--keep FOLDER` the text stays there.
 """
 
+import os
+import subprocess
 import sys
+import time
 
-from common import best, built, filled, folders, runs
+from common import ROOT, RUNS, best, built, filled, folders, runs
 
 # Reads all terms of a file, and writes their number and the seconds of processor time.
 SWI = """
@@ -56,6 +59,16 @@ def swi(script, path):
     return min(float(took) for _, took in found) * 1000, int(found[-1][0])
 
 
+def whole_run(path):
+    """The least milliseconds of a whole run of `groups`."""
+    took = []
+    for _ in range(RUNS):
+        begun = time.perf_counter()
+        subprocess.run([ROOT / "groups", path], check=True, stdout=subprocess.DEVNULL)
+        took.append(time.perf_counter() - begun)
+    return min(took) * 1000
+
+
 def main():
     with folders(__doc__) as (folder, texts):
         program = built("clauses", "data/f.pl")
@@ -66,15 +79,16 @@ def main():
         cut, tokens = best(program, "tokens", path)
         read, count = best(program, "clauses", path)
         whole, kept = best(program, "text", path)
+        run = whole_run(path)
         theirs, also = swi(script, path)
         if not count == kept == also:
             sys.exit(f"{count} clauses one by one and {kept} in the text, but SWI-Prolog finds {also}")
         size = path.stat().st_size
-        print(f"{size} bytes, {tokens} tokens, {count} clauses")
+        print(f"{size} bytes, {tokens} tokens, {count} clauses; {os.cpu_count()} processors")
         print(f"{'':<20}{'ms':>8}{'ns/token':>10}{'MB/s':>7}")
-        for name, took in [("tokens", cut), ("read_clause", read), ("both", cut + read), ("read_text", whole), ("SWI read_term/2", theirs)]:
+        for name, took in [("tokens", cut), ("read_clause", read), ("both", cut + read), ("read_text", whole), ("groups", run), ("SWI read_term/2", theirs)]:
             print(f"{name:<20}{took:>8.1f}{took * 1_000_000 / tokens:>10.1f}{size / took / 1000:>7.1f}")
-        print(f"SWI-Prolog takes {theirs / (cut + read):.2f} times as long")
+        print(f"A whole run takes {run / (cut + read):.2f} times as long as both, SWI-Prolog's reading {theirs / (cut + read):.2f} times")
 
 
 if __name__ == "__main__":

@@ -57,13 +57,18 @@ fn words<R: Env + AllocGlobal>(rt: &R) -> io::Result<Vec<String>> {
 }
 
 /// Does what the word says with a text.
-fn measure_text(clock: &impl Clock, alloc: Global, what: &str, text: &str) -> io::Result<Measured>
+fn measure_text<R: Clock + Threads + Sync>(
+    rt: &R,
+    alloc: Global,
+    what: &str,
+    text: &str,
+) -> io::Result<Measured>
     requires { length text.now ≤ 8388608 }
 {
     match what {
-        "tokens" => time_tokens(clock, alloc, text),
-        "clauses" => time_clauses(clock, alloc, text),
-        "text" => time_text(clock, alloc, text),
+        "tokens" => time_tokens(rt, alloc, text),
+        "clauses" => time_clauses(rt, alloc, text),
+        "text" => time_text(rt, alloc, text),
         _ => Err(ErrorKind::InvalidInput.into()),
     }
 }

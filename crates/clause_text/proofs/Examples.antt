@@ -1,6 +1,9 @@
--- Operator items of some clauses and what they do, and where terms start.
-use Rattle.std.proofs.Common.{◌≡◌, ℕ, ◌+◌, List, [], ◌∷◌, Some, Err, false, refl, codes, arith}
+-- Operator items of some clauses and what they do, where terms start, and stretches of tokens.
+use Rattle.std.proofs.Common.{◌≡◌, ℕ, ◌+◌, List, [], ◌∷◌, Some, Err, true, false, refl, inl, inr, codes, arith}
 use Rattle.std.proofs.lemmas.Str.{IsUtf8-nil}
+use Rattle.prolog_tokens.specs.declared.token.Kind.{Kind}
+use Rattle.prolog_tokens.specs.declared.token.Kind.TheVariants.{Name, End}
+use Rattle.prolog_tokens.specs.declared.token.Token.{Token}
 use Rattle.prolog_ops.specs.Table.{opening}
 use Rattle.prolog_terms.specs.declared.term.Span.{Span}
 use Rattle.prolog_terms.specs.declared.term.Form.TheVariants.{Functional, Prefix, Infix as between}
@@ -8,9 +11,10 @@ use Rattle.prolog_terms.specs.declared.term.ConstKind.TheVariants.{Integer}
 use Rattle.prolog_terms.specs.Tree.{Tree, variable, constant, atom, compound, listed, tailed, paren, more, none}
 use Rattle.clause_text.specs.declared.cause.Cause.TheVariants.{BadPriority, BadKind, BadName, FixedOp, InfixAndPostfix}
 use Rattle.clause_text.specs.declared.fault.TextFault.TheVariants.{At}
-use Rattle.clause_text.specs.Items.{Item, items_of, item_on}
+use Rattle.clause_text.specs.Items.{Item, items_of, item_on, has_some}
 use Rattle.clause_text.specs.Clauses.{total_weight}
 use Rattle.clause_text.specs.Offsets.{HasOffsets}
+use Rattle.clause_text.specs.Pieces.{IsBehindClause, AreStretches}
 
 abbrev at : ℕ → Span
 at from = record { from = from; to = from + 1 }
@@ -79,3 +83,35 @@ starts_behind starts = omega (arith, starts.within)
 
 part_behind : HasOffsets (codes "p") (paren (word (codes "p") 2) (at 0)) → ⊥
 part_behind starts = omega (arith, starts.1.within)
+
+-- `op(1, xfx, eq)` without `:-` has no items, and a directive with it has some
+no_item : has_some (items_of (op (number 1 3) (word (codes "xfx") 6) (word (codes "eq") 11))) ≡ false
+no_item = refl
+
+some_item : has_some (items_of (compound (codes ":-") (more (op (number 1 6) (word (codes "xfx") 9) (word (codes "eq") 14)) none) Prefix (at 0))) ≡ true
+some_item = refl
+
+-- the tokens of `p. q.`, as two stretches or as one, and none ends behind `p`
+abbrev token_of : Kind → ℕ → Token
+token_of kind start = record { kind = kind; after_layout = false; start = start; end = start + 1 }
+
+abbrev tokens_there : List Token
+tokens_there = token_of Name 0 ∷ token_of End 1 ∷ token_of Name 3 ∷ token_of End 4 ∷ []
+
+behind_first : IsBehindClause tokens_there 2
+behind_first = record { within = omega arith; stops = inl refl }
+
+behind_last : IsBehindClause tokens_there 4
+behind_last = record { within = omega arith; stops = inl refl }
+
+behind_none : IsBehindClause tokens_there 1 → ⊥
+behind_none behind = elim behind.stops [
+  | inl stops ↦ let both : Some Name ≡ Some End = stops in cc
+  | inr last ↦ let both : 1 ≡ 4 = last in cc
+]
+
+two_stretches : AreStretches tokens_there 0 (record { from = 0; to = 2 } ∷ record { from = 2; to = 4 } ∷ []) 4
+two_stretches = (refl, record { some = omega arith; ends = behind_first }, (refl, record { some = omega arith; ends = behind_last }, refl))
+
+one_stretch : AreStretches tokens_there 0 (record { from = 0; to = 4 } ∷ []) 4
+one_stretch = (refl, record { some = omega arith; ends = behind_last }, refl)

@@ -2,6 +2,10 @@ pub mod FirstParts
 pub mod KeptTables
 pub mod EachOn
 pub mod ClauseSplits
+pub mod Leads
+pub mod LeadEnds
+pub mod HasItems
+pub mod PieceLemmas
 pub mod OneReading
 pub mod OneFault
 pub mod Outcomes

@@ -16,7 +16,6 @@ use Rattle.prolog_terms.specs.declared.reader.ReadFault.TheVariants as of_clause
 use Rattle.prolog_terms.specs.Tree.{Tree, Trees, compound, listed, tailed as with_tail, paren, none, more as with_more}
 use Rattle.prolog_terms.specs.Views.{inside, start_of, trees_in, sides_at, joined, atom_name}
 use Rattle.prolog_terms.specs.Words.{table_of}
-use Rattle.prolog_terms.specs.Grammar.{pair, one, more}
 use Rattle.prolog_terms.proofs.TokenWords.{AreSpelled, spelled_front, spelled_behind, cut_spelled}
 use Rattle.prolog_terms.proofs.FaultOffsets.{TellsOffset, read_offset}
 use Rattle.clause_text.specs.declared.fault.TextFault.{TextFault}

@@ -1,5 +1,5 @@
 -- The operator items of a clause, and the table of operators that they leave.
-use Rattle.std.specs.Prelude.{ℕ, ◌||◌, List, [], ◌∷◌, Option, Some, None, Bool, false, is_some, Result, Ok, Err, nat_le, if◌then◌else◌, codes, flat_map, option_map, option_and_then}
+use Rattle.std.specs.Prelude.{ℕ, ◌||◌, List, [], ◌∷◌, Option, Some, None, Bool, true, false, is_some, Result, Ok, Err, nat_le, if◌then◌else◌, codes, flat_map, option_map, option_and_then}
 use Rattle.std.specs.Option.{option_to_list}
 use Rattle.std.specs.List.{filter_map, list_all}
 use Rattle.std.specs.Str.{bytes_eq}
@@ -62,6 +62,10 @@ items_under None = []
 
 abbrev pub items_of : Tree → List Item
 items_of clause = items_under (directive_of clause)
+
+abbrev pub has_some : List Item → Bool
+has_some [] = false
+has_some (item ∷ items) = true
 
 -- a priority is an integer without a minus of at most 1200
 abbrev pub priority_when : ConstKind → Bool → Option ℕ → Option ℕ

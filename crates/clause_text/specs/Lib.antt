@@ -4,3 +4,4 @@ pub mod Items
 pub mod Clauses
 pub mod TextFault
 pub mod Offsets
+pub mod Pieces

@@ -1,9 +1,9 @@
-ghost use Rattle.std.specs.Prelude.{◌≡◌, ◌≢◌, Some, None, Ok, Err, option_map, map, OnOk, IfErr};
+ghost use Rattle.std.specs.Prelude.{◌≡◌, ◌≢◌, Some, None, Ok, Err, option_map, map, is_some, OnOk, IfErr};
 ghost use Rattle.std.specs.Option.{option_to_list};
 ghost use Rattle.std.specs.List.{filter_map, list_all};
 ghost use Rattle.prolog_ops.specs.Table.{ops_of};
 ghost use Rattle.prolog_terms.specs.Tree.{tree_of};
-ghost use Rattle.clause_text.specs.Items.{Item, priority_of, priority_when, kind_named, kind_of, name_of, is_name, names_of, listed_names, each_on, name_on, with_names, item_on, item_of, items_on, exported_items, goal_items, directive_items, items_of};
+ghost use Rattle.clause_text.specs.Items.{Item, priority_of, priority_when, kind_named, kind_of, name_of, is_name, names_of, listed_names, each_on, name_on, with_names, item_on, item_of, items_on, exported_items, goal_items, directive_items, items_of, has_some};
 
 use crate::cause::Cause;
 use crate::fault::{TextFault, fault_at, fault_of_ops};
@@ -226,5 +226,49 @@ pub fn apply_items(alloc: Global, table: &mut OpTable, clause: &Term) -> Result<
     match directive_of(clause) {
         Some(directive) => apply_directive(alloc, table, directive),
         None => Ok(()),
+    }
+}
+
+/// Whether the term is an operator item.
+fn is_item(term: &Term) -> bool
+    ensures { result ≡ is_some (item_of (tree_of term.now)) }
+{
+    operator_item(term).is_some()
+}
+
+/// Whether a list that a module exports has operator items.
+fn exports_items(exports: &Term) -> bool
+    ensures { result ≡ has_some (exported_items (tree_of exports.now)) }
+{
+    listed(exports).iter().any(|export| is_item(export))
+}
+
+/// Whether a goal of a directive has operator items.
+fn goal_has_items(goal: &Term) -> bool
+    ensures { result ≡ has_some (goal_items (tree_of goal.now)) }
+{
+    match sides(goal, "module") {
+        Some((_, exports)) => exports_items(exports),
+        None => is_item(goal),
+    }
+}
+
+/// Whether a directive has operator items.
+fn directive_has_items(directive: &Term) -> bool
+    ensures { result ≡ has_some (directive_items (tree_of directive.now)) }
+{
+    let Some((first, others)) = sides(directive, ",") else {
+        return goal_has_items(directive);
+    };
+    directive_has_items(first) || directive_has_items(others)
+}
+
+/// Whether a clause has operator items, so that another table may be left by it.
+pub fn has_items(clause: &Term) -> bool
+    ensures { result ≡ has_some (items_of (tree_of clause.now)) }
+{
+    match directive_of(clause) {
+        Some(directive) => directive_has_items(directive),
+        None => false,
     }
 }

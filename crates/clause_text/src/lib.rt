@@ -12,6 +12,7 @@ mod fault;
 mod items;
 mod laws;
 mod parts;
+mod piece;
 mod terms;
 mod text;
 

@@ -1,55 +1,73 @@
-ghost use Rattle.std.specs.Prelude.{◌≡◌, ◌≢◌, ◌≤◌, ◌<◌, Ok, length, IfOk, IfErr};
+ghost use Rattle.std.specs.Prelude.{◌≡◌, ◌≢◌, ◌≤◌, ◌<◌, ℕ, List, length, IfOk, IfErr};
+ghost use Rattle.prolog_tokens.specs.declared.token.Token.{Token as TokenOf};
 ghost use Rattle.prolog_tokens.specs.Cut.{IsCut};
 ghost use Rattle.prolog_ops.specs.Table.{ops_of};
-ghost use Rattle.prolog_terms.specs.Tree.{tree_of};
-ghost use Rattle.prolog_terms.specs.Clause.{ArePart, IsOneClause};
-ghost use Rattle.clause_text.specs.Clauses.{AreClauses, LeavesAs, IsPartFault, HasClauseFault, EndsFirst, clause_trees, opening_ops};
+ghost use Rattle.clause_text.specs.Clauses.{AreClauses, HasClauseFault, clause_trees, opening_ops};
+ghost use Rattle.clause_text.specs.Pieces.{ArePieces, AreAdded, IsFaultAhead};
 
 use crate::Clause;
 use crate::fault::TextFault;
 use crate::items::apply_items;
+use crate::piece::{Piece, PieceEnd, read_each, stretches_from};
 use prolog_ops::OpTable;
-use prolog_terms::read_clause;
-use prolog_tokens::{Kind, Token};
+use prolog_tokens::Token;
 use std::alloc::Global;
+use std::thread::Threads;
 
-/// The place behind the first End from `from` on, or behind the last token.
-fn part_end(tokens: &[Token], from: usize) -> usize
-    requires { from < length tokens.now }
-    ensures { EndsFirst tokens.now from result }
-{
-    let mut at = from;
-    while at + 1 < tokens.len() {
-        if tokens[at].kind == Kind::End {
-            break;
-        }
-        at += 1;
-    }
-    at + 1
+/// How far the clauses of a text are kept: up to the place of a token. So many stretches behind it may
+/// be read side by side next.
+#[derive(Clone, Copy)]
+struct Kept {
+    to: usize,
+    ahead: usize,
 }
 
-/// The clause that a part of the tokens is. Then its operator items are done, which the clauses
-/// behind it are read with.
-fn read_part(
+/// Keeps the clauses of the pieces up to the first that sets operators, which it then does: what was
+/// read behind it was read with other operators than it leaves. Where none does, twice as many
+/// stretches may be read next, so that no more is read for nothing than was kept.
+fn keep(
     alloc: Global,
     table: &mut OpTable,
-    text: &str,
-    part: &[Token],
-) -> Result<Clause, TextFault>
-    requires small { length text.now ≤ 8388608 }
-    requires part { ArePart text.now part.now }
-    requires one { IsOneClause part.now }
-    ensures ok { IfOk result (λ clause. LeavesAs (ops_of table.old) text.now part.now (tree_of clause.term) (ops_of table.new)) }
-    ensures fault { IfErr result (λ fault. fault ≢ TextFault.NoMemory → IsPartFault (ops_of table.old) text.now part.now fault) }
+    from: usize,
+    pieces: Vec<Piece>,
+    clauses: &mut Vec<Clause>,
+) -> Result<Kept, TextFault>
+    ensures kept { IfOk result (λ kept. (text : List ℕ) (ts : List TokenOf) (to : ℕ) → ArePieces (ops_of table.old) text ts from pieces.items to
+        → AreAdded (ops_of table.old) text ts from (clause_trees clauses.old.items) (clause_trees clauses.new.items) (ops_of table.new) kept.to) }
+    ensures forward { IfOk result (λ kept. (text : List ℕ) (ts : List TokenOf) (to : ℕ) → ArePieces (ops_of table.old) text ts from pieces.items to → from < to → from < kept.to) }
+    ensures fault { IfErr result (λ fault. fault ≢ TextFault.NoMemory → (text : List ℕ) (ts : List TokenOf) (to : ℕ)
+        → ArePieces (ops_of table.old) text ts from pieces.items to → IsFaultAhead (ops_of table.old) text ts from fault) }
 {
-    let term = read_clause(alloc, table, text, part)?;
-    apply_items(alloc, table, &term)?;
-    Ok(Clause { term })
+    let ahead = pieces.len().saturating_mul(2);
+    let mut to = from;
+    for piece in pieces {
+        let Piece {
+            clauses: mut more,
+            end,
+        } = piece;
+        clauses.append(&mut more)?;
+        match end {
+            PieceEnd::Whole(place) => to = place,
+            PieceEnd::AtOperators(clause, place) => {
+                apply_items(alloc, table, &clause.term)?;
+                if clauses.push(clause).is_err() {
+                    return Err(TextFault::NoMemory);
+                }
+                return Ok(Kept {
+                    to: place,
+                    ahead: 1,
+                });
+            }
+            PieceEnd::Refused(fault) => return Err(fault),
+        }
+    }
+    Ok(Kept { to, ahead })
 }
 
 /// The clauses that the tokens of the text are, each up to its End and read with the operators that
 /// those before it leave in the table, or the fault of the first part that is refused.
-fn read_parts(
+fn read_parts<R: Threads + Sync>(
+    rt: &R,
     alloc: Global,
     table: &mut OpTable,
     text: &str,
@@ -62,24 +80,29 @@ fn read_parts(
 {
     let mut clauses = Vec::new(alloc);
     let mut from = 0;
+    let mut ahead = 1;
     while from < tokens.len() {
-        let to = part_end(tokens, from);
-        let clause = read_part(alloc, table, text, &tokens[from..to])?;
-        if clauses.push(clause).is_err() {
-            return Err(TextFault::NoMemory);
-        }
-        from = to;
+        let stretches = stretches_from(alloc, tokens, from, ahead)?;
+        let pieces = read_each(rt, alloc, table, text, tokens, &stretches)?;
+        let kept = keep(alloc, table, from, pieces, &mut clauses)?;
+        from = kept.to;
+        ahead = kept.ahead;
     }
     Ok(clauses)
 }
 
 /// The clauses that the tokens of the text are, from the operators on that each text begins with.
-pub fn read_clauses(alloc: Global, text: &str, tokens: &[Token]) -> Result<Vec<Clause>, TextFault>
+pub fn read_clauses<R: Threads + Sync>(
+    rt: &R,
+    alloc: Global,
+    text: &str,
+    tokens: &[Token],
+) -> Result<Vec<Clause>, TextFault>
     requires small { length text.now ≤ 8388608 }
     requires cut { IsCut text.now tokens.now }
     ensures ok { IfOk result (λ clauses. AreClauses opening_ops text.now tokens.now (clause_trees clauses.items)) }
     ensures fault { IfErr result (λ fault. fault ≢ TextFault.NoMemory → HasClauseFault opening_ops text.now tokens.now fault) }
 {
     let mut table = OpTable::opening(alloc)?;
-    read_parts(alloc, &mut table, text, tokens)
+    read_parts(rt, alloc, &mut table, text, tokens)
 }

@@ -10,12 +10,17 @@ use crate::fault::TextFault;
 use crate::parts::read_clauses;
 use prolog_tokens::tokens;
 use std::alloc::Global;
+use std::thread::Threads;
 
 /// The clauses of a text of at most 8,388,608 bytes, each read with the operators that the operator
 /// items of those before it leave. What is wrong with its bytes comes first, then what is wrong with
 /// its tokens, and then with its clauses in order, each of which is read before its operator items
-/// are done.
-pub fn read_text(alloc: Global, bytes: &[u8]) -> Result<Vec<Clause>, TextFault>
+/// are done. Clauses between operator items are read side by side.
+pub fn read_text<R: Threads + Sync>(
+    rt: &R,
+    alloc: Global,
+    bytes: &[u8],
+) -> Result<Vec<Clause>, TextFault>
     requires small { length bytes.now ≤ 8388608 }
     ensures ok { IfOk result (λ clauses. ReadsAs bytes.now (clause_trees clauses.items)) }
     ensures only { IfOk result (λ clauses. (others : List Tree) → ReadsAs bytes.now others → others ≡ clause_trees clauses.items) }
@@ -30,5 +35,5 @@ pub fn read_text(alloc: Global, bytes: &[u8]) -> Result<Vec<Clause>, TextFault>
         Err(error) => return Err(TextFault::At(Cause::NotUtf8, error.valid_up_to() as u32)),
     };
     let tokens = tokens(alloc, text)?;
-    read_clauses(alloc, text, &tokens)
+    read_clauses(rt, alloc, text, &tokens)
 }

@@ -28,7 +28,7 @@ pub(crate) fn parse_wave<R: Threads + Sync>(
     let parse = |list: Vec<Answer>| -> Result<Vec<AskedFile>, AllocError>
         requires { All IsSmall list.items }
         ensures { AreParsed list.items result }
-    { parse_list(alloc, list) };
+    { parse_list(rt, alloc, list) };
     let parsed = thread::map_vec(rt, lists, &parse)?;
     joined(alloc, parsed)
 }
@@ -51,13 +51,17 @@ fn cut(alloc: Global, answers: Vec<Answer>) -> Result<Vec<Vec<Answer>>, AllocErr
 }
 
 /// The files of one list, one after another.
-fn parse_list(alloc: Global, list: Vec<Answer>) -> Result<Vec<AskedFile>, AllocError>
+fn parse_list<R: Threads + Sync>(
+    rt: &R,
+    alloc: Global,
+    list: Vec<Answer>,
+) -> Result<Vec<AskedFile>, AllocError>
     requires { All IsSmall list.items }
     ensures { AreParsed list.items result }
 {
     let mut files = Vec::new(alloc);
     for answer in list {
-        files.push(parse_one(alloc, answer)?)?;
+        files.push(parse_one(rt, alloc, answer)?)?;
     }
     Ok(files)
 }
@@ -78,25 +82,34 @@ fn joined(
 }
 
 /// What the file of the answer is.
-fn parse_one(alloc: Global, answer: Answer) -> Result<AskedFile, AllocError>
+fn parse_one<R: Threads + Sync>(
+    rt: &R,
+    alloc: Global,
+    answer: Answer,
+) -> Result<AskedFile, AllocError>
     requires { IsSmall answer }
     ensures { IfOk result (IsParsed answer) }
 {
     let Answer { name, bytes } = answer;
     let content = match bytes {
         None => Content::Absent,
-        Some(bytes) => content_of(alloc, name.as_str(), bytes)?,
+        Some(bytes) => content_of(rt, alloc, name.as_str(), bytes)?,
     };
     Ok(AskedFile { name, content })
 }
 
 /// The bytes with the facts of the file of that name, or with its fault.
-fn content_of(alloc: Global, name: &str, bytes: Vec<u8>) -> Result<Content, AllocError>
+fn content_of<R: Threads + Sync>(
+    rt: &R,
+    alloc: Global,
+    name: &str,
+    bytes: Vec<u8>,
+) -> Result<Content, AllocError>
     requires { length bytes.items ≤ 8388608 }
     ensures text { IfOk result (λ content. text_of (see_content content) ≡ Some bytes.items) }
     ensures told { IfOk result (λ content. IsTold name.now (see_content content)) }
 {
-    match file_facts(alloc, name, &bytes) {
+    match file_facts(rt, alloc, name, &bytes) {
         Ok(facts) => Ok(Content::Sound(bytes, facts)),
         Err(FactFault::At(cause, offset)) => Ok(Content::Faulty(bytes, cause, offset)),
         Err(FactFault::NoMemory) => Err(AllocError),
@@ -105,12 +118,17 @@ fn content_of(alloc: Global, name: &str, bytes: Vec<u8>) -> Result<Content, Allo
 
 /// The facts of the file of that name with the bytes. What is wrong with the text comes first, and
 /// then what is wrong with what its clauses say.
-fn file_facts(alloc: Global, name: &str, bytes: &[u8]) -> Result<FileFacts, FactFault>
+fn file_facts<R: Threads + Sync>(
+    rt: &R,
+    alloc: Global,
+    name: &str,
+    bytes: &[u8],
+) -> Result<FileFacts, FactFault>
     requires { length bytes.now ≤ 8388608 }
     ensures facts { IfOk result (λ found. HasFacts name.now bytes.now (see_facts found)) }
     ensures fault { IfErr result (IsFaultOf name.now bytes.now) }
 {
-    match read_text(alloc, bytes) {
+    match read_text(rt, alloc, bytes) {
         Ok(clauses) => facts(alloc, name, clauses),
         Err(TextFault::At(cause, offset)) => Err(FactFault::At(cause, offset)),
         Err(TextFault::NoMemory) => Err(FactFault::NoMemory),

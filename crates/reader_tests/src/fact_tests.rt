@@ -4,6 +4,7 @@ use prolog_terms::{Term, span_at};
 use std::alloc::{AllocError, Global};
 use std::process::Abort;
 use std::test::Fail;
+use std::thread::Threads;
 
 fn push_indicators(
     alloc: Global,
@@ -86,11 +87,11 @@ fn refused(alloc: Global, cause: Cause, offset: u32) -> Result<String, AllocErro
 }
 
 /// What the text says as the file `d/f.pl`, or why it is refused.
-fn told(alloc: Global, text: &str) -> Result<String, AllocError> {
+fn told<R: Threads + Sync>(rt: &R, alloc: Global, text: &str) -> Result<String, AllocError> {
     if text.len() > 1000 {
         return String::from_str(alloc, "too long");
     }
-    let clauses = match read_text(alloc, text.as_bytes()) {
+    let clauses = match read_text(rt, alloc, text.as_bytes()) {
         Ok(clauses) => clauses,
         Err(TextFault::At(cause, offset)) => return refused(alloc, cause, offset),
         Err(TextFault::NoMemory) => return String::from_str(alloc, "no memory"),
@@ -103,10 +104,10 @@ fn told(alloc: Global, text: &str) -> Result<String, AllocError> {
 }
 
 /// Expects what stands in each of the lines, `TEXT => WORDS`.
-fn expect_rows(rt: &impl Abort, alloc: Global, rows: &str) -> Result<(), Fail> {
+fn expect_rows<R: Threads + Sync + Abort>(rt: &R, alloc: Global, rows: &str) -> Result<(), Fail> {
     for row in rows.lines() {
         let (text, wanted) = row.split_once(" => ").ok_or("no row")?;
-        let found = told(alloc, text)?;
+        let found = told(rt, alloc, text)?;
         assert_eq!(rt; found.as_str(), wanted, "in {text}");
     }
     Ok(())

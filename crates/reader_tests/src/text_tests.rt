@@ -1,14 +1,15 @@
 use clause_text::{Cause, Clause, TextFault, cause_text, read_text};
 use prolog_terms::{Form, Term, inside};
-use std::alloc::Global;
+use std::alloc::{AllocError, Global};
 use std::process::Abort;
 use std::test::Fail;
+use std::thread::Threads;
 
 /// Expects that the text reads as so many clauses.
-fn expect_count(rt: &impl Abort, alloc: Global, text: &str, count: usize) {
+fn expect_count<R: Threads + Sync + Abort>(rt: &R, alloc: Global, text: &str, count: usize) {
     let bytes = text.as_bytes();
     assert!(rt; bytes.len() <= 8_388_608);
-    match read_text(alloc, bytes) {
+    match read_text(rt, alloc, bytes) {
         Ok(clauses) => {
             assert_eq!(rt; clauses.len(), count, "{text}");
         }
@@ -19,10 +20,16 @@ fn expect_count(rt: &impl Abort, alloc: Global, text: &str, count: usize) {
 }
 
 /// Expects that the text is refused for this cause at this offset.
-fn expect_fault(rt: &impl Abort, alloc: Global, text: &str, cause: Cause, at: u32) {
+fn expect_fault<R: Threads + Sync + Abort>(
+    rt: &R,
+    alloc: Global,
+    text: &str,
+    cause: Cause,
+    at: u32,
+) {
     let bytes = text.as_bytes();
     assert!(rt; bytes.len() <= 8_388_608);
-    match read_text(alloc, bytes) {
+    match read_text(rt, alloc, bytes) {
         Ok(_) => {
             assert!(rt; false, "{text}");
         }
@@ -79,6 +86,38 @@ fn operators_of_clauses_before(rt: HostRuntime) -> Result<(), Fail> {
     Ok(())
 }
 
+/// A text of many stretches that are read side by side: rules, a directive that sets an operator, and
+/// rules with it.
+fn long_text(
+    alloc: Global,
+    before: usize,
+    behind: usize,
+    last: &str,
+) -> Result<String, AllocError> {
+    let mut text = "p(X) :- q(X, [Y|Z]), r(Y, Z).\n".repeat(alloc, before)?;
+    text.push_str(":- op(700, xfx, ===).\n")?;
+    text.push_str(&"p(X) :- X === [].\n".repeat(alloc, behind)?)?;
+    text.push_str(last)?;
+    Ok(text)
+}
+
+#[test]
+fn stretches_side_by_side(rt: HostRuntime) -> Result<(), Fail> {
+    let alloc = rt.alloc();
+    expect_count(&rt, alloc, &long_text(alloc, 4000, 8000, "")?, 12_001);
+    expect_count(
+        &rt,
+        alloc,
+        &long_text(alloc, 0, 3000, ":- op(0, xfx, ===).")?,
+        3002,
+    );
+    let late = long_text(alloc, 4000, 8000, "p === .")?;
+    expect_fault(&rt, alloc, &late, Cause::Stuck, 264_028);
+    let early = long_text(alloc, 0, 5000, ":- op(1, fy, ','). p ===.")?;
+    expect_fault(&rt, alloc, &early, Cause::FixedOp, 90_035);
+    Ok(())
+}
+
 #[test]
 fn operator_items_refused(rt: HostRuntime) -> Result<(), Fail> {
     let alloc = rt.alloc();
@@ -110,7 +149,7 @@ fn operator_items_refused(rt: HostRuntime) -> Result<(), Fail> {
 fn bytes_then_tokens_then_clauses(rt: HostRuntime) -> Result<(), Fail> {
     let alloc = rt.alloc();
     let bytes = [97, 32, 98, 46, 10, 39, 255];
-    match read_text(alloc, &bytes) {
+    match read_text(&rt, alloc, &bytes) {
         Ok(_) => {
             assert!(rt; false);
         }
@@ -134,7 +173,7 @@ fn is_functional(clause: &Clause) -> bool {
 #[test]
 fn inside_brackets(rt: HostRuntime) -> Result<(), Fail> {
     let alloc = rt.alloc();
-    let clauses = read_text(alloc, b"((p(a))).")?;
+    let clauses = read_text(&rt, alloc, b"((p(a))).")?;
     assert_eq!(rt; clauses.len(), 1);
     assert!(rt; is_functional(&clauses[0]));
     Ok(())

@@ -1,53 +1,53 @@
-use Rattle.std.proofs.Common.{◌≡◌, Result, Ok, Err, is_ok, is_err, true, false, refl, ◌++◌, ◌∷◌, [], ap, sym, ◌∙◌, subst}
-use Rattle.std.proofs.lemmas.List.{map-append}
+-- The clauses that are kept lead on, up to the end of the tokens or to a part that is refused.
+use Rattle.std.proofs.Common.{ap, sym, ◌∙◌, subst, refl, arith, All}
 use Rattle.prolog_ops.specs.Table.{ops_of}
-use Rattle.prolog_terms.specs.Tree.{tree_of}
-use Rattle.clause_text.specs.declared.Clause.{Clause}
 use Rattle.clause_text.specs.Clauses.{HasClauseFault, clause_trees}
+use Rattle.clause_text.specs.Pieces.{LeadTo, IsStretch, AreStretches}
 use Rattle.clause_text.proofs.Outcomes.{on_err}
-use Rattle.clause_text.proofs.ClauseSplits.{IsSplit, slice_part, part_one, split_start, split_more, split_stuck, split_done}
+use Rattle.clause_text.proofs.LeadEnds.{lead_are, added_lead, fault_from_start, fault_joined, stretches_are}
 use Rattle.clause_text.proofs.parts.read_parts.Goals as goal
 
-ok_of : {T E : Type 0} (r : Result T E) → is_err r ≡ false → is_ok r ≡ true
-ok_of (Ok x) is = refl
-ok_of (Err e) is = let both : true ≡ false = is in cc
-
 pub loop-from-init : goal.loop-from-init
-loop-from-init c =
-    subst (λ clauses. IsSplit (ops_of c.args.table.now) c.args.text.now c.args.tokens.now clauses (ops_of c.args.table.now) 0) (ap clause_trees (sym c.new-clauses.ensures.items))
-    (split_start (ops_of c.args.table.now) c.args.text.now c.args.tokens.now)
-
-pub read_part-requires-clause-part : goal.read_part-requires-clause-part
-read_part-requires-clause-part c =
-    slice_part c.args.text.now c.args.tokens.now c.loop-from.from c.part_end-to.result c.requires.cut c.part_end-to.ensures.some
-
-pub read_part-requires-clause-one : goal.read_part-requires-clause-one
-read_part-requires-clause-one c = part_one c.args.tokens.now c.loop-from.from c.part_end-to.result c.part_end-to.ensures
-
-pub returns-in_err-clause-clause-fault : goal.returns-in_err-clause-clause-fault
-returns-in_err-clause-clause-fault c =
-    let opens = ops_of c.args.table.now in
-    on_err c.from_residual.result _ _ c.from_residual.ensures.1
-    (λ fault same some.
-    (let wrong = c.in_err-clause.ensures.fault (λ none. some (same ∙ none)) in
-    subst (λ f. HasClauseFault opens c.args.text.now c.args.tokens.now f) (sym same)
-    (split_stuck opens c.args.text.now c.args.tokens.now (clause_trees c.loop-from.clauses.items) (ops_of c.loop-from.table) c.loop-from.from c.part_end-to.result
-    c.in_err-clause.field-0.0 c.loop-from.invariant c.part_end-to.ensures wrong)))
-
-pub loop-from-preserved : goal.loop-from-preserved
-loop-from-preserved c =
-    let opens = ops_of c.args.table.now in
-    let tree = tree_of c.in_ok-clause.clause.term in
-    let clauses = clause_trees c.loop-from.clauses.items in
-    let pushed : is_ok c.push.result ≡ true = ok_of c.push.result (sym c.if-is_err.ensures.value) in
-    let items = rw pushed at c.push.ensures.items in
-    let all : clause_trees c.push.new.self.items ≡ clauses ++ tree ∷ [] =
-    ap clause_trees items ∙ map-append (λ (clause : Clause). tree_of clause.term) c.loop-from.clauses.items (c.in_ok-clause.clause ∷ []) in
-    subst (λ trees. IsSplit opens c.args.text.now c.args.tokens.now trees (ops_of c.read_part.new.table) c.part_end-to.result) (sym all)
-    (split_more opens c.args.text.now c.args.tokens.now clauses tree (ops_of c.loop-from.table) (ops_of c.read_part.new.table) c.loop-from.from c.part_end-to.result
-    c.loop-from.invariant c.part_end-to.ensures c.in_ok-clause.ensures.ok)
+loop-from-init g c =
+    subst (λ clauses. LeadTo (ops_of c.args.table.now) c.args.text.now c.args.tokens.now 0 clauses (ops_of c.args.table.now) 0) (ap clause_trees (sym c.new-clauses.ensures.items))
+    (refl, refl)
 
 pub returns-clause-ok : goal.returns-clause-ok
-returns-clause-ok c =
-    split_done (ops_of c.args.table.now) c.args.text.now c.args.tokens.now (clause_trees c.loop-from.clauses.items) (ops_of c.loop-from.table) c.loop-from.from
+returns-clause-ok g c =
+    lead_are (ops_of c.args.table.now) c.args.text.now c.args.tokens.now 0 (clause_trees c.loop-from.clauses.items) (ops_of c.loop-from.table) c.loop-from.from
     c.loop-from.invariant c.loop-from-test.false
+
+pub read_each-requires-clause-stretches : goal.read_each-requires-clause-stretches
+read_each-requires-clause-stretches g c = λ lifetimes outlives.
+    subst (All (IsStretch c.args.tokens.now)) (sym c.deref.ensures.value)
+    (stretches_are c.args.tokens.now c.loop-from.from c.in_ok-stretches.stretches.items c.in_ok-stretches.ensures.0 c.in_ok-stretches.ensures.2)
+
+pub returns-in_err-kept-clause-fault : goal.returns-in_err-kept-clause-fault
+returns-in_err-kept-clause-fault g c =
+    let to = c.in_ok-stretches.ensures.0 in
+    let are = subst (λ stretches. AreStretches c.args.tokens.now c.loop-from.from stretches to) (sym c.deref.ensures.value) c.in_ok-stretches.ensures.2 in
+    on_err c.from_residual-in_err-kept.result _ _ c.from_residual-in_err-kept.ensures.1
+    (λ fault same some.
+    subst (λ f. HasClauseFault (ops_of c.args.table.now) c.args.text.now c.args.tokens.now f) (sym same)
+    (fault_from_start (ops_of c.args.table.now) c.args.text.now c.args.tokens.now c.in_err-kept.field-0.0
+    (fault_joined (ops_of c.args.table.now) c.args.text.now c.args.tokens.now 0 (clause_trees c.loop-from.clauses.items) (ops_of c.loop-from.table) c.loop-from.from c.in_err-kept.field-0.0
+    c.loop-from.invariant
+    (c.in_err-kept.ensures.fault (λ none. some (same ∙ none)) c.args.text.now c.args.tokens.now to (c.in_ok-pieces.ensures c.loop-from.from to are)))))
+
+pub loop-from-smaller : goal.loop-from-smaller
+loop-from-smaller g c =
+    let to = c.in_ok-stretches.ensures.0 in
+    let are = subst (λ stretches. AreStretches c.args.tokens.now c.loop-from.from stretches to) (sym c.deref.ensures.value) c.in_ok-stretches.ensures.2 in
+    omega (
+      arith,
+      c.loop-from-test.true,
+      c.in_ok-kept.ensures.forward c.args.text.now c.args.tokens.now to (c.in_ok-pieces.ensures c.loop-from.from to are) c.in_ok-stretches.ensures.1,
+    )
+
+pub loop-from-preserved : goal.loop-from-preserved
+loop-from-preserved g c =
+    let to = c.in_ok-stretches.ensures.0 in
+    let are = subst (λ stretches. AreStretches c.args.tokens.now c.loop-from.from stretches to) (sym c.deref.ensures.value) c.in_ok-stretches.ensures.2 in
+    added_lead (ops_of c.args.table.now) c.args.text.now c.args.tokens.now 0 (clause_trees c.loop-from.clauses.items) (clause_trees c.keep.new.clauses.items) (ops_of c.loop-from.table)
+    c.loop-from.from (ops_of c.keep.new.table) c.in_ok-kept.kept.to c.loop-from.invariant
+    (c.in_ok-kept.ensures.kept c.args.text.now c.args.tokens.now to (c.in_ok-pieces.ensures c.loop-from.from to are))

@@ -10,32 +10,32 @@ use Rattle.clause_text.proofs.TextLemmas.{reads_as, clauses_have, tokens_have, p
 use Rattle.clause_text.proofs.text.read_text.Goals as goal
 
 pub returns-in-Err-clause-only_fault : goal.returns-in-Err-clause-only_fault
-returns-in-Err-clause-only_fault c = λ some other also.
+returns-in-Err-clause-only_fault g c = λ some other also.
     one_fault c.args.bytes.now other _ also
     (bytes (c.valid_up_to.result, refl, subst (IsValidUpTo c.args.bytes.now) (sym c.valid_up_to.ensures) c.in-Err.ensures.cases.1))
 
 pub returns-in_err-tokens-clause-none : goal.returns-in_err-tokens-clause-none
-returns-in_err-tokens-clause-none c =
+returns-in_err-tokens-clause-none g c =
     on_err c.from_residual.result _ _ c.from_residual.ensures.1
     (λ fault same some others reads.
     fault_no_reading c.args.bytes.now fault others
     (tokens (tokens_have c.args.bytes.now c.in-Ok.text.now c.in_err-tokens.field-0.0 fault c.in-Ok.ensures.cases.0 c.in-Ok.ensures.cases.1 same c.in_err-tokens.ensures.fault some)) reads)
 
 pub returns-in_err-tokens-clause-fault : goal.returns-in_err-tokens-clause-fault
-returns-in_err-tokens-clause-fault c =
+returns-in_err-tokens-clause-fault g c =
     on_err c.from_residual.result _ _ c.from_residual.ensures.1
     (λ fault same some.
     tokens (tokens_have c.args.bytes.now c.in-Ok.text.now c.in_err-tokens.field-0.0 fault c.in-Ok.ensures.cases.0 c.in-Ok.ensures.cases.1 same c.in_err-tokens.ensures.fault some))
 
 pub returns-in_err-tokens-clause-only_fault : goal.returns-in_err-tokens-clause-only_fault
-returns-in_err-tokens-clause-only_fault c =
+returns-in_err-tokens-clause-only_fault g c =
     on_err c.from_residual.result _ _ c.from_residual.ensures.1
     (λ fault same some other also.
     one_fault c.args.bytes.now other fault also
     (tokens (tokens_have c.args.bytes.now c.in-Ok.text.now c.in_err-tokens.field-0.0 fault c.in-Ok.ensures.cases.0 c.in-Ok.ensures.cases.1 same c.in_err-tokens.ensures.fault some)))
 
 pub returns-clause-only : goal.returns-clause-only
-returns-clause-only c =
+returns-clause-only g c =
     ok_with c.read_clauses.result _ _ c.read_clauses.ensures.ok
     (λ found are others reads.
     one_reading c.args.bytes.now others (clause_trees found.items) reads
@@ -43,7 +43,7 @@ returns-clause-only c =
     c.in-Ok.ensures.cases.1 c.in_ok-tokens.ensures.ok are))
 
 pub returns-clause-none : goal.returns-clause-none
-returns-clause-none c =
+returns-clause-none g c =
     err_only c.read_clauses.result _ _ c.read_clauses.ensures.fault
     (λ fault has some others reads.
     fault_no_reading c.args.bytes.now fault others
@@ -51,7 +51,7 @@ returns-clause-none c =
     c.in-Ok.ensures.cases.1 c.in_ok-tokens.ensures.ok (has some))) reads)
 
 pub returns-clause-only_fault : goal.returns-clause-only_fault
-returns-clause-only_fault c =
+returns-clause-only_fault g c =
     err_only c.read_clauses.result _ _ c.read_clauses.ensures.fault
     (λ fault has some other also.
     one_fault c.args.bytes.now other fault also
@@ -59,7 +59,7 @@ returns-clause-only_fault c =
     c.in-Ok.ensures.cases.1 c.in_ok-tokens.ensures.ok (has some))))
 
 pub returns-clause-offset : goal.returns-clause-offset
-returns-clause-offset c =
+returns-clause-offset g c =
     err_only c.read_clauses.result _ _ c.read_clauses.ensures.fault
     (λ fault has.
     placed_or_none c.args.bytes.now fault
@@ -68,7 +68,7 @@ returns-clause-offset c =
     c.in-Ok.ensures.cases.1 c.in_ok-tokens.ensures.ok (has some)))
 
 pub returns-clause-weights : goal.returns-clause-weights
-returns-clause-weights c =
+returns-clause-weights g c =
     let fewer : length c.in_ok-tokens.tokens.items ≤ length c.in-Ok.text.now = cut_fewer c.in-Ok.text.now c.in_ok-tokens.tokens.items c.in_ok-tokens.ensures.ok in
     ok_with c.read_clauses.result _ _ c.read_clauses.ensures.ok
     (λ found are.

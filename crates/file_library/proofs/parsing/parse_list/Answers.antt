@@ -7,7 +7,7 @@ use Rattle.file_library.proofs.ParsedFiles.{zip_one}
 use Rattle.file_library.proofs.parsing.parse_list.Goals as goal
 
 pub loop-answer-preserved : goal.loop-answer-preserved
-loop-answer-preserved c = (
+loop-answer-preserved g c = (
   append_assoc c.loop-answer.yielded (c.in-Some.answer ∷ []) c.next.new.self.rest.items ∙ (ap (λ rest. c.loop-answer.yielded ++ rest) (sym c.in-Some.ensures.steps.0) ∙ c.loop-answer.invariant.0),
   subst (AllZip IsParsed (c.loop-answer.yielded ++ c.in-Some.answer ∷ [])) (sym c.in_ok-push.ensures.items)
       (zip_one IsParsed c.loop-answer.yielded c.in-Some.answer c.loop-answer.files.items c.in_ok-parse_one.field-0 c.loop-answer.invariant.1 c.in_ok-parse_one.ensures),

@@ -8,9 +8,11 @@ use Rattle.file_library.proofs.ParsedFiles.{list_small, zip_from_lists, flat_lis
 use Rattle.file_library.proofs.parsing.parse_wave.Goals as goal
 
 pub map_vec-requires-after_bounds : goal.map_vec-requires-after_bounds
-map_vec-requires-after_bounds g c = λ lifetimes outlives i x less is.
-    subst (λ (list : Vec Answer Global). All IsSmall list.items) (sym is)
-    (list_small IsSmall c.in_ok-lists.lists.items (subst (λ answers. All IsSmall answers) (sym c.in_ok-lists.ensures.all) c.requires) i x less)
+map_vec-requires-after_bounds g c = λ lifetimes outlives i x less is. (
+  subst (λ (list : Vec Answer Global). All IsSmall list.items) (sym is)
+      (list_small IsSmall c.in_ok-lists.lists.items (subst (λ answers. All IsSmall answers) (sym c.in_ok-lists.ensures.all) c.requires) i x less),
+  search,
+)
 
 pub returns : goal.returns
 returns g c =

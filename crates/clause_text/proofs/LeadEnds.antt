@@ -1,0 +1,198 @@
+-- Where clauses side by side end: at the end of the tokens, or at a part that is refused.
+use Rattle.std.proofs.Common.{◌≡◌, ◌≢◌, ℕ, ◌≤◌, ◌<◌, List, [], ◌∷◌, ◌++◌, Ok, Err, length, drop, All, slice_range, subst, sym, ap, ◌∙◌, refl, inr, arith, append_assoc}
+use Rattle.std.proofs.lemmas.List.{append-nil, map-append, nil_from_length}
+use Rattle.std.proofs.lemmas.List.Elements.{All-nil, All-cons}
+use Rattle.prolog_tokens.specs.declared.token.Token.{Token}
+use Rattle.prolog_ops.specs.Table.{Ops}
+use Rattle.prolog_terms.specs.Tree.{Tree, tree_of}
+use Rattle.prolog_terms.specs.Words.{table_of}
+use Rattle.prolog_terms.specs.Clause.{IsClauseOf}
+use Rattle.clause_text.specs.declared.Clause.{Clause}
+use Rattle.clause_text.specs.declared.fault.TextFault.{TextFault}
+use Rattle.clause_text.specs.declared.fault.TextFault.TheVariants.{NoMemory}
+use Rattle.clause_text.specs.declared.piece.Stretch.{Stretch}
+use Rattle.clause_text.specs.declared.piece.Piece.{Piece}
+use Rattle.clause_text.specs.declared.piece.PieceEnd.TheVariants.{Whole, AtOperators, Refused}
+use Rattle.clause_text.specs.Items.{items_of, items_on}
+use Rattle.clause_text.specs.Clauses.{AreClauses, IsPartFault, FaultStandsBehind, HasClauseFault, EndsFirst, clause_trees}
+use Rattle.clause_text.specs.Pieces.{LeadTo, IsStretch, AreStretches, EndIs, IsPiece, ArePieces, AreAdded, IsFaultAhead}
+use Rattle.clause_text.proofs.ClauseSplits.{back, part_of, part_first, nothing_behind}
+use Rattle.clause_text.proofs.Leads.{lead_joined}
+
+-- up to the end of the tokens they are the clauses
+pub lead_are : (table : Ops) (text : List ℕ) (ts : List Token) (from : ℕ) (trees : List Tree) (left : Ops) (to : ℕ) → LeadTo table text ts from trees left to → length ts ≤ to
+    → AreClauses table text (drop from ts) trees
+lead_are table text ts from [] left to (tables, places) all = subst (λ place. drop place ts ≡ []) (sym places) (nothing_behind ts to all)
+lead_are table text ts from (tree ∷ trees) left to (next, set, stops, does, lead) all =
+    (part_of ts from next, drop next ts, set, back ts from next stops, does, lead_are set text ts next trees left to lead all)
+
+-- they stay within the tokens
+pub lead_within : (table : Ops) (text : List ℕ) (ts : List Token) (from : ℕ) (trees : List Tree) (left : Ops) (to : ℕ) → LeadTo table text ts from trees left to → from ≤ length ts
+    → to ≤ length ts
+lead_within table text ts from [] left to (tables, places) within = subst (λ place. place ≤ length ts) places within
+lead_within table text ts from (tree ∷ trees) left to (next, set, stops, does, lead) within = lead_within set text ts next trees left to lead stops.within
+
+-- and go no way back
+lead_up : (table : Ops) (text : List ℕ) (ts : List Token) (from : ℕ) (trees : List Tree) (left : Ops) (to : ℕ) → LeadTo table text ts from trees left to → from ≤ to
+lead_up table text ts from [] left to (tables, places) = omega (arith, places)
+lead_up table text ts from (tree ∷ trees) left to (next, set, stops, does, lead) = omega (arith, stops.some, lead_up set text ts next trees left to lead)
+
+-- the trees of clauses, joined
+pub trees_joined : (clauses more : List Clause) → clause_trees (clauses ++ more) ≡ clause_trees clauses ++ clause_trees more
+trees_joined clauses more = map-append (λ (clause : Clause). tree_of clause.term) clauses more
+
+-- behind them stands the fault of a part
+stands_behind : (table : Ops) (text : List ℕ) (ts : List Token) (from : ℕ) (trees : List Tree) (left : Ops) (at next : ℕ) (fault : TextFault) → LeadTo table text ts from trees left at
+    → EndsFirst ts at next → IsPartFault left text (slice_range ts at next) fault → FaultStandsBehind table text (drop from ts) trees fault
+stands_behind table text ts from [] left at next fault (tables, places) ends wrong =
+    subst (λ place. FaultStandsBehind table text (drop place ts) [] fault) (sym places)
+    (part_of ts at next, drop next ts, back ts at next ends, part_first ts at next ends, subst (λ T. IsPartFault T text (slice_range ts at next) fault) (sym tables) wrong)
+stands_behind table text ts from (tree ∷ trees) left at next fault (mid, set, stops, does, lead) ends wrong =
+    (part_of ts from mid, drop mid ts, set, back ts from mid stops, does, stands_behind set text ts mid trees left at next fault lead ends wrong)
+
+-- from the start of the tokens on, a fault ahead is theirs
+pub fault_from_start : (table : Ops) (text : List ℕ) (ts : List Token) (fault : TextFault) → IsFaultAhead table text ts 0 fault → HasClauseFault table text ts fault
+fault_from_start table text ts fault ahead = record {
+  before = ahead.before;
+  stands = stands_behind table text ts 0 ahead.before ahead.left ahead.at ahead.next fault ahead.lead ahead.part ahead.is;
+}
+
+-- a fault ahead of where clauses lead to is ahead of where they begin
+pub fault_joined : (table : Ops) (text : List ℕ) (ts : List Token) (from : ℕ) (trees : List Tree) (left : Ops) (mid : ℕ) (fault : TextFault) → LeadTo table text ts from trees left mid
+    → IsFaultAhead left text ts mid fault → IsFaultAhead table text ts from fault
+fault_joined table text ts from trees left mid fault lead ahead = record {
+  before = trees ++ ahead.before;
+  left = ahead.left;
+  at = ahead.at;
+  lead = lead_joined table left ahead.left text ts from mid ahead.at trees ahead.before lead ahead.lead;
+  next = ahead.next;
+  part = ahead.part;
+  is = ahead.is;
+}
+
+-- stretches side by side have tokens each and end with a clause
+pub stretches_are : (ts : List Token) (from : ℕ) (stretches : List Stretch) (to : ℕ) → AreStretches ts from stretches to → All (IsStretch ts) stretches
+stretches_are ts from [] to are = All-nil (IsStretch ts)
+stretches_are ts from (stretch ∷ stretches) to (starts, is, are) = All-cons (IsStretch ts) stretch stretches is (stretches_are ts stretch.to stretches to are)
+
+-- clauses more behind those that were added
+added_on : (table : Ops) (text : List ℕ) (ts : List Token) (from : ℕ) (before after : List Tree) (mid : Ops) (at : ℕ) (more : List Tree) (left : Ops) (to : ℕ)
+    → AreAdded table text ts from before after mid at → LeadTo mid text ts at more left to → AreAdded table text ts from before (after ++ more) left to
+added_on table text ts from before after mid at more left to added lead = record {
+  more = added.more ++ more;
+  all = ap (λ trees. trees ++ more) added.all ∙ append_assoc before added.more more;
+  lead = lead_joined table mid left text ts from at to added.more more added.lead lead;
+}
+
+-- what is added to clauses that lead to a place leads on from there
+pub added_lead : (table : Ops) (text : List ℕ) (ts : List Token) (start : ℕ) (before after : List Tree) (mid : Ops) (from : ℕ) (left : Ops) (to : ℕ) → LeadTo table text ts start before mid from
+    → AreAdded mid text ts from before after left to → LeadTo table text ts start after left to
+added_lead table text ts start before after mid from left to lead added =
+    subst (λ trees. LeadTo table text ts start trees left to) (sym added.all) (lead_joined table mid left text ts start from to before added.more lead added.lead)
+
+-- of pieces up to a place those up to another are kept, and the others are left
+pub record IsKept (table : Ops) (text : List ℕ) (ts : List Token) (from : ℕ) (before : List Tree) (rest : List Piece) (after : List Tree) (to end : ℕ) : Type 0 where
+  pub added : AreAdded table text ts from before after table to
+  pub others : ArePieces table text ts to rest end
+  pub up : from ≤ to
+
+abbrev pub AreKept : Ops → ℕ → List Piece → List Tree → List Piece → List Tree → ℕ → Type 0
+AreKept table from all before rest after to = (text : List ℕ) (ts : List Token) (end : ℕ) → ArePieces table text ts from all end → IsKept table text ts from before rest after to end
+
+pub none_kept : (table : Ops) (from : ℕ) (all : List Piece) (before : List Tree) → AreKept table from all before all before from
+none_kept table from all before = λ text ts end are. record { added = record { more = []; all = sym (append-nil before); lead = (refl, refl) }; others = are; up = omega arith }
+
+-- where none are left
+module _ (table : Ops) (from : ℕ) (all : List Piece) (before : List Tree) (left : List Piece) (after : List Tree) (to : ℕ) (kept : AreKept table from all before left after to)
+    (none : length left ≡ 0) (text : List ℕ) (ts : List Token) (end : ℕ) (are : ArePieces table text ts from all end) where
+  pub all_added : AreAdded table text ts from before after table to
+  all_added = (kept text ts end are).added
+
+  pub all_forward : from < end → from < to
+  all_forward some =
+      let reached : to ≡ end = subst (λ pieces. ArePieces table text ts to pieces end) (nil_from_length left none) (kept text ts end are).others in
+      omega (arith, reached, some)
+
+-- the clauses of the next piece, too
+record IsNext (table : Ops) (text : List ℕ) (ts : List Token) (from : ℕ) (before : List Tree) (piece : Piece) (rest : List Piece) (after : List Tree) (end : ℕ) : Type 0 where
+  next : ℕ
+  at : ℕ
+  added : AreAdded table text ts from before (after ++ clause_trees piece.clauses.items) table at
+  ends : EndIs table text ts at next piece.end
+  others : ArePieces table text ts next rest end
+  up : from < next
+  reached : from ≤ at
+
+module _ (table : Ops) (from : ℕ) (all : List Piece) (before : List Tree) (piece : Piece) (rest left : List Piece) (after : List Tree) (to : ℕ)
+    (kept : AreKept table from all before left after to) (front : left ≡ piece ∷ rest) where
+  next_of : (text : List ℕ) (ts : List Token) (end : ℕ) → ArePieces table text ts from all end → IsNext table text ts from before piece rest after end
+  next_of text ts end are =
+      let so_far = kept text ts end are in
+      let others : ArePieces table text ts to (piece ∷ rest) end = subst (λ pieces. ArePieces table text ts to pieces end) front so_far.others in
+      let next : ℕ = others.0 in
+      let is : IsPiece table text ts to next piece = others.1 in
+      let reached : to ≤ is.at = lead_up table text ts to (clause_trees piece.clauses.items) table is.at is.clauses in
+      record {
+        next = next;
+        at = is.at;
+        added = added_on table text ts from before after table to (clause_trees piece.clauses.items) table is.at so_far.added is.clauses;
+        ends = is.end;
+        others = others.2;
+        up = omega (arith, so_far.up, is.some);
+        reached = omega (arith, so_far.up, reached);
+      }
+
+  -- all of it
+  pub whole_kept : (place : ℕ) → piece.end ≡ Whole place → AreKept table from all before rest (after ++ clause_trees piece.clauses.items) place
+  whole_kept place is = λ text ts end are.
+      let next = next_of text ts end are in
+      let ends : (next.at ≡ next.next) × (place ≡ next.next) = subst (EndIs table text ts next.at next.next) is next.ends in
+      record {
+        added = subst (λ to. AreAdded table text ts from before (after ++ clause_trees piece.clauses.items) table to) (ends.0 ∙ sym ends.1) next.added;
+        others = subst (λ to. ArePieces table text ts to rest end) (sym ends.1) next.others;
+        up = omega (arith, next.up, ends.1);
+      }
+
+  -- and the clause behind it that sets operators
+  module _ (clause : Clause) (place : ℕ) (is : piece.end ≡ AtOperators clause place) (text : List ℕ) (ts : List Token) (end : ℕ) (are : ArePieces table text ts from all end) where
+    record IsAtOperators : Type 0 where
+      next : IsNext table text ts from before piece rest after end
+      ends : EndsFirst ts next.at place
+      reads : IsClauseOf (table_of table) text (slice_range ts next.at place) (tree_of clause.term)
+
+    at_operators : IsAtOperators
+    at_operators =
+        let next = next_of text ts end are in
+        let ends : EndIs table text ts next.at next.next (AtOperators clause place) = subst (EndIs table text ts next.at next.next) is next.ends in
+        record { next = next; ends = ends.0; reads = ends.1 }
+
+    pub operators_added : (then : Ops) → items_on (items_of (tree_of clause.term)) table ≡ Ok then
+        → AreAdded table text ts from before ((after ++ clause_trees piece.clauses.items) ++ tree_of clause.term ∷ []) then place
+    operators_added then set =
+        let found = at_operators in
+        added_on table text ts from before (after ++ clause_trees piece.clauses.items) table found.next.at (tree_of clause.term ∷ []) then place found.next.added
+        (place, then, found.ends, record { clause = found.reads; items = set }, (refl, refl))
+
+    pub operators_forward : from < place
+    operators_forward = let found = at_operators in omega (arith, found.next.reached, found.ends.some)
+
+    pub operators_refused : (fault : TextFault) → items_on (items_of (tree_of clause.term)) table ≡ Err fault → IsFaultAhead table text ts from fault
+    operators_refused fault refused =
+        let found = at_operators in
+        record {
+          before = found.next.added.more;
+          left = table;
+          at = found.next.at;
+          lead = found.next.added.lead;
+          next = place;
+          part = found.ends;
+          is = inr (tree_of clause.term, found.reads, refused);
+        }
+
+  -- or the fault behind it
+  pub part_refused : (fault : TextFault) → piece.end ≡ Refused fault → fault ≢ NoMemory → (text : List ℕ) (ts : List Token) (end : ℕ) → ArePieces table text ts from all end
+      → IsFaultAhead table text ts from fault
+  part_refused fault is some text ts end are =
+      let next = next_of text ts end are in
+      let ends : (place : ℕ) × EndsFirst ts next.at place × IsPartFault table text (slice_range ts next.at place) fault = subst (EndIs table text ts next.at next.next) is next.ends some in
+      record { before = next.added.more; left = table; at = next.at; lead = next.added.lead; next = ends.0; part = ends.1; is = ends.2 }

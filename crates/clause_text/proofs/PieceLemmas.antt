@@ -1,0 +1,49 @@
+-- Stretches of tokens, and the pieces that they are read as.
+use Rattle.std.proofs.Common.{◌≡◌, ℕ, ◌-◌, ◌<◌, ◌≤◌, List, [], ◌∷◌, ◌++◌, Ok, false, sym, subst, refl, inl, inr, arith}
+use Rattle.std.specs.List.{AllZip}
+use Rattle.std.proofs.lemmas.Bool.{cases_lt}
+use Rattle.prolog_tokens.specs.declared.token.Token.{Token}
+use Rattle.prolog_ops.specs.Table.{Ops}
+use Rattle.clause_text.specs.declared.piece.Stretch.{Stretch}
+use Rattle.clause_text.specs.declared.piece.Piece.{Piece}
+use Rattle.clause_text.specs.Items.{Item, has_some, items_on}
+use Rattle.clause_text.specs.Clauses.{EndsFirst}
+use Rattle.clause_text.specs.Pieces.{IsBehindClause, IsStretch, AreStretches, IsPiece, ArePieces}
+
+-- no items leave a table as it is
+pub none_on : (items : List Item) (table : Ops) → has_some items ≡ false → items_on items table ≡ Ok table
+none_on [] table none = refl
+none_on (item ∷ items) table none = cc
+
+-- the first End from before the end of a stretch isn't behind it
+pub not_past : (ts : List Token) (at next to : ℕ) → EndsFirst ts at next → at < to → IsBehindClause ts to → next ≤ to
+not_past ts at next to first before behind = elim (cases_lt to next) [
+  | inl past ↦ elim behind.stops [
+    | inl stops ↦ absurd (first.none (to - 1) (omega (arith, before)) (omega (arith, before, past)) stops)
+    | inr last ↦ omega (arith, last, first.within)
+  ]
+  | inr within ↦ within
+]
+
+abbrev stretch_of : ℕ → ℕ → Stretch
+stretch_of from to = record { from = from; to = to }
+
+stretches_more : (ts : List Token) (from : ℕ) (stretches : List Stretch) (at to : ℕ) → AreStretches ts from stretches at → IsStretch ts (stretch_of at to)
+    → AreStretches ts from (stretches ++ stretch_of at to ∷ []) to
+stretches_more ts from [] at to are is = (sym are, is, refl)
+stretches_more ts from (first ∷ stretches) at to are is = (are.0, are.1, stretches_more ts first.to stretches at to are.2 is)
+
+-- a stretch more behind others
+pub stretch_behind : (ts : List Token) (from : ℕ) (stretches all : List Stretch) (at to : ℕ) → AreStretches ts from stretches at → all ≡ stretches ++ stretch_of at to ∷ [] → at < to
+    → IsBehindClause ts to → AreStretches ts from all to
+stretch_behind ts from stretches all at to are is some ends =
+    subst (λ list. AreStretches ts from list to) (sym is) (stretches_more ts from stretches at to are (record { some = some; ends = ends }))
+
+-- what stretches are read as stands side by side as they do
+pub pieces_of : (table : Ops) (text : List ℕ) (ts : List Token) (stretches : List Stretch) (pieces : List Piece)
+    → AllZip (λ (stretch : Stretch) piece. IsPiece table text ts stretch.from stretch.to piece) stretches pieces → (from to : ℕ) → AreStretches ts from stretches to → ArePieces table text ts from pieces to
+pieces_of table text ts [] [] read from to are = are
+pieces_of table text ts [] (piece ∷ pieces) read from to are = absurd read
+pieces_of table text ts (stretch ∷ stretches) [] read from to are = absurd read
+pieces_of table text ts (stretch ∷ stretches) (piece ∷ pieces) read from to are =
+    (stretch.to, subst (λ n. IsPiece table text ts n stretch.to piece) are.0 read.0, pieces_of table text ts stretches pieces read.1 stretch.to to are.2)

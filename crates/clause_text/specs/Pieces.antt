@@ -1,0 +1,70 @@
+-- Clauses that stand side by side, where the table that the first of them is read with is known.
+use Rattle.std.specs.Prelude.{◌≡◌, ◌≢◌, ℕ, ◌-◌, ◌<◌, ◌≤◌, ◌⊎◌, List, [], ◌∷◌, ◌++◌, Some, length, slice_range}
+use Rattle.prolog_tokens.specs.declared.token.Kind.TheVariants.{End}
+use Rattle.prolog_tokens.specs.declared.token.Token.{Token}
+use Rattle.prolog_ops.specs.Table.{Ops}
+use Rattle.prolog_terms.specs.Tree.{Tree, tree_of}
+use Rattle.prolog_terms.specs.Words.{table_of}
+use Rattle.prolog_terms.specs.Clause.{IsClauseOf}
+use Rattle.clause_text.specs.declared.fault.TextFault.{TextFault}
+use Rattle.clause_text.specs.declared.fault.TextFault.TheVariants.{NoMemory}
+use Rattle.clause_text.specs.declared.piece.Stretch.{Stretch}
+use Rattle.clause_text.specs.declared.piece.Piece.{Piece}
+use Rattle.clause_text.specs.declared.piece.PieceEnd.{PieceEnd}
+use Rattle.clause_text.specs.declared.piece.PieceEnd.TheVariants.{Whole, AtOperators, Refused}
+use Rattle.clause_text.specs.Clauses.{LeavesAs, IsPartFault, EndsFirst, clause_trees, kind_there}
+
+-- from the table on, the tokens from a place up to another are the clauses, and leave the other table
+abbrev pub LeadTo : Ops → List ℕ → List Token → ℕ → List Tree → Ops → ℕ → Type 0
+LeadTo table text ts from [] left to = (table ≡ left) × (from ≡ to)
+LeadTo table text ts from (tree ∷ trees) left to =
+    (next : ℕ) × (then : Ops) × EndsFirst ts from next × LeavesAs table text (slice_range ts from next) tree then × LeadTo then text ts next trees left to
+
+-- a clause ends directly before the place
+pub record IsBehindClause (ts : List Token) (to : ℕ) : Type 0 where
+  pub within : to ≤ length ts
+  pub stops : (kind_there ts (to - 1) ≡ Some End) ⊎ (to ≡ length ts)
+
+-- the stretch has tokens, and ends with a clause
+pub record IsStretch (ts : List Token) (stretch : Stretch) : Type 0 where
+  pub some : stretch.from < stretch.to
+  pub ends : IsBehindClause ts stretch.to
+
+-- the stretches stand side by side from a place up to another
+abbrev pub AreStretches : List Token → ℕ → List Stretch → ℕ → Type 0
+AreStretches ts from [] to = from ≡ to
+AreStretches ts from (stretch ∷ stretches) to = (stretch.from ≡ from) × IsStretch ts stretch × AreStretches ts stretch.to stretches to
+
+-- what stands behind the clauses of a piece, which end at a place: nothing more up to the end of the piece, a clause, or a part that is none
+abbrev pub EndIs : Ops → List ℕ → List Token → ℕ → ℕ → PieceEnd → Type 0
+EndIs table text ts at to (Whole place) = (at ≡ to) × (place ≡ to)
+EndIs table text ts at to (AtOperators clause place) = EndsFirst ts at place × IsClauseOf (table_of table) text (slice_range ts at place) (tree_of clause.term)
+EndIs table text ts at to (Refused fault) = fault ≢ NoMemory → (next : ℕ) × EndsFirst ts at next × IsPartFault table text (slice_range ts at next) fault
+
+-- what is read from a place up to another under the table, which the clauses of the piece leave as it is
+pub record IsPiece (table : Ops) (text : List ℕ) (ts : List Token) (from to : ℕ) (piece : Piece) : Type 0 where
+  pub some : from < to
+  pub at : ℕ
+  pub clauses : LeadTo table text ts from (clause_trees piece.clauses.items) table at
+  pub end : EndIs table text ts at to piece.end
+
+-- the pieces are read side by side from a place up to another
+abbrev pub ArePieces : Ops → List ℕ → List Token → ℕ → List Piece → ℕ → Type 0
+ArePieces table text ts from [] to = from ≡ to
+ArePieces table text ts from (piece ∷ pieces) to = (next : ℕ) × IsPiece table text ts from next piece × ArePieces table text ts next pieces to
+
+-- clauses are added that lead from one table and place to another
+pub record AreAdded (table : Ops) (text : List ℕ) (ts : List Token) (from : ℕ) (before after : List Tree) (left : Ops) (to : ℕ) : Type 0 where
+  pub more : List Tree
+  pub all : after ≡ before ++ more
+  pub lead : LeadTo table text ts from more left to
+
+-- some clauses lead from the table and the place to a part with the fault
+pub record IsFaultAhead (table : Ops) (text : List ℕ) (ts : List Token) (from : ℕ) (fault : TextFault) : Type 0 where
+  pub before : List Tree
+  pub left : Ops
+  pub at : ℕ
+  pub lead : LeadTo table text ts from before left at
+  pub next : ℕ
+  pub part : EndsFirst ts at next
+  pub is : IsPartFault left text (slice_range ts at next) fault

@@ -1,0 +1,161 @@
+//! Clauses that stand side by side in a text, read under one table of operators.
+
+ghost use Rattle.std.specs.Prelude.{◌≡◌, ◌≤◌, ◌<◌, ℕ, length, All, IfOk};
+ghost use Rattle.prolog_tokens.specs.Cut.{IsCut};
+ghost use Rattle.prolog_ops.specs.Table.{ops_of};
+ghost use Rattle.clause_text.specs.Clauses.{EndsFirst};
+ghost use Rattle.clause_text.specs.Pieces.{IsBehindClause, IsStretch, AreStretches, IsPiece, ArePieces};
+
+use crate::Clause;
+use crate::fault::TextFault;
+use crate::items::has_items;
+use prolog_ops::OpTable;
+use prolog_terms::read_clause;
+use prolog_tokens::{Kind, Token};
+use rayon::prelude::*;
+use std::alloc::{AllocError, Global};
+use std::thread::Threads;
+
+/// How many tokens a stretch has at least, but for the last one of a text.
+const SIZE: usize = 4096;
+
+/// How few stretches are worth a thread of their own.
+const FEWEST: usize = 4;
+
+/// Clauses side by side: from the place of a token up to another.
+#[derive(Clone, Copy)]
+pub struct Stretch {
+    pub from: usize,
+    pub to: usize,
+}
+
+/// What stands behind the clauses of a piece.
+#[derive(Drop)]
+pub enum PieceEnd {
+    /// The next piece, from a place on.
+    Whole(usize),
+    /// A clause up to a place that sets operators, which aren't set yet.
+    AtOperators(Clause, usize),
+    /// A part of the tokens that is refused.
+    Refused(TextFault),
+}
+
+/// What a stretch is read as: the clauses at its front that set no operators.
+#[derive(Drop)]
+pub struct Piece {
+    pub clauses: Vec<Clause>,
+    pub end: PieceEnd,
+}
+
+/// The place behind the first End from `from` on, or behind the last token.
+fn part_end(tokens: &[Token], from: usize) -> usize
+    requires { from < length tokens.now }
+    ensures { EndsFirst tokens.now from result }
+{
+    let mut at = from;
+    while at + 1 < tokens.len() {
+        if tokens[at].kind == Kind::End {
+            break;
+        }
+        at += 1;
+    }
+    at + 1
+}
+
+/// Where the stretch from a place on ends.
+fn stretch_end(tokens: &[Token], from: usize) -> usize
+    requires { from < length tokens.now }
+    ensures some { from < result }
+    ensures ends { IsBehindClause tokens.now result }
+{
+    let size = SIZE.min(tokens.len() - from);
+    part_end(tokens, from + size - 1)
+}
+
+/// The next stretches from a place on, at most so many, and one in any case.
+pub fn stretches_from(
+    alloc: Global,
+    tokens: &[Token],
+    from: usize,
+    most: usize,
+) -> Result<Vec<Stretch>, AllocError>
+    requires { from < length tokens.now }
+    ensures { IfOk result (λ stretches. (to : ℕ) × (from < to) × AreStretches tokens.now from stretches.items to) }
+{
+    let mut stretches = Vec::new(alloc);
+    let mut at = from;
+    while at < tokens.len() {
+        let to = stretch_end(tokens, at);
+        stretches.push(Stretch { from: at, to })?;
+        at = to;
+        if stretches.len() >= most {
+            break;
+        }
+    }
+    Ok(stretches)
+}
+
+/// What the stretch is read as under the table.
+fn read_stretch(
+    alloc: Global,
+    table: &OpTable,
+    text: &str,
+    tokens: &[Token],
+    stretch: &Stretch,
+) -> Piece
+    requires small { length text.now ≤ 8388608 }
+    requires cut { IsCut text.now tokens.now }
+    requires stretch { IsStretch tokens.now stretch.now }
+    ensures { IsPiece (ops_of table.now) text.now tokens.now stretch.now.from stretch.now.to result }
+{
+    let mut clauses = Vec::new(alloc);
+    let mut at = stretch.from;
+    while at < stretch.to {
+        let next = part_end(tokens, at);
+        let clause = match read_clause(alloc, table, text, &tokens[at..next]) {
+            Ok(term) => Clause { term },
+            Err(fault) => {
+                let end = PieceEnd::Refused(fault.into());
+                return Piece { clauses, end };
+            }
+        };
+        if has_items(&clause.term) {
+            let end = PieceEnd::AtOperators(clause, next);
+            return Piece { clauses, end };
+        }
+        if clauses.push(clause).is_err() {
+            let end = PieceEnd::Refused(TextFault::NoMemory);
+            return Piece { clauses, end };
+        }
+        at = next;
+    }
+    let end = PieceEnd::Whole(at);
+    Piece { clauses, end }
+}
+
+/// What the stretches are read as under the table. They are read side by side.
+pub fn read_each<R: Threads + Sync>(
+    rt: &R,
+    alloc: Global,
+    table: &OpTable,
+    text: &str,
+    tokens: &[Token],
+    stretches: &[Stretch],
+) -> Result<Vec<Piece>, AllocError>
+    requires small { length text.now ≤ 8388608 }
+    requires cut { IsCut text.now tokens.now }
+    requires stretches { All (IsStretch tokens.now) stretches.now }
+    ensures { IfOk result (λ pieces. (from to : ℕ) → AreStretches tokens.now from stretches.now to
+        → ArePieces (ops_of table.now) text.now tokens.now from pieces.items to) }
+{
+    stretches
+        .par_iter()
+        .with_min_len(FEWEST)
+        .map(
+            |stretch: &Stretch| -> Piece
+                requires { (length text.now ≤ 8388608) × IsCut text.now tokens.now × IsStretch tokens.now stretch.now }
+                ensures { IsPiece (ops_of table.entry.now) text.entry.now tokens.entry.now stretch.entry.now.from stretch.entry.now.to result }
+            { read_stretch(alloc, table, text, tokens, stretch) },
+        )
+        .collect(rt, alloc)
+}
