@@ -127,7 +127,7 @@ won s r id v x at live lt z =
       agrees =
           each_set (λ k u. u.live ≡ true → Agrees r.known Q D u) s.views id w
           (λ k u ne at_k is_live. agrees_more r.known P Q D D u more all (r.agrees k u at_k is_live))
-          (λ _. record { lists = as_looked.lists; roots = as_looked.roots; seen = as_looked.seen; held = as_looked.held; finished = as_looked.finished });
+          (λ _. record { lists = as_looked.lists; roots = as_looked.roots; seen = as_looked.seen; held = as_looked.held; finished = as_looked.finished; told = as_looked.told });
       wants = λ y wanted. let h = more y in let g = r.wants y wanted in omega (arith, h, g);
     }
 

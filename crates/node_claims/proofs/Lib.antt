@@ -1,5 +1,6 @@
 mod Calls
 mod Claiming
+mod Failure
 mod Once
 mod Passes
 mod Turning

@@ -1,6 +1,6 @@
 -- The table as it begins, and two passes from one and one from two.
 use Rattle.std.proofs.Common.{inl, inr, ◌≡◌, ℕ, zero, suc, ◌<◌, ◌≤◌, List, [], ◌∷◌, ◌++◌, length, get_or, set, replicate, true, true≢false, None, Some, refl, ap, ◌∙◌, sym, subst, ⊎_elim, arith}
-use Rattle.std.proofs.lemmas.Bool.{cases_lt}
+use Rattle.std.proofs.lemmas.Bool.{cases_lt, or_cases}
 use Rattle.std.proofs.lemmas.List.{get_or-replicate, length-replicate}
 use mathlib.Core.Option.{some, some-injective, some-ne-none}
 use lib.ListN.{get_elem?}
@@ -80,6 +80,7 @@ one_more s r id v at live =
       seen = λ x some_seen. absurd (omega (arith, some_seen));
       held = λ x noted. absurd noted;
       finished = λ x noted. absurd noted;
+      told = λ is_told. absurd (true≢false (sym is_told));
     } in
     other_views s r views e turn
     (λ k u at_k is_live.
@@ -102,6 +103,7 @@ both_agrees o p d v w a b = record {
   finished = λ x noted.
       let sum = times-append x v.seen w.seen in
       ⊎_elim (λ left. let g = a.finished x left in omega (arith, g, sum)) (λ right. let g = b.finished x right in omega (arith, g, sum)) (noted_append x 2 v.looks w.looks noted);
+  told = λ is_told. ⊎_elim (λ left. a.told left) (λ right. b.told right) (or_cases v.told w.told is_told);
 }
 
 pub joins_it : (id : ℕ) (v : View) (other : ℕ) (w : View) → v.live ≡ true → w.live ≡ true → w.turn ≡ None
@@ -168,6 +170,7 @@ begins_it b no_kept no_groups =
             seen = λ x some_seen. absurd (omega (arith, some_seen));
             held = λ x noted. absurd noted;
             finished = λ x noted. absurd noted;
+            told = λ is_told. absurd (true≢false (sym is_told));
           });
       wants = λ x wanted. absurd (let z = none_wanted x in omega (arith, z, wanted));
     }

@@ -36,6 +36,7 @@ lent s r id v at live none_closed =
       seen = λ x some_seen. let done = a.seen x some_seen in let t = closed_not x in omega (arith, done, t);
       apart = λ x. let own = own_stands s.views r.known id v x at in let once = r.once x in omega (arith, own, once);
       below = λ x stands. r.below x (let own = own_stands s.views r.known id v x at in omega (arith, own, stands));
+      told = a.told;
     }
 
 taken_at_home : (slots id : ℕ) (me : Me Slot View) → me.1 ≡ [] → me.0.live ≡ true → (s : Tab) (r : RuleHolds s) → get_elem? s.views id ≡ some me.0
@@ -62,7 +63,7 @@ taken_at_home slots id me empty live s r at h =
     let a = r.agrees id v at live in
     let holds =
     keeps_counts s r id v w ws hs at refl (length-set s.words 0 (f n)) (λ y. get_or-set_other s.words 0 (suc y) (f n) 0 (λ e. omega (arith, e))) (inr out)
-    (λ _. record { lists = a.lists; roots = a.roots; seen = a.seen; held = a.held; finished = a.finished }) in
+    (λ _. record { lists = a.lists; roots = a.roots; seen = a.seen; held = a.held; finished = a.finished; told = a.told }) in
     let took : Took me (w, (0, Some h.book) ∷ me.1) = record {
       book = h.book;
       view = refl;
@@ -140,7 +141,7 @@ closed_more s r v t x h at live has is may =
       agrees =
           each_set (λ k u. u.live ≡ true → Agrees r.known Q E u) s.views h.seat w
           (λ k u ne at_k is_live. agrees_more r.known P Q D E u more rises (r.agrees k u at_k is_live))
-          (λ _. agrees_more r.known P Q D E w more rises (record { lists = a.lists; roots = a.roots; seen = a.seen; held = a.held; finished = a.finished }));
+          (λ _. agrees_more r.known P Q D E w more rises (record { lists = a.lists; roots = a.roots; seen = a.seen; held = a.held; finished = a.finished; told = a.told }));
       wants = λ y wanted. let g = more y in let q = r.wants y wanted in omega (arith, g, q);
     }
 
@@ -169,10 +170,10 @@ given : (s : Tab) (r : RuleHolds s) (v : View) (t : Taken) (b : BookValue) (node
     → RuleHolds (record {
       words = set s.words 0 0;
       homes = set s.homes 0 (some (Some b));
-      views = set s.views id (record v { nodes = nodes; seen = v.seen ++ flat b.groups; turn = None });
+      views = set s.views id (record v { nodes = nodes; seen = v.seen ++ flat b.groups; told = b.failed; turn = None });
     })
 given s r v t b nodes id h at seat live is may =
-    let w : View = record v { nodes = nodes; seen = v.seen ++ flat b.groups; turn = None } in
+    let w : View = record v { nodes = nodes; seen = v.seen ++ flat b.groups; told = b.failed; turn = None } in
     let ws : List ℕ = set s.words 0 0 in
     let now : Outline = outline_of b in
     let D : ℕ → ℕ = finished r.known r.closed in
@@ -182,6 +183,7 @@ given s r v t b nodes id h at seat live is may =
     let book : t.book ≡ r.known = ap (λ (u : Taken). u.book) is in
     let lists : r.known.lists ≡ now.lists = ap (λ (o : Outline). o.lists) (sym book) ∙ sym may.lists in
     let roots : r.known.roots ≡ now.roots = ap (λ (o : Outline). o.roots) (sym book) ∙ sym may.roots in
+    let failed : r.known.failed ≡ true → now.failed ≡ true = λ has. may.failed (ap (λ (o : Outline). o.failed) book ∙ has) in
     let kept : (y : ℕ) → times y t.book.kept ≡ times y r.known.kept = λ y. ap (λ (o : Outline). times y o.kept) book in
     let released : (y : ℕ) → times y (flat t.book.released) ≡ times y (flat r.known.released) = λ y. ap (λ (o : Outline). times y (flat o.released)) book in
     let closed : (y : ℕ) → times y t.closed ≡ times y r.closed = λ y. ap (λ (u : Taken). times y u.closed) is in
@@ -198,7 +200,7 @@ given s r v t b nodes id h at seat live is may =
     let a = r.agrees id v at live in
     let wide : 0 < length s.words = let c = r.count in omega (arith, c) in
     let moved : (u : View) → Agrees r.known Q E u → Agrees now Q E u =
-    λ u old. record { lists = old.lists ∙ lists; roots = old.roots ∙ roots; seen = old.seen; held = old.held; finished = old.finished } in record {
+    λ u old. record { lists = old.lists ∙ lists; roots = old.roots ∙ roots; seen = old.seen; held = old.held; finished = old.finished; told = λ is_told. failed (old.told is_told) } in record {
       known = now;
       closed = [];
       turn =
@@ -237,6 +239,7 @@ given s r v t b nodes id h at seat live is may =
                 ];
             held = λ y noted. let g = a.held y noted in let q = e y in omega (arith, g, q);
             finished = λ y noted. let g = a.finished y noted in let sum = times-append y v.seen (flat b.groups) in omega (arith, g, sum);
+            told = λ is_told. is_told;
           });
       wants = λ y wanted.
           ⊎_elim
@@ -264,7 +267,7 @@ Gives slots nodes s id me =
 given_out : (slots id : ℕ) (v : View) (b : BookValue) (t : Taken) (nodes : List ℕ) → v.live ≡ true → v.turn ≡ Some t → MayGive v t (outline_of b) nodes
     → (s : Tab) (r : RuleHolds s) → get_elem? s.views id ≡ some v → IsOut s r.known r.closed → Gives slots nodes s id (v, (0, Some b) ∷ [])
 given_out slots id v b t nodes live has may s r at h =
-    let w : View = record v { nodes = nodes; seen = v.seen ++ flat b.groups; turn = None } in
+    let w : View = record v { nodes = nodes; seen = v.seen ++ flat b.groups; told = b.failed; turn = None } in
     let seat : id ≡ h.seat = is_seat s r.known r.closed h id v t at has in
     let is = is_taken s r.known r.closed h id v t at has in
     (w, gives, tt, given s r v t b nodes id h at seat live is may, refl)

@@ -82,6 +82,7 @@ agrees_more o p q d e v stands done a = record {
   seen = λ x some_seen. let old = a.seen x some_seen in omega (arith, old, done x);
   held = λ x noted. let old = a.held x noted in omega (arith, old, stands x);
   finished = a.finished;
+  told = a.told;
 }
 
 -- a node among those seen and x
@@ -102,6 +103,7 @@ look_agrees o p d v x zero is a = record {
   seen = a.seen;
   held = λ y noted. ⊎_elim (λ old. a.held y old) (λ (last : (x ≡ y) × (0 ≡ 1)). absurd (omega (arith, last.1))) (noted_snoc y 1 v.looks x 0 noted);
   finished = λ y noted. ⊎_elim (λ old. a.finished y old) (λ (last : (x ≡ y) × (0 ≡ 2)). absurd (omega (arith, last.1))) (noted_snoc y 2 v.looks x 0 noted);
+  told = a.told;
 }
 look_agrees o p d v x (suc zero) is a = record {
   lists = a.lists;
@@ -109,6 +111,7 @@ look_agrees o p d v x (suc zero) is a = record {
   seen = a.seen;
   held = λ y noted. ⊎_elim (λ old. a.held y old) (λ (last : (x ≡ y) × (1 ≡ 1)). subst (λ (u : ℕ). 0 < p u) last.0 (word_one (p x) (d x) 1 is refl).0) (noted_snoc y 1 v.looks x 1 noted);
   finished = λ y noted. ⊎_elim (λ old. a.finished y old) (λ (last : (x ≡ y) × (1 ≡ 2)). absurd (omega (arith, last.1))) (noted_snoc y 2 v.looks x 1 noted);
+  told = a.told;
 }
 look_agrees o p d v x (suc (suc n)) is a =
     let done : 0 < d x = word_done (p x) (d x) (suc (suc n)) is (omega arith) in record {
@@ -121,6 +124,7 @@ look_agrees o p d v x (suc (suc n)) is a =
           (λ old. let had = a.finished y old in let sum = times-append y v.seen (x ∷ []) in omega (arith, had, sum))
           (λ (last : (x ≡ y) × (2 ≡ 2)). subst (λ (u : ℕ). 0 < times u (v.seen ++ x ∷ [])) last.0 (seen_last x v.seen))
           (noted_snoc y 2 v.looks x 2 noted);
+      told = a.told;
     }
 
 -- the number found is no less than what the pass knew

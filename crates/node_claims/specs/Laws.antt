@@ -1,9 +1,10 @@
 -- What follows for every table that keeps the rule.
-use Rattle.std.specs.Prelude.{◌≡◌, ℕ, suc, ◌+◌, ◌<◌, length, slice_index}
+use Rattle.std.specs.Prelude.{◌≡◌, ℕ, suc, ◌+◌, ◌<◌, true, [], ◌∷◌, length, slice_index, Some}
 use mathlib.Core.Option.{some}
 use lib.ListN.{get_elem?}
 use Rattle.atomic_table.specs.Table.{State}
 use Rattle.node_counts.specs.Counts.{times, total}
+use Rattle.group_release.specs.Book.{BookValue}
 use Rattle.node_claims.specs.declared.view.View.{View}
 use Rattle.node_claims.specs.Rule.{RuleHolds, Slot}
 
@@ -18,3 +19,9 @@ abbrev pub StandSomewhere : Type 0
 StandSomewhere =
     (s : State Slot View) (holds : RuleHolds s) (x : ℕ) → x < length holds.known.lists → slice_index s.words (suc x) ≡ 1
     → total (λ v. times x v.nodes) s.views + times x holds.known.kept ≡ 1
+
+-- where a pass has told of a failure, a book that lies in the slot has failed
+abbrev pub FailureStays : Type 0
+FailureStays =
+    (s : State Slot View) → RuleHolds s → (i : ℕ) (v : View) (book : BookValue) → get_elem? s.views i ≡ some v → v.live ≡ true → v.told ≡ true
+    → s.homes ≡ some (Some book) ∷ [] → book.failed ≡ true

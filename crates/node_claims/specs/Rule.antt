@@ -27,13 +27,15 @@ pub record WordIs (stands done word : ℕ) : Type 0 where
   pub held : 0 < stands → done ≡ 0 → word ≡ 1
   pub closed : 0 < done → word ≡ 2
 
--- what a pass knows is so: it has the graph and the roots, what it saw finished is finished, and what it found held stands somewhere
+-- what a pass knows is so: it has the graph and the roots, what it saw finished is finished, what it found held stands somewhere, and a book
+-- that it gave back failed has failed
 pub record Agrees (o : Outline) (stands done : ℕ → ℕ) (v : View) : Type 0 where
   pub lists : v.lists ≡ o.lists
   pub roots : v.roots ≡ o.roots
   pub seen : (x : ℕ) → 0 < times x v.seen → 0 < done x
   pub held : (x : ℕ) → Noted x 1 v.looks → 0 < stands x
   pub finished : (x : ℕ) → Noted x 2 v.looks → 0 < times x v.seen
+  pub told : v.told ≡ true → o.failed ≡ true
 
 -- the word of the turn is 0, the book is in the slot, and no pass has the turn
 pub record AtHome (s : State Slot View) (o : Outline) (closed : List ℕ) : Type 0 where

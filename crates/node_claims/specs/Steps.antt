@@ -1,5 +1,5 @@
 -- What each kind of step tells, and when it may be made.
-use Rattle.std.specs.Prelude.{◌≡◌, ◌≢◌, ◌⊎◌, ℕ, zero, suc, ◌+◌, ◌<◌, ◌≤◌, List, [], ◌∷◌, ◌++◌, length, Option, None, Some}
+use Rattle.std.specs.Prelude.{◌≡◌, ◌≢◌, ◌⊎◌, ℕ, zero, suc, ◌+◌, ◌<◌, ◌≤◌, Bool, true, false, List, [], ◌∷◌, ◌++◌, length, Option, None, Some}
 use Rattle.atomic_table.specs.Table.{Me, Step}
 use Rattle.node_counts.specs.Counts.{times, flat, IsLonger}
 use Rattle.group_release.specs.Book.{BookValue}
@@ -27,13 +27,15 @@ claims st m n m' = IsLater (node_of st.word) m.0 n × (m' ≡ (claimed (node_of 
 abbrev pub looks_at : Step Slot → Me Slot View → ℕ → Me Slot View → Type 0
 looks_at st m n m' = IsLater (node_of st.word) m.0 n × (m' ≡ (looked (node_of st.word) n m.0, m.1))
 
--- what the taken book is to the pass that took it: what it saw finished is released, and what it has is neither released nor kept
+-- what the taken book is to the pass that took it: what it saw finished is released, what it has is neither released nor kept, and a book that
+-- it gave back failed has failed
 pub record IsLent (v : View) (o : Outline) : Type 0 where
   pub lists : v.lists ≡ o.lists
   pub roots : v.roots ≡ o.roots
   pub seen : (x : ℕ) → 0 < times x v.seen → 0 < times x (flat o.released)
   pub apart : (x : ℕ) → times x v.nodes + (times x o.kept + times x (flat o.released)) ≤ 1
   pub below : (x : ℕ) → 0 < times x v.nodes + (times x o.kept + times x (flat o.released)) → x < length o.lists
+  pub told : v.told ≡ true → o.failed ≡ true
 
 pub record Took (m m' : Me Slot View) : Type 0 where
   pub book : BookValue
@@ -61,15 +63,21 @@ abbrev pub released_in : List (ℕ × Slot) → List ℕ
 released_in ((k, Some book) ∷ held) = flat book.groups
 released_in _ = []
 
--- the pass has these nodes then, and has seen all that is released
-abbrev pub gives_turn : List ℕ → Step Slot → Me Slot View → ℕ → Me Slot View → Type 0
-gives_turn nodes st m n m' = m' ≡ (record m.0 { nodes = nodes; seen = m.0.seen ++ released_in m.1; turn = None }, [])
+abbrev pub failed_in : List (ℕ × Slot) → Bool
+failed_in ((k, Some book) ∷ held) = book.failed
+failed_in _ = false
 
--- the book may come back, and the pass has these nodes then: no node is lost or doubled, groups were released behind the others, what was
--- released anew is what was closed, and each wanted node was wanted before, stands here or was found held by this pass
+-- the pass has these nodes then, has seen all that is released, and has told of a failure where the book has failed
+abbrev pub gives_turn : List ℕ → Step Slot → Me Slot View → ℕ → Me Slot View → Type 0
+gives_turn nodes st m n m' = m' ≡ (record m.0 { nodes = nodes; seen = m.0.seen ++ released_in m.1; told = failed_in m.1; turn = None }, [])
+
+-- the book may come back, and the pass has these nodes then: a book that had failed still has, no node is lost or doubled, groups were released
+-- behind the others, what was released anew is what was closed, and each wanted node was wanted before, stands here or was found held by this
+-- pass
 pub record MayGive (v : View) (t : Taken) (now : Outline) (nodes : List ℕ) : Type 0 where
   pub lists : now.lists ≡ t.book.lists
   pub roots : now.roots ≡ t.book.roots
+  pub failed : t.book.failed ≡ true → now.failed ≡ true
   pub released : IsLonger t.book.released now.released
   pub closed : (x : ℕ) → times x (flat now.released) ≡ times x (flat t.book.released) + times x t.closed
   pub same : (x : ℕ) → times x nodes + (times x now.kept + times x (flat now.released))

@@ -1,12 +1,12 @@
 -- How the fields hold a turn.
-use Rattle.std.specs.Prelude.{◌≡◌, true, [], ◌∷◌, Option, None, Some}
+use Rattle.std.specs.Prelude.{◌≡◌, true, false, [], ◌∷◌, Option, None, Some}
 use Rattle.node_claims.specs.declared.turn.Turn.TheInside.{Inside}
 use Rattle.node_claims.specs.declared.view.Taken.{Taken}
 use Rattle.node_claims.specs.Claims.{TurnValue}
 
 abbrev pub taken_of : Option Taken → Taken
 taken_of (Some taken) = taken
-taken_of None = record { book = record { lists = []; roots = []; kept = []; wants = []; released = [] }; closed = [] }
+taken_of None = record { book = record { lists = []; roots = []; failed = false; kept = []; wants = []; released = [] }; closed = [] }
 
 abbrev pub turn_of : Inside → TurnValue
 turn_of fields = record {

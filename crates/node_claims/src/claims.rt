@@ -126,8 +126,9 @@ impl Claims {
     }
 
     /// Waits until no other pass has the turn, and lends the book. What the pass saw finished is
-    /// released in it; what the pass has is neither released in it nor kept. Every book keeps the rest
-    /// of its rule by itself, as `Book::keeps` tells. The promise holds if the call returns.
+    /// released in it; what the pass has is neither released in it nor kept; and it has failed where the
+    /// pass gave it back failed. Every book keeps the rest of its rule by itself, as `Book::keeps` tells.
+    /// The promise holds if the call returns.
     pub fn turn(&self, rt: &impl Wait, pass: Pass) -> Turn<'_>
         requires { IsPassOf self.now pass }
         ensures table { result.table ≡ pass.table }

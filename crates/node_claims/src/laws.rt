@@ -1,9 +1,15 @@
 //! What holds of every table that keeps the rule, as laws: functions with nothing to run.
 
-ghost use Rattle.node_claims.specs.Laws.{AreClaimedOnce, StandSomewhere};
+ghost use Rattle.node_claims.specs.Laws.{AreClaimedOnce, FailureStays, StandSomewhere};
 
 /// No node is with two passes; and a node whose word is 1 stands once with a pass or on a kept search.
 pub fn nodes_are_claimed_once()
     ensures once { AreClaimedOnce }
     ensures somewhere { StandSomewhere }
+{}
+
+/// Where a pass has told of a failure, a book that lies in the slot has failed; so each pass that takes
+/// it from then on finds the mark.
+pub fn failure_stays()
+    ensures { FailureStays }
 {}

@@ -14,6 +14,6 @@ mod turn;
 mod view;
 
 pub use claims::{Claimed, Claims, Looked};
-pub use laws::nodes_are_claimed_once;
+pub use laws::{failure_stays, nodes_are_claimed_once};
 pub use pass::Pass;
 pub use turn::Turn;

@@ -61,12 +61,12 @@ impl<'a> Turn<'a> {
     }
 
     /// Puts the book back and lets the next pass have the turn. The pass has the nodes of `running`
-    /// then, with `unopened` last, which is a node that it won and hasn't pushed; and it has seen all
-    /// that is released.
+    /// then, with `unopened` last, which is a node that it won and hasn't pushed; it has seen all that is
+    /// released, and has told of a failure where the book has failed.
     pub fn give(self, running: &Search, unopened: Option<u32>) -> Pass
         requires { MayGive self.view self.taken (outline_of self.book) (nodes_with running.now unopened) }
         ensures table { result.table ≡ self.entry.table }
-        ensures view { result.view ≡ record self.entry.view { nodes = nodes_with running.now unopened; seen = self.entry.view.seen ++ flat self.entry.book.groups } }
+        ensures view { result.view ≡ record self.entry.view { nodes = nodes_with running.now unopened; seen = self.entry.view.seen ++ flat self.entry.book.groups; told = self.entry.book.failed } }
     {
         self.give_named::<Brand>(running, unopened)
     }
@@ -76,7 +76,7 @@ impl<'a> Turn<'a> {
         requires named { nodes_with running.now unopened ≡ N.nodes }
         requires may { MayGive self.view self.taken (outline_of self.book) (nodes_with running.now unopened) }
         ensures table { result.table ≡ self.entry.table }
-        ensures view { result.view ≡ record self.entry.view { nodes = nodes_with running.now unopened; seen = self.entry.view.seen ++ flat self.entry.book.groups } }
+        ensures view { result.view ≡ record self.entry.view { nodes = nodes_with running.now unopened; seen = self.entry.view.seen ++ flat self.entry.book.groups; told = self.entry.book.failed } }
     {
         let Turn {
             claims,

@@ -3,11 +3,12 @@
 
 use std::collections::LinkedList;
 
-/// A book as the rule sees it: its graph and its roots, the nodes of its kept searches, the nodes that
-/// these want, and its released groups.
+/// A book as the rule sees it: its graph and its roots, whether it has failed, the nodes of its kept
+/// searches, the nodes that these want, and its released groups.
 pub struct Outline {
     pub lists: LinkedList<LinkedList<u32>>,
     pub roots: LinkedList<u32>,
+    pub failed: bool,
     pub kept: LinkedList<u32>,
     pub wants: LinkedList<u32>,
     pub released: LinkedList<LinkedList<u32>>,
@@ -20,8 +21,9 @@ pub struct Taken {
 }
 
 /// What a pass knows: the graph and the roots, the nodes that it claimed and has, those that it saw
-/// finished, what each of its claims and looks found, and the book that it took, if it has the turn. A
-/// pass that was joined into another isn't live.
+/// finished, what each of its claims and looks found, and the book that it took, if it has the turn.
+/// `told` says that it gave back a book that had failed, which each pass that takes the turn from then
+/// on finds failed. A pass that was joined into another isn't live.
 pub struct View {
     pub live: bool,
     pub lists: LinkedList<LinkedList<u32>>,
@@ -29,5 +31,6 @@ pub struct View {
     pub nodes: LinkedList<u32>,
     pub seen: LinkedList<u32>,
     pub looks: LinkedList<(u32, u64)>,
+    pub told: bool,
     pub turn: Option<Taken>,
 }

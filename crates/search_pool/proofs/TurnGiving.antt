@@ -10,7 +10,7 @@ use Rattle.node_claims.specs.declared.view.View.{View}
 use Rattle.search_pool.specs.Working.{GoesOnWith, IsAtWork}
 
 pub is_at_work : (turn : TurnValue) (pass : PassValue) (search : SearchValue) (n : ℕ) → pass.table ≡ turn.table
-    → pass.view ≡ record turn.view { nodes = nodes_with search None; seen = turn.view.seen ++ flat turn.book.groups }
+    → pass.view ≡ record turn.view { nodes = nodes_with search None; seen = turn.view.seen ++ flat turn.book.groups; told = turn.book.failed }
     → (claims : ClaimsValue) (opened : Bool) → GoesOnWith claims turn search n opened
     → IsAtWork claims (record { pass = pass; search = search; seen_roots = n; waits = 0 }) opened
 is_at_work turn pass search n table view claims opened on =

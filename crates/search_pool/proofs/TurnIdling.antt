@@ -103,7 +103,7 @@ module _ {claims : ClaimsValue} {pass : PassValue} {search : SearchValue} (work 
       → MayGive turn.view turn.taken (outline_of now) (nodes_with ready None)
   may_take now ready idle only counts wants =
       may_shift work took now ready (ap (λ (b : BookValue). b.lists) only) (ap (λ (b : BookValue). b.roots) only)
-      (ap (λ (b : BookValue). b.groups) only)
+      (ap (λ (b : BookValue). b.failed) only) (ap (λ (b : BookValue). b.groups) only)
       (λ x. let none : times x (nodes_on search.stack) ≡ 0 = ap (times x) (idle_nodes search.stack idle) in omega (arith, none, counts x))
       (λ x some. inl (omega (arith, some, wants x)))
 

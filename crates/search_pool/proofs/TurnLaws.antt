@@ -1,5 +1,5 @@
 -- A worker that has the turn: its search is good for what is released, and shares no node with the kept searches.
-use Rattle.std.proofs.Common.{◌≡◌, ◌⊎◌, inl, inr, ℕ, ◌<◌, ◌≤◌, ◌+◌, Bool, List, [], ◌++◌, length, take, get_or, None, refl, ap, ◌∙◌, sym, subst, arith}
+use Rattle.std.proofs.Common.{◌≡◌, ◌⊎◌, inl, inr, ℕ, ◌<◌, ◌≤◌, ◌+◌, Bool, true, List, [], ◌++◌, length, take, get_or, None, refl, ap, ◌∙◌, sym, subst, arith}
 use Rattle.std.proofs.lemmas.List.{append-nil}
 use Rattle.std.specs.Prelude.{All, Contains}
 use Rattle.node_counts.specs.Counts.{times, flat}
@@ -15,6 +15,7 @@ use Rattle.group_release.proofs.Nodes.{from_flat, on_counted}
 use Rattle.node_claims.specs.Claims.{ClaimsValue, PassValue, TurnValue, IsPassOf, nodes_with}
 use Rattle.node_claims.specs.Steps.{IsLent, MayGive}
 use Rattle.node_claims.specs.Views.{Noted, outline_of}
+use Rattle.node_claims.specs.declared.view.Outline.{Outline}
 use Rattle.node_claims.specs.declared.view.Taken.{Taken}
 use Rattle.node_claims.specs.declared.view.View.{View}
 use Rattle.search_pool.specs.Worker.{IsWorking}
@@ -53,6 +54,21 @@ pub turn_of : {claims : ClaimsValue} {pass : PassValue} (turn : TurnValue) → I
     → IsTurnOf claims turn
 turn_of turn of table view =
     (table ∙ of.0, (ap (λ (v : View). v.lists) view ∙ of.1.0, ap (λ (v : View). v.roots) view ∙ of.1.1))
+
+-- a book may come back where it might before, whatever became of its mark, if it has failed where it had
+pub may_still : {v : View} {t : Taken} {nodes : List ℕ} {old now : Outline} → MayGive v t old nodes → now ≡ record old { failed = now.failed }
+    → (old.failed ≡ true → now.failed ≡ true) → MayGive v t now nodes
+may_still {v} {t} {nodes} {old} {now} may same failed =
+    subst (λ o. MayGive v t o nodes) (sym same)
+    (record {
+      lists = may.lists;
+      roots = may.roots;
+      failed = λ had. failed (may.failed had);
+      released = may.released;
+      closed = may.closed;
+      same = may.same;
+      wants = may.wants;
+    })
 
 -- roots that were seen are so among more that were seen
 pub seen_more : (roots seen groups : List ℕ) → All (λ root. 0 < times root seen) roots → All (λ root. 0 < times root (seen ++ groups)) roots
@@ -142,17 +158,18 @@ module _ {claims : ClaimsValue} {pass : PassValue} {search : SearchValue} {opene
       (subst (λ (t : Taken). MayGive pass.view t (outline_of now) nodes) (sym took.taken) may)
 
   -- nothing is released, and nodes go from the search to kept ones or from these to the search
-  pub may_shift : (now : BookValue) (after : SearchValue) → now.lists ≡ book.lists → now.roots ≡ book.roots → now.groups ≡ book.groups
+  pub may_shift : (now : BookValue) (after : SearchValue) → now.lists ≡ book.lists → now.roots ≡ book.roots → now.failed ≡ book.failed → now.groups ≡ book.groups
       → ((x : ℕ)
       → times x (kept_nodes now.kept) + times x (nodes_on after.stack) ≡ times x (kept_nodes book.kept) + times x (nodes_on search.stack))
       → ((x : ℕ) → 0 < times x (wanted_nodes now.kept)
       → (0 < times x (wanted_nodes book.kept)) ⊎ ((0 < times x (nodes_on after.stack)) ⊎ Noted x 1 pass.view.looks))
       → MayGive turn.view turn.taken (outline_of now) (nodes_with after None)
-  may_shift now after lists roots groups counts wants =
+  may_shift now after lists roots failed groups counts wants =
       as_taken now (nodes_with after None)
       (record {
         lists = lists;
         roots = roots;
+        failed = λ had. failed ∙ had;
         released = record { more = []; is = groups ∙ sym (append-nil book.groups) };
         closed = λ x. let same : times x (flat now.groups) ≡ times x (flat book.groups) = ap (λ g. times x (flat g)) groups in omega (arith, same);
         same = λ x.
@@ -174,4 +191,4 @@ module _ {claims : ClaimsValue} {pass : PassValue} {search : SearchValue} {opene
   pub may_stay : (now : BookValue) → outline_of now ≡ outline_of book → MayGive turn.view turn.taken (outline_of now) (nodes_with search None)
   may_stay now same =
       subst (λ o. MayGive turn.view turn.taken o (nodes_with search None)) (sym same)
-      (may_shift book search refl refl refl (λ x. refl) (λ x some. inl some))
+      (may_shift book search refl refl refl refl (λ x. refl) (λ x some. inl some))

@@ -109,6 +109,7 @@ module _ {claims : ClaimsValue} {pass : PassValue} {search : SearchValue} (work 
         let may : MayGive pass.view (record { book = outline_of book; closed = last_group now }) (outline_of now) (nodes_with rest None) = record {
           lists = ap (λ (b : BookValue). b.lists) released.only;
           roots = ap (λ (b : BookValue). b.roots) released.only;
+          failed = λ had. ap (λ (b : BookValue). b.failed) released.only ∙ had;
           released = record { more = released.appended.last ∷ []; is = released.appended.groups };
           closed = λ x. omega (arith, released.released_count x, last_counted x);
           same = λ x.

@@ -32,7 +32,8 @@ module _ {claims : ClaimsValue} {pass : PassValue} {search : SearchValue} {opene
       → ((x : ℕ) → 0 < times x (wanted_nodes now.kept) → (0 < times x (wanted_nodes book.kept)) ⊎ (0 < times x (newly_wanted on suspended)))
       → MayGive turn.view turn.taken (outline_of now) (nodes_with empty None)
   may_keep now on empty suspended is only none held counts wants =
-      may_shift work took now empty (ap (λ (b : BookValue). b.lists) only) (ap (λ (b : BookValue). b.roots) only) (ap (λ (b : BookValue). b.groups) only)
+      may_shift work took now empty (ap (λ (b : BookValue). b.lists) only) (ap (λ (b : BookValue). b.roots) only) (ap (λ (b : BookValue). b.failed) only)
+      (ap (λ (b : BookValue). b.groups) only)
       (λ x.
       let nothing : times x (nodes_on empty.stack) ≡ 0 = ap (times x) none in
       let idle : times x (nodes_going suspended) ≡ 0 = ap (λ s. times x (nodes_going s)) is in
@@ -55,7 +56,8 @@ module _ {claims : ClaimsValue} {pass : PassValue} {search : SearchValue} {opene
       → ((x : ℕ) → 0 < times x (wanted_nodes now.kept) → (0 < times x (wanted_nodes book.kept)) ⊎ (0 < times x (newly_wanted on suspended)))
       → MayGive turn.view turn.taken (outline_of now) (nodes_with after None)
   may_move now on after suspended is only counts wants =
-      may_shift work took now after (ap (λ (b : BookValue). b.lists) only) (ap (λ (b : BookValue). b.roots) only) (ap (λ (b : BookValue). b.groups) only)
+      may_shift work took now after (ap (λ (b : BookValue). b.lists) only) (ap (λ (b : BookValue). b.roots) only) (ap (λ (b : BookValue). b.failed) only)
+      (ap (λ (b : BookValue). b.groups) only)
       (λ x. let going : times x (nodes_going suspended) ≡ times x (nodes_on after.stack) = ap (λ s. times x (nodes_going s)) is in omega (arith, going, counts x))
       (λ x some.
       elim (wants x some) [ inl before ↦ inl before | inr now ↦ inr (inl (subst (λ s. 0 < times x (newly_wanted on s)) is now)) ])

@@ -40,7 +40,8 @@ StopsAt claims pass search (Wants node) = IsRunning claims pass search true × I
 StopsAt claims pass search (Unopened node) = HasNodes claims pass search (Some node)
 StopsAt claims pass search NoRoom = HasNodes claims pass search None
 
--- how a worker ends: it has seen each root finished and has nothing, or memory was wanting and it gives back what it has
+-- how a worker ends: it has seen each root finished and has nothing, or memory was wanting and it gives back what it has. The book has failed
+-- then, which every other worker sees at its next turn.
 abbrev pub EndsWell : ClaimsValue → Ended → Type 0
 EndsWell claims (Finished pass) = IsPassOf claims pass × ((pass.view.nodes ≡ []) × All (λ root. 0 < times root pass.view.seen) claims.roots)
-EndsWell claims (NoMemory pass search unopened) = HasNodes claims pass search unopened
+EndsWell claims (NoMemory pass search unopened) = HasNodes claims pass search unopened × (pass.view.told ≡ true)

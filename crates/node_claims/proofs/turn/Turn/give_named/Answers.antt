@@ -17,7 +17,7 @@ store-requires g c =
     slot_put c.self.inside.seat.me.0 c.self.inside.book c.self.inside.seat.me.1 c.exchange.new.seat.me c.exchange.ensures.3 c.self.invariant.1.0 in
     let taken : Taken = taken_of c.self.inside.seat.me.0.turn in
     let given : MayGive c.self.inside.seat.me.0 taken (outline_of c.self.inside.book) (nodes_with c.args.running.now c.args.unopened) =
-    record { lists = may.lists; roots = may.roots; released = may.released; closed = may.closed; same = may.same; wants = may.wants } in (
+    record { lists = may.lists; roots = may.roots; failed = may.failed; released = may.released; closed = may.closed; same = may.same; wants = may.wants } in (
       c.exchange.ensures.0 ∙ table,
       omega (arith, c.claims.invariant.0),
       gives_as _ _ c.exchange.new.seat.me c.self.inside.seat.me.0 c.self.inside.book taken _ me c.self.invariant.1.1.0 c.self.invariant.1.1.1.0
