@@ -15,7 +15,7 @@ use Rattle.clause_text.specs.declared.piece.Piece.{Piece}
 use Rattle.clause_text.specs.declared.piece.PieceEnd.TheVariants.{Whole, AtOperators, Refused}
 use Rattle.clause_text.specs.Items.{items_of, items_on}
 use Rattle.clause_text.specs.Clauses.{AreClauses, IsPartFault, FaultStandsBehind, HasClauseFault, EndsFirst, clause_trees}
-use Rattle.clause_text.specs.Pieces.{LeadTo, IsStretch, AreStretches, EndIs, IsPiece, ArePieces, AreAdded, IsFaultAhead}
+use Rattle.clause_text.specs.Pieces.{LeadTo, IsBehindClause, IsStretch, AreStretches, EndIs, IsPiece, ArePieces, AreAdded, IsFaultAhead}
 use Rattle.clause_text.proofs.ClauseSplits.{back, part_of, part_first, nothing_behind}
 use Rattle.clause_text.proofs.Leads.{lead_joined}
 
@@ -90,17 +90,23 @@ pub added_lead : (table : Ops) (text : List ℕ) (ts : List Token) (start : ℕ)
 added_lead table text ts start before after mid from left to lead added =
     subst (λ trees. LeadTo table text ts start trees left to) (sym added.all) (lead_joined table mid left text ts start from to before added.more lead added.lead)
 
--- of pieces up to a place those up to another are kept, and the others are left
+-- of pieces up to a place those up to another are kept, where a clause ends if any are, and the others are left
 pub record IsKept (table : Ops) (text : List ℕ) (ts : List Token) (from : ℕ) (before : List Tree) (rest : List Piece) (after : List Tree) (to end : ℕ) : Type 0 where
   pub added : AreAdded table text ts from before after table to
   pub others : ArePieces table text ts to rest end
   pub up : from ≤ to
+  pub behind : from < to → IsBehindClause ts to
 
 abbrev pub AreKept : Ops → ℕ → List Piece → List Tree → List Piece → List Tree → ℕ → Type 0
 AreKept table from all before rest after to = (text : List ℕ) (ts : List Token) (end : ℕ) → ArePieces table text ts from all end → IsKept table text ts from before rest after to end
 
 pub none_kept : (table : Ops) (from : ℕ) (all : List Piece) (before : List Tree) → AreKept table from all before all before from
-none_kept table from all before = λ text ts end are. record { added = record { more = []; all = sym (append-nil before); lead = (refl, refl) }; others = are; up = omega arith }
+none_kept table from all before = λ text ts end are. record {
+  added = record { more = []; all = sym (append-nil before); lead = (refl, refl) };
+  others = are;
+  up = omega arith;
+  behind = λ some. (let never : ⊥ = omega (arith, some) in absurd never);
+}
 
 -- where none are left
 module _ (table : Ops) (from : ℕ) (all : List Piece) (before : List Tree) (left : List Piece) (after : List Tree) (to : ℕ) (kept : AreKept table from all before left after to)
@@ -113,6 +119,9 @@ module _ (table : Ops) (from : ℕ) (all : List Piece) (before : List Tree) (lef
       let reached : to ≡ end = subst (λ pieces. ArePieces table text ts to pieces end) (nil_from_length left none) (kept text ts end are).others in
       omega (arith, reached, some)
 
+  pub all_until : from < end → IsBehindClause ts to
+  all_until some = (kept text ts end are).behind (all_forward some)
+
 -- the clauses of the next piece, too
 record IsNext (table : Ops) (text : List ℕ) (ts : List Token) (from : ℕ) (before : List Tree) (piece : Piece) (rest : List Piece) (after : List Tree) (end : ℕ) : Type 0 where
   next : ℕ
@@ -122,6 +131,8 @@ record IsNext (table : Ops) (text : List ℕ) (ts : List Token) (from : ℕ) (be
   others : ArePieces table text ts next rest end
   up : from < next
   reached : from ≤ at
+  behind : IsBehindClause ts next
+  told : piece.to ≡ next
 
 module _ (table : Ops) (from : ℕ) (all : List Piece) (before : List Tree) (piece : Piece) (rest left : List Piece) (after : List Tree) (to : ℕ)
     (kept : AreKept table from all before left after to) (front : left ≡ piece ∷ rest) where
@@ -140,17 +151,24 @@ module _ (table : Ops) (from : ℕ) (all : List Piece) (before : List Tree) (pie
         others = others.2;
         up = omega (arith, so_far.up, is.some);
         reached = omega (arith, so_far.up, reached);
+        behind = is.behind;
+        told = is.told;
       }
 
+  -- a clause ends where its stretch does
+  pub piece_until : (text : List ℕ) (ts : List Token) (end : ℕ) → ArePieces table text ts from all end → IsBehindClause ts piece.to
+  piece_until text ts end are = let next = next_of text ts end are in subst (IsBehindClause ts) (sym next.told) next.behind
+
   -- all of it
-  pub whole_kept : (place : ℕ) → piece.end ≡ Whole place → AreKept table from all before rest (after ++ clause_trees piece.clauses.items) place
-  whole_kept place is = λ text ts end are.
+  pub whole_kept : piece.end ≡ Whole → AreKept table from all before rest (after ++ clause_trees piece.clauses.items) piece.to
+  whole_kept is = λ text ts end are.
       let next = next_of text ts end are in
-      let ends : (next.at ≡ next.next) × (place ≡ next.next) = subst (EndIs table text ts next.at next.next) is next.ends in
+      let ends : next.at ≡ next.next = subst (EndIs table text ts next.at next.next) is next.ends in
       record {
-        added = subst (λ to. AreAdded table text ts from before (after ++ clause_trees piece.clauses.items) table to) (ends.0 ∙ sym ends.1) next.added;
-        others = subst (λ to. ArePieces table text ts to rest end) (sym ends.1) next.others;
-        up = omega (arith, next.up, ends.1);
+        added = subst (λ to. AreAdded table text ts from before (after ++ clause_trees piece.clauses.items) table to) (ends ∙ sym next.told) next.added;
+        others = subst (λ to. ArePieces table text ts to rest end) (sym next.told) next.others;
+        up = omega (arith, next.up, next.told);
+        behind = λ some. piece_until text ts end are;
       }
 
   -- and the clause behind it that sets operators

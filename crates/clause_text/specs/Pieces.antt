@@ -35,15 +35,17 @@ abbrev pub AreStretches : List Token → ℕ → List Stretch → ℕ → Type 0
 AreStretches ts from [] to = from ≡ to
 AreStretches ts from (stretch ∷ stretches) to = (stretch.from ≡ from) × IsStretch ts stretch × AreStretches ts stretch.to stretches to
 
--- what stands behind the clauses of a piece, which end at a place: nothing more up to the end of the piece, a clause, or a part that is none
+-- what stands behind the clauses of a piece, which end at a place: nothing more up to the end of its stretch, a clause, or a part that is none
 abbrev pub EndIs : Ops → List ℕ → List Token → ℕ → ℕ → PieceEnd → Type 0
-EndIs table text ts at to (Whole place) = (at ≡ to) × (place ≡ to)
+EndIs table text ts at to Whole = at ≡ to
 EndIs table text ts at to (AtOperators clause place) = EndsFirst ts at place × IsClauseOf (table_of table) text (slice_range ts at place) (tree_of clause.term)
 EndIs table text ts at to (Refused fault) = fault ≢ NoMemory → (next : ℕ) × EndsFirst ts at next × IsPartFault table text (slice_range ts at next) fault
 
--- what is read from a place up to another under the table, which the clauses of the piece leave as it is
+-- what is read of the stretch from a place up to another under the table, which the clauses of the piece leave as it is
 pub record IsPiece (table : Ops) (text : List ℕ) (ts : List Token) (from to : ℕ) (piece : Piece) : Type 0 where
   pub some : from < to
+  pub behind : IsBehindClause ts to
+  pub told : piece.to ≡ to
   pub at : ℕ
   pub clauses : LeadTo table text ts from (clause_trees piece.clauses.items) table at
   pub end : EndIs table text ts at to piece.end

@@ -3,28 +3,31 @@ ghost use Rattle.prolog_tokens.specs.declared.token.Token.{Token as TokenOf};
 ghost use Rattle.prolog_tokens.specs.Cut.{IsCut};
 ghost use Rattle.prolog_ops.specs.Table.{ops_of};
 ghost use Rattle.clause_text.specs.Clauses.{AreClauses, HasClauseFault, clause_trees, opening_ops};
-ghost use Rattle.clause_text.specs.Pieces.{ArePieces, AreAdded, IsFaultAhead};
+ghost use Rattle.clause_text.specs.Pieces.{IsBehindClause, ArePieces, AreAdded, IsFaultAhead};
 
 use crate::Clause;
 use crate::fault::TextFault;
 use crate::items::apply_items;
 use crate::piece::{Piece, PieceEnd, read_each, stretches_from};
 use prolog_ops::OpTable;
-use prolog_tokens::Token;
+use prolog_tokens::{Kind, Token};
 use std::alloc::Global;
 use std::thread::Threads;
 
-/// How far the clauses of a text are kept: up to the place of a token. So many stretches behind it may
-/// be read side by side next.
+/// How far the clauses of a text are kept: up to the place of a token. The stretch that they are read
+/// from ends at `until`, which is that place unless operators changed, and so many stretches may be
+/// read side by side next.
 #[derive(Clone, Copy)]
 struct Kept {
     to: usize,
+    until: usize,
     ahead: usize,
 }
 
 /// Keeps the clauses of the pieces up to the first that sets operators, which it then does: what was
-/// read behind it was read with other operators than it leaves. Where none does, twice as many
-/// stretches may be read next, so that no more is read for nothing than was kept.
+/// read behind it was read with other operators than it leaves, and the rest of its stretch comes
+/// next. Where no clause sets any, twice as many stretches may be read next, so that no more stretches
+/// are read for nothing than were kept.
 fn keep(
     alloc: Global,
     table: &mut OpTable,
@@ -35,6 +38,7 @@ fn keep(
     ensures kept { IfOk result (λ kept. (text : List ℕ) (ts : List TokenOf) (to : ℕ) → ArePieces (ops_of table.old) text ts from pieces.items to
         → AreAdded (ops_of table.old) text ts from (clause_trees clauses.old.items) (clause_trees clauses.new.items) (ops_of table.new) kept.to) }
     ensures forward { IfOk result (λ kept. (text : List ℕ) (ts : List TokenOf) (to : ℕ) → ArePieces (ops_of table.old) text ts from pieces.items to → from < to → from < kept.to) }
+    ensures until { IfOk result (λ kept. (text : List ℕ) (ts : List TokenOf) (to : ℕ) → ArePieces (ops_of table.old) text ts from pieces.items to → from < to → IsBehindClause ts kept.until) }
     ensures fault { IfErr result (λ fault. fault ≢ TextFault.NoMemory → (text : List ℕ) (ts : List TokenOf) (to : ℕ)
         → ArePieces (ops_of table.old) text ts from pieces.items to → IsFaultAhead (ops_of table.old) text ts from fault) }
 {
@@ -43,25 +47,34 @@ fn keep(
     for piece in pieces {
         let Piece {
             clauses: mut more,
+            to: until,
             end,
         } = piece;
         clauses.append(&mut more)?;
         match end {
-            PieceEnd::Whole(place) => to = place,
+            PieceEnd::Whole => to = until,
             PieceEnd::AtOperators(clause, place) => {
                 apply_items(alloc, table, &clause.term)?;
                 if clauses.push(clause).is_err() {
                     return Err(TextFault::NoMemory);
                 }
-                return Ok(Kept {
-                    to: place,
-                    ahead: 1,
-                });
+                to = place;
+                let ahead = 1;
+                return Ok(Kept { to, until, ahead });
             }
             PieceEnd::Refused(fault) => return Err(fault),
         }
     }
-    Ok(Kept { to, ahead })
+    let until = to;
+    Ok(Kept { to, until, ahead })
+}
+
+/// How many of the tokens are Ends, and so how many clauses need room.
+fn count_ends(tokens: &[Token]) -> usize {
+    tokens
+        .iter()
+        .filter(|token| token.kind == Kind::End)
+        .count()
 }
 
 /// The clauses that the tokens of the text are, each up to its End and read with the operators that
@@ -78,14 +91,16 @@ fn read_parts<R: Threads + Sync>(
     ensures ok { IfOk result (λ clauses. AreClauses (ops_of table.old) text.now tokens.now (clause_trees clauses.items)) }
     ensures fault { IfErr result (λ fault. fault ≢ TextFault.NoMemory → HasClauseFault (ops_of table.old) text.now tokens.now fault) }
 {
-    let mut clauses = Vec::new(alloc);
+    let mut clauses = Vec::with_capacity(alloc, count_ends(tokens))?;
     let mut from = 0;
+    let mut until = 0;
     let mut ahead = 1;
     while from < tokens.len() {
-        let stretches = stretches_from(alloc, tokens, from, ahead)?;
+        let stretches = stretches_from(alloc, tokens, from, until, ahead)?;
         let pieces = read_each(rt, alloc, table, text, tokens, &stretches)?;
         let kept = keep(alloc, table, from, pieces, &mut clauses)?;
         from = kept.to;
+        until = kept.until;
         ahead = kept.ahead;
     }
     Ok(clauses)

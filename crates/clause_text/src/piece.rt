@@ -32,8 +32,8 @@ pub struct Stretch {
 /// What stands behind the clauses of a piece.
 #[derive(Drop)]
 pub enum PieceEnd {
-    /// The next piece, from a place on.
-    Whole(usize),
+    /// Nothing more: the stretch is read as a whole.
+    Whole,
     /// A clause up to a place that sets operators, which aren't set yet.
     AtOperators(Clause, usize),
     /// A part of the tokens that is refused.
@@ -44,6 +44,8 @@ pub enum PieceEnd {
 #[derive(Drop)]
 pub struct Piece {
     pub clauses: Vec<Clause>,
+    /// Where the stretch ends.
+    pub to: usize,
     pub end: PieceEnd,
 }
 
@@ -62,7 +64,7 @@ fn part_end(tokens: &[Token], from: usize) -> usize
     at + 1
 }
 
-/// Where the stretch from a place on ends.
+/// Where a new stretch from a place on ends.
 fn stretch_end(tokens: &[Token], from: usize) -> usize
     requires { from < length tokens.now }
     ensures some { from < result }
@@ -72,20 +74,37 @@ fn stretch_end(tokens: &[Token], from: usize) -> usize
     part_end(tokens, from + size - 1)
 }
 
-/// The next stretches from a place on, at most so many, and one in any case.
+/// Where the next stretch from a place on ends: at `until` if that is behind the place, which then
+/// stands within a stretch whose end isn't looked for again.
+fn end_from(tokens: &[Token], at: usize, until: usize) -> usize
+    requires within { at < length tokens.now }
+    requires until { at < until → IsBehindClause tokens.now until }
+    ensures some { at < result }
+    ensures ends { IsBehindClause tokens.now result }
+{
+    if at < until {
+        return until;
+    }
+    stretch_end(tokens, at)
+}
+
+/// The next stretches from a place on, at most so many, and one in any case. The first ends at `until`
+/// if that is behind the place.
 pub fn stretches_from(
     alloc: Global,
     tokens: &[Token],
     from: usize,
+    until: usize,
     most: usize,
 ) -> Result<Vec<Stretch>, AllocError>
-    requires { from < length tokens.now }
+    requires within { from < length tokens.now }
+    requires until { from < until → IsBehindClause tokens.now until }
     ensures { IfOk result (λ stretches. (to : ℕ) × (from < to) × AreStretches tokens.now from stretches.items to) }
 {
     let mut stretches = Vec::new(alloc);
     let mut at = from;
     while at < tokens.len() {
-        let to = stretch_end(tokens, at);
+        let to = end_from(tokens, at, until);
         stretches.push(Stretch { from: at, to })?;
         at = to;
         if stretches.len() >= most {
@@ -108,29 +127,30 @@ fn read_stretch(
     requires stretch { IsStretch tokens.now stretch.now }
     ensures { IsPiece (ops_of table.now) text.now tokens.now stretch.now.from stretch.now.to result }
 {
+    let to = stretch.to;
     let mut clauses = Vec::new(alloc);
     let mut at = stretch.from;
-    while at < stretch.to {
+    while at < to {
         let next = part_end(tokens, at);
         let clause = match read_clause(alloc, table, text, &tokens[at..next]) {
             Ok(term) => Clause { term },
             Err(fault) => {
                 let end = PieceEnd::Refused(fault.into());
-                return Piece { clauses, end };
+                return Piece { clauses, to, end };
             }
         };
         if has_items(&clause.term) {
             let end = PieceEnd::AtOperators(clause, next);
-            return Piece { clauses, end };
+            return Piece { clauses, to, end };
         }
         if clauses.push(clause).is_err() {
             let end = PieceEnd::Refused(TextFault::NoMemory);
-            return Piece { clauses, end };
+            return Piece { clauses, to, end };
         }
         at = next;
     }
-    let end = PieceEnd::Whole(at);
-    Piece { clauses, end }
+    let end = PieceEnd::Whole;
+    Piece { clauses, to, end }
 }
 
 /// What the stretches are read as under the table. They are read side by side.

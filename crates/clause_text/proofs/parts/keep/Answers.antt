@@ -6,7 +6,7 @@ use Rattle.clause_text.specs.Items.{items_of, items_on}
 use Rattle.clause_text.specs.Clauses.{clause_trees}
 use Rattle.clause_text.specs.Pieces.{AreAdded}
 use Rattle.clause_text.proofs.Outcomes.{on_err}
-use Rattle.clause_text.proofs.LeadEnds.{AreKept, trees_joined, all_added, all_forward, whole_kept, operators_added, operators_forward, operators_refused, part_refused}
+use Rattle.clause_text.proofs.LeadEnds.{AreKept, trees_joined, all_added, all_forward, all_until, whole_kept, piece_until, operators_added, operators_forward, operators_refused, part_refused}
 use Rattle.clause_text.proofs.parts.keep.Goals as goal
 
 ok_of : {T E : Type 0} (r : Result T E) → is_err r ≡ false → is_ok r ≡ true
@@ -45,6 +45,11 @@ returns-in-AtOperators-clause-forward c = λ text ts end are some.
     c.loop-piece.piece-iterator.rest.items (clause_trees c.loop-piece.clauses.items) c.loop-piece.to c.loop-piece.invariant.1 c.in-Some.ensures.steps.0 c.in-AtOperators.clause
     c.in-AtOperators.place c.in-AtOperators.is text ts end are
 
+pub returns-in-AtOperators-clause-until : goal.returns-in-AtOperators-clause-until
+returns-in-AtOperators-clause-until c = λ text ts end are some.
+    piece_until (ops_of c.args.table.now) c.args.from c.args.pieces.items (clause_trees c.args.clauses.now.items) c.in-Some.piece c.next.new.self.rest.items
+    c.loop-piece.piece-iterator.rest.items (clause_trees c.loop-piece.clauses.items) c.loop-piece.to c.loop-piece.invariant.1 c.in-Some.ensures.steps.0 text ts end are
+
 pub returns-in-Refused-clause-fault : goal.returns-in-Refused-clause-fault
 returns-in-Refused-clause-fault c =
     part_refused (ops_of c.args.table.now) c.args.from c.args.pieces.items (clause_trees c.args.clauses.now.items) c.in-Some.piece c.next.new.self.rest.items
@@ -53,10 +58,10 @@ returns-in-Refused-clause-fault c =
 pub loop-piece-preserved : goal.loop-piece-preserved
 loop-piece-preserved c = (
   c.loop-piece.invariant.0,
-  subst (λ trees. AreKept (ops_of c.args.table.now) c.args.from c.args.pieces.items (clause_trees c.args.clauses.now.items) c.next.new.self.rest.items trees c.in-Whole.place)
+  subst (λ trees. AreKept (ops_of c.args.table.now) c.args.from c.args.pieces.items (clause_trees c.args.clauses.now.items) c.next.new.self.rest.items trees c.in-Some.piece.to)
       (sym (ap clause_trees c.in_ok-append.ensures.items ∙ trees_joined c.loop-piece.clauses.items c.in-Some.piece.clauses.items))
       (whole_kept (ops_of c.args.table.now) c.args.from c.args.pieces.items (clause_trees c.args.clauses.now.items) c.in-Some.piece c.next.new.self.rest.items
-      c.loop-piece.piece-iterator.rest.items (clause_trees c.loop-piece.clauses.items) c.loop-piece.to c.loop-piece.invariant.1 c.in-Some.ensures.steps.0 c.in-Whole.place c.in-Whole.is),
+      c.loop-piece.piece-iterator.rest.items (clause_trees c.loop-piece.clauses.items) c.loop-piece.to c.loop-piece.invariant.1 c.in-Some.ensures.steps.0 c.in-Whole.is),
 )
 
 pub returns-clause-kept : goal.returns-clause-kept
@@ -69,4 +74,9 @@ returns-clause-kept c = λ text ts end are.
 pub returns-clause-forward : goal.returns-clause-forward
 returns-clause-forward c =
     all_forward (ops_of c.args.table.now) c.args.from c.args.pieces.items (clause_trees c.args.clauses.now.items) c.loop-piece.piece-iterator.rest.items
+    (clause_trees c.loop-piece.clauses.items) c.loop-piece.to c.loop-piece.invariant.1 (omega (arith, c.in-None.ensures.steps.0, c.loop-piece.piece-iterator.rest.ok.0))
+
+pub returns-clause-until : goal.returns-clause-until
+returns-clause-until c =
+    all_until (ops_of c.args.table.now) c.args.from c.args.pieces.items (clause_trees c.args.clauses.now.items) c.loop-piece.piece-iterator.rest.items
     (clause_trees c.loop-piece.clauses.items) c.loop-piece.to c.loop-piece.invariant.1 (omega (arith, c.in-None.ensures.steps.0, c.loop-piece.piece-iterator.rest.ok.0))

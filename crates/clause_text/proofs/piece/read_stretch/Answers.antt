@@ -1,10 +1,10 @@
-use Rattle.std.proofs.Common.{◌≡◌, ◌++◌, ◌∷◌, [], ap, sym, ◌∙◌, subst}
+use Rattle.std.proofs.Common.{◌≡◌, ◌++◌, ◌∷◌, [], ap, sym, ◌∙◌, subst, refl, inl}
 use Rattle.std.proofs.lemmas.List.{map-append}
 use Rattle.prolog_ops.specs.Table.{ops_of}
 use Rattle.prolog_terms.specs.Tree.{tree_of}
 use Rattle.clause_text.specs.declared.Clause.{Clause}
 use Rattle.clause_text.specs.Items.{items_of}
-use Rattle.clause_text.specs.Clauses.{clause_trees}
+use Rattle.clause_text.specs.Clauses.{clause_trees, fault_of_clauses}
 use Rattle.clause_text.specs.Pieces.{LeadTo}
 use Rattle.clause_text.proofs.ClauseSplits.{slice_part, part_one}
 use Rattle.clause_text.proofs.Leads.{lead_more}
@@ -36,3 +36,17 @@ loop-at-preserved c =
       subst (λ trees. LeadTo table text ts stretch.from trees table next) (sym all) more,
       not_past ts c.loop-at.at next stretch.to c.part_end-next.ensures c.loop-at-test.true c.requires.stretch.ends,
     )
+
+pub returns-in-Err : goal.returns-in-Err
+returns-in-Err c = record {
+  some = c.requires.stretch.some;
+  behind = c.requires.stretch.ends;
+  told = refl;
+  at = c.loop-at.at;
+  clauses = c.loop-at.invariant.0;
+  end = λ some. (
+    c.part_end-next.result,
+    c.part_end-next.ensures,
+    inl (c.in-Err.fault, c.into.ensures, c.in-Err.ensures.fault (λ none. some (c.into.ensures ∙ ap fault_of_clauses none))),
+  );
+}

@@ -8,8 +8,8 @@ use Rattle.clause_text.proofs.piece.stretches_from.Goals.{else-loop-at-test, the
 pub loop-at-preserved : goal.loop-at-preserved
 loop-at-preserved c = (
   omega arith,
-  stretch_behind c.args.tokens.now c.args.from c.loop-at.stretches.items c.push.new.self.items c.loop-at.at c.stretch_end-to.result c.loop-at.invariant.1
-      c.in_ok-push.ensures.items c.stretch_end-to.ensures.some c.stretch_end-to.ensures.ends,
+  stretch_behind c.args.tokens.now c.args.from c.loop-at.stretches.items c.push.new.self.items c.loop-at.at c.end_from-to.result c.loop-at.invariant.1
+      c.in_ok-push.ensures.items c.end_from-to.ensures.some c.end_from-to.ensures.ends,
 )
 
 pub returns : goal.returns
@@ -21,9 +21,9 @@ returns c =
           subst (λ (found : Vec Stretch Global). (to : ℕ) × (from < to) × AreStretches ts from found.items to) (sym w.stretches-is) (c.loop-at.at, omega arith, c.loop-at.invariant.1)
       | then-loop-at-test+in_ok-push+then-len-most w ↦
           subst (λ (found : Vec Stretch Global). (to : ℕ) × (from < to) × AreStretches ts from found.items to) (sym w.stretches-is) (
-            w.stretch_end-to.result,
+            w.end_from-to.result,
             omega arith,
-            stretch_behind ts from c.loop-at.stretches.items w.push.new.self.items c.loop-at.at w.stretch_end-to.result c.loop-at.invariant.1
-                w.in_ok-push.ensures.items w.stretch_end-to.ensures.some w.stretch_end-to.ensures.ends,
+            stretch_behind ts from c.loop-at.stretches.items w.push.new.self.items c.loop-at.at w.end_from-to.result c.loop-at.invariant.1
+                w.in_ok-push.ensures.items w.end_from-to.ensures.some w.end_from-to.ensures.ends,
           )
     ]
