@@ -1,22 +1,16 @@
--- One more definition among those that are grouped, and definitions in another order.
-use Rattle.std.proofs.Common.{if◌then◌else◌, ◌≡◌, ℕ, ◌<◌, List, [], ◌∷◌, ◌++◌, Option, Some, None, Bool, true, false, not, ◌&&◌, All, Contains, IsPermutation, map, filter, option_to_list, option_map, get_or, take, length, ◌⊎◌, inl, inr, refl, sym, ap, subst, ◌∙◌, arith}
-use Rattle.std.specs.Ordering.{is_lt, is_eq, ordering_reverse}
-use Rattle.std.specs.declared.cmp.Ordering.{Ordering}
-use Rattle.std.specs.declared.cmp.Ordering.TheVariants.{Less, Equal, Greater}
-use Rattle.std.specs.Cmp.{IsStrictWeakOrder}
-use Rattle.std.specs.List.Sorted.{IsStrictlySortedBy, IsSortedBy, IsStableBy, ties}
+-- One more run of definitions among those that are grouped.
+use Rattle.std.proofs.Common.{if◌then◌else◌, ◌≡◌, ℕ, ◌<◌, List, [], ◌∷◌, ◌++◌, Option, Some, None, Bool, true, false, All, Contains, map, option_to_list, ◌⊎◌, inl, inr, refl, sym, ap, subst, ◌∙◌, arith, append_assoc}
+use Rattle.std.specs.Ordering.{is_lt}
+use Rattle.std.specs.declared.cmp.Ordering.TheVariants.{Less}
+use Rattle.std.specs.List.Sorted.{IsStrictlySortedBy}
 use Rattle.std.proofs.lemmas.Bool.{false_from_ne_true}
 use Rattle.std.proofs.lemmas.Grind.{flat_map-append}
-use Rattle.std.proofs.lemmas.List.{append-nil, get_or-take, map-append}
-use Rattle.std.proofs.lemmas.List.Elements.{All-map, All-contains, All-nil, All-weaker, All-push, All-from_get_or, Contains-append_right, Contains-push, Contains-push_cases, Contains-append_left}
-use Rattle.std.proofs.lemmas.List.Sorted.{Contains-permutation, IsPermutation-map, IsPermutation-sym, ranks_by, sorted_far}
+use Rattle.std.proofs.lemmas.List.{append-nil, map-append}
+use Rattle.std.proofs.lemmas.List.Elements.{All-nil, All-contains, All-weaker, All-push, Contains-append_right, Contains-push, Contains-push_cases, Contains-append_left}
 use Rattle.prolog_terms.specs.Tree.{Tree}
-use Rattle.clause_text.specs.declared.Clause.{Clause}
 use Rattle.module_table.specs.declared.defined.Defined.{Defined}
-use Rattle.module_table.specs.declared.defined.Definition.{Definition}
-use Rattle.module_table.specs.Defined.{Defines, Predicate, IsDefined, AreDefined, NoneIsAfter, key, predicate_cmp, clause_for, clauses_for, clause_tree, see_defined, see_definition}
-use Rattle.module_table.specs.Fronts.{front_of}
-use Rattle.module_table.proofs.PredicateOrder.{predicate_cmp_total, same, same_ties, same_parts, same_itself, apart_from_Less, Less-from_apart, sorted_push, sorted_front, sorted_below, not_itself, one_sorted_list}
+use Rattle.module_table.specs.Defined.{Defines, Predicate, IsDefined, AreDefined, NoneIsAfter, key, predicate_cmp, clause_for, clauses_for, clause_tree, see_defined, defined_by, defined_by_all, see_run}
+use Rattle.module_table.proofs.PredicateOrder.{predicate_cmp_total, same, same_parts, same_itself, apart_from_Less, Less-from_apart, sorted_push, sorted_front, sorted_below, not_itself, one_sorted_list}
 
 -- the predicate of that name and arity, with its clauses
 abbrev pub predicate_at : List ℕ → ℕ → List Defines → Predicate
@@ -36,7 +30,7 @@ only_if_false b None e = refl
 clause_of_it : (name : List ℕ) (arity : ℕ) (d : Defines) → same name arity d.name d.arity ≡ true → clause_for name arity d ≡ option_to_list d.clause
 clause_of_it name arity d e = only_if_true (same name arity d.name d.arity) d.clause e
 
-clause_of_another : (name : List ℕ) (arity : ℕ) (d : Defines) → same name arity d.name d.arity ≡ false → clause_for name arity d ≡ []
+pub clause_of_another : (name : List ℕ) (arity : ℕ) (d : Defines) → same name arity d.name d.arity ≡ false → clause_for name arity d ≡ []
 clause_of_another name arity d e = only_if_false (same name arity d.name d.arity) d.clause e
 
 clauses_more : (name : List ℕ) (arity : ℕ) (ds : List Defines) (d : Defines)
@@ -65,7 +59,7 @@ defined_cases name arity ds d has =
       | inr e ↦ inr (ap (λ (x : Defines). x.name) e, ap (λ (x : Defines). x.arity) e)
     ]
 
-by_test : {C : Type 0} (b : Bool) → (b ≡ true → C) → (b ≡ false → C) → C
+pub by_test : {C : Type 0} (b : Bool) → (b ≡ true → C) → (b ≡ false → C) → C
 by_test true yes_ no_ = yes_ refl
 by_test false yes_ no_ = no_ refl
 
@@ -133,7 +127,7 @@ none_before name arity (d ∷ ds) none =
     ∙ none_before name arity ds later
 
 -- a predicate that comes after all so far
-pub new_last : (ds : List Defines) (d : Defines) (before : List Predicate) → AreDefined ds before
+new_last : (ds : List Defines) (d : Defines) (before : List Predicate) → AreDefined ds before
     → All (λ p. predicate_cmp p (key d.name d.arity) ≡ Less) before
     → AreDefined (ds ++ d ∷ []) (before ++ record { name = d.name; arity = d.arity; clauses = option_to_list d.clause } ∷ [])
 new_last ds d before are below =
@@ -149,7 +143,7 @@ new_last ds d before are below =
         (All-contains (λ x. predicate_cmp x (key d.name d.arity) ≡ Less) before (predicate_at d.name d.arity ds) below (are.all d.name d.arity has))
 
 -- one more definition of the last predicate
-pub more_of_last : (ds : List Defines) (d : Defines) (before : List Predicate) (last : Predicate) → AreDefined ds (before ++ last ∷ [])
+more_of_last : (ds : List Defines) (d : Defines) (before : List Predicate) (last : Predicate) → AreDefined ds (before ++ last ∷ [])
     → same last.name last.arity d.name d.arity ≡ true
     → AreDefined (ds ++ d ∷ []) (before ++ record { name = last.name; arity = last.arity; clauses = last.clauses ++ option_to_list d.clause } ∷ [])
 more_of_last ds d before last are is =
@@ -171,77 +165,112 @@ more_of_last ds d before last are is =
           absurd (let clash : true ≡ false = sym itself ∙ other in cc)
     ]))
 
+-- more clauses of the last predicate
+more_clauses : (name : List ℕ) (arity : ℕ) (ds : List Defines) (before : List Predicate) (clauses trees : List Tree)
+    → AreDefined ds (before ++ record { name = name; arity = arity; clauses = clauses } ∷ [])
+    → AreDefined (ds ++ map (defined_by name arity) trees) (before ++ record { name = name; arity = arity; clauses = clauses ++ trees } ∷ [])
+more_clauses name arity ds before clauses [] are =
+    subst (λ es. AreDefined es (before ++ record { name = name; arity = arity; clauses = clauses ++ [] } ∷ [])) (sym (append-nil ds))
+    (subst (λ cs. AreDefined ds (before ++ record { name = name; arity = arity; clauses = cs } ∷ [])) (sym (append-nil clauses)) are)
+more_clauses name arity ds before clauses (tree ∷ trees) are =
+    let d = defined_by name arity tree in
+    let last : Predicate = record { name = name; arity = arity; clauses = clauses } in
+    let one_more = more_of_last ds d before last are (same_itself name arity) in
+    subst (λ es. AreDefined es (before ++ record { name = name; arity = arity; clauses = clauses ++ tree ∷ trees } ∷ []))
+    (append_assoc ds (d ∷ []) (map (defined_by name arity) trees))
+    (subst (λ cs. AreDefined ((ds ++ d ∷ []) ++ map (defined_by name arity) trees) (before ++ record { name = name; arity = arity; clauses = cs } ∷ []))
+    (append_assoc clauses (tree ∷ []) trees)
+    (more_clauses name arity (ds ++ d ∷ []) before (clauses ++ tree ∷ []) trees one_more))
+
+-- what a run of these clauses defines
+abbrev pub all_of : Predicate → List Defines
+all_of run = defined_by_all run.name run.arity run.clauses
+
+-- a run of a predicate that comes after all so far
+pub run_added : (ds : List Defines) (run : Predicate) (before : List Predicate) → AreDefined ds before
+    → All (λ p. predicate_cmp p run ≡ Less) before → AreDefined (ds ++ all_of run) (before ++ run ∷ [])
+run_added ds run before are below = by_clauses run.clauses
+  where
+    by_clauses : (clauses : List Tree)
+        → AreDefined (ds ++ defined_by_all run.name run.arity clauses) (before ++ record { name = run.name; arity = run.arity; clauses = clauses } ∷ [])
+    by_clauses [] = new_last ds (record { name = run.name; arity = run.arity; clause = None }) before are below
+    by_clauses (tree ∷ trees) =
+        let d = defined_by run.name run.arity tree in
+        subst (λ es. AreDefined es (before ++ record { name = run.name; arity = run.arity; clauses = tree ∷ trees } ∷ []))
+        (append_assoc ds (d ∷ []) (map (defined_by run.name run.arity) trees))
+        (more_clauses run.name run.arity (ds ++ d ∷ []) before (tree ∷ []) trees (new_last ds d before are below))
+
+-- a run of the last predicate
+pub run_joined : (ds : List Defines) (run : Predicate) (before : List Predicate) (last : Predicate) → AreDefined ds (before ++ last ∷ [])
+    → same last.name last.arity run.name run.arity ≡ true
+    → AreDefined (ds ++ all_of run) (before ++ record { name = last.name; arity = last.arity; clauses = last.clauses ++ run.clauses } ∷ [])
+run_joined ds run before last are is = by_clauses run.clauses
+  where
+    by_clauses : (clauses : List Tree) → AreDefined (ds ++ defined_by_all run.name run.arity clauses)
+        (before ++ record { name = last.name; arity = last.arity; clauses = last.clauses ++ clauses } ∷ [])
+    by_clauses [] = more_of_last ds (record { name = run.name; arity = run.arity; clause = None }) before last are is
+    by_clauses (tree ∷ trees) =
+        let parts = same_parts last.name last.arity run.name run.arity is in
+        subst (λ es. AreDefined (ds ++ es) (before ++ record { name = last.name; arity = last.arity; clauses = last.clauses ++ tree ∷ trees } ∷ []))
+        (λ i. map (defined_by (parts.0 i) (parts.1 i)) (tree ∷ trees))
+        (more_clauses last.name last.arity ds before last.clauses (tree ∷ trees) are)
+
 -- all so far come before a predicate that isn't the last one's, where no definition so far comes after it
-pub all_before : (ds : List Defines) (d : Defines) (before : List Predicate) (last : Predicate) → AreDefined ds (before ++ last ∷ [])
-    → NoneIsAfter d ds → same last.name last.arity d.name d.arity ≡ false
-    → All (λ p. predicate_cmp p (key d.name d.arity) ≡ Less) (before ++ last ∷ [])
-all_before ds d before last are up other =
+all_before : (ds : List Defines) (run : Predicate) (before : List Predicate) (last : Predicate) → AreDefined ds (before ++ last ∷ [])
+    → NoneIsAfter run ds → same last.name last.arity run.name run.arity ≡ false → All (λ p. predicate_cmp p run ≡ Less) (before ++ last ∷ [])
+all_before ds run before last are up other =
     let has = (are.each last (Contains-push before last)).0 in
-    let less : predicate_cmp last (key d.name d.arity) ≡ Less =
-    Less-from_apart last (key d.name d.arity)
-    (All-contains (λ (e : Defines). is_lt (predicate_cmp (key d.name d.arity) (key e.name e.arity)) ≡ false) ds
+    let less : predicate_cmp last run ≡ Less =
+    Less-from_apart last run
+    (All-contains (λ (e : Defines). is_lt (predicate_cmp run (key e.name e.arity)) ≡ false) ds
     (record { name = last.name; arity = last.arity; clause = has.clause }) up has.stands)
     other in
-    All-push (λ p. predicate_cmp p (key d.name d.arity) ≡ Less) before last
-    (All-weaker (λ p. predicate_cmp p last ≡ Less) (λ p. predicate_cmp p (key d.name d.arity) ≡ Less)
-    (λ p e. predicate_cmp_total.trans p last (key d.name d.arity) e less) before (sorted_below before last are.in_order))
+    All-push (λ p. predicate_cmp p run ≡ Less) before last
+    (All-weaker (λ p. predicate_cmp p last ≡ Less) (λ p. predicate_cmp p run ≡ Less)
+    (λ p e. predicate_cmp_total.trans p last run e less) before (sorted_below before last are.in_order))
     less
 
--- the predicate that a definition begins
-abbrev pub begun : Defines → Predicate
-begun d = record { name = d.name; arity = d.arity; clauses = option_to_list d.clause }
+pub add_to_none : (ds : List Defines) (run : Defined) (old new : List Defined) → old ≡ [] → new ≡ old ++ run ∷ []
+    → AreDefined ds (map see_defined old) → AreDefined (ds ++ see_run run) (map see_defined new)
+add_to_none ds run old new empty is are =
+    subst (AreDefined (ds ++ see_run run)) (sym (ap (map see_defined) (is ∙ ap (λ xs. xs ++ run ∷ []) empty)))
+    (run_added ds (see_defined run) [] (subst (AreDefined ds) (ap (map see_defined) empty) are) (All-nil (λ p. predicate_cmp p (see_defined run) ≡ Less)))
 
-pub add_to_none : (ds : List Defines) (d : Defines) (old kept new : List Defined) (first : Defined) → kept ≡ [] → old ≡ kept ++ []
-    → new ≡ kept ++ first ∷ [] → see_defined first ≡ begun d
-    → AreDefined ds (map see_defined old) → AreDefined (ds ++ d ∷ []) (map see_defined new)
-add_to_none ds d old kept new first empty was is seen are =
-    let before = ap (map see_defined) (was ∙ append-nil kept ∙ empty) in
-    let after : [] ++ begun d ∷ [] ≡ map see_defined new =
-    sym (ap (map see_defined) (is ∙ ap (λ xs. xs ++ first ∷ []) empty) ∙ ap (λ p. p ∷ []) seen) in
-    subst (AreDefined (ds ++ d ∷ [])) after
-    (new_last ds d [] (subst (AreDefined ds) before are) (All-nil (λ p. predicate_cmp p (key d.name d.arity) ≡ Less)))
-
-pub add_behind : (ds : List Defines) (d : Defines) (old kept held new : List Defined) (last next : Defined) → old ≡ kept ++ last ∷ []
-    → held ≡ kept ++ last ∷ [] → new ≡ held ++ next ∷ [] → see_defined next ≡ begun d
-    → same last.name last.arity d.name d.arity ≡ false → NoneIsAfter d ds
-    → AreDefined ds (map see_defined old) → AreDefined (ds ++ d ∷ []) (map see_defined new)
-add_behind ds d old kept held new last next was stays is seen other up are =
+pub add_behind : (ds : List Defines) (run : Defined) (old kept held new : List Defined) (last : Defined) → old ≡ kept ++ last ∷ []
+    → held ≡ kept ++ last ∷ [] → new ≡ held ++ run ∷ [] → same last.name last.arity run.name run.arity ≡ false → NoneIsAfter (see_defined run) ds
+    → AreDefined ds (map see_defined old) → AreDefined (ds ++ see_run run) (map see_defined new)
+add_behind ds run old kept held new last was stays is other up are =
     let front = map see_defined kept in
     let before : map see_defined old ≡ front ++ see_defined last ∷ [] = ap (map see_defined) was ∙ map-append see_defined kept (last ∷ []) in
-    let after : (front ++ see_defined last ∷ []) ++ begun d ∷ [] ≡ map see_defined new =
+    let after : (front ++ see_defined last ∷ []) ++ see_defined run ∷ [] ≡ map see_defined new =
     sym
-    (ap (map see_defined) (is ∙ ap (λ xs. xs ++ next ∷ []) stays)
-    ∙ map-append see_defined (kept ++ last ∷ []) (next ∷ [])
-    ∙ (λ i. map-append see_defined kept (last ∷ []) i ++ seen i ∷ [])) in
+    (ap (map see_defined) (is ∙ ap (λ xs. xs ++ run ∷ []) stays)
+    ∙ map-append see_defined (kept ++ last ∷ []) (run ∷ [])
+    ∙ ap (λ ps. ps ++ see_defined run ∷ []) (map-append see_defined kept (last ∷ []))) in
     let so_far = subst (AreDefined ds) before are in
-    subst (AreDefined (ds ++ d ∷ [])) after
-    (new_last ds d (front ++ see_defined last ∷ []) so_far (all_before ds d front (see_defined last) so_far up other))
+    subst (AreDefined (ds ++ see_run run)) after
+    (run_added ds (see_defined run) (front ++ see_defined last ∷ []) so_far (all_before ds (see_defined run) front (see_defined last) so_far up other))
 
-tree_of_one : (clause : Option Clause) → map clause_tree (option_to_list clause) ≡ option_to_list (option_map clause_tree clause)
-tree_of_one None = refl
-tree_of_one (Some clause) = refl
-
-pub add_to_last : (ds : List Defines) (d : Definition) (old kept new : List Defined) (last longer : Defined) → old ≡ kept ++ last ∷ []
+pub add_to_last : (ds : List Defines) (run : Defined) (old kept new : List Defined) (last longer : Defined) → old ≡ kept ++ last ∷ []
     → new ≡ kept ++ longer ∷ [] → longer.name ≡ last.name → longer.arity ≡ last.arity
-    → longer.clauses.items ≡ last.clauses.items ++ option_to_list d.clause
-    → same last.name last.arity d.name.text d.arity ≡ true
-    → AreDefined ds (map see_defined old) → AreDefined (ds ++ see_definition d ∷ []) (map see_defined new)
-add_to_last ds d old kept new last longer was is names arities clauses own are =
+    → longer.clauses.items ≡ last.clauses.items ++ run.clauses.items
+    → same last.name last.arity run.name run.arity ≡ true
+    → AreDefined ds (map see_defined old) → AreDefined (ds ++ see_run run) (map see_defined new)
+add_to_last ds run old kept new last longer was is names arities clauses own are =
     let front = map see_defined kept in
     let before : map see_defined old ≡ front ++ see_defined last ∷ [] = ap (map see_defined) was ∙ map-append see_defined kept (last ∷ []) in
-    let trees : map clause_tree longer.clauses.items ≡ map clause_tree last.clauses.items ++ option_to_list (see_definition d).clause =
-    ap (map clause_tree) clauses ∙ map-append clause_tree last.clauses.items (option_to_list d.clause)
-    ∙ ap (λ ts. map clause_tree last.clauses.items ++ ts) (tree_of_one d.clause) in
+    let trees : map clause_tree longer.clauses.items ≡ map clause_tree last.clauses.items ++ map clause_tree run.clauses.items =
+    ap (map clause_tree) clauses ∙ map-append clause_tree last.clauses.items run.clauses.items in
     let whole : Predicate = record {
       name = last.name;
       arity = last.arity;
-      clauses = map clause_tree last.clauses.items ++ option_to_list (see_definition d).clause;
+      clauses = map clause_tree last.clauses.items ++ map clause_tree run.clauses.items;
     } in
     let seen : see_defined longer ≡ whole = λ i. record { name = names i; arity = arities i; clauses = trees i } in
     let after : front ++ whole ∷ [] ≡ map see_defined new =
     sym (ap (map see_defined) is ∙ map-append see_defined kept (longer ∷ []) ∙ ap (λ p. front ++ p ∷ []) seen) in
-    subst (AreDefined (ds ++ see_definition d ∷ [])) after
-    (more_of_last ds (see_definition d) front (see_defined last) (subst (AreDefined ds) before are) own)
+    subst (AreDefined (ds ++ see_run run)) after
+    (run_joined ds (see_defined run) front (see_defined last) (subst (AreDefined ds) before are) own)
 
 pub none_defined : AreDefined [] []
 unfolding IsStrictlySortedBy
@@ -250,79 +279,6 @@ none_defined = record {
   each = λ p has. absurd (let below : has.0 < 0 = has.1 in let none : ⊥ = omega arith in none);
   all = λ name arity has. absurd (let below : has.stands.0 < 0 = has.stands.1 in let none : ⊥ = omega arith in none);
 }
-
--- whether a definition is of a predicate that comes before another's
-abbrev pub comes_before : Definition → Definition → Bool
-comes_before a b = is_lt (predicate_cmp (key a.name.text a.arity) (key b.name.text b.arity))
-
-pub comes_before_ranks : IsStrictWeakOrder comes_before
-comes_before_ranks = ranks_by predicate_cmp_total (λ (d : Definition). key d.name.text d.arity)
-
-tied_is_same : (r back : Ordering) → back ≡ ordering_reverse r → (not (is_lt r) && not (is_lt back)) ≡ is_eq r
-tied_is_same Less back e = refl
-tied_is_same Equal back e = rw e refl
-tied_is_same Greater back e = rw e refl
-
-abbrev asked_for : List ℕ → ℕ → Definition
-asked_for name arity = record { name = record { text = name; front = front_of name; fronts = refl }; arity = arity; clause = None }
-
-ties_same : (name : List ℕ) (arity : ℕ) (d : Definition) → ties comes_before (asked_for name arity) d ≡ same name arity d.name.text d.arity
-ties_same name arity d =
-    tied_is_same (predicate_cmp (key name arity) (key d.name.text d.arity)) (predicate_cmp (key d.name.text d.arity) (key name arity))
-    (predicate_cmp_total.antisymm (key d.name.text d.arity) (key name arity))
-    ∙ sym (same_ties name arity d.name.text d.arity)
-
--- the clauses of a predicate are those of its own definitions
-clauses_of_own : (name : List ℕ) (arity : ℕ) (ds : List Definition)
-    → clauses_for name arity (map see_definition ds) ≡ clauses_for name arity (map see_definition (filter (ties comes_before (asked_for name arity)) ds))
-clauses_of_own name arity [] = refl
-clauses_of_own name arity (d ∷ ds) =
-    by_test (ties comes_before (asked_for name arity) d)
-    (λ is. rw is (ap (λ x. clause_for name arity (see_definition d) ++ x) (clauses_of_own name arity ds)))
-    (λ other.
-    rw other
-    (ap (λ x. x ++ clauses_for name arity (map see_definition ds))
-    (clause_of_another name arity (see_definition d) (sym (ties_same name arity d) ∙ other))
-    ∙ clauses_of_own name arity ds))
-
--- the same definitions, those of each predicate in the same order
-pub from_sorted : (xs ys : List Definition) (out : List Predicate) → IsPermutation xs ys → IsStableBy comes_before xs ys
-    → AreDefined (map see_definition ys) out → AreDefined (map see_definition xs) out
-from_sorted xs ys out moved stable are = record {
-  in_order = are.in_order;
-  each = λ p has.
-      let is = are.each p has in (
-        turned (map see_definition ys) (map see_definition xs) p.name p.arity (IsPermutation-map see_definition ys xs (IsPermutation-sym xs ys moved)) is.0,
-        is.1 ∙ clauses p.name p.arity,
-      );
-  all = λ name arity has.
-      subst (λ cs. Contains out (record { name = name; arity = arity; clauses = cs })) (clauses name arity)
-      (are.all name arity (turned (map see_definition xs) (map see_definition ys) name arity (IsPermutation-map see_definition xs ys moved) has));
-}
-  where
-    turned : (ds es : List Defines) (name : List ℕ) (arity : ℕ) → IsPermutation ds es → IsDefined name arity ds → IsDefined name arity es
-    turned ds es name arity moved has = record {
-      clause = has.clause;
-      stands = Contains-permutation ds es (record { name = name; arity = arity; clause = has.clause }) moved has.stands;
-    }
-
-    clauses : (name : List ℕ) (arity : ℕ) → clauses_for name arity (map see_definition ys) ≡ clauses_for name arity (map see_definition xs)
-    clauses name arity =
-        clauses_of_own name arity ys
-        ∙ ap (λ ds. clauses_for name arity (map see_definition ds)) (stable (asked_for name arity))
-        ∙ sym (clauses_of_own name arity xs)
-
--- in sorted definitions none so far comes after the next one
-pub none_after_next : (ds done : List Definition) (d : Definition) → IsSortedBy comes_before ds → done ≡ take (length done) ds
-    → length done < length ds → d ≡ get_or ds (length done) d → NoneIsAfter (see_definition d) (map see_definition done)
-none_after_next ds done d up so_far within is =
-    All-map (λ (e : Defines). is_lt (predicate_cmp (key d.name.text d.arity) (key e.name e.arity)) ≡ false) see_definition done
-    (All-from_get_or (λ (e : Definition). comes_before d e ≡ false) done d
-    (λ k below.
-    let earlier : get_or done k d ≡ get_or ds k d = ap (λ xs. get_or xs k d) so_far ∙ get_or-take (length done) ds k d below in
-    let far : comes_before (get_or ds (length done) d) (get_or ds k d) ≡ false =
-    sorted_far comes_before comes_before_ranks ds up k (length done) d (omega arith) within in
-    subst (λ e. comes_before d e ≡ false) (sym earlier) (subst (λ x. comes_before x (get_or ds k d) ≡ false) (sym is) far)))
 
 -- the definitions leave one answer
 pub one_grouping : (ds : List Defines) (ps qs : List Predicate) → AreDefined ds ps → AreDefined ds qs → ps ≡ qs

@@ -1,8 +1,9 @@
 pub mod SaidLemmas
 pub mod Shapes
 pub mod FileNameLemmas
-pub mod FrontLemmas
 pub mod Grouping
+pub mod RunLemmas
+pub mod SortedRuns
 pub mod PredicateOrder
 pub mod HeadLemmas
 pub mod Parts

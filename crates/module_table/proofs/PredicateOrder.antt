@@ -6,6 +6,7 @@ use Rattle.std.specs.declared.cmp.Ordering.TheVariants.{Less, Equal, Greater}
 use Rattle.std.specs.Str.{bytes_eq}
 use Rattle.std.specs.Cmp.{IsTotalOrder, both_tied, unsigned_ties}
 use Rattle.std.specs.Cmp.Lexicographic.{texts_ties}
+use Rattle.std.specs.List.{AllByRecursion}
 use Rattle.std.specs.List.Sorted.{IsStrictlySortedBy}
 use Rattle.std.proofs.lemmas.Cmp.{then_total, on_total, nat_list_cmp_total, nat_cmp_total, tied_itself}
 use Rattle.std.proofs.lemmas.Bool.{and_parts}
@@ -68,6 +69,16 @@ sorted_front (p ∷ ps) q up = (
   where
     front_of : All (λ y. predicate_cmp p y ≡ Less) (ps ++ q ∷ []) → All (λ y. predicate_cmp p y ≡ Less) ps
     front_of all = (All-pop (λ y. predicate_cmp p y ≡ Less) (ps ++ q ∷ []) ps (Some q) refl all).0
+
+-- what stands in front of others
+pub sorted_part : (ps qs : List Predicate) → IsStrictlySortedBy predicate_cmp (ps ++ qs) → IsStrictlySortedBy predicate_cmp ps
+unfolding IsStrictlySortedBy
+sorted_part [] qs up = tt
+sorted_part (p ∷ ps) qs up = (part ps up.0, sorted_part ps qs up.1)
+  where
+    part : (rs : List Predicate) → AllByRecursion (λ y. predicate_cmp p y ≡ Less) (rs ++ qs) → AllByRecursion (λ y. predicate_cmp p y ≡ Less) rs
+    part [] all = tt
+    part (r ∷ rs) all = (all.0, part rs all.1)
 
 pub sorted_below : (ps : List Predicate) (q : Predicate) → IsStrictlySortedBy predicate_cmp (ps ++ q ∷ []) → All (λ p. predicate_cmp p q ≡ Less) ps
 sorted_below ps q up = All-before_last predicate_cmp ps q up

@@ -1,5 +1,5 @@
 -- The predicates of a file and their clauses.
-use Rattle.std.specs.Prelude.{ℕ, ◌≡◌, List, [], ◌∷◌, Option, Some, None, false, map, option_map, flat_map, Contains, All, ◌&&◌, nat_eq, if◌then◌else◌}
+use Rattle.std.specs.Prelude.{ℕ, ◌≡◌, ◌≢◌, List, [], ◌∷◌, ◌++◌, Option, Some, None, false, map, flat_map, Contains, All, ◌&&◌, nat_eq, if◌then◌else◌}
 use Rattle.std.specs.declared.cmp.Ordering.{Ordering}
 use Rattle.std.specs.Ordering.{ordering_then, nat_cmp, is_lt}
 use Rattle.std.specs.Cmp.Lexicographic.{slice_cmp}
@@ -8,7 +8,6 @@ use Rattle.std.specs.Str.{bytes_eq}
 use Rattle.prolog_terms.specs.Tree.{Tree, tree_of}
 use Rattle.clause_text.specs.declared.Clause.{Clause}
 use Rattle.module_table.specs.declared.defined.Defined.{Defined}
-use Rattle.module_table.specs.declared.defined.Definition.{Definition}
 
 -- a predicate is defined, by a clause or without one
 pub record Defines : Type 0 where
@@ -25,11 +24,30 @@ pub record Predicate : Type 0 where
 abbrev pub clause_tree : Clause → Tree
 clause_tree clause = tree_of clause.term
 
-abbrev pub see_definition : Definition → Defines
-see_definition d = record { name = d.name.text; arity = d.arity; clause = option_map clause_tree d.clause }
-
 abbrev pub see_defined : Defined → Predicate
 see_defined d = record { name = d.name; arity = d.arity; clauses = map clause_tree d.clauses.items }
+
+-- the predicate is defined by the clause
+abbrev pub defined_by : List ℕ → ℕ → Tree → Defines
+defined_by name arity tree = record { name = name; arity = arity; clause = Some tree }
+
+-- the predicate is defined by each of these clauses, or without one where there are none
+abbrev pub defined_by_all : List ℕ → ℕ → List Tree → List Defines
+defined_by_all name arity [] = record { name = name; arity = arity; clause = None } ∷ []
+defined_by_all name arity (tree ∷ trees) = map (defined_by name arity) (tree ∷ trees)
+
+-- what a run defines: its predicate, by each of its clauses or without one
+abbrev pub see_run : Defined → List Defines
+see_run run = defined_by_all run.name run.arity (map clause_tree run.clauses.items)
+
+-- the last of the runs is of the predicate, and has clauses
+pub record EndIn (name : List ℕ) (arity : ℕ) (runs : List Defined) : Type 0 where
+  pub before : List Defined
+  pub last : Defined
+  pub are : runs ≡ before ++ last ∷ []
+  pub names : last.name ≡ name
+  pub arities : last.arity ≡ arity
+  pub some : last.clauses.items ≢ []
 
 -- the clause, where it is one of the predicate
 abbrev pub clause_for : List ℕ → ℕ → Defines → List Tree
@@ -61,6 +79,6 @@ pub record AreDefined (ds : List Defines) (defined : List Predicate) : Type 0 wh
 abbrev pub key : List ℕ → ℕ → Predicate
 key name arity = record { name = name; arity = arity; clauses = [] }
 
--- none of these is of a predicate that comes after that of d
-abbrev pub NoneIsAfter : Defines → List Defines → Type 0
-NoneIsAfter d ds = All (λ e. is_lt (predicate_cmp (key d.name d.arity) (key e.name e.arity)) ≡ false) ds
+-- none of these is of a predicate that comes after p
+abbrev pub NoneIsAfter : Predicate → List Defines → Type 0
+NoneIsAfter p ds = All (λ e. is_lt (predicate_cmp p (key e.name e.arity)) ≡ false) ds

@@ -1,10 +1,10 @@
 -- The parts of a file by kind.
-use Rattle.std.specs.Prelude.{ℕ, ◌≡◌, List, [], ◌∷◌, ◌++◌, Option, Some, None, Result, Ok, Err, Bool, true, false, codes, map, option_map}
+use Rattle.std.specs.Prelude.{ℕ, ◌≡◌, List, [], ◌∷◌, ◌++◌, Option, Some, None, Result, Ok, Err, Bool, true, false, codes, map, flat_map, option_map}
 use Rattle.std.specs.List.{filter_map}
 use Rattle.prolog_terms.specs.Tree.{Tree, tree_of}
 use Rattle.module_table.specs.declared.indicator.Indicator.{Indicator}
 use Rattle.module_table.specs.declared.kinds.Kinds.{Kinds}
-use Rattle.module_table.specs.Defined.{Defines, see_definition}
+use Rattle.module_table.specs.Defined.{Defines, see_run}
 use Rattle.module_table.specs.Said.{Part, Said, Refusal, Declares, Loads, declares, loads, defines, goal, see_module, see_load}
 
 abbrev pub declared_part : Part → Option Declares
@@ -41,7 +41,7 @@ IsModule None name is_declared from exports = (name ≡ codes "user") × (is_dec
 pub record AreKinds (parts : List Part) (kinds : Kinds) : Type 0 where
   pub declared : option_map see_module kinds.declared ≡ first_of (filter_map declared_part parts)
   pub loads : map see_load kinds.loads.items ≡ filter_map load_part parts
-  pub definitions : map see_definition kinds.definitions.items ≡ filter_map defined_part parts
+  pub definitions : flat_map see_run kinds.definitions.items ≡ filter_map defined_part parts
   pub goals : map tree_of kinds.goals.items ≡ filter_map goal_part parts
 
 -- what is said, by kind
@@ -55,7 +55,7 @@ abbrev pub see_kinds : Kinds → ByKind
 see_kinds k = record {
   declared = option_map see_module k.declared;
   loads = map see_load k.loads.items;
-  definitions = map see_definition k.definitions.items;
+  definitions = flat_map see_run k.definitions.items;
   goals = map tree_of k.goals.items;
 }
 

@@ -1,4 +1,3 @@
-pub mod Fronts
 pub mod Defined
 pub mod FileName
 pub mod Paths

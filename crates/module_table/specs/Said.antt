@@ -11,7 +11,7 @@ use Rattle.module_table.specs.declared.said.Part.{Part as PartKept}
 use Rattle.module_table.specs.declared.said.Part.TheVariants as kept
 use Rattle.module_table.specs.declared.said.Module.{Module}
 use Rattle.module_table.specs.declared.load.Load.{Load}
-use Rattle.module_table.specs.Defined.{Defines, see_definition}
+use Rattle.module_table.specs.Defined.{Defines}
 
 -- the module of a file, and what it exports
 pub record Declares : Type 0 where
@@ -82,5 +82,4 @@ see_load l = record { file = l.file; kind = l.kind; items = l.items.items; from 
 abbrev pub see_part : PartKept → Part
 see_part (kept.Module own) = declares (see_module own)
 see_part (kept.Load own) = loads (see_load own)
-see_part (kept.Definition own) = defines (see_definition own)
 see_part (kept.Goal own) = goal (tree_of own)

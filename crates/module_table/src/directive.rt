@@ -7,13 +7,12 @@ ghost use Rattle.module_table.specs.Kinds.{ByKind, see_kinds, with_said};
 ghost use Rattle.module_table.specs.Told.{IsTold};
 ghost use Rattle.module_table.specs.Directives.{dynamic_said, use_some_said, one_said, two_said, three_said, shallow_said, directive_said};
 
-use crate::defined::Definition;
 use crate::indicator::{declared_indicators, listed_indicators};
 use crate::kinds::{Kinds, push_part};
 use crate::load::{LoadKind, push_load, push_loads, push_use_all};
 use crate::module_directive::module_of;
+use crate::runs::push_bare;
 use crate::said::{FactFault, Part, refusal};
-use crate::sorted_name::SortedName;
 use crate::taken::{Sides, sides_taken};
 use crate::terms::is_one_of;
 use clause_text::Cause;
@@ -33,12 +32,7 @@ fn push_dynamic(alloc: Global, list: &Term, kinds: &mut Kinds) -> Result<(), Fac
     ensures refused { IfErr result (λ fault. IsWhy (dynamic_said (tree_of list.now)) fault) }
 {
     for one in declared_indicators(alloc, list)? {
-        let definition = Definition {
-            name: SortedName::new(one.name),
-            arity: one.arity,
-            clause: None,
-        };
-        push_part(kinds, Part::Definition(definition))?;
+        push_bare(alloc, &mut kinds.definitions, one.name, one.arity)?;
     }
     Ok(())
 }

@@ -8,14 +8,14 @@ ghost use Rattle.module_table.specs.Said.{IsWhy};
 ghost use Rattle.module_table.specs.Kinds.{AreSaid, see_kinds, with_said};
 ghost use Rattle.module_table.specs.Facts.{clause_head, headed, clause_said, file_said, AreFacts, Facts, see_facts};
 
-use crate::defined::{Defined, Definition, group};
+use crate::defined::{Defined, group};
 use crate::directive::push_directive;
 use crate::head::{grammar_head, head};
 use crate::indicator::Indicator;
-use crate::kinds::{Kinds, module_of_file, none_said, push_definition};
+use crate::kinds::{Kinds, module_of_file, none_said};
 use crate::load::Load;
+use crate::runs::{end_in, push_last, push_run};
 use crate::said::FactFault;
-use crate::sorted_name::SortedName;
 use crate::taken::{Taken, directive_taken};
 use clause_text::Clause;
 use prolog_terms::{Term, binary};
@@ -60,41 +60,23 @@ fn clause_head(clause: &Term) -> Result<(&str, usize), FactFault>
     }
 }
 
-/// The predicate that a clause defines.
-#[derive(Drop)]
-struct Head {
-    name: Text,
-    arity: u32,
-}
-
-fn owned_head(alloc: Global, clause: &Term) -> Result<Head, FactFault>
-    requires { weight (tree_of clause.now) ≤ 8388608 }
-    ensures ok { IfOk result (λ made. clause_head (tree_of clause.now) ≡ Ok (record { name = made.name; arity = made.arity })) }
-    ensures refused { IfErr result (λ fault. IsWhy (clause_head (tree_of clause.now)) fault) }
-{
-    let (name, arity) = match clause_head(clause) {
-        Ok(named) => named,
-        Err(fault) => return Err(fault),
-    };
-    Ok(Head {
-        name: Text::new(alloc, name)?,
-        arity: arity as u32,
-    })
-}
-
-/// Adds a clause that is no directive.
+/// Adds a clause that is no directive: to the last run, where that has clauses of the same
+/// predicate, and else as a run of its own.
 fn push_headed(alloc: Global, clause: Clause, kinds: &mut Kinds) -> Result<(), FactFault>
     requires { weight (clause_tree clause) ≤ 8388608 }
     ensures ok { OnOk result (with_said (see_kinds kinds.old) (headed (clause_head (clause_tree clause)) (clause_tree clause)) ≡ Ok (see_kinds kinds.new)) }
     ensures refused { IfErr result (λ fault. IsWhy (headed (clause_head (clause_tree clause)) (clause_tree clause)) fault) }
 {
-    let head = owned_head(alloc, &clause.term)?;
-    let definition = Definition {
-        name: SortedName::new(head.name),
-        arity: head.arity,
-        clause: Some(clause),
+    let (name, arity) = match clause_head(&clause.term) {
+        Ok(named) => named,
+        Err(fault) => return Err(fault),
     };
-    push_definition(kinds, definition)?;
+    if end_in(&kinds.definitions, name, arity) {
+        push_last(&mut kinds.definitions, clause)?;
+        return Ok(());
+    }
+    let name = Text::new(alloc, name)?;
+    push_run(alloc, &mut kinds.definitions, name, arity as u32, clause)?;
     Ok(())
 }
 

@@ -2,11 +2,10 @@
 
 ghost use Rattle.std.specs.Prelude.{◌≡◌, IfErr, IfOk, OnOk, option_map};
 ghost use Rattle.module_table.specs.declared.said.FactFault.TheVariants.{NoMemory};
-ghost use Rattle.module_table.specs.Defined.{see_definition};
-ghost use Rattle.module_table.specs.Said.{declares, defines, see_module, see_part};
+ghost use Rattle.module_table.specs.Said.{declares, see_module, see_part};
 ghost use Rattle.module_table.specs.Kinds.{IsModule, none_said, see_kinds, with_part};
 
-use crate::defined::Definition;
+use crate::defined::Defined;
 use crate::indicator::Indicator;
 use crate::load::Load;
 use crate::said::{FactFault, Module, Part};
@@ -14,16 +13,17 @@ use prolog_terms::Term;
 use prolog_tokens::Text;
 use std::alloc::{AllocError, Global};
 
-/// What a file says, by kind and each kind in order. Of modules the first.
+/// What a file says, by kind and each kind in order: of modules the first, and what it defines as
+/// runs.
 #[derive(Drop)]
 pub struct Kinds {
     pub declared: Option<Module>,
     pub loads: Vec<Load>,
-    pub definitions: Vec<Definition>,
+    pub definitions: Vec<Defined>,
     pub goals: Vec<Term>,
 }
 
-/// Nothing said so far, with room for so many definitions.
+/// Nothing said so far, with room for so many runs.
 pub fn none_said(alloc: Global, room: usize) -> Result<Kinds, AllocError>
     ensures { IfOk result (λ kinds. see_kinds kinds ≡ none_said) }
 {
@@ -45,15 +45,7 @@ fn keep_module(kinds: &mut Kinds, own: Module)
     kinds.declared = Some(own);
 }
 
-/// Adds one definition.
-pub fn push_definition(kinds: &mut Kinds, definition: Definition) -> Result<(), AllocError>
-    ensures { OnOk result (see_kinds kinds.new ≡ with_part (see_kinds kinds.old) (defines (see_definition definition))) }
-{
-    kinds.definitions.push(definition)?;
-    Ok(())
-}
-
-/// Adds one thing that the file says.
+/// Adds one thing that the file says beside its definitions.
 pub fn push_part(kinds: &mut Kinds, part: Part) -> Result<(), FactFault>
     ensures ok { OnOk result (see_kinds kinds.new ≡ with_part (see_kinds kinds.old) (see_part part)) }
     ensures refused { IfErr result (λ fault. fault ≡ NoMemory) }
@@ -67,10 +59,6 @@ pub fn push_part(kinds: &mut Kinds, part: Part) -> Result<(), FactFault>
             if kinds.loads.push(load).is_err() {
                 return Err(FactFault::NoMemory);
             }
-            Ok(())
-        }
-        Part::Definition(definition) => {
-            push_definition(kinds, definition)?;
             Ok(())
         }
         Part::Goal(goal) => {

@@ -18,8 +18,8 @@ mod kinds;
 mod laws;
 mod load;
 mod module_directive;
+mod runs;
 mod said;
-mod sorted_name;
 mod taken;
 mod terms;
 

@@ -3,7 +3,6 @@ ghost use Rattle.prolog_terms.specs.Tree.{tree_of};
 ghost use Rattle.module_table.specs.declared.said.FactFault.TheVariants.{NoMemory};
 ghost use Rattle.prolog_terms.specs.Views.{start_of};
 
-use crate::defined::Definition;
 use crate::indicator::Indicator;
 use crate::load::Load;
 use clause_text::Cause;
@@ -39,7 +38,6 @@ pub struct Module {
 pub enum Part {
     Module(Module),
     Load(Load),
-    Definition(Definition),
     Goal(Term),
 }
 

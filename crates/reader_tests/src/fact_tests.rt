@@ -174,6 +174,59 @@ fn finds_facts(rt: HostRuntime) -> Result<(), Fail> {
     expect_rows(&rt, rt.alloc(), FACTS)
 }
 
+/// Each predicate with the offsets of its clauses, in their order.
+fn starts(alloc: Global, facts: &FileFacts) -> Result<String, AllocError> {
+    let mut out = String::new(alloc);
+    for predicate in &facts.defined {
+        let name = predicate.name.as_str();
+        let arity = predicate.arity;
+        let text = format!(in alloc; "{name}/{arity}")?;
+        out.push_str(&text)?;
+        for clause in &predicate.clauses {
+            let from = span_at(&clause.term).from;
+            let text = format!(in alloc; " {from}")?;
+            out.push_str(&text)?;
+        }
+        out.push_str(";")?;
+    }
+    Ok(out)
+}
+
+/// The facts of a text that has them.
+fn facts_in<R: Threads + Sync>(rt: &R, alloc: Global, text: &str) -> Option<FileFacts> {
+    if text.len() > 1000 {
+        return None;
+    }
+    let Ok(clauses) = read_text(rt, alloc, text.as_bytes()) else {
+        return None;
+    };
+    facts(alloc, "d/f.pl", clauses).ok()
+}
+
+/// Texts in which clauses of one predicate stand together and apart, and the clauses of each.
+const ORDERS: &str = "\
+p. p. => p/0 0 3;
+p. q. p. => p/0 0 6;q/0 3;
+q. p. q. p. q. => p/0 3 9;q/0 0 6 12;
+p. p(_). p. => p/0 0 9;p/1 3;
+p(_). p. p(_,_). p. => p/0 6 17;p/1 0;p/2 9;
+p. :- foo. p. => p/0 0 11;
+:- dynamic p/1. p(a). p(b). => p/1 16 22;
+p(a). :- dynamic p/1. p(b). => p/1 0 22;
+p(a). p(b). :- dynamic p/1. => p/1 0 6;
+:- dynamic p/1, q/0, p/1. q. => p/1;q/0 26;";
+
+#[test]
+fn keeps_clauses_in_order(rt: HostRuntime) -> Result<(), Fail> {
+    let alloc = rt.alloc();
+    for row in ORDERS.lines() {
+        let (text, wanted) = row.split_once(" => ").ok_or("no row")?;
+        let found = facts_in(&rt, alloc, text).ok_or("no facts")?;
+        assert_eq!(rt; starts(alloc, &found)?.as_str(), wanted, "in {text}");
+    }
+    Ok(())
+}
+
 /// Texts, and why they are refused.
 const REFUSED: &str = "\
 p, q. => control construct cannot be defined at 0

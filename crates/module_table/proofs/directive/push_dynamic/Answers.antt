@@ -1,6 +1,5 @@
-use Rattle.std.proofs.Common.{◌∷◌, [], None, map, ap, sym, ◌∙◌}
+use Rattle.std.proofs.Common.{◌∷◌, [], map, ap, sym, ◌∙◌}
 use Rattle.std.proofs.lemmas.List.{map-append}
-use Rattle.module_table.specs.Said.{defines}
 use Rattle.module_table.specs.Kinds.{see_kinds, with_part, with_parts}
 use Rattle.module_table.specs.Directives.{defined_bare}
 use Rattle.module_table.proofs.KindLemmas.{parts_append}
@@ -11,7 +10,6 @@ loop-one-preserved c =
     let old = see_kinds c.args.kinds.now in
     let one = c.in-Some.one in
     let all = map-append defined_bare c.loop-one.yielded (one ∷ []) in
-    c.in_ok-push_part.ensures.ok
-    ∙ ((λ i. with_part (see_kinds c.loop-one.kinds) (defines (record { name = c.new.ensures i; arity = one.arity; clause = None })))
-    ∙ ap (λ k. with_part k (defined_bare one)) c.loop-one.invariant
+    (λ i. record (see_kinds c.loop-one.kinds) { definitions = c.in_ok-push_bare.ensures i })
+    ∙ (ap (λ k. with_part k (defined_bare one)) c.loop-one.invariant
     ∙ sym (ap (with_parts old) all ∙ parts_append old (map defined_bare c.loop-one.yielded) (defined_bare one ∷ [])))

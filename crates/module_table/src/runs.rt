@@ -1,0 +1,79 @@
+//! Runs: a run is a predicate with those of its clauses that stand side by side in the text. A
+//! directive that defines a predicate makes a run without clauses, and no clause joins it.
+
+ghost use Rattle.std.specs.Prelude.{◌≡◌, ◌++◌, ◌∷◌, [], ◌&&◌, ℕ, List, None, nat_eq, flat_map, OnOk};
+ghost use Rattle.std.specs.Bool.{OnTrue};
+ghost use Rattle.std.specs.Str.{bytes_eq};
+ghost use Rattle.module_table.specs.Defined.{EndIn, clause_tree, defined_by, see_run};
+
+use crate::defined::Defined;
+use clause_text::Clause;
+use prolog_tokens::Text;
+use std::alloc::{AllocError, Global};
+
+fn is_named(run: &Defined, name: &str, arity: usize) -> bool
+    ensures { result ≡ (nat_eq run.now.arity arity && bytes_eq run.now.name name.now) }
+{
+    run.arity as usize == arity && run.name.as_str() == name
+}
+
+/// Whether the runs end in one with clauses of the predicate.
+pub fn end_in(runs: &[Defined], name: &str, arity: usize) -> bool
+    ensures { OnTrue result (EndIn name.now arity runs.now) }
+{
+    let Some(last) = runs.last() else {
+        return false;
+    };
+    if last.clauses.is_empty() {
+        return false;
+    }
+    is_named(last, name, arity)
+}
+
+/// Adds a clause to the last run.
+pub fn push_last(runs: &mut Vec<Defined>, clause: Clause) -> Result<(), AllocError>
+    ensures { OnOk result ((name : List ℕ) (arity : ℕ) → EndIn name arity runs.old.items
+        → flat_map see_run runs.new.items ≡ flat_map see_run runs.old.items ++ defined_by name arity (clause_tree clause) ∷ []) }
+{
+    let Some(last) = runs.last_mut() else {
+        return Ok(());
+    };
+    last.clauses.push(clause)?;
+    Ok(())
+}
+
+/// Adds a run of one clause, in just its room, since most predicates of a large file have one.
+pub fn push_run(
+    alloc: Global,
+    runs: &mut Vec<Defined>,
+    name: Text,
+    arity: u32,
+    clause: Clause,
+) -> Result<(), AllocError>
+    ensures { OnOk result (flat_map see_run runs.new.items ≡ flat_map see_run runs.old.items ++ defined_by name arity (clause_tree clause) ∷ []) }
+{
+    let clauses = vec![in alloc; clause]?;
+    runs.push(Defined {
+        name,
+        arity,
+        clauses,
+    })?;
+    Ok(())
+}
+
+/// Adds a run without clauses.
+pub fn push_bare(
+    alloc: Global,
+    runs: &mut Vec<Defined>,
+    name: Text,
+    arity: u32,
+) -> Result<(), AllocError>
+    ensures { OnOk result (flat_map see_run runs.new.items ≡ flat_map see_run runs.old.items ++ record { name = name; arity = arity; clause = None } ∷ []) }
+{
+    runs.push(Defined {
+        name,
+        arity,
+        clauses: Vec::new(alloc),
+    })?;
+    Ok(())
+}
