@@ -1,16 +1,16 @@
 -- What a program is seen as, by its fields.
 use Rattle.std.proofs.Common.{◌≡◌, ℕ, ◌<◌, ◌≤◌, List, [], Some, None, false, length, take, get_or, refl, sym, ap, subst, ◌∙◌, arith}
-use Rattle.std.specs.Prelude.{slice_get, Vec}
-use Rattle.std.specs.declared.alloc.Global.{Global}
+use Rattle.std.specs.Prelude.{slice_get}
 use Rattle.std.specs.List.{list_any}
 use Rattle.std.proofs.lemmas.List.{length-take, length-map, get_or-take, get_or-map}
 use Rattle.std.proofs.lemmas.Option.{slice_get-get_or, slice_get_within, get_or_from_slice_get}
 use Rattle.file_library.specs.SortedOut.{see_loaded}
 use Rattle.import_rules.specs.declared.names.PredName.{PredName}
+use Rattle.import_rules.specs.declared.places.Places.{Places}
 use Rattle.import_rules.specs.declared.program.Program.{Program}
 use Rattle.import_rules.specs.Names.{is_same, pred_name}
 use Rattle.import_rules.specs.Find.{found_in}
-use Rattle.import_rules.specs.Numbers.{places_for, parts_in}
+use Rattle.import_rules.specs.Numbers.{places_for, parts_in, see_places}
 use Rattle.import_rules.specs.Files.{AreNumbered, most_predicates}
 use Rattle.import_rules.specs.Flaws.{AreFlaws}
 use Rattle.import_rules.specs.Program.{see_program, places_in, places_at, found, IsProgram}
@@ -49,19 +49,19 @@ found_at p owner name arity at is =
 pub as_many_places : (p : Program) → length p.places.items ≡ length (see_program p).predicates
 unfolding see_program
 as_many_places p =
-    sym (length-map p.places.items (λ (v : Vec (ℕ × ℕ) Global). v.items))
+    sym (length-map p.places.items see_places)
     ∙ ap length p.placed
     ∙ length-map (take p.count p.names) (places_for (parts_in (see_loaded p.loaded).files))
 
-pub places_there : (p : Program) (node : ℕ) (v : Vec (ℕ × ℕ) Global) → node < length (see_program p).predicates → v ≡ get_or p.places.items node v
-    → v.items ≡ places_in (see_program p) node
+pub places_there : (p : Program) (node : ℕ) (v : Places) → node < length (see_program p).predicates → v ≡ get_or p.places.items node v
+    → see_places v ≡ places_in (see_program p) node
 unfolding see_program places_in
 places_there p node v below is =
     let d : PredName = pred_name [] [] 0 in
     let parts = parts_in (see_loaded p.loaded).files in
     let predicates = take p.count p.names in
-    ap (λ (w : Vec (ℕ × ℕ) Global). w.items) is
-    ∙ sym (get_or-map (λ (w : Vec (ℕ × ℕ) Global). w.items) p.places.items node v [] (omega (arith, below, as_many_places p)))
+    ap see_places is
+    ∙ sym (get_or-map see_places p.places.items node v [] (omega (arith, below, as_many_places p)))
     ∙ ap (λ (xs : List (List (ℕ × ℕ))). get_or xs node []) p.placed
     ∙ get_or-map (places_for parts) predicates node d [] below
     ∙ ap (places_at (see_loaded p.loaded).files) (sym (slice_get-get_or predicates node d below))

@@ -1,11 +1,12 @@
 -- The predicates of files, in order, with their places.
-use Rattle.std.specs.Prelude.{ℕ, ◌≡◌, List, Vec, map, flat_map, filter, All, Contains}
+use Rattle.std.specs.Prelude.{ℕ, ◌≡◌, List, map, flat_map, filter, All, Contains}
 use Rattle.std.specs.List.{AllPairs, enumerate_from}
-use Rattle.std.specs.declared.alloc.Global.{Global}
 use Rattle.std.specs.declared.cmp.Ordering.TheVariants.{Less}
 use Rattle.module_table.specs.Defined.{Predicate}
 use Rattle.module_table.specs.Facts.{Facts}
 use Rattle.import_rules.specs.declared.names.PredName.{PredName}
+use Rattle.import_rules.specs.declared.places.Places.{Places}
+use Rattle.import_rules.specs.declared.places.Places.TheVariants.{One, More}
 use Rattle.import_rules.specs.Names.{pred_cmp, is_same}
 use Rattle.import_rules.specs.Files.{name_in}
 
@@ -33,6 +34,9 @@ pub record AreNumbers (parts : List DefinedAt) (predicates : List PredName) (pla
   pub all : All (λ (d : DefinedAt). Contains predicates d.name) parts
   pub placed : places ≡ map (places_for parts) predicates
 
--- the lists that vectors hold
-abbrev pub lists_of : List (Vec (ℕ × ℕ) Global) → List (List (ℕ × ℕ))
-lists_of vs = map (λ (v : Vec (ℕ × ℕ) Global). v.items) vs
+abbrev pub see_places : Places → List (ℕ × ℕ)
+see_places (One one) = one
+see_places (More more) = more.items
+
+abbrev pub lists_of : List Places → List (List (ℕ × ℕ))
+lists_of all = map see_places all

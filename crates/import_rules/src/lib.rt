@@ -27,6 +27,7 @@ mod names;
 mod number;
 mod part;
 mod placed;
+mod places;
 mod program;
 mod resolve;
 mod stop;

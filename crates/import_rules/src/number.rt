@@ -7,6 +7,7 @@ ghost use Rattle.import_rules.specs.Parts.{see_part, name_of_part, places_of_par
 
 use crate::names::PredName;
 use crate::part::{Part, compare, is_same};
+use crate::places::{Places, places_of};
 use prolog_tokens::Text;
 use std::alloc::{AllocError, Global};
 
@@ -14,7 +15,7 @@ use std::alloc::{AllocError, Global};
 #[derive(Drop)]
 pub(crate) struct Numbered {
     pub predicates: Vec<PredName>,
-    pub places: Vec<Vec<(u32, u32)>>,
+    pub places: Vec<Places>,
 }
 
 /// The predicate of a part.
@@ -22,21 +23,10 @@ fn name_of(alloc: Global, part: &Part<'_>) -> Result<PredName, AllocError>
     ensures { IfOk result (λ name. name ≡ name_of_part part.now) }
 {
     Ok(PredName {
-        module: Text::new(alloc, part.module)?,
-        name: Text::new(alloc, part.name)?,
+        module: Text::new(alloc, part.module.as_str())?,
+        name: Text::new(alloc, part.name.as_str())?,
         arity: part.arity,
     })
-}
-
-/// The places of the parts.
-fn places_of(alloc: Global, parts: &[Part<'_>]) -> Result<Vec<(u32, u32)>, AllocError>
-    ensures { IfOk result (λ places. places.items ≡ places_of_parts parts.now) }
-{
-    let mut places = Vec::with_capacity(alloc, parts.len())?;
-    for part in parts {
-        places.push((part.file, part.part))?;
-    }
-    Ok(places)
 }
 
 /// Adds the predicate whose places the parts are, of which there is one at least.
@@ -58,8 +48,8 @@ pub(crate) fn number(alloc: Global, mut parts: Vec<Part<'_>>) -> Result<Numbered
 {
     parts.sort_by(|a, b| compare(a, b))?;
     let mut made = Numbered {
-        predicates: Vec::new(alloc),
-        places: Vec::new(alloc),
+        predicates: Vec::with_capacity(alloc, parts.len())?,
+        places: Vec::with_capacity(alloc, parts.len())?,
     };
     for run in parts.chunk_by(|a, b| is_same(a, b)) {
         add(alloc, run, &mut made)?;

@@ -7,6 +7,7 @@ ghost use Rattle.import_rules.specs.Parts.{see_part};
 ghost use Rattle.import_rules.specs.Numbers.{parts_of_file, parts_in};
 
 use module_table::FileFacts;
+use prolog_tokens::Text;
 use std::alloc::{AllocError, Global};
 use std::cmp::Ordering;
 
@@ -14,8 +15,8 @@ use std::cmp::Ordering;
 /// in the file's `defined`.
 #[derive(Clone, Copy)]
 pub(crate) struct Part<'a> {
-    pub module: &'a str,
-    pub name: &'a str,
+    pub module: &'a Text,
+    pub name: &'a Text,
     pub arity: u32,
     pub file: u32,
     pub part: u32,
@@ -46,10 +47,11 @@ fn push_parts<'a>(
     requires { length file.now.defined.items ≤ 4294967295 }
     ensures { OnOk result (map see_part parts.new.items ≡ map see_part parts.old.items ++ parts_of_file place (see_facts file.now)) }
 {
+    parts.reserve(file.defined.len())?;
     for (part, defined) in file.defined.iter().enumerate() {
         parts.push(Part {
-            module: file.module.as_str(),
-            name: defined.name.as_str(),
+            module: &file.module,
+            name: &defined.name,
             arity: defined.arity,
             file: place,
             part: part as u32,

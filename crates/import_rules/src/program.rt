@@ -9,6 +9,7 @@ ghost use Rattle.import_rules.specs.Numbers.{lists_of, places_for, parts_in};
 
 use crate::name_table::NameTable;
 use crate::names::PredName;
+use crate::places::Places;
 use file_library::Loaded;
 
 /// The predicates of all files that were loaded, numbered from 0 in order of module, name and
@@ -23,7 +24,7 @@ pub struct Program {
     /// For each name the number of the predicate that it means.
     pub(crate) targets: Vec<u32>,
     /// For each predicate the places at which it is defined.
-    pub(crate) places: Vec<Vec<(u32, u32)>>,
+    pub(crate) places: Vec<Places>,
     pub ghost was_loaded: { ∥ WasLoaded (see_loaded loaded) ∥₁ },
     pub ghost within: { count ≤ length names },
     pub ghost few: { count ≤ most_predicates },
@@ -70,7 +71,7 @@ impl Program {
         requires { node < length (see_program self.now).predicates }
         ensures { result.now ≡ places_in (see_program self.now) node }
     {
-        &self.places[node as usize]
+        self.places[node as usize].as_slice()
     }
 
     /// The number of the predicate that a name means in a module: of the module's own predicate, else

@@ -1,3 +1,4 @@
+mod Padded
 pub mod Characters
 pub mod PlaceSteps
 pub mod Classes

@@ -8,6 +8,7 @@ pub mod Spelling
 pub mod Faults
 pub mod Cut
 pub mod Values
+pub mod Padded
 pub mod Places
 pub mod Ends
 pub mod Begins

@@ -10,6 +10,10 @@ use crate::spelling::spell;
 use crate::token::{Token, TokenFault};
 use std::alloc::Global;
 
+/// How many bytes of a dense text a token takes, with the layout before it. Room for more tokens than a
+/// text has costs nothing while it isn't touched.
+const TOKEN_BYTES: usize = 3;
+
 /// Whether layout or the beginning of the text stands directly before `start`, where the token
 /// before it ended at `at`.
 fn stands_apart(at: usize, start: usize) -> bool
@@ -50,7 +54,7 @@ pub fn tokens(alloc: Global, text: &str) -> Result<Vec<Token>, TokenFault>
     ensures no_cut { IfErr result (λ fault. fault ≢ TokenFault.NoMemory → (others : List Token) → IsCut text.now others → ⊥) }
     ensures place { IfErr result (λ fault. IfSome (fault_offset fault) (λ at. IsOffset text.now at)) }
 {
-    let mut found = Vec::new(alloc);
+    let mut found = Vec::with_capacity(alloc, text.len() / TOKEN_BYTES)?;
     let mut at = 0;
     while let Some(token) = next_token(text, at)? {
         at = token.end as usize;

@@ -1,7 +1,10 @@
 //! Texts of few bytes.
 
 ghost use Rattle.std.specs.Prelude.{◌≡◌, ◌≤◌, length};
+ghost use Rattle.std.specs.Ordering.{nat_cmp};
+ghost use Rattle.std.specs.Cmp.Lexicographic.{slice_cmp};
 
+use std::cmp::Ordering;
 use std::marker::Model;
 use std::str;
 
@@ -9,7 +12,8 @@ use std::str;
 pub const MOST: usize = 23;
 
 /// A text of few bytes. They stand in the value itself, so it needs no piece of memory of its own,
-/// as most names of a program are so short.
+/// as most names of a program are so short. Zeros stand behind them, so that two are compared as a
+/// whole.
 #[derive(Drop)]
 pub struct Short {
     bytes: [u8; MOST],
@@ -17,13 +21,14 @@ pub struct Short {
 }
 
 impl Model for Short {
-    ghost use Rattle.std.specs.Prelude.{List, ℕ, ◌≤◌, take, IsUtf8};
+    ghost use Rattle.std.specs.Prelude.{List, ℕ, ◌≡◌, ◌≤◌, take, IsUtf8};
+    ghost use Rattle.prolog_tokens.specs.Padded.{padded};
 
     ghost Value = { List ℕ };
 
     ghost view = { λ s. take s.len s.bytes };
 
-    ghost invariant = { λ s. (s.len ≤ 23) × ∥ IsUtf8 (take s.len s.bytes) ∥₁ };
+    ghost invariant = { λ s. (s.len ≤ 23) × ((s.bytes ≡ padded 23 (take s.len s.bytes)) × ∥ IsUtf8 (take s.len s.bytes) ∥₁) };
 }
 
 impl Short {
@@ -45,5 +50,15 @@ impl Short {
         ensures { result.now ≡ self.now }
     {
         unsafe { str::from_utf8_unchecked(&self.bytes[..self.len as usize]) }
+    }
+
+    /// The order of the texts, byte by byte.
+    pub fn compare(&self, other: &Short) -> Ordering
+        ensures { result ≡ slice_cmp nat_cmp self.now other.now }
+    {
+        match self.bytes.cmp(&other.bytes) {
+            Ordering::Equal => self.len.cmp(&other.len),
+            apart => apart,
+        }
     }
 }

@@ -125,6 +125,9 @@ impl Ord for Text {
     ghost matches_eq = { texts_ties };
 
     fn cmp(&self, other: &Text) -> Ordering {
-        self.as_str().cmp(other.as_str())
+        match (&self.room, &other.room) {
+            (Room::Short(one), Room::Short(another)) => one.compare(another),
+            _ => self.as_str().cmp(other.as_str()),
+        }
     }
 }

@@ -10,7 +10,7 @@ use Rattle.import_rules.proofs.Numbering.{alike, now_of, next_run, next_name, ne
 use Rattle.import_rules.proofs.number.number.Goals as goal
 
 pub loop-run-init : goal.loop-run-init
-loop-run-init c = (none_cut pred_cmp pred_cmp_total name_of_part c.into_iter-run-iterator.result.rest.now, c.new.ensures.items, ap lists_of c.new-2.ensures.items)
+loop-run-init c = (none_cut pred_cmp pred_cmp_total name_of_part c.into_iter-run-iterator.result.rest.now, c.in_ok-with_capacity.ensures.items, ap lists_of c.in_ok-with_capacity-2.ensures.items)
 
 pub loop-run-preserved : goal.loop-run-preserved
 loop-run-preserved c =

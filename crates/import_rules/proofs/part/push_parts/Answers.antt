@@ -1,4 +1,4 @@
-use Rattle.std.proofs.Common.{◌≡◌, ◌<◌, ◌++◌, ◌∷◌, [], length, map, get_or, ap, ◌∙◌, arith}
+use Rattle.std.proofs.Common.{◌≡◌, ◌<◌, ◌++◌, length, map, get_or, ap, ◌∙◌, arith}
 use Rattle.std.proofs.lemmas.List.{map-append}
 use Rattle.import_rules.specs.Parts.{see_part}
 use Rattle.import_rules.proofs.PartsSoFar.{more_part, all_parts}
@@ -11,12 +11,9 @@ loop-part-preserved c =
     let d = c.defined-item.result in
     let items : c.deref-defined-items.result.now ≡ file.defined.items = c.deref-defined-items.ensures.value in
     let within : n < length file.defined.items = omega (arith, c.loop-part-test.true, ap length items) in
-    let before = map see_part c.loop-part.parts.items in
-    more_part c.args.place file n d (map see_part c.args.parts.now.items) before (map see_part c.push.new.self.items) within
+    more_part c.args.place file n d (map see_part c.args.parts.now.items) (map see_part c.loop-part.parts.items) (map see_part c.push.new.self.items) within
     (c.defined-item.is ∙ ap (λ xs. get_or xs n d) items) c.loop-part.invariant
-    (ap (map see_part) c.in_ok-push.ensures.items
-    ∙ map-append see_part c.loop-part.parts.items _
-    ∙ (λ i. before ++ record { name = record { «module» = c.as_str.ensures i; name = c.as_str-in-loop-part.ensures i; arity = d.arity }; at = (c.args.place, n) } ∷ []))
+    (ap (map see_part) c.in_ok-push.ensures.items ∙ map-append see_part c.loop-part.parts.items _)
 
 pub returns : goal.returns
 returns c =

@@ -48,25 +48,25 @@ pub returns-in_err-token-clause-only_fault : goal.returns-in_err-token-clause-on
 returns-in_err-token-clause-only_fault c =
     let text = c.args.text.now in
     let fault = c.in_err-token.field-0.0 in
-    let told : IsErrAnd c.from_residual.result (λ e. e ≡ fault) = c.from_residual.ensures.1 in
+    let told : IsErrAnd c.from_residual-in_err-token.result (λ e. e ≡ fault) = c.from_residual-in_err-token.ensures.1 in
     let has : HasFault text fault = record { tokens = c.loop-found.found.items; last = c.loop-found.at; stand = c.loop-found.invariant.stand; next = c.in_err-token.ensures } in
-    on_fault c.from_residual.result fault (λ e. e ≢ NoMemory → (second : TokenFault) → HasFault text second → second ≡ e) told (λ _ second also. one_fault text second fault also has)
+    on_fault c.from_residual-in_err-token.result fault (λ e. e ≢ NoMemory → (second : TokenFault) → HasFault text second → second ≡ e) told (λ _ second also. one_fault text second fault also has)
 
 pub returns-in_err-token-clause-no_cut : goal.returns-in_err-token-clause-no_cut
 returns-in_err-token-clause-no_cut c =
     let text = c.args.text.now in
     let fault = c.in_err-token.field-0.0 in
-    let told : IsErrAnd c.from_residual.result (λ e. e ≡ fault) = c.from_residual.ensures.1 in
+    let told : IsErrAnd c.from_residual-in_err-token.result (λ e. e ≡ fault) = c.from_residual-in_err-token.ensures.1 in
     let has : HasFault text fault = record { tokens = c.loop-found.found.items; last = c.loop-found.at; stand = c.loop-found.invariant.stand; next = c.in_err-token.ensures } in
-    on_fault c.from_residual.result fault (λ e. e ≢ NoMemory → (others : List Token) → IsCut text others → ⊥) told (λ _ others cut. fault_no_cut text fault others has cut)
+    on_fault c.from_residual-in_err-token.result fault (λ e. e ≢ NoMemory → (others : List Token) → IsCut text others → ⊥) told (λ _ others cut. fault_no_cut text fault others has cut)
 
 pub returns-in_err-token-clause-place : goal.returns-in_err-token-clause-place
 returns-in_err-token-clause-place c =
     let text = c.args.text.now in
     let fault = c.in_err-token.field-0.0 in
-    let told : IsErrAnd c.from_residual.result (λ e. e ≡ fault) = c.from_residual.ensures.1 in
+    let told : IsErrAnd c.from_residual-in_err-token.result (λ e. e ≡ fault) = c.from_residual-in_err-token.ensures.1 in
     let next : IsWrongNext text c.loop-found.at fault = c.in_err-token.ensures in
-    on_fault c.from_residual.result fault (λ e. IfSome (fault_offset e) (λ at. IsOffset text at)) told (wrong_offset text next.place fault c.utf8.text next.wrong)
+    on_fault c.from_residual-in_err-token.result fault (λ e. IfSome (fault_offset e) (λ at. IsOffset text at)) told (wrong_offset text next.place fault c.utf8.text next.wrong)
 
 pub returns-clause-only : goal.returns-clause-only
 returns-clause-only c = λ others cut.

@@ -6,4 +6,4 @@ pub index-requires : goal.index-requires
 index-requires c = omega (arith, c.requires, as_many_places c.args.self.now, c.args.self.now.places.ok.0)
 
 pub returns : goal.returns
-returns c = c.deref.ensures.value ∙ places_there c.args.self.now c.args.node c.index.result.now c.requires c.index.ensures
+returns c = c.as_slice.ensures ∙ places_there c.args.self.now c.args.node c.index.result.now c.requires c.index.ensures

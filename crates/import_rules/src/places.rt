@@ -1,0 +1,41 @@
+//! The places at which a predicate is defined.
+
+ghost use Rattle.std.specs.Prelude.{◌≡◌, IfOk};
+ghost use Rattle.import_rules.specs.Numbers.{see_places};
+ghost use Rattle.import_rules.specs.Parts.{places_of_parts};
+
+use crate::part::Part;
+use std::alloc::{AllocError, Global};
+
+/// The places at which a predicate is defined, each that of a file and of a part of the file. Most
+/// predicates are defined at one, which takes no memory of its own.
+#[derive(Drop)]
+pub(crate) enum Places {
+    One([(u32, u32); 1]),
+    More(Vec<(u32, u32)>),
+}
+
+impl Places {
+    pub(crate) fn as_slice(&self) -> &[(u32, u32)]
+        ensures { result.now ≡ see_places self.now }
+    {
+        match self {
+            Places::One(one) => one,
+            Places::More(more) => more.as_slice(),
+        }
+    }
+}
+
+/// The places of the parts.
+pub(crate) fn places_of(alloc: Global, parts: &[Part<'_>]) -> Result<Places, AllocError>
+    ensures { IfOk result (λ places. see_places places ≡ places_of_parts parts.now) }
+{
+    if parts.len() == 1 {
+        return Ok(Places::One([(parts[0].file, parts[0].part)]));
+    }
+    let mut places = Vec::with_capacity(alloc, parts.len())?;
+    for part in parts {
+        places.push((part.file, part.part))?;
+    }
+    Ok(Places::More(places))
+}
