@@ -8,8 +8,8 @@ pub mod Room
 pub mod Roots
 pub mod Books
 pub mod Waking
-mod FewGroups
-mod LevelSteps
-mod MemberSteps
-mod RaisedSteps
+pub mod FewGroups
+pub mod LevelSteps
+pub mod MemberSteps
+pub mod RaisedSteps
 mod ReleaseSteps

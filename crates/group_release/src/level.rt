@@ -69,7 +69,7 @@ fn level_of<O: Opener>(
 
 /// The height, raised above each callee's group that has a level already. The group that is next has
 /// none, so its calls of itself raise nothing.
-fn raised(mut height: u32, callees: &[u32], places: &[usize], levels: &[Level]) -> u32
+pub fn raised(mut height: u32, callees: &[u32], places: &[usize], levels: &[Level]) -> u32
     requires nodes { All (λ callee. callee < length places.now) callees.now }
     requires known { All (λ callee. slice_index places.now callee ≤ length levels.now) callees.now }
     requires low { All (λ level. level.height < 4294967295) levels.now }

@@ -15,5 +15,5 @@ mod level;
 mod released;
 
 pub use book::Book;
-pub use level::{Level, levels};
+pub use level::{Level, levels, raised};
 pub use released::Released;
