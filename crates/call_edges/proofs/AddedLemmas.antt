@@ -1,25 +1,35 @@
 -- How many arguments are added at most, and that an argument weighs that much less.
-use Rattle.std.proofs.Common.{◌≡◌, ℕ, zero, suc, ◌+◌, ◌-◌, ◌≤◌, ◌==◌, Bool, true, false, List, [], ◌∷◌, Option, Some, None, length, slice_get, if◌then◌else◌, codes, ap, sym, subst, refl, arith}
+use Rattle.std.specs.Prelude.{All, slice_index_or}
+use Rattle.std.proofs.lemmas.Bool.{cases_lt}
+use Rattle.std.proofs.lemmas.List.{get_or_past}
+use Rattle.std.proofs.Common.{◌≡◌, inl, inr, ℕ, zero, suc, ◌+◌, ◌*◌, ◌-◌, ◌≤◌, ◌==◌, Bool, true, false, List, [], ◌∷◌, Option, Some, None, length, slice_get, if◌then◌else◌, codes, ap, sym, subst, refl, arith}
 use Rattle.std.specs.Str.{bytes_eq}
 use Rattle.std.proofs.lemmas.Bool.{eqb-true}
-use Rattle.std.proofs.lemmas.Option.{same_Some}
+use Rattle.std.proofs.lemmas.Option.{same_Some, slice_get_within}
 use Rattle.prolog_terms.specs.Tree.{Tree, trees_from}
 use Rattle.prolog_terms.specs.Views.{atom_name}
 use Rattle.prolog_terms.specs.Weight.{weight, weights}
 use Rattle.module_table.specs.Heads.{is_among}
-use Rattle.call_edges.specs.declared.role.Role.{Role}
-use Rattle.call_edges.specs.declared.role.Role.TheVariants.{Plain, Goal, Caret, Grammar}
+use Rattle.call_edges.proofs.MeantLemmas.{meant_small}
+use Rattle.module_table.specs.declared.goal_arg.GoalArg.{GoalArg}
+use Rattle.module_table.specs.declared.goal_arg.GoalArg.TheVariants.{Plain, Goal, Caret, Grammar}
 use Rattle.call_edges.specs.declared.role.Row.{Row}
 use Rattle.call_edges.specs.declared.role.Way.{Way}
 use Rattle.call_edges.specs.declared.role.Way.TheVariants.{Silent, Behind, Control, Qualified, Calling}
-use Rattle.call_edges.specs.Goals.{added, first_only, second_only, first_two, first_and_third, adding_row, one_row, two_row, three_row, four_row, row, Rows, plain_rows, way, settled, goal_named, qualified_taken, taken_by, taken, role_at}
+use Rattle.module_table.specs.Metas.{IsSmall}
+use Rattle.import_rules.specs.Program.{Seen, IsKnown, meta_meant}
+use Rattle.call_edges.specs.ProgramRows.{standing_by, rows_of}
+use Rattle.call_edges.specs.Goals.{added, first_only, second_only, first_two, first_and_third, adding_row, one_row, two_row, three_row, four_row, row, Standing, by_table, Rows, way, settled, goal_named, qualified_taken, taken_by, taken, role_at}
 
--- no argument gets more than n
-pub record IsRowWithin (n : ℕ) (row : Option Row) : Type 0 where
-  pub each : (i : ℕ) → added (role_at row i) ≤ n
+-- no argument gets more than n, or than the nine of a declaration
+pub record IsWithin (n : ℕ) (standing : Standing) : Type 0 where
+  pub each : (i : ℕ) → added (role_at standing i) ≤ n + 9
+
+abbrev IsRowWithin : ℕ → Option Row → Type 0
+IsRowWithin n row = IsWithin n (by_table row)
 
 pub record RowsWithin (T : Rows) : Type 0 where
-  pub each : (owner name : List ℕ) (n : ℕ) → IsRowWithin n (T owner name n)
+  pub each : (owner name : List ℕ) (n : ℕ) → IsWithin n (T owner name n)
 
 chosen : {X : Type 0} (P : X → Type 0) (test : Bool) (x y : X) → (test ≡ true → P x) → (test ≡ false → P y) → P (if test then x else y)
 chosen P true x y here there = here refl
@@ -31,15 +41,15 @@ none_within n = record { each = λ i. omega arith }
 role_within : (n : ℕ) (row : Row) → added row.first ≤ n → added row.second ≤ n → added row.third ≤ n → IsRowWithin n (Some row)
 role_within n row first second third = record {
   each = λ i.
-      let P : Role → Type 0 = λ role. added role ≤ n in
-      chosen P (i == 0) row.first (if i == 1 then row.second else if i == 2 then row.third else Plain) (λ _. first)
-      (λ _. chosen P (i == 1) row.second (if i == 2 then row.third else Plain) (λ _. second) (λ _. chosen P (i == 2) row.third Plain (λ _. third) (λ _. omega arith)));
+      let P : GoalArg → Type 0 = λ role. added role ≤ n + 9 in
+      chosen P (i == 0) row.first (if i == 1 then row.second else if i == 2 then row.third else Plain) (λ _. omega (arith, first))
+      (λ _. chosen P (i == 1) row.second (if i == 2 then row.third else Plain) (λ _. omega (arith, second)) (λ _. chosen P (i == 2) row.third Plain (λ _. omega (arith, third)) (λ _. omega arith)));
 }
 
-first_within : (n : ℕ) (role : Role) → added role ≤ n → IsRowWithin n (Some (first_only role))
+first_within : (n : ℕ) (role : GoalArg) → added role ≤ n → IsRowWithin n (Some (first_only role))
 first_within n role small = role_within n (first_only role) small (omega arith) (omega arith)
 
-second_within : (n : ℕ) (role : Role) → added role ≤ n → IsRowWithin n (Some (second_only role))
+second_within : (n : ℕ) (role : GoalArg) → added role ≤ n → IsRowWithin n (Some (second_only role))
 second_within n role small = role_within n (second_only role) (omega arith) small (omega arith)
 
 adding_within : (name : List ℕ) (n : ℕ) → IsRowWithin n (adding_row name n)
@@ -77,10 +87,25 @@ row_within name n =
     (λ _. chosen (IsRowWithin n) (n == 3) _ _ (λ is. subst (λ k. IsRowWithin k (three_row name)) (sym (eqb-true n 3 is)) (three_within name))
     (λ _. chosen (IsRowWithin n) (n == 4) _ _ (λ is. subst (λ k. IsRowWithin k (four_row name)) (sym (eqb-true n 4 is)) (four_within name)) (λ _. adding_within name n)))))
 
-pub plain_within : RowsWithin plain_rows
-plain_within = record { each = λ owner name n. row_within name n }
+-- what is declared adds nine at most
 
-settled_within : (role : Role) → added (settled role) ≤ added role
+args_within : (args : List GoalArg) → All IsSmall args → (i : ℕ) → added (slice_index_or args i Plain) ≤ 9
+args_within args small i =
+    elim (cases_lt i (length args)) [
+      | inl below ↦ small i Plain below
+      | inr past ↦ let none : slice_index_or args i Plain ≡ Plain = get_or_past args i Plain past in omega (arith, ap added none)
+    ]
+
+standing_within : (table : Option Row) (args : List GoalArg) (n : ℕ) → IsRowWithin n table → All IsSmall args → IsWithin n (standing_by table args)
+standing_within table [] n within small = within
+standing_within table (arg ∷ args) n within small = record { each = λ i. omega (arith, args_within (arg ∷ args) small i) }
+
+pub rows_within : (seen : Seen) → IsKnown seen → RowsWithin (rows_of seen)
+rows_within seen known = record {
+  each = λ owner name n. standing_within (row name n) (meta_meant seen owner name n) n (row_within name n) (meant_small seen known owner name n);
+}
+
+settled_within : (role : GoalArg) → added (settled role) ≤ added role
 settled_within Plain = omega arith
 settled_within (Goal e) = omega arith
 settled_within Caret = omega arith
@@ -97,15 +122,15 @@ part_count (first ∷ args) zero tree is = omega (arith, ap weight (same_Some fi
 part_count (first ∷ args) (suc i) tree is = omega (arith, part_count args i tree is)
 
 module _ (T : Rows) (within : RowsWithin T) where
-  named_within : (owner : List ℕ) (role : Role) (tree : Tree) (found : Option (List ℕ)) (n : ℕ) → added role ≤ n → IsRowWithin n (goal_named owner role tree found).row
+  named_within : (owner : List ℕ) (role : GoalArg) (tree : Tree) (found : Option (List ℕ)) (n : ℕ) → added role ≤ n → IsWithin n (goal_named owner role tree found).standing
   named_within owner role tree (Some name) n small = second_within n (settled role) (omega (arith, settled_within role, small))
   named_within owner role tree None n small = none_within n
 
-  qualified_within : (owner : List ℕ) (role : Role) (args : List Tree) (n : ℕ) → added role ≤ n → IsRowWithin n (qualified_taken owner role args).row
+  qualified_within : (owner : List ℕ) (role : GoalArg) (args : List Tree) (n : ℕ) → added role ≤ n → IsWithin n (qualified_taken owner role args).standing
   qualified_within owner role [] n small = none_within n
   qualified_within owner role (tree ∷ trees) n small = named_within owner role tree (atom_name tree) n small
 
-  by_within : (w : Way) (owner : List ℕ) (role : Role) (name : List ℕ) (args : List Tree) → IsRowWithin (length args + added role) (taken_by T w owner role name args).row
+  by_within : (w : Way) (owner : List ℕ) (role : GoalArg) (name : List ℕ) (args : List Tree) → IsWithin (length args + added role) (taken_by T w owner role name args).standing
   by_within Silent owner role name args = none_within (length args + added role)
   by_within Behind owner role name args = second_within (length args + added role) Caret (omega arith)
   by_within Control owner role name args =
@@ -114,9 +139,9 @@ module _ (T : Rows) (within : RowsWithin T) where
   by_within Qualified owner role name args = qualified_within owner role args (length args + added role) (omega arith)
   by_within Calling owner role name args = within.each owner name (length args + added role)
 
-  -- what is added to an argument and the argument weigh no more than what is added to the compound and all its arguments
-  pub argument_within : (owner : List ℕ) (role : Role) (name : List ℕ) (args : List Tree) (i : ℕ) (tree : Tree) → slice_get args i ≡ Some tree
-      → added (role_at (taken T owner role name args).row i) + weight tree ≤ added role + weights (trees_from args)
+  -- what is added to an argument and ten times its weight are no more than what is added to the compound and ten times the weight of all its arguments
+  pub argument_within : (owner : List ℕ) (role : GoalArg) (name : List ℕ) (args : List Tree) (i : ℕ) (tree : Tree) → slice_get args i ≡ Some tree
+      → added (role_at (taken T owner role name args).standing i) + 10 * weight tree ≤ added role + 10 * weights (trees_from args)
   argument_within owner role name args i tree is =
       let few = (by_within (way role name (length args)) owner role name args).each i in
-      omega (arith, few, part_count args i tree is)
+      omega (arith, few, part_count args i tree is, slice_get_within args i tree is)

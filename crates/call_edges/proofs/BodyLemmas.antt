@@ -10,7 +10,8 @@ use Rattle.prolog_terms.specs.Tree.{Tree}
 use Rattle.module_table.specs.Defined.{Predicate}
 use Rattle.module_table.specs.Facts.{Facts}
 use Rattle.import_rules.specs.Program.{Seen, places_in, places_at}
-use Rattle.call_edges.specs.Goals.{Met, Place}
+use Rattle.call_edges.specs.Goals.{Met, Place, Rows}
+use Rattle.call_edges.specs.ProgramRows.{rows_of}
 use Rattle.call_edges.specs.Calls.{IsAmong, body_of, IsMetInClause, IsMetAt, IsMetIn}
 use Rattle.call_edges.specs.Bodies.{Body, body_in, clause_bodies, part_bodies, file_bodies, bodies_at, bodies_in, IsMetInBody}
 use Rattle.call_edges.proofs.AmongLemmas.{IsGiven, among_given, among_flat, among_as}
@@ -49,55 +50,56 @@ bodies_there files at file predicate here there = ap (file_bodies at.0 at.1) her
 
 -- what is met in the bodies of clauses
 
-given_met : (file : ℕ) (owner : List ℕ) (clause : Tree) (m : Met) (o : Option Place) → body_of owner clause ≡ o → IsGiven IsMetInBody (option_map (body_in file) o) m
-    → IsMetInClause owner clause m
-given_met file owner clause m None is given = absurd (none-some given.one given.is)
-given_met file owner clause m (Some body) is given =
-    let same : body_in file body ≡ given.one = same_Some (body_in file body) given.one given.is in
-    record { body = body; is = is; met = subst (λ (b : Body). IsMetInBody b m) (sym same) given.holds }
+module _ (T : Rows) where
+  given_met : (file : ℕ) (owner : List ℕ) (clause : Tree) (m : Met) (o : Option Place) → body_of owner clause ≡ o → IsGiven (IsMetInBody T) (option_map (body_in file) o) m
+      → (IsMetInClause T) owner clause m
+  given_met file owner clause m None is given = absurd (none-some given.one given.is)
+  given_met file owner clause m (Some body) is given =
+      let same : body_in file body ≡ given.one = same_Some (body_in file body) given.one given.is in
+      record { body = body; is = is; met = subst (λ (b : Body). (IsMetInBody T) b m) (sym same) given.holds }
 
-met_given : (file : ℕ) (owner : List ℕ) (clause : Tree) (m : Met) → IsMetInClause owner clause m → IsGiven IsMetInBody (option_map (body_in file) (body_of owner clause)) m
-met_given file owner clause m met = record { one = body_in file met.body; is = ap (option_map (body_in file)) met.is; holds = met.met }
+  met_given : (file : ℕ) (owner : List ℕ) (clause : Tree) (m : Met) → (IsMetInClause T) owner clause m → IsGiven (IsMetInBody T) (option_map (body_in file) (body_of owner clause)) m
+  met_given file owner clause m met = record { one = body_in file met.body; is = ap (option_map (body_in file)) met.is; holds = met.met }
 
-pub clauses_met : (file : ℕ) (owner : List ℕ) (clauses : List Tree) (m : Met) → IsAmong IsMetInBody (clause_bodies file owner clauses) m ↔ IsAmong (IsMetInClause owner) clauses m
-clauses_met file owner clauses m =
-    let body : Tree → Option Body = λ clause. option_map (body_in file) (body_of owner clause) in
-    let given = among_given IsMetInBody body clauses m in (
-      λ among.
-          among_as (λ clause. IsGiven IsMetInBody (body clause)) (IsMetInClause owner) clauses m
-          (λ clause one. given_met file owner clause m (body_of owner clause) refl one) (given.0 among),
-      λ among.
-          given.1
-          (among_as (IsMetInClause owner) (λ clause. IsGiven IsMetInBody (body clause)) clauses m (λ clause met. met_given file owner clause m met) among),
-    )
+  pub clauses_met : (file : ℕ) (owner : List ℕ) (clauses : List Tree) (m : Met) → IsAmong (IsMetInBody T) (clause_bodies file owner clauses) m ↔ IsAmong ((IsMetInClause T) owner) clauses m
+  clauses_met file owner clauses m =
+      let body : Tree → Option Body = λ clause. option_map (body_in file) (body_of owner clause) in
+      let given = among_given (IsMetInBody T) body clauses m in (
+        λ among.
+            among_as (λ clause. IsGiven (IsMetInBody T) (body clause)) ((IsMetInClause T) owner) clauses m
+            (λ clause one. given_met file owner clause m (body_of owner clause) refl one) (given.0 among),
+        λ among.
+            given.1
+            (among_as ((IsMetInClause T) owner) (λ clause. IsGiven (IsMetInBody T) (body clause)) clauses m (λ clause met. met_given file owner clause m met) among),
+      )
 
--- at a place
+  -- at a place
 
-no_body : {P : Body → Met → Type 0} (m : Met) → IsAmong P [] m → ⊥
-no_body m among = absurd (omega (arith, among.has.1))
+  no_body : {P : Body → Met → Type 0} (m : Met) → IsAmong P [] m → ⊥
+  no_body m among = absurd (omega (arith, among.has.1))
 
-part_met : (files : List Facts) (at : ℕ × ℕ) (m : Met) (file : Facts) (o : Option Predicate) → slice_get files at.0 ≡ Some file → slice_get file.defined at.1 ≡ o
-    → IsAmong IsMetInBody (part_bodies at.0 file.module_ o) m → IsMetAt files at m
-part_met files at m file None here there among = absurd (no_body m among)
-part_met files at m file (Some predicate) here there among = record {
-  file = file;
-  file_is = here;
-  predicate = predicate;
-  predicate_is = there;
-  among = (clauses_met at.0 file.module_ predicate.clauses m).0 among;
-}
+  part_met : (files : List Facts) (at : ℕ × ℕ) (m : Met) (file : Facts) (o : Option Predicate) → slice_get files at.0 ≡ Some file → slice_get file.defined at.1 ≡ o
+      → IsAmong (IsMetInBody T) (part_bodies at.0 file.module_ o) m → (IsMetAt T) files at m
+  part_met files at m file None here there among = absurd (no_body m among)
+  part_met files at m file (Some predicate) here there among = record {
+    file = file;
+    file_is = here;
+    predicate = predicate;
+    predicate_is = there;
+    among = (clauses_met at.0 file.module_ predicate.clauses m).0 among;
+  }
 
-file_met : (files : List Facts) (at : ℕ × ℕ) (m : Met) (o : Option Facts) → slice_get files at.0 ≡ o → IsAmong IsMetInBody (file_bodies at.0 at.1 o) m → IsMetAt files at m
-file_met files at m None here among = absurd (no_body m among)
-file_met files at m (Some file) here among = part_met files at m file (slice_get file.defined at.1) here refl among
+  file_met : (files : List Facts) (at : ℕ × ℕ) (m : Met) (o : Option Facts) → slice_get files at.0 ≡ o → IsAmong (IsMetInBody T) (file_bodies at.0 at.1 o) m → (IsMetAt T) files at m
+  file_met files at m None here among = absurd (no_body m among)
+  file_met files at m (Some file) here among = part_met files at m file (slice_get file.defined at.1) here refl among
 
-pub place_met : (files : List Facts) (at : ℕ × ℕ) (m : Met) → IsAmong IsMetInBody (bodies_at files at) m ↔ IsMetAt files at m
-place_met files at m = (
-  λ among. file_met files at m (slice_get files at.0) refl among,
-  λ met.
-      subst (λ (bodies : List Body). IsAmong IsMetInBody bodies m) (sym (bodies_there files at met.file met.predicate met.file_is met.predicate_is))
-      ((clauses_met at.0 met.file.module_ met.predicate.clauses m).1 met.among),
-)
+  pub place_met : (files : List Facts) (at : ℕ × ℕ) (m : Met) → IsAmong (IsMetInBody T) (bodies_at files at) m ↔ (IsMetAt T) files at m
+  place_met files at m = (
+    λ among. file_met files at m (slice_get files at.0) refl among,
+    λ met.
+        subst (λ (bodies : List Body). IsAmong (IsMetInBody T) bodies m) (sym (bodies_there files at met.file met.predicate met.file_is met.predicate_is))
+        ((clauses_met at.0 met.file.module_ met.predicate.clauses m).1 met.among),
+  )
 
 -- and all of them are of its file
 
@@ -123,13 +125,13 @@ pub body_file : (files : List Facts) (at : ℕ × ℕ) (body : Body) → Contain
 body_file files at body has = file_file at.0 at.1 (slice_get files at.0) body has
 
 -- in a predicate
-pub node_met : (seen : Seen) (node : ℕ) (m : Met) → IsAmong IsMetInBody (bodies_in seen node) m ↔ IsMetIn seen node m
+pub node_met : (seen : Seen) (node : ℕ) (m : Met) → IsAmong (IsMetInBody (rows_of seen)) (bodies_in seen node) m ↔ IsMetIn seen node m
 node_met seen node m =
     let files = seen.loaded.files in
     let places = places_in seen node in
-    let flat = among_flat IsMetInBody (bodies_at files) places m in (
-      λ among. among_as (λ at. IsAmong IsMetInBody (bodies_at files at)) (IsMetAt files) places m (λ at. (place_met files at m).0) (flat.0 among),
-      λ met. flat.1 (among_as (IsMetAt files) (λ at. IsAmong IsMetInBody (bodies_at files at)) places m (λ at. (place_met files at m).1) met),
+    let flat = among_flat (IsMetInBody (rows_of seen)) (bodies_at files) places m in (
+      λ among. among_as (λ at. IsAmong (IsMetInBody (rows_of seen)) (bodies_at files at)) ((IsMetAt (rows_of seen)) files) places m (λ at. (place_met (rows_of seen) files at m).0) (flat.0 among),
+      λ met. flat.1 (among_as ((IsMetAt (rows_of seen)) files) (λ at. IsAmong (IsMetInBody (rows_of seen)) (bodies_at files at)) places m (λ at. (place_met (rows_of seen) files at m).1) met),
     )
 
 -- each place of a predicate is one of a file and of a part of it

@@ -12,8 +12,9 @@ use Rattle.std.proofs.lemmas.Option.{none-some}
 use Rattle.import_rules.specs.Program.{Seen}
 use Rattle.call_edges.specs.declared.role.Met.{Met as MetKept}
 use Rattle.call_edges.specs.declared.body.Body.{Body as BodyKept}
-use Rattle.call_edges.specs.Goals.{Met, plain_rows, Adds, AddsMet}
+use Rattle.call_edges.specs.Goals.{Met, Adds, AddsMet}
 use Rattle.call_edges.specs.Seen.{see_met, see_mets}
+use Rattle.call_edges.specs.ProgramRows.{rows_of}
 use Rattle.call_edges.specs.Calls.{IsAmong, target, GoesTo, IsMetIn, NodeCalls}
 use Rattle.call_edges.specs.Bodies.{Body, see_body, bodies_in, IsMetInBody}
 use Rattle.call_edges.proofs.AddsLemmas.{none_in, adds_as, adds_option, adds_nothing}
@@ -58,41 +59,41 @@ module _ (seen : Seen) where
   goes_as P Q q to goes = record { met = goes.met; is = to goes.met goes.is; goes = goes.goes }
 
   -- the calls of a body
-  pub body_goes : (body : Body) (met : List MetKept) (none : List Met) (old new : List ℕ) → none ≡ [] → AddsMet plain_rows body.at none (see_mets met)
-      → Adds (GoesTo seen (Contains (see_mets met))) old new → Adds (GoesTo seen (IsMetInBody body)) old new
+  pub body_goes : (body : Body) (met : List MetKept) (none : List Met) (old new : List ℕ) → none ≡ [] → AddsMet (rows_of seen) body.at none (see_mets met)
+      → Adds (GoesTo seen (Contains (see_mets met))) old new → Adds (GoesTo seen ((IsMetInBody (rows_of seen)) body)) old new
   body_goes body met none old new empty walked adds =
-      let has = adds_from_none (IsMetInBody body) none (see_mets met) empty walked in
-      adds_as (GoesTo seen (Contains (see_mets met))) (GoesTo seen (IsMetInBody body)) old new (λ q. goes_as (Contains (see_mets met)) (IsMetInBody body) q (λ m. (has m).0))
-      (λ q. goes_as (IsMetInBody body) (Contains (see_mets met)) q (λ m. (has m).1)) adds
+      let has = adds_from_none ((IsMetInBody (rows_of seen)) body) none (see_mets met) empty walked in
+      adds_as (GoesTo seen (Contains (see_mets met))) (GoesTo seen ((IsMetInBody (rows_of seen)) body)) old new (λ q. goes_as (Contains (see_mets met)) ((IsMetInBody (rows_of seen)) body) q (λ m. (has m).0))
+      (λ q. goes_as ((IsMetInBody (rows_of seen)) body) (Contains (see_mets met)) q (λ m. (has m).1)) adds
 
   abbrev pub IsCalledIn : BodyKept → ℕ → Type 0
-  IsCalledIn body q = GoesTo seen (IsMetInBody (see_body body)) q
+  IsCalledIn body q = GoesTo seen ((IsMetInBody (rows_of seen)) (see_body body)) q
 
   -- the calls of bodies
-  pub bodies_go : (bodies : List BodyKept) (old new : List ℕ) → Adds (IsAmong IsCalledIn bodies) old new → Adds (GoesTo seen (IsAmong IsMetInBody (map see_body bodies))) old new
+  pub bodies_go : (bodies : List BodyKept) (old new : List ℕ) → Adds (IsAmong IsCalledIn bodies) old new → Adds (GoesTo seen (IsAmong (IsMetInBody (rows_of seen)) (map see_body bodies))) old new
   bodies_go bodies old new adds =
-      adds_as (IsAmong IsCalledIn bodies) (GoesTo seen (IsAmong IsMetInBody (map see_body bodies))) old new
+      adds_as (IsAmong IsCalledIn bodies) (GoesTo seen (IsAmong (IsMetInBody (rows_of seen)) (map see_body bodies))) old new
       (λ q among.
       record {
         met = among.is.met;
         is =
-            (among_map IsMetInBody see_body bodies among.is.met).1
+            (among_map (IsMetInBody (rows_of seen)) see_body bodies among.is.met).1
             (record { one = among.one; has = among.has; is = among.is.is });
         goes = among.is.goes;
       })
       (λ q goes.
-      let kept = (among_map IsMetInBody see_body bodies goes.met).0 goes.is in
+      let kept = (among_map (IsMetInBody (rows_of seen)) see_body bodies goes.met).0 goes.is in
       record { one = kept.one; has = kept.has; is = record { met = goes.met; is = kept.is; goes = goes.goes } })
       adds
 
   -- the calls of a predicate
-  pub node_goes : (node : ℕ) (bodies : List Body) (old new : List ℕ) → bodies ≡ bodies_in seen node → old ≡ [] → Adds (GoesTo seen (IsAmong IsMetInBody bodies)) old new
+  pub node_goes : (node : ℕ) (bodies : List Body) (old new : List ℕ) → bodies ≡ bodies_in seen node → old ≡ [] → Adds (GoesTo seen (IsAmong (IsMetInBody (rows_of seen)) bodies)) old new
       → (q : ℕ) → Contains new q ↔ NodeCalls seen node q
   node_goes node bodies old new are none adds q =
-      let here : Adds (GoesTo seen (IsAmong IsMetInBody (bodies_in seen node))) old new = subst (λ (bs : List Body). Adds (GoesTo seen (IsAmong IsMetInBody bs)) old new) are adds in
-      let has = adds_from_none (GoesTo seen (IsAmong IsMetInBody (bodies_in seen node))) old new none here q in (
-        λ in_new. goes_as (IsAmong IsMetInBody (bodies_in seen node)) (IsMetIn seen node) q (λ m. (node_met seen node m).0) (has.0 in_new),
-        λ calls. has.1 (goes_as (IsMetIn seen node) (IsAmong IsMetInBody (bodies_in seen node)) q (λ m. (node_met seen node m).1) calls),
+      let here : Adds (GoesTo seen (IsAmong (IsMetInBody (rows_of seen)) (bodies_in seen node))) old new = subst (λ (bs : List Body). Adds (GoesTo seen (IsAmong (IsMetInBody (rows_of seen)) bs)) old new) are adds in
+      let has = adds_from_none (GoesTo seen (IsAmong (IsMetInBody (rows_of seen)) (bodies_in seen node))) old new none here q in (
+        λ in_new. goes_as (IsAmong (IsMetInBody (rows_of seen)) (bodies_in seen node)) (IsMetIn seen node) q (λ m. (node_met seen node m).0) (has.0 in_new),
+        λ calls. has.1 (goes_as (IsMetIn seen node) (IsAmong (IsMetInBody (rows_of seen)) (bodies_in seen node)) q (λ m. (node_met seen node m).1) calls),
       )
 
 -- numbers that are sorted, each once

@@ -25,8 +25,9 @@ use Rattle.import_rules.specs.Files.{pair_cmp, name_in, defined_in, all_defined,
 use Rattle.import_rules.specs.Numbers.{places_for, parts_in}
 use Rattle.import_rules.specs.Program.{Seen, places_in, places_at, IsKnown}
 use Rattle.call_edges.specs.declared.piece.Piece.{Piece}
-use Rattle.call_edges.specs.declared.role.Role.TheVariants.{Goal}
-use Rattle.call_edges.specs.Goals.{fault, place, plain_rows, IsMet, Adds}
+use Rattle.module_table.specs.declared.goal_arg.GoalArg.TheVariants.{Goal}
+use Rattle.call_edges.specs.Goals.{fault, place, Rows, IsMet, Adds}
+use Rattle.call_edges.specs.ProgramRows.{rows_of}
 use Rattle.call_edges.specs.Calls.{IsAmong, IsMetInClause, IsMetAt}
 use Rattle.call_edges.specs.Bodies.{body_in, bodies_at, bodies_in, goals_of_file, goals_in}
 use Rattle.call_edges.specs.CallLists.{IsPiece, AreOpened, ArePieces}
@@ -103,7 +104,7 @@ all_opened seen each pieces opened are =
 pub record IsNodeFault (seen : Seen) (p : ℕ × ℕ) : Type 0 where
   pub node : ℕ
   pub below : node < length seen.predicates
-  pub is : IsAmong IsFaultIn (bodies_in seen node) p
+  pub is : IsAmong (IsFaultIn (rows_of seen)) (bodies_in seen node) p
 
 pub each_faults : (seen : Seen) (pieces : List Piece) (p : ℕ × ℕ) → ArePieces seen pieces → IsAmong HasPlace pieces p ↔ IsNodeFault seen p
 each_faults seen pieces p are = (
@@ -123,9 +124,9 @@ each_faults seen pieces p are = (
 
 -- a goal of a clause of the predicate at a place
 
-pub fault_at_place : (files : List Facts) (at p : ℕ × ℕ) → IsAmong IsFaultIn (bodies_at files at) p ↔ ((p.0 ≡ at.0) × IsMetAt files at (fault p.1))
-fault_at_place files at p =
-    let met = place_met files at (fault p.1) in (
+pub fault_at_place : (T : Rows) (files : List Facts) (at p : ℕ × ℕ) → IsAmong (IsFaultIn T) (bodies_at files at) p ↔ ((p.0 ≡ at.0) × (IsMetAt T) files at (fault p.1))
+fault_at_place T files at p =
+    let met = place_met T files at (fault p.1) in (
       λ among. (
         among.is.in_file ∙ body_file files at among.one among.has,
         met.0 (record { one = among.one; has = among.has; is = among.is.met }),
@@ -141,14 +142,14 @@ pub node_of : (seen : Seen) (p : PredName) → IsKnown seen → Contains (all_de
 node_of seen p known has = place_in seen.predicates p (All-contains (Contains seen.predicates) (all_defined seen.loaded.files) p known.numbered.all has)
 
 pub defined_there : (files : List Facts) (file : Facts) (k part : ℕ) (predicate : Predicate) → slice_get files k ≡ Some file → slice_get file.defined part ≡ Some predicate
-    → Contains (all_defined files) (name_in file predicate)
+    → Contains (all_defined files) (name_in predicate)
 defined_there files file k part predicate here there =
-    (flat_has defined_in files (name_in file predicate)).1
+    (flat_has defined_in files (name_in predicate)).1
     (record {
       one = file;
       has = stands_in files k file here;
       is =
-          (map_has (name_in file) file.defined (name_in file predicate)).1
+          (map_has name_in file.defined (name_in predicate)).1
           (record { one = predicate; has = stands_in file.defined part predicate there; is = refl });
     })
 
@@ -158,29 +159,29 @@ unfolding places_in
 place_of_node seen n p at is has = subst (λ (o : Option PredName). Contains (places_at seen.loaded.files o) at) (sym is) has
 
 met_node : (seen : Seen) (p : ℕ × ℕ) (file : Facts) → IsKnown seen → slice_get seen.loaded.files p.0 ≡ Some file
-    → IsAmong (λ (predicate : Predicate). IsAmong (IsMetInClause file.module_) predicate.clauses) file.defined (fault p.1) → IsNodeFault seen p
+    → IsAmong (λ (predicate : Predicate). IsAmong ((IsMetInClause (rows_of seen)) file.module_) predicate.clauses) file.defined (fault p.1) → IsNodeFault seen p
 met_node seen p file known here among =
     let files = seen.loaded.files in
     let predicate = among.one in
     let part = place_in file.defined predicate among.has in
-    let name = name_in file predicate in
+    let name = name_in predicate in
     let node = node_of seen name known (defined_there files file p.0 part.0 predicate here part.1) in
     let at : ℕ × ℕ = (p.0, part.0) in
     let stands : IsDefinedAt files name p.0 part.0 = record { file = file; predicate = predicate; at_place = here; at_part = part.1; is = refl } in
-    let met : IsMetAt files at (fault p.1) = record { file = file; file_is = here; predicate = predicate; predicate_is = part.1; among = among.is } in
+    let met : (IsMetAt (rows_of seen)) files at (fault p.1) = record { file = file; file_is = here; predicate = predicate; predicate_is = part.1; among = among.is } in
     record {
       node = node.0;
       below = slice_get_within seen.predicates node.0 name node.1;
       is =
-          (among_flat IsFaultIn (bodies_at files) (places_in seen node.0) p).1
-          (record { one = at; has = place_of_node seen node.0 name at node.1 (stands_place files name p.0 part.0 stands); is = (fault_at_place files at p).1 (refl, met) });
+          (among_flat (IsFaultIn (rows_of seen)) (bodies_at files) (places_in seen node.0) p).1
+          (record { one = at; has = place_of_node seen node.0 name at node.1 (stands_place files name p.0 part.0 stands); is = (fault_at_place (rows_of seen) files at p).1 (refl, met) });
     }
 
 node_met_there : (seen : Seen) (p : ℕ × ℕ) → IsNodeFault seen p → IsFaultPlace seen p
 node_met_there seen p wrong =
     let files = seen.loaded.files in
-    let among = (among_flat IsFaultIn (bodies_at files) (places_in seen wrong.node) p).0 wrong.is in
-    let both = (fault_at_place files among.one p).0 among.is in
+    let among = (among_flat (IsFaultIn (rows_of seen)) (bodies_at files) (places_in seen wrong.node) p).0 wrong.is in
+    let both = (fault_at_place (rows_of seen) files among.one p).0 among.is in
     let met = both.1 in
     record {
       file = met.file;
@@ -190,12 +191,12 @@ node_met_there seen p wrong =
 
 -- goals of directives
 
-goal_met_there : (seen : Seen) (p : ℕ × ℕ) → IsAmong IsFaultIn (goals_in seen.loaded.files) p → IsFaultPlace seen p
+goal_met_there : (seen : Seen) (p : ℕ × ℕ) → IsAmong (IsFaultIn (rows_of seen)) (goals_in seen.loaded.files) p → IsFaultPlace seen p
 goal_met_there seen p among =
     let files = seen.loaded.files in
-    let of_file = (among_flat IsFaultIn goals_of_file (enumerate_from 0 files) p).0 among in
+    let of_file = (among_flat (IsFaultIn (rows_of seen)) goals_of_file (enumerate_from 0 files) p).0 among in
     let at = of_file.one in
-    let of_goal = (among_map IsFaultIn (λ goal. body_in at.0 (place at.1.module_ (Goal 0) goal)) at.1.goals p).0 of_file.is in
+    let of_goal = (among_map (IsFaultIn (rows_of seen)) (λ goal. body_in at.0 (place at.1.module_ (Goal 0) goal)) at.1.goals p).0 of_file.is in
     record {
       file = at.1;
       is = ap (slice_get files) of_goal.is.in_file ∙ enumerated files at of_file.has;
@@ -203,21 +204,21 @@ goal_met_there seen p among =
     }
 
 met_goal : (seen : Seen) (p : ℕ × ℕ) (file : Facts) → slice_get seen.loaded.files p.0 ≡ Some file
-    → IsAmong (λ goal. IsMet plain_rows (place file.module_ (Goal 0) goal)) file.goals (fault p.1) → IsAmong IsFaultIn (goals_in seen.loaded.files) p
+    → IsAmong (λ goal. IsMet (rows_of seen) (place file.module_ (Goal 0) goal)) file.goals (fault p.1) → IsAmong (IsFaultIn (rows_of seen)) (goals_in seen.loaded.files) p
 met_goal seen p file here among =
     let files = seen.loaded.files in
-    (among_flat IsFaultIn goals_of_file (enumerate_from 0 files) p).1
+    (among_flat (IsFaultIn (rows_of seen)) goals_of_file (enumerate_from 0 files) p).1
     (record {
       one = (p.0, file);
       has = numbered files p.0 file here;
       is =
-          (among_map IsFaultIn (λ goal. body_in p.0 (place file.module_ (Goal 0) goal)) file.goals p).1
+          (among_map (IsFaultIn (rows_of seen)) (λ goal. body_in p.0 (place file.module_ (Goal 0) goal)) file.goals p).1
           (record { one = among.one; has = among.has; is = record { in_file = refl; met = among.is } });
     })
 
 -- all places
 
-pub there_is : (seen : Seen) (p : ℕ × ℕ) → IsKnown seen → (IsNodeFault seen p ⊎ IsAmong IsFaultIn (goals_in seen.loaded.files) p) ↔ IsFaultPlace seen p
+pub there_is : (seen : Seen) (p : ℕ × ℕ) → IsKnown seen → (IsNodeFault seen p ⊎ IsAmong (IsFaultIn (rows_of seen)) (goals_in seen.loaded.files) p) ↔ IsFaultPlace seen p
 there_is seen p known = (
   λ either. elim either [ inl node ↦ node_met_there seen p node | inr goal ↦ goal_met_there seen p goal ],
   λ is. elim is.met [ inl among ↦ inl (met_node seen p is.file known is.is among) | inr goal ↦ inr (met_goal seen p is.file is.is goal) ],
@@ -260,7 +261,7 @@ pairs_have xs sorted kept p moved filtered =
 
 -- the places of all, sorted and each once
 pub all_places : (seen : Seen) (pieces : List Piece) (lists others all sorted kept : List (ℕ × ℕ)) → IsKnown seen → ArePieces seen pieces → ((p : ℕ × ℕ) → Contains lists p ↔ IsAmong HasPlace pieces p)
-    → AreFaultsIn (goals_in seen.loaded.files) others → all ≡ lists ++ others
+    → (AreFaultsIn (rows_of seen)) (goals_in seen.loaded.files) others → all ≡ lists ++ others
     → IsPermutation all sorted → IsSorted pair_cmp sorted → IsFiltered (DiffersFromLast pair_eq) [] sorted kept → AreFaultPlaces seen kept
 all_places seen pieces lists others all sorted kept known are told goals joins moved in_order filtered = record {
   ordered = pairs_rise sorted kept in_order filtered;

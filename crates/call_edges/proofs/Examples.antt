@@ -1,11 +1,13 @@
 -- What is met in bodies, on cases worked out by hand.
+use Rattle.std.specs.Str.{bytes_eq}
+use Rattle.std.specs.Prelude.{◌==◌, ◌&&◌, if◌then◌else◌}
 use Rattle.std.proofs.Common.{◌≡◌, ℕ, ◌+◌, List, [], ◌∷◌, Some, None, true, false, codes, refl}
 use Rattle.prolog_terms.specs.declared.term.Span.{Span}
 use Rattle.prolog_terms.specs.declared.term.Form.TheVariants.{Functional}
 use Rattle.prolog_terms.specs.declared.term.ConstKind.TheVariants.{Integer, Str, BackStr, Float}
 use Rattle.prolog_terms.specs.Tree.{Tree, variable, constant, atom, compound, listed, tailed, curly, paren, trees_from}
-use Rattle.call_edges.specs.declared.role.Role.TheVariants.{Plain, Goal, Caret, Grammar}
-use Rattle.call_edges.specs.Goals.{Met, Place, call, fault, place, plain_rows, IsPart, IsMet}
+use Rattle.module_table.specs.declared.goal_arg.GoalArg.TheVariants.{Plain, Goal, Caret, Grammar}
+use Rattle.call_edges.specs.Goals.{Met, Place, call, fault, place, row, Rows, plain_rows, by_table, as_declared, IsPart, IsMet}
 use Rattle.call_edges.specs.Listed.{mets_in}
 use Rattle.call_edges.specs.Calls.{body_of, IsMetInClause}
 
@@ -241,7 +243,7 @@ body_of_a_grammar_rule = refl
 no_body_of_a_fact : body_of (codes "user") (with (codes "p") (a ∷ b ∷ [])) ≡ None
 no_body_of_a_fact = refl
 
-number_as_a_body : IsMetInClause (codes "user") (with (codes ":-") (a ∷ round (number 5) ∷ [])) (fault 5)
+number_as_a_body : IsMetInClause plain_rows (codes "user") (with (codes ":-") (a ∷ round (number 5) ∷ [])) (fault 5)
 number_as_a_body = record {
   body = place (codes "user") (Goal 0) (round (number 5));
   is = refl;
@@ -268,3 +270,46 @@ greeting : grammar
     (listed (trees_from (name (codes "hello") ∷ [])) (at 4) ∷ with (codes ",") (name (codes "name") ∷ curly (with (codes "log") (name (codes "x") ∷ [])) (at 5) ∷ []) ∷ []))
     ≡ calls (codes "name") 2 ∷ calls (codes "log") 1 ∷ []
 greeting = refl
+
+-- arguments that are declared: `each(1, ?)`, `t(0)`, `set(^)`, `body(//)`, and `call(0, ?)`, which the table knows too
+
+abbrev declaring : Rows
+declaring owner own arity =
+    if bytes_eq own (codes "each") && arity == 2 then as_declared (Goal 1 ∷ Plain ∷ [])
+    else if bytes_eq own (codes "t") && arity == 1 then as_declared (Goal 0 ∷ [])
+    else if bytes_eq own (codes "set") && arity == 1 then as_declared (Caret ∷ [])
+    else if bytes_eq own (codes "body") && arity == 1 then as_declared (Grammar ∷ [])
+    else if bytes_eq own (codes "call") && arity == 2 then as_declared (Goal 0 ∷ Plain ∷ [])
+    else by_table (row own arity)
+
+abbrev declared_goals : Tree → List Met
+declared_goals tree = mets_in declaring (codes "user") (Goal 0) tree
+
+-- `p(L) :- each(show, L).`
+each_shown : declared_goals (with (codes "each") (name (codes "show") ∷ var ∷ [])) ≡ calls (codes "each") 2 ∷ calls (codes "show") 1 ∷ []
+each_shown = refl
+
+-- `p :- t(3).`
+number_as_declared_goal : declared_goals (with (codes "t") (number 7 ∷ [])) ≡ calls (codes "t") 1 ∷ fault 7 ∷ []
+number_as_declared_goal = refl
+
+-- `p :- m:each(show, L).`
+each_of_a_module : declared_goals (with (codes ":") (name (codes "m") ∷ with (codes "each") (name (codes "show") ∷ var ∷ []) ∷ []))
+    ≡ call (codes "m") (codes "each") 2 ∷ call (codes "m") (codes "show") 1 ∷ []
+each_of_a_module = refl
+
+-- `p :- call(each(show), L).`: the first argument is written
+each_called : declared_goals (with (codes "maplist") (with (codes "each") (name (codes "show") ∷ []) ∷ var ∷ []))
+    ≡ calls (codes "maplist") 2 ∷ calls (codes "each") 2 ∷ calls (codes "show") 1 ∷ []
+each_called = refl
+
+behind_declared_carets : declared_goals (with (codes "set") (with (codes "^") (number 5 ∷ round (with (codes "^") (var ∷ with (codes ",") (a ∷ b ∷ []) ∷ [])) ∷ []) ∷ []))
+    ≡ calls (codes "set") 1 ∷ calls (codes "a") 0 ∷ calls (codes "b") 0 ∷ []
+behind_declared_carets = refl
+
+declared_body : declared_goals (with (codes "body") (with (codes ",") (a ∷ curly b (at 4) ∷ []) ∷ [])) ≡ calls (codes "body") 1 ∷ calls (codes "a") 2 ∷ calls (codes "b") 0 ∷ []
+declared_body = refl
+
+-- the table isn't used
+call_as_declared : declared_goals (with (codes "call") (a ∷ b ∷ [])) ≡ calls (codes "call") 2 ∷ calls (codes "a") 0 ∷ []
+call_as_declared = refl

@@ -4,7 +4,7 @@ use Rattle.std.specs.Prelude.{Contains}
 use Rattle.std.proofs.lemmas.Option.{none-some, same_Some}
 use Rattle.call_edges.specs.declared.role.Met.{Met as MetKept}
 use Rattle.call_edges.specs.declared.body.Body.{Body as BodyKept}
-use Rattle.call_edges.specs.Goals.{Met, call, fault, plain_rows, Adds, AddsMet}
+use Rattle.call_edges.specs.Goals.{Met, call, fault, Rows, Adds, AddsMet}
 use Rattle.call_edges.specs.Seen.{see_met, see_mets}
 use Rattle.call_edges.specs.Calls.{IsAmong}
 use Rattle.call_edges.specs.Bodies.{Body, see_body, IsMetInBody}
@@ -18,8 +18,8 @@ pub record IsKeptFault (file : ℕ) (one : MetKept) (p : ℕ × ℕ) : Type 0 wh
   pub in_file : p.0 ≡ file
   pub at : fault_at (see_met one) ≡ Some p.1
 
-abbrev pub IsSeenFault : BodyKept → ℕ × ℕ → Type 0
-IsSeenFault body p = IsFaultIn (see_body body) p
+abbrev pub IsSeenFault : Rows → BodyKept → ℕ × ℕ → Type 0
+IsSeenFault T body p = IsFaultIn T (see_body body) p
 
 abbrev pub IsFaultOf : ℕ → List Met → ℕ × ℕ → Type 0
 IsFaultOf file met p = (p.0 ≡ file) × Contains met (fault p.1)
@@ -51,24 +51,25 @@ kept_all file met old new adds =
     record { one = kept.one; has = kept.has; is = record { in_file = of.0; at = ap fault_at kept.is } })
     adds
 
--- the places of a body
-pub body_faults : (body : Body) (met : List MetKept) (none : List Met) (old new : List (ℕ × ℕ)) → none ≡ [] → AddsMet plain_rows body.at none (see_mets met)
-    → Adds (IsFaultOf body.file (see_mets met)) old new → Adds (IsFaultIn body) old new
-body_faults body met none old new empty walked adds =
-    let has = adds_from_none (IsMetInBody body) none (see_mets met) empty walked in
-    adds_as (IsFaultOf body.file (see_mets met)) (IsFaultIn body) old new
-    (λ p of. record { in_file = of.0; met = (has (fault p.1)).0 of.1 })
-    (λ p is. (is.in_file, (has (fault p.1)).1 is.met)) adds
+module _ (T : Rows) where
+  -- the places of a body
+  pub body_faults : (body : Body) (met : List MetKept) (none : List Met) (old new : List (ℕ × ℕ)) → none ≡ [] → AddsMet T body.at none (see_mets met)
+      → Adds (IsFaultOf body.file (see_mets met)) old new → Adds ((IsFaultIn T) body) old new
+  body_faults body met none old new empty walked adds =
+      let has = adds_from_none ((IsMetInBody T) body) none (see_mets met) empty walked in
+      adds_as (IsFaultOf body.file (see_mets met)) ((IsFaultIn T) body) old new
+      (λ p of. record { in_file = of.0; met = (has (fault p.1)).0 of.1 })
+      (λ p is. (is.in_file, (has (fault p.1)).1 is.met)) adds
 
-pub seen_faults : (bodies : List BodyKept) (old new : List (ℕ × ℕ)) → Adds (IsAmong IsSeenFault bodies) old new → Adds (IsAmong IsFaultIn (map see_body bodies)) old new
-seen_faults bodies old new adds =
-    adds_as (IsAmong IsSeenFault bodies) (IsAmong IsFaultIn (map see_body bodies)) old new (λ p. (among_map IsFaultIn see_body bodies p).1)
-    (λ p. (among_map IsFaultIn see_body bodies p).0) adds
+  pub seen_faults : (bodies : List BodyKept) (old new : List (ℕ × ℕ)) → Adds (IsAmong (IsSeenFault T) bodies) old new → Adds (IsAmong (IsFaultIn T) (map see_body bodies)) old new
+  seen_faults bodies old new adds =
+      adds_as (IsAmong (IsSeenFault T) bodies) (IsAmong (IsFaultIn T) (map see_body bodies)) old new (λ p. (among_map (IsFaultIn T) see_body bodies p).1)
+      (λ p. (among_map (IsFaultIn T) see_body bodies p).0) adds
 
-pub bodies_faults : (bodies : List BodyKept) (faults : List (ℕ × ℕ)) → Adds (IsAmong IsSeenFault bodies) [] faults → AreFaultsIn (map see_body bodies) faults
-bodies_faults bodies faults adds = record {
-  each = λ p.
-      let has = adds_from_none (IsAmong IsSeenFault bodies) [] faults refl adds p in
-      let among = among_map IsFaultIn see_body bodies p in
-      (λ there. among.1 (has.0 there), λ is. has.1 (among.0 is));
-}
+  pub bodies_faults : (bodies : List BodyKept) (faults : List (ℕ × ℕ)) → Adds (IsAmong (IsSeenFault T) bodies) [] faults → (AreFaultsIn T) (map see_body bodies) faults
+  bodies_faults bodies faults adds = record {
+    each = λ p.
+        let has = adds_from_none (IsAmong (IsSeenFault T) bodies) [] faults refl adds p in
+        let among = among_map (IsFaultIn T) see_body bodies p in
+        (λ there. among.1 (has.0 there), λ is. has.1 (among.0 is));
+  }

@@ -21,6 +21,7 @@ use Rattle.file_library.specs.Asked.{AreInOrder}
 use Rattle.file_library.specs.Loaded.{NamedText}
 use Rattle.import_rules.specs.Program.{Seen, IsKnown}
 use Rattle.call_edges.specs.Goals.{fault}
+use Rattle.call_edges.specs.ProgramRows.{rows_of}
 use Rattle.call_edges.specs.GoalFaults.{IsMetInFile, IsGoalFault, fault_cmp, AreGoalFaults}
 use Rattle.call_edges.specs.FaultPlaces.{IsFaultPlace, AreFaultPlaces, IsPlaced}
 use Rattle.call_edges.proofs.CheckLemmas.{stands_in, place_in}
@@ -130,7 +131,7 @@ module _ (seen : Seen) (known : IsKnown seen) (places : List (ℕ × ℕ)) (faul
         file = is.file;
         has_file = stands_in seen.loaded.files p.0 is.file is.is;
         named = placed.placed.in_file ∙ sym read.named;
-        met = subst (λ at. IsMetInFile is.file (fault at)) (sym placed.placed.offset) is.met;
+        met = subst (λ at. (IsMetInFile (rows_of seen)) is.file (fault at)) (sym placed.placed.offset) is.met;
         cause = placed.placed.cause;
         text = placed.text.1;
         has_text = subst (λ n. Contains texts (n, placed.text.1)) (sym placed.placed.in_file) (stands_in texts p.0 placed.text placed.is);

@@ -2,7 +2,9 @@ pub mod Examples
 pub mod AddsLemmas
 pub mod AmongLemmas
 pub mod MetLemmas
-pub mod AddedLemmas
+pub mod ReadLemmas
+mod MeantLemmas
+mod AddedLemmas
 pub mod ListedMets
 pub mod WalkLemmas
 pub mod PieceLemmas

@@ -1,38 +1,29 @@
 -- No body of a program is too heavy.
-use Rattle.std.proofs.Common.{◌≡◌, inl, inr, ℕ, ◌+◌, ◌≤◌, List, [], ◌∷◌, Option, Some, None, All, get_or, codes, slice_get, ap, ◌∙◌, subst, refl, arith}
+use Rattle.std.proofs.Common.{◌≡◌, ℕ, ◌+◌, ◌≤◌, List, [], ◌∷◌, Option, Some, None, All, get_or, codes, slice_get, ap, ◌∙◌, subst, refl, arith}
 use Rattle.std.specs.Prelude.{Contains}
-use Rattle.std.specs.List.{AllZip, enumerate_from}
+use Rattle.std.specs.List.{enumerate_from}
 use Rattle.std.specs.Option.{option_map}
 use Rattle.std.proofs.lemmas.List.Elements.{Contains-get_or, All-contains}
 use Rattle.std.proofs.lemmas.Option.{none-some, same_Some, slice_get_within, get_or_from_slice_get}
-use Rattle.order_law.proofs.OneOrder.{first_or_rest}
 use Rattle.prolog_terms.specs.Tree.{Tree}
 use Rattle.prolog_terms.specs.Views.{sides_of}
 use Rattle.prolog_terms.specs.Weight.{weight}
 use Rattle.prolog_terms.proofs.ViewLemmas.{sides_weight}
 use Rattle.module_table.specs.Defined.{Predicate}
 use Rattle.module_table.specs.Facts.{Facts}
-use Rattle.file_library.specs.Loaded.{NamedText, most_bytes}
-use Rattle.import_rules.specs.Program.{Seen, places_in, IsReadFrom, IsKnown}
-use Rattle.call_edges.specs.declared.role.Role.TheVariants.{Goal, Grammar}
+use Rattle.file_library.specs.Loaded.{most_bytes}
+use Rattle.import_rules.specs.Program.{Seen, places_in, IsKnown}
+use Rattle.module_table.specs.declared.goal_arg.GoalArg.TheVariants.{Goal, Grammar}
 use Rattle.call_edges.specs.Goals.{Place, place, added}
 use Rattle.call_edges.specs.Calls.{body_by, body_of}
 use Rattle.call_edges.specs.Bodies.{Body, body_in, clause_bodies, bodies_at, bodies_in, goals_of_file, goals_in, IsLight}
 use Rattle.call_edges.proofs.AmongLemmas.{flat_has, map_has, among_given}
 use Rattle.call_edges.proofs.PlaceLemmas.{enumerated}
+use Rattle.call_edges.proofs.ReadLemmas.{read_has}
 use Rattle.call_edges.proofs.BodyLemmas.{places_there, bodies_there, IsThere}
 
 pub all_of : {X : Type 0} (P : X → Type 0) (xs : List X) → ((x : X) → Contains xs x → P x) → All P xs
 all_of P xs each = λ k d lt. each (get_or xs k d) (Contains-get_or xs k d lt)
-
--- what is said of each file
-pub read_has : (P : Facts → Type 0) (texts : List NamedText) (files : List Facts) → AllZip IsReadFrom texts files
-    → ((text : NamedText) (file : Facts) → IsReadFrom text file → P file) → (file : Facts) → Contains files file → P file
-read_has P [] [] read holds file has = absurd (omega (arith, has.1))
-read_has P [] (f ∷ files) read holds file has = absurd read
-read_has P (t ∷ texts) [] read holds file has = absurd read
-read_has P (t ∷ texts) (f ∷ files) read holds file has =
-    elim (first_or_rest f file files has) [ inl same ↦ subst P same (holds t f read.0) | inr later ↦ read_has P texts files read.1 holds file later ]
 
 -- a body weighs less than its clause
 light_body : (owner : List ℕ) (clause : Tree) (rule grammar : Option (Tree × Tree)) (body : Place) → sides_of (codes ":-") clause ≡ rule → sides_of (codes "-->") clause ≡ grammar

@@ -7,19 +7,19 @@ use Rattle.prolog_terms.specs.declared.term.Span.{Span}
 use Rattle.prolog_terms.specs.declared.term.Form.{Form}
 use Rattle.prolog_terms.specs.Tree.{Tree, variable, constant, atom, compound, listed, tailed, curly, paren, trees_from}
 use Rattle.prolog_terms.proofs.ViewLemmas.{trees_back}
-use Rattle.call_edges.specs.declared.role.Role.{Role}
-use Rattle.call_edges.specs.declared.role.Role.TheVariants.{Plain}
-use Rattle.call_edges.specs.Goals.{Met, Place, place, Rows, Taken, taken, met_at, role_at, IsArgument, IsPart, Leads, IsMet, Adds, AddsMet}
+use Rattle.module_table.specs.declared.goal_arg.GoalArg.{GoalArg}
+use Rattle.module_table.specs.declared.goal_arg.GoalArg.TheVariants.{Plain}
+use Rattle.call_edges.specs.Goals.{Met, Place, place, Rows, no_goals, Taken, taken, met_at, role_at, IsArgument, IsPart, Leads, IsMet, Adds, AddsMet}
 use Rattle.call_edges.proofs.AddsLemmas.{adds_as, adds_option, adds_then}
 
-place_same : (q : Place) (owner : List ℕ) (role : Role) (tree : Tree) → q.module_ ≡ owner → q.role ≡ role → q.tree ≡ tree → q ≡ place owner role tree
+place_same : (q : Place) (owner : List ℕ) (role : GoalArg) (tree : Tree) → q.module_ ≡ owner → q.role ≡ role → q.tree ≡ tree → q ≡ place owner role tree
 place_same q owner role tree in_module stands is = λ i. place (in_module i) (stands i) (is i)
 
 -- where an argument of a compound stands
 abbrev pub argument_at : Taken → ℕ → Tree → Place
-argument_at apart k tree = place apart.module_ (role_at apart.row k) tree
+argument_at apart k tree = place apart.module_ (role_at apart.standing k) tree
 
-abbrev pub compound_at : List ℕ → Role → List ℕ → List Tree → Form → Span → Place
+abbrev pub compound_at : List ℕ → GoalArg → List ℕ → List Tree → Form → Span → Place
 compound_at owner role name args form span = place owner role (compound name (trees_from args) form span)
 
 module _ (T : Rows) where
@@ -74,10 +74,10 @@ module _ (T : Rows) where
       by_path : (path : List Place) (q : Place) → q.role ≡ Plain → Leads T q path is.at → ⊥
       by_path [] q here same =
           plain_met q.module_ q.tree m
-          (subst (λ (role : Role). met_at T q.module_ role q.tree ≡ Some m) here
+          (subst (λ (role : GoalArg). met_at T q.module_ role q.tree ≡ Some m) here
           (subst (λ (x : Place). met_at T x.module_ x.role x.tree ≡ Some m) (sym same) is.met))
       by_path (n ∷ path) q here leads =
-          by_path path n (plain_part q.module_ q.tree n (subst (λ (role : Role). IsPart T q.module_ role q.tree n) here leads.0)) leads.1
+          by_path path n (plain_part q.module_ q.tree n (subst (λ (role : GoalArg). IsPart T q.module_ role q.tree n) here leads.0)) leads.1
 
   -- a place without parts
   pub adds_own : (p : Place) (old new : List Met) → ((q : Place) → IsPart T p.module_ p.role p.tree q → ⊥)
@@ -145,7 +145,7 @@ module _ (T : Rows) where
 
       same : (part : Place) (is : IsArgument apart args part) → is.i ≡ k → part ≡ argument_at apart k tree
       same part is equal =
-          place_same part apart.module_ (role_at apart.row k) tree is.in_module (is.stands ∙ ap (role_at apart.row) equal)
+          place_same part apart.module_ (role_at apart.standing k) tree is.in_module (is.stands ∙ ap (role_at apart.standing) equal)
           (same_Some part.tree tree (sym is.argument ∙ (ap (slice_get args) equal ∙ at)))
 
       from : (m : Met) → IsMetFirst apart args (k + 1) m → IsMetFirst apart args k m ⊎ IsMet T (argument_at apart k tree) m
@@ -159,7 +159,7 @@ module _ (T : Rows) where
                 ]
           ]
 
-  pub first_all : (owner : List ℕ) (role : Role) (name : List ℕ) (args : List Tree) (form : Form) (span : Span) (k : ℕ) (old new : List Met)
+  pub first_all : (owner : List ℕ) (role : GoalArg) (name : List ℕ) (args : List Tree) (form : Form) (span : Span) (k : ℕ) (old new : List Met)
       → length args ≤ k → AddsFirst (taken T owner role name args) args k old new → AddsMet T (compound_at owner role name args form span) old new
   first_all owner role name args form span k old new all first =
       adds_as (IsMetFirst (taken T owner role name args) args k) (IsMet T (compound_at owner role name args form span)) old new to from first
@@ -192,14 +192,14 @@ module _ (T : Rows) where
             | inr within ↦ inr (behind m within)
           ]
 
-  -- without a row nothing is met in the arguments
-  pub first_rowless : (apart : Taken) (args : List Tree) (k : ℕ) (old new : List Met) → apart.row ≡ None → AddsFirst apart args 0 old new → AddsFirst apart args k old new
+  -- where none of the arguments is a goal nothing is met in them
+  pub first_rowless : (apart : Taken) (args : List Tree) (k : ℕ) (old new : List Met) → apart.standing ≡ no_goals → AddsFirst apart args 0 old new → AddsFirst apart args k old new
   first_rowless apart args k old new none first =
       adds_as (IsMetFirst apart args 0) (IsMetFirst apart args k) old new
       (λ m either. elim either [ inl own ↦ inl own | inr below ↦ absurd (omega (arith, below.below)) ])
       (λ m either.
       elim either [
         | inl own ↦ inl own
-        | inr below ↦ absurd (plain_silent below.part m (below.is.stands ∙ ap (λ row. role_at row below.is.i) none) below.met)
+        | inr below ↦ absurd (plain_silent below.part m (below.is.stands ∙ ap (λ standing. role_at standing below.is.i) none) below.met)
       ])
       first

@@ -15,11 +15,11 @@ use Rattle.module_table.specs.Heads.{is_among}
 use Rattle.module_table.specs.Defined.{Predicate}
 use Rattle.module_table.specs.Facts.{Facts}
 use Rattle.module_table.specs.Placed.{ArePlacedIn}
-use Rattle.call_edges.specs.declared.role.Role.{Role}
-use Rattle.call_edges.specs.declared.role.Role.TheVariants.{Plain, Goal, Caret, Grammar}
+use Rattle.module_table.specs.declared.goal_arg.GoalArg.{GoalArg}
+use Rattle.module_table.specs.declared.goal_arg.GoalArg.TheVariants.{Plain, Goal, Caret, Grammar}
 use Rattle.call_edges.specs.declared.role.Way.{Way}
 use Rattle.call_edges.specs.declared.role.Way.TheVariants.{Silent, Behind, Control, Qualified, Calling}
-use Rattle.call_edges.specs.Goals.{Met, call, fault, Place, place, Rows, plain_rows, added, way, is_variable, goal_named, taken_by, atom_met, constant_met, met_at, IsPart, Leads, IsMet}
+use Rattle.call_edges.specs.Goals.{Met, call, fault, Place, place, Rows, added, way, is_variable, goal_named, taken_by, atom_met, constant_met, met_at, IsPart, Leads, IsMet}
 use Rattle.call_edges.specs.Calls.{body_by, IsMetInClause}
 use Rattle.call_edges.specs.GoalFaults.{IsMetInFile}
 
@@ -41,7 +41,7 @@ call_no_fault owner name arity at is = cc
 one_fault : (m n : ℕ) → faulty m ≡ faulty n → m ≡ n
 one_fault m n is = cc
 
-constant_fault : (role : Role) (kind : ConstKind) (n at : ℕ) → constant_met role kind n ≡ faulty at → n ≡ at
+constant_fault : (role : GoalArg) (kind : ConstKind) (n at : ℕ) → constant_met role kind n ≡ faulty at → n ≡ at
 constant_fault Plain kind n at is = no_fault at is
 constant_fault (Goal e) kind n at is = one_fault n at is
 constant_fault Caret kind n at is = one_fault n at is
@@ -54,7 +54,7 @@ either_no_fault : {A : Type 0} (silent : Bool) (owner name : List ℕ) (arity at
 either_no_fault true owner name arity at is = no_fault at is
 either_no_fault false owner name arity at is = call_no_fault owner name arity at is
 
-atom_no_fault : {A : Type 0} (owner : List ℕ) (role : Role) (name : List ℕ) (at : ℕ) → atom_met owner role name ≡ faulty at → A
+atom_no_fault : {A : Type 0} (owner : List ℕ) (role : GoalArg) (name : List ℕ) (at : ℕ) → atom_met owner role name ≡ faulty at → A
 atom_no_fault owner Plain name at is = no_fault at is
 atom_no_fault owner (Goal e) name at is = call_no_fault owner name e at is
 atom_no_fault owner Caret name at is = call_no_fault owner name 0 at is
@@ -65,12 +65,12 @@ module _ (text : List ℕ) where
   variable_or true n at stands is = no_fault at is
   variable_or false n at stands is = subst (IsOffset text) (one_fault n at is) stands
 
-  named_stands : (owner : List ℕ) (role : Role) (tree : Tree) (found : Option (List ℕ)) (at : ℕ) → HasOffsets text tree
+  named_stands : (owner : List ℕ) (role : GoalArg) (tree : Tree) (found : Option (List ℕ)) (at : ℕ) → HasOffsets text tree
       → (goal_named owner role tree found).met ≡ faulty at → IsOffset text at
   named_stands owner role tree (Some name) at stands is = no_fault at is
   named_stands owner role tree None at stands is = variable_or (is_variable tree) (start_of tree) at (start_stands text tree stands) is
 
-  taken_stands : (T : Rows) (w : Way) (owner : List ℕ) (role : Role) (name : List ℕ) (args : Trees) (at : ℕ) → HaveOffsets text args
+  taken_stands : (T : Rows) (w : Way) (owner : List ℕ) (role : GoalArg) (name : List ℕ) (args : Trees) (at : ℕ) → HaveOffsets text args
       → (taken_by T w owner role name (trees_in args)).met ≡ faulty at → IsOffset text at
   taken_stands T Silent owner role name args at stand is = no_fault at is
   taken_stands T Behind owner role name args at stand is = no_fault at is
@@ -79,7 +79,7 @@ module _ (text : List ℕ) where
   taken_stands T Qualified owner role name (with_more tree trees) at stand is = named_stands owner role tree (atom_name tree) at stand.0 is
   taken_stands T Calling owner role name args at stand is = call_no_fault owner name (length (trees_in args) + added role) at is
 
-  met_stands : (T : Rows) (owner : List ℕ) (role : Role) (tree : Tree) (at : ℕ) → HasOffsets text tree → met_at T owner role tree ≡ faulty at → IsOffset text at
+  met_stands : (T : Rows) (owner : List ℕ) (role : GoalArg) (tree : Tree) (at : ℕ) → HasOffsets text tree → met_at T owner role tree ≡ faulty at → IsOffset text at
   met_stands T owner role (variable span) at stands is = no_fault at is
   met_stands T owner role (constant kind minus value span) at stands is = subst (IsOffset text) (constant_fault role kind span.from at is) stands
   met_stands T owner role (atom name span) at stands is = atom_no_fault owner role name at is
@@ -94,7 +94,7 @@ module _ (text : List ℕ) where
   argument_stands (with_more first args) zero tree stand is = subst (HasOffsets text) (same_Some first tree is) stand.0
   argument_stands (with_more first args) (suc i) tree stand is = argument_stands args i tree stand.1 is
 
-  part_stands : (T : Rows) (owner : List ℕ) (role : Role) (tree : Tree) (q : Place) → HasOffsets text tree → IsPart T owner role tree q → HasOffsets text q.tree
+  part_stands : (T : Rows) (owner : List ℕ) (role : GoalArg) (tree : Tree) (q : Place) → HasOffsets text tree → IsPart T owner role tree q → HasOffsets text q.tree
   part_stands T owner role (variable span) q stands is = absurd is
   part_stands T owner role (constant kind minus value span) q stands is = absurd is
   part_stands T owner role (atom name span) q stands is = absurd is
@@ -135,19 +135,19 @@ module _ (text : List ℕ) where
       subst (HasOffsets text) (ap (λ (p : Place). p.tree) (same_Some (place owner Grammar right) body is)) (right_stands (codes "-->") clause left right stands second)
   by_stands owner clause None None body stands first second is = absurd (none-some body is)
 
-  clause_fault_stands : (owner : List ℕ) (clause : Tree) (at : ℕ) → HasOffsets text clause → IsMetInClause owner clause (fault at) → IsOffset text at
-  clause_fault_stands owner clause at stands met =
-      fault_stands plain_rows met.body at
+  clause_fault_stands : (T : Rows) (owner : List ℕ) (clause : Tree) (at : ℕ) → HasOffsets text clause → IsMetInClause T owner clause (fault at) → IsOffset text at
+  clause_fault_stands T owner clause at stands met =
+      fault_stands T met.body at
       (by_stands owner clause (sides_of (codes ":-") clause) (sides_of (codes "-->") clause) met.body stands refl refl met.is) met.met
 
   -- a goal of a file that isn't callable
-  pub file_fault_stands : (file : Facts) (at : ℕ) → ArePlacedIn text file → IsMetInFile file (fault at) → IsOffset text at
-  file_fault_stands file at placed met =
+  pub file_fault_stands : (T : Rows) (file : Facts) (at : ℕ) → ArePlacedIn text file → IsMetInFile T file (fault at) → IsOffset text at
+  file_fault_stands T file at placed met =
       elim met [
         | inl among ↦
             let clauses : All (HasOffsets text) among.one.clauses =
             All-contains (λ (p : Predicate). All (HasOffsets text) p.clauses) file.defined among.one placed.of_clauses among.has in
             let clause = among.is in
-            clause_fault_stands file.module_ clause.one at (All-contains (HasOffsets text) among.one.clauses clause.one clauses clause.has) clause.is
-        | inr goal ↦ fault_stands plain_rows (place file.module_ (Goal 0) goal.one) at (All-contains (HasOffsets text) file.goals goal.one placed.of_goals goal.has) goal.is
+            clause_fault_stands T file.module_ clause.one at (All-contains (HasOffsets text) among.one.clauses clause.one clauses clause.has) clause.is
+        | inr goal ↦ fault_stands T (place file.module_ (Goal 0) goal.one) at (All-contains (HasOffsets text) file.goals goal.one placed.of_goals goal.has) goal.is
       ]

@@ -4,6 +4,7 @@ use Rattle.std.specs.Prelude.{Contains}
 use Rattle.std.proofs.lemmas.Bool.{cases_lt}
 use Rattle.import_rules.specs.Program.{Seen}
 use Rattle.call_edges.specs.Goals.{Adds}
+use Rattle.call_edges.specs.ProgramRows.{rows_of}
 use Rattle.call_edges.specs.Calls.{IsAmong}
 use Rattle.call_edges.specs.Bodies.{bodies_in}
 use Rattle.call_edges.specs.FaultPlaces.{IsFaultIn}
@@ -38,16 +39,16 @@ pub record IsFaultBetween (seen : Seen) (from to : ℕ) (p : ℕ × ℕ) : Type 
   pub node : ℕ
   pub low : from ≤ node
   pub high : node < to
-  pub is : IsAmong IsFaultIn (bodies_in seen node) p
+  pub is : IsAmong (IsFaultIn (rows_of seen)) (bodies_in seen node) p
 
 pub between_none : (seen : Seen) (from : ℕ) (faults : List (ℕ × ℕ)) → Adds (IsFaultBetween seen from from) faults faults
 between_none seen from faults = adds_nothing (IsFaultBetween seen from from) faults (λ p fault. omega (arith, fault.low, fault.high))
 
 -- one predicate more
 pub between_more : (seen : Seen) (from node : ℕ) (old mid new : List (ℕ × ℕ)) → from ≤ node → Adds (IsFaultBetween seen from node) old mid
-    → Adds (IsAmong IsFaultIn (bodies_in seen node)) mid new → Adds (IsFaultBetween seen from (node + 1)) old new
+    → Adds (IsAmong (IsFaultIn (rows_of seen)) (bodies_in seen node)) mid new → Adds (IsFaultBetween seen from (node + 1)) old new
 between_more seen from node old mid new le first second =
-    let Here : ℕ × ℕ → Type 0 = IsAmong IsFaultIn (bodies_in seen node) in
+    let Here : ℕ × ℕ → Type 0 = IsAmong (IsFaultIn (rows_of seen)) (bodies_in seen node) in
     adds_as (λ p. IsFaultBetween seen from node p ⊎ Here p) (IsFaultBetween seen from (node + 1)) old new
     (λ p either.
     elim either [
@@ -59,7 +60,7 @@ between_more seen from node old mid new le first second =
       | inl lt ↦ inl (record { node = fault.node; low = fault.low; high = lt; is = fault.is })
       | inr ge ↦
           let same : fault.node ≡ node = omega (arith, ge, fault.high) in
-          inr (subst (λ (n : ℕ). IsAmong IsFaultIn (bodies_in seen n) p) same fault.is)
+          inr (subst (λ (n : ℕ). IsAmong (IsFaultIn (rows_of seen)) (bodies_in seen n) p) same fault.is)
     ])
     (adds_then (IsFaultBetween seen from node) Here old mid new first second)
 

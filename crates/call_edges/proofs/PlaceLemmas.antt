@@ -36,7 +36,7 @@ part_stands files d has =
     let of_file = (flat_has (λ (at : ℕ × Facts). parts_of_file at.0 at.1) (enumerate_from 0 files) d).0 has in
     let file = of_file.one.1 in
     let of_part =
-    (map_has (λ (part : ℕ × Predicate). record { name = name_in file part.1; at = (of_file.one.0, part.0) }) (enumerate_from 0 file.defined) d).0 of_file.is in
+    (map_has (λ (part : ℕ × Predicate). record { name = name_in part.1; at = (of_file.one.0, part.0) }) (enumerate_from 0 file.defined) d).0 of_file.is in
     let P : DefinedAt → Type 0 = λ x. IsDefinedAt files x.name x.at.0 x.at.1 in
     subst P of_part.is
     (record {
@@ -55,7 +55,7 @@ stands_part files p place part is =
       one = (place, is.file);
       has = numbered files place is.file is.at_place;
       is =
-          (map_has (λ (x : ℕ × Predicate). record { name = name_in is.file x.1; at = (place, x.0) }) (enumerate_from 0 is.file.defined) d).1
+          (map_has (λ (x : ℕ × Predicate). record { name = name_in x.1; at = (place, x.0) }) (enumerate_from 0 is.file.defined) d).1
           (record {
             one = (part, is.predicate);
             has = numbered is.file.defined part is.predicate is.at_part;

@@ -17,6 +17,7 @@ use Rattle.file_library.specs.declared.fault.Fault.{Fault}
 use Rattle.file_library.specs.Loaded.{NamedText, most_bytes}
 use Rattle.import_rules.specs.Files.{pair_cmp}
 use Rattle.import_rules.specs.Program.{Seen, IsKnown, IsReadFrom}
+use Rattle.call_edges.specs.ProgramRows.{rows_of}
 use Rattle.call_edges.specs.FaultPlaces.{IsFaultPlace, AreFaultPlaces, IsPlacedAt, IsPlaced}
 use Rattle.call_edges.specs.Placing.{AddsPlaced}
 use Rattle.call_edges.proofs.ZipLemmas.{zip_at, zip_count, zip_append, zip_map}
@@ -129,7 +130,7 @@ module _ (seen : Seen) (known : IsKnown seen) (all : List (ℕ × ℕ)) (are : A
       let is : IsFaultPlace seen p = rest_there placing.done rest k (0, 0) placing.splits (omega (arith, below, run.bound)) in
       let there : slice_get seen.loaded.files at ≡ Some is.file = ap (slice_get seen.loaded.files) (sym (run.same k below)) ∙ is.is in
       let read = read_at seen.loaded.texts seen.loaded.files at text is.file known.read here there in
-      subst (IsOffset text.1) (sym (run_read rest end k d run.bound below)) (file_fault_stands text.1 is.file p.1 read.placed is.met)
+      subst (IsOffset text.1) (sym (run_read rest end k d run.bound below)) (file_fault_stands text.1 (rows_of seen) is.file p.1 read.placed is.met)
 
   pub run_ascends : (rest : List (ℕ × ℕ)) (at end : ℕ) (out : List Fault) → IsRun rest at end → IsPlacing seen.loaded.texts all rest at out → IsAscending (run_offsets rest end)
   run_ascends rest at end out run placing j k upto lt =

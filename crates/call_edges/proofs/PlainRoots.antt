@@ -47,7 +47,7 @@ module _ (seen : Seen) (marks : List Bool) (known : IsKnown seen) (marked : AreM
   has_marked : (n : ℕ) (p : PredName) → slice_get seen.predicates n ≡ Some p → HasMarked marks (places_in seen n) → IsAmong (IsDefinedByRoot seen) seen.loaded.files n
   has_marked n p named has =
       let is = place_stands seen.loaded.files p has.at (place_from_node seen n p has.at named has.has) in
-      let own : slice_get seen.predicates n ≡ Some (name_in is.file is.predicate) = named ∙ ap (λ q. Some q) (sym is.is) in
+      let own : slice_get seen.predicates n ≡ Some (name_in is.predicate) = named ∙ ap (λ q. Some q) (sym is.is) in
       record {
         one = is.file;
         has = stands_in seen.loaded.files has.at.0 is.file is.at_place;
@@ -56,7 +56,7 @@ module _ (seen : Seen) (marks : List Bool) (known : IsKnown seen) (marked : AreM
           record {
             one = is.predicate;
             has = stands_in is.file.defined has.at.1 is.predicate is.at_part;
-            is = own_found seen n (name_in is.file is.predicate) known own;
+            is = own_found seen n (name_in is.predicate) known own;
           },
         );
       }
@@ -68,7 +68,7 @@ module _ (seen : Seen) (marks : List Bool) (known : IsKnown seen) (marked : AreM
       let predicate : Predicate = gives.one in
       let here = place_in seen.loaded.files file among.has in
       let part = place_in file.defined predicate gives.has in
-      let name = name_in file predicate in
+      let name = name_in predicate in
       let node = node_of seen name known (defined_there seen.loaded.files file here.0 part.0 predicate here.1 part.1) in
       let stands : IsDefinedAt seen.loaded.files name here.0 part.0 = record { file = file; predicate = predicate; at_place = here.1; at_part = part.1; is = refl } in
       let same : node.0 ≡ n = same_Some node.0 n (sym (own_found seen node.0 name known node.1) ∙ gives.is) in

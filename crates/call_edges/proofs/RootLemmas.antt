@@ -16,8 +16,9 @@ use Rattle.module_table.specs.Defined.{Predicate}
 use Rattle.module_table.specs.Facts.{Facts}
 use Rattle.file_library.specs.Asked.{AreInOrder}
 use Rattle.import_rules.specs.Program.{Seen, found}
-use Rattle.call_edges.specs.declared.role.Role.TheVariants.{Goal}
-use Rattle.call_edges.specs.Goals.{Met, place, Adds}
+use Rattle.module_table.specs.declared.goal_arg.GoalArg.TheVariants.{Goal}
+use Rattle.call_edges.specs.Goals.{Met, place, Rows, Adds}
+use Rattle.call_edges.specs.ProgramRows.{rows_of}
 use Rattle.call_edges.specs.Calls.{IsAmong, IsMetInGoals, GoesTo}
 use Rattle.call_edges.specs.Bodies.{Body, body_in, goals_of_file, goals_in, IsMetInBody}
 use Rattle.call_edges.specs.Roots.{Gives, IsGivenByRoot, IsCalledByGoal, IsRoot}
@@ -37,13 +38,13 @@ IsExport seen owner i n = found seen owner i.name i.arity ≡ Some n
 
 pub given_below : (seen : Seen) (file : Facts) (is_module : Bool) (q : ℕ) → Gives seen file is_module q → q < length seen.predicates
 given_below seen file true q gives = let i : Indicator = gives.one in found_below seen file.module_ i.name i.arity q gives.is
-given_below seen file false q gives = let p : Predicate = gives.one in found_below seen file.module_ p.name p.arity q gives.is
+given_below seen file false q gives = let p : Predicate = gives.one in found_below seen p.module_ p.name p.arity q gives.is
 
 pub root_below : (seen : Seen) (q : ℕ) → IsRoot seen q → q < length seen.predicates
 root_below seen q root =
     elim root.is [
       | inl given ↦ given_below seen root.one root.one.is_module q given.gives
-      | inr called ↦ goes_below seen (IsMetInGoals root.one) q called
+      | inr called ↦ goes_below seen ((IsMetInGoals (rows_of seen)) root.one) q called
     ]
 
 -- names in order
@@ -82,43 +83,43 @@ searched xs wanted (Err place) up bound is = (
 
 -- goals of directives, by their files
 
-file_goals : (at : ℕ × Facts) (m : Met) → IsAmong IsMetInBody (goals_of_file at) m ↔ IsMetInGoals at.1 m
-file_goals at m = among_map IsMetInBody (λ goal. body_in at.0 (place at.1.module_ (Goal 0) goal)) at.1.goals m
+file_goals : (T : Rows) (at : ℕ × Facts) (m : Met) → IsAmong (IsMetInBody T) (goals_of_file at) m ↔ (IsMetInGoals T) at.1 m
+file_goals T at m = among_map (IsMetInBody T) (λ goal. body_in at.0 (place at.1.module_ (Goal 0) goal)) at.1.goals m
 
-pub goals_met : (files : List Facts) (m : Met) → IsAmong IsMetInBody (goals_in files) m ↔ IsAmong (λ file. IsMetInGoals file) files m
-goals_met files m =
-    let flat = among_flat IsMetInBody goals_of_file (enumerate_from 0 files) m in (
+pub goals_met : (T : Rows) (files : List Facts) (m : Met) → IsAmong (IsMetInBody T) (goals_in files) m ↔ IsAmong (λ file. (IsMetInGoals T) file) files m
+goals_met T files m =
+    let flat = among_flat (IsMetInBody T) goals_of_file (enumerate_from 0 files) m in (
       λ among.
           let of_file = flat.0 among in
           let at = of_file.one in
-          record { one = at.1; has = stands_in files at.0 at.1 (enumerated files at of_file.has); is = (file_goals at m).0 of_file.is },
+          record { one = at.1; has = stands_in files at.0 at.1 (enumerated files at of_file.has); is = (file_goals T at m).0 of_file.is },
       λ among.
           let file = place_in files among.one among.has in
-          flat.1 (record { one = (file.0, among.one); has = numbered files file.0 among.one file.1; is = (file_goals (file.0, among.one) m).1 among.is }),
+          flat.1 (record { one = (file.0, among.one); has = numbered files file.0 among.one file.1; is = (file_goals T (file.0, among.one) m).1 among.is }),
     )
 
-goals_go : (seen : Seen) (q : ℕ) → GoesTo seen (IsAmong IsMetInBody (goals_in seen.loaded.files)) q ↔ IsAmong (IsCalledByGoal seen) seen.loaded.files q
+goals_go : (seen : Seen) (q : ℕ) → GoesTo seen (IsAmong (IsMetInBody (rows_of seen)) (goals_in seen.loaded.files)) q ↔ IsAmong (IsCalledByGoal seen) seen.loaded.files q
 goals_go seen q = (
   λ goes.
-      let among = (goals_met seen.loaded.files goes.met).0 goes.is in
+      let among = (goals_met (rows_of seen) seen.loaded.files goes.met).0 goes.is in
       record { one = among.one; has = among.has; is = record { met = goes.met; is = among.is; goes = goes.goes } },
   λ among.
       record {
         met = among.is.met;
-        is = (goals_met seen.loaded.files among.is.met).1 (record { one = among.one; has = among.has; is = among.is.is });
+        is = (goals_met (rows_of seen) seen.loaded.files among.is.met).1 (record { one = among.one; has = among.has; is = among.is.is });
         goes = among.is.goes;
       },
 )
 
 -- all roots
 pub roots_are : (seen : Seen) (goals : List Body) (none named all : List ℕ) → none ≡ [] → goals ≡ goals_in seen.loaded.files
-    → Adds (IsAmong (IsGivenByRoot seen) seen.loaded.files) none named → Adds (GoesTo seen (IsAmong IsMetInBody goals)) named all
+    → Adds (IsAmong (IsGivenByRoot seen) seen.loaded.files) none named → Adds (GoesTo seen (IsAmong (IsMetInBody (rows_of seen)) goals)) named all
     → (q : ℕ) → Contains all q ↔ IsRoot seen q
 roots_are seen goals none named all empty are first second q =
     let files = seen.loaded.files in
-    let P : List Body → Type 0 = λ bodies. Adds (GoesTo seen (IsAmong IsMetInBody bodies)) named all in
-    let both = adds_then (IsAmong (IsGivenByRoot seen) files) (GoesTo seen (IsAmong IsMetInBody (goals_in files))) none named all first (subst P are second) in
-    let has = adds_from_none (λ n. IsAmong (IsGivenByRoot seen) files n ⊎ GoesTo seen (IsAmong IsMetInBody (goals_in files)) n) none all empty both q in
+    let P : List Body → Type 0 = λ bodies. Adds (GoesTo seen (IsAmong (IsMetInBody (rows_of seen)) bodies)) named all in
+    let both = adds_then (IsAmong (IsGivenByRoot seen) files) (GoesTo seen (IsAmong (IsMetInBody (rows_of seen)) (goals_in files))) none named all first (subst P are second) in
+    let has = adds_from_none (λ n. IsAmong (IsGivenByRoot seen) files n ⊎ GoesTo seen (IsAmong (IsMetInBody (rows_of seen)) (goals_in files)) n) none all empty both q in
     let goes = goals_go seen q in (
       λ in_all.
           elim (has.0 in_all) [

@@ -15,7 +15,8 @@ use Rattle.import_rules.specs.declared.names.PredName.{PredName}
 use Rattle.import_rules.specs.Names.{is_same, pred_name}
 use Rattle.import_rules.specs.Find.{number_of, first_source, or_found}
 use Rattle.import_rules.specs.Program.{Seen, found}
-use Rattle.call_edges.specs.Goals.{Met, call, fault, plain_rows}
+use Rattle.call_edges.specs.Goals.{Met, call, fault}
+use Rattle.call_edges.specs.ProgramRows.{rows_of}
 use Rattle.call_edges.specs.Calls.{IsMetIn, target, GoesTo, NodeCalls}
 use Rattle.call_edges.specs.Bodies.{bodies_in, IsMetInBody}
 use Rattle.call_edges.specs.Successors.{body_mets, node_mets, is_target, calls_to, successor_lists}
@@ -64,14 +65,14 @@ is_the_target q None is = absurd (none-some q is)
 pub node_mets_are : (seen : Seen) (node : ℕ) (m : Met) → Contains (node_mets seen node) m ↔ IsMetIn seen node m
 node_mets_are seen node m =
     let bodies = bodies_in seen node in
-    let flat = flat_has body_mets bodies m in
+    let flat = flat_has (body_mets (rows_of seen)) bodies m in
     let node = node_met seen node m in (
       λ has.
           node.0
-          (among_as (λ body. Contains (body_mets body)) IsMetInBody bodies m (λ body. (mets_are plain_rows body.at.module_ body.at.role body.at.tree m).0) (flat.0 has)),
+          (among_as (λ body. Contains ((body_mets (rows_of seen)) body)) (IsMetInBody (rows_of seen)) bodies m (λ body. (mets_are (rows_of seen) body.at.module_ body.at.role body.at.tree m).0) (flat.0 has)),
       λ met.
           flat.1
-          (among_as IsMetInBody (λ body. Contains (body_mets body)) bodies m (λ body. (mets_are plain_rows body.at.module_ body.at.role body.at.tree m).1) (node.1 met)),
+          (among_as (IsMetInBody (rows_of seen)) (λ body. Contains ((body_mets (rows_of seen)) body)) bodies m (λ body. (mets_are (rows_of seen) body.at.module_ body.at.role body.at.tree m).1) (node.1 met)),
     )
 
 pub calls_are : (seen : Seen) (p q : ℕ) → calls_to seen p q ≡ true → NodeCalls seen p q

@@ -21,8 +21,9 @@ use Rattle.import_rules.proofs.NameOrder.{pred_cmp_total, same_ties, same_parts}
 use Rattle.call_edges.specs.declared.role.Met.{Met as MetKept}
 use Rattle.call_edges.specs.declared.body.Body.{Body as BodyKept}
 use Rattle.call_edges.specs.declared.unresolved.Called.{Called}
-use Rattle.call_edges.specs.Goals.{Met, call, fault, plain_rows, Adds, AddsMet}
+use Rattle.call_edges.specs.Goals.{Met, call, fault, Adds, AddsMet}
 use Rattle.call_edges.specs.Seen.{see_met, see_mets}
+use Rattle.call_edges.specs.ProgramRows.{rows_of}
 use Rattle.call_edges.specs.Calls.{IsAmong}
 use Rattle.call_edges.specs.Bodies.{Body, see_body, bodies_in, IsMetInBody}
 use Rattle.call_edges.specs.Called.{see_called, unless_found, unresolved}
@@ -74,10 +75,10 @@ module _ (seen : Seen) where
       adds
 
   -- the names of a body
-  pub body_names : (body : Body) (met : List MetKept) (none : List Met) (old new : List PredName) → none ≡ [] → AddsMet plain_rows body.at none (see_mets met)
+  pub body_names : (body : Body) (met : List MetKept) (none : List Met) (old new : List PredName) → none ≡ [] → AddsMet (rows_of seen) body.at none (see_mets met)
       → Adds (IsUnresolvedOf seen (Contains (see_mets met))) old new → Adds (IsUnresolvedIn seen body) old new
   body_names body met none old new empty walked adds =
-      let has = adds_from_none (IsMetInBody body) none (see_mets met) empty walked in
+      let has = adds_from_none ((IsMetInBody (rows_of seen)) body) none (see_mets met) empty walked in
       adds_as (IsUnresolvedOf seen (Contains (see_mets met))) (IsUnresolvedIn seen body) old new
       (λ name is. record { met = (has (call name.module name.name name.arity)).0 is.met; means_none = is.means_none })
       (λ name is. record { met = (has (call name.module name.name name.arity)).1 is.met; means_none = is.means_none }) adds

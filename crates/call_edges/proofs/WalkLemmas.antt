@@ -11,7 +11,7 @@ use Rattle.prolog_terms.specs.declared.term.Term.TheOpen.{Term-F}
 use Rattle.prolog_terms.specs.declared.term.Term.TheVariants as term
 use Rattle.prolog_terms.specs.Tree.{Tree, tree_of, tree_step, variable, constant, atom, listed, tailed, curly, paren, trees_from, depth, deepest}
 use Rattle.prolog_terms.proofs.ViewLemmas.{atom_seen, compound_seen, list_as, curly_seen, paren_seen}
-use Rattle.call_edges.specs.declared.role.Role.{Role}
+use Rattle.module_table.specs.declared.goal_arg.GoalArg.{GoalArg}
 use Rattle.call_edges.specs.Goals.{Met, place, Rows, Taken, taken, atom_met, constant_met, curly_role, AddsMet}
 use Rattle.call_edges.proofs.MetLemmas.{adds_own, adds_part, AddsFirst, first_all}
 
@@ -37,12 +37,12 @@ pub read_seen : (terms : List Term) (i : ℕ) (found : Term) → i < length term
 read_seen terms i found lt is = slice_get-map tree_of terms i ∙ ap (option_map tree_of) (slice_get_read terms (length terms) i found refl lt is)
 
 -- what a compound is, by what the code reads of it
-pub taken_is : (T : Rows) (owner : List ℕ) (role : Role) (name wanted : List ℕ) (items parts : List Term) (apart : Taken)
+pub taken_is : (T : Rows) (owner : List ℕ) (role : GoalArg) (name wanted : List ℕ) (items parts : List Term) (apart : Taken)
     → apart ≡ taken T owner role name (map tree_of items) → name ≡ wanted → items ≡ parts → apart ≡ taken T owner role wanted (map tree_of parts)
 taken_is T owner role name wanted items parts apart is named same =
     is ∙ (ap (λ n. taken T owner role n (map tree_of items)) named ∙ ap (λ xs. taken T owner role wanted (map tree_of xs)) same)
 
-module _ (T : Rows) (owner : List ℕ) (role : Role) (found : Term) (old new : List Met) where
+module _ (T : Rows) (owner : List ℕ) (role : GoalArg) (found : Term) (old new : List Met) where
   -- what the walk has to add
   abbrev pub IsWalked : Tree → Type 0
   IsWalked tree = AddsMet T (place owner role tree) old new

@@ -1,14 +1,14 @@
 -- The bodies of a program, as lists.
-use Rattle.std.specs.Prelude.{ℕ, ◌+◌, ◌≤◌, List, [], Option, Some, None, map, slice_get, option_map}
+use Rattle.std.specs.Prelude.{ℕ, ◌+◌, ◌*◌, ◌≤◌, List, [], Option, Some, None, map, slice_get, option_map}
 use Rattle.std.specs.List.{flat_map, filter_map, enumerate_from}
 use Rattle.prolog_terms.specs.Tree.{Tree, tree_of}
 use Rattle.prolog_terms.specs.Weight.{weight}
 use Rattle.module_table.specs.Defined.{Predicate}
 use Rattle.module_table.specs.Facts.{Facts}
 use Rattle.import_rules.specs.Program.{Seen, places_in}
-use Rattle.call_edges.specs.declared.role.Role.TheVariants.{Goal}
+use Rattle.module_table.specs.declared.goal_arg.GoalArg.TheVariants.{Goal}
 use Rattle.call_edges.specs.declared.body.Body.{Body as BodyKept}
-use Rattle.call_edges.specs.Goals.{Met, Place, place, added, plain_rows, IsMet}
+use Rattle.call_edges.specs.Goals.{Met, Place, place, added, Rows, IsMet}
 use Rattle.call_edges.specs.Calls.{body_of}
 
 -- a body, and the place of its file
@@ -51,9 +51,9 @@ abbrev pub goals_in : List Facts → List Body
 goals_in files = flat_map goals_of_file (enumerate_from 0 files)
 
 -- this is met in the body
-abbrev pub IsMetInBody : Body → Met → Type 0
-IsMetInBody body m = IsMet plain_rows body.at m
+abbrev pub IsMetInBody : Rows → Body → Met → Type 0
+IsMetInBody T body m = IsMet T body.at m
 
--- it weighs so little that the number of arguments of each call in it fits
+-- it weighs so little that the number of arguments of each call in it fits, though nine may be added at each term
 abbrev pub IsLight : Body → Type 0
-IsLight body = added body.at.role + weight body.at.tree ≤ 4294967295
+IsLight body = added body.at.role + 10 * weight body.at.tree ≤ 4294967295

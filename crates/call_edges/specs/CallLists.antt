@@ -6,6 +6,7 @@ use Rattle.std.specs.declared.alloc.AllocError.{AllocError}
 use Rattle.import_rules.specs.Program.{Seen}
 use Rattle.call_edges.specs.declared.piece.Piece.{Piece}
 use Rattle.call_edges.specs.Bodies.{bodies_in}
+use Rattle.call_edges.specs.ProgramRows.{rows_of}
 use Rattle.call_edges.specs.Calls.{IsAmong, NodeCalls}
 use Rattle.call_edges.specs.FaultPlaces.{IsFaultIn}
 use Rattle.call_edges.specs.Successors.{successor_lists}
@@ -35,7 +36,7 @@ pub record IsPieceFault (seen : Seen) (number : ℕ) (p : ℕ × ℕ) : Type 0 w
   pub node : ℕ
   pub below : node < length seen.predicates
   pub in_piece : node / 512 ≡ number
-  pub is : IsAmong IsFaultIn (bodies_in seen node) p
+  pub is : IsAmong (IsFaultIn (rows_of seen)) (bodies_in seen node) p
 
 -- what the predicates of the piece call, and where their goals aren't callable
 pub record IsPiece (seen : Seen) (number : ℕ) (piece : Piece) : Type 0 where

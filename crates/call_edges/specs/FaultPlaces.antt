@@ -9,7 +9,8 @@ use Rattle.file_library.specs.Loaded.{NamedText}
 use Rattle.import_rules.specs.Files.{pair_cmp}
 use Rattle.import_rules.specs.Program.{Seen}
 use Rattle.call_edges.specs.declared.piece.Piece.{Piece}
-use Rattle.call_edges.specs.Goals.{Met, call, fault}
+use Rattle.call_edges.specs.Goals.{Met, call, fault, Rows}
+use Rattle.call_edges.specs.ProgramRows.{rows_of}
 use Rattle.call_edges.specs.Calls.{IsAmong}
 use Rattle.call_edges.specs.Bodies.{Body, IsMetInBody}
 use Rattle.call_edges.specs.GoalFaults.{IsMetInFile}
@@ -20,13 +21,13 @@ fault_at (call owner name arity) = None
 fault_at (fault at) = Some at
 
 -- such a goal stands there, in the body
-pub record IsFaultIn (body : Body) (p : ℕ × ℕ) : Type 0 where
+pub record IsFaultIn (T : Rows) (body : Body) (p : ℕ × ℕ) : Type 0 where
   pub in_file : p.0 ≡ body.file
-  pub met : IsMetInBody body (fault p.1)
+  pub met : IsMetInBody T body (fault p.1)
 
 -- just the places of such goals in the bodies
-pub record AreFaultsIn (bodies : List Body) (faults : List (ℕ × ℕ)) : Type 0 where
-  pub each : (p : ℕ × ℕ) → Contains faults p ↔ IsAmong IsFaultIn bodies p
+pub record AreFaultsIn (T : Rows) (bodies : List Body) (faults : List (ℕ × ℕ)) : Type 0 where
+  pub each : (p : ℕ × ℕ) → Contains faults p ↔ IsAmong (IsFaultIn T) bodies p
 
 -- just those of one piece or another
 abbrev pub HasPlace : Piece → ℕ × ℕ → Type 0
@@ -36,7 +37,7 @@ HasPlace piece p = Contains piece.faults.items p
 pub record IsFaultPlace (seen : Seen) (p : ℕ × ℕ) : Type 0 where
   pub file : Facts
   pub is : slice_get seen.loaded.files p.0 ≡ Some file
-  pub met : IsMetInFile file (fault p.1)
+  pub met : IsMetInFile (rows_of seen) file (fault p.1)
 
 -- all such places, in order and each once
 pub record AreFaultPlaces (seen : Seen) (faults : List (ℕ × ℕ)) : Type 0 where

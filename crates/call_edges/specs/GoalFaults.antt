@@ -12,19 +12,20 @@ use Rattle.file_library.specs.declared.fault.Fault.{Fault}
 use Rattle.import_rules.specs.Program.{Seen}
 use Rattle.call_edges.specs.declared.goal_stop.GoalStop.{GoalStop}
 use Rattle.call_edges.specs.declared.goal_stop.GoalStop.TheVariants.{Faults, NoMemory}
-use Rattle.call_edges.specs.Goals.{Met, fault}
+use Rattle.call_edges.specs.Goals.{Met, fault, Rows}
+use Rattle.call_edges.specs.ProgramRows.{rows_of}
 use Rattle.call_edges.specs.Calls.{IsAmong, IsMetInClause, IsMetInGoals}
 
 -- this is met in the file: in a clause of one of its predicates, or in a goal directive
-abbrev pub IsMetInFile : Facts → Met → Type 0
-IsMetInFile file m = IsAmong (λ (p : Predicate). IsAmong (IsMetInClause file.module_) p.clauses) file.defined m ⊎ IsMetInGoals file m
+abbrev pub IsMetInFile : Rows → Facts → Met → Type 0
+IsMetInFile T file m = IsAmong (λ (p : Predicate). IsAmong (IsMetInClause T file.module_) p.clauses) file.defined m ⊎ IsMetInGoals T file m
 
 -- a goal that stands there isn't callable
 pub record IsGoalFault (seen : Seen) (one : Fault) : Type 0 where
   pub file : Facts
   pub has_file : Contains seen.loaded.files file
   pub named : one.file ≡ file.file
-  pub met : IsMetInFile file (fault one.offset)
+  pub met : IsMetInFile (rows_of seen) file (fault one.offset)
   pub cause : one.cause ≡ NotCallable
   pub text : List ℕ
   pub has_text : Contains seen.loaded.texts (one.file, text)

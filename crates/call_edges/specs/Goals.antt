@@ -1,13 +1,15 @@
 -- Where goals stand in a body, and what they call.
-use Rattle.std.specs.Prelude.{ℕ, ◌≡◌, ◌+◌, ◌-◌, ◌==◌, ◌&&◌, ◌||◌, ◌⊎◌, ◌↔◌, List, [], ◌∷◌, Option, Some, None, Bool, true, false, if◌then◌else◌, codes, length, slice_get, Contains}
+use Rattle.std.specs.Prelude.{ℕ, ◌≡◌, ◌+◌, ◌-◌, ◌==◌, ◌&&◌, ◌||◌, ◌⊎◌, ◌↔◌, List, [], ◌∷◌, Option, Some, None, Bool, true, false, if◌then◌else◌, codes, length, slice_get, slice_index_or, Contains}
 use Rattle.std.specs.Str.{bytes_eq}
 use Rattle.prolog_terms.specs.declared.term.ConstKind.{ConstKind}
 use Rattle.prolog_terms.specs.declared.term.ConstKind.TheVariants.{Integer, Float, Str, BackStr}
 use Rattle.prolog_terms.specs.Tree.{Tree, variable, constant, atom, compound, curly, paren}
 use Rattle.prolog_terms.specs.Views.{inside, start_of, trees_in, atom_name}
 use Rattle.module_table.specs.Heads.{is_among}
-use Rattle.call_edges.specs.declared.role.Role.{Role}
-use Rattle.call_edges.specs.declared.role.Role.TheVariants.{Plain, Goal, Caret, Grammar}
+use Rattle.module_table.specs.declared.goal_arg.GoalArg.{GoalArg}
+use Rattle.module_table.specs.declared.goal_arg.GoalArg.TheVariants.{Plain, Goal, Caret, Grammar}
+pub use Rattle.module_table.specs.Metas.{added}
+use Rattle.module_table.specs.Metas.{added}
 use Rattle.call_edges.specs.declared.role.Row.{Row}
 use Rattle.call_edges.specs.declared.role.Way.{Way}
 use Rattle.call_edges.specs.declared.role.Way.TheVariants.{Silent, Behind, Control, Qualified, Calling}
@@ -20,28 +22,21 @@ pub data Met : Type 0 where
 -- a term in a body of a module
 pub record Place : Type 0 where
   pub module_ : List ℕ
-  pub role : Role
+  pub role : GoalArg
   pub tree : Tree
-
--- how many arguments are added to those that are written
-abbrev pub added : Role → ℕ
-added Plain = 0
-added (Goal e) = e
-added Caret = 0
-added Grammar = 2
 
 -- the table of the predicates that take goals
 
-abbrev pub first_only : Role → Row
+abbrev pub first_only : GoalArg → Row
 first_only role = record { first = role; second = Plain; third = Plain }
 
-abbrev pub second_only : Role → Row
+abbrev pub second_only : GoalArg → Row
 second_only role = record { first = Plain; second = role; third = Plain }
 
-abbrev pub first_two : Role → Row
+abbrev pub first_two : GoalArg → Row
 first_two role = record { first = role; second = role; third = Plain }
 
-abbrev pub first_and_third : Role → Row
+abbrev pub first_and_third : GoalArg → Row
 first_and_third role = record { first = role; second = Plain; third = role }
 
 -- `call` and `maplist`, which add all their arguments but the first
@@ -80,13 +75,23 @@ row name arity =
     else if arity == 4 then four_row name
     else adding_row name arity
 
+-- how the arguments of a compound stand: none of them is a goal, or they stand by a row of the table, or as the predicate declares them
+pub data Standing : Type 0 where
+  no_goals : Standing
+  by_row : Row → Standing
+  as_declared : List GoalArg → Standing
+
+abbrev pub by_table : Option Row → Standing
+by_table (Some row) = by_row row
+by_table None = no_goals
+
 -- how the arguments of a goal stand, by its module, its name and its arity
 abbrev pub Rows : Type 0
-Rows = List ℕ → List ℕ → ℕ → Option Row
+Rows = List ℕ → List ℕ → ℕ → Standing
 
 -- by the table alone
 abbrev pub plain_rows : Rows
-plain_rows owner name arity = row name arity
+plain_rows owner name arity = by_table (row name arity)
 
 -- what a compound is to the body that it stands in
 
@@ -101,14 +106,14 @@ goal_way controls name count =
     else Calling
 
 -- control constructs are those without added arguments, and those of grammar bodies
-abbrev pub way : Role → List ℕ → ℕ → Way
+abbrev pub way : GoalArg → List ℕ → ℕ → Way
 way Plain name count = Silent
 way (Goal e) name count = goal_way (e == 0) name count
 way Caret name count = if count == 2 && bytes_eq name (codes "^") then Behind else goal_way true name count
 way Grammar name count = goal_way true name count
 
 -- a goal behind `V^`s is a goal
-abbrev pub settled : Role → Role
+abbrev pub settled : GoalArg → GoalArg
 settled Plain = Plain
 settled (Goal e) = Goal e
 settled Caret = Goal 0
@@ -118,7 +123,7 @@ settled Grammar = Grammar
 pub record Taken : Type 0 where
   pub met : Option Met
   pub module_ : List ℕ
-  pub row : Option Row
+  pub standing : Standing
 
 abbrev pub variable_at : Tree → Bool
 variable_at (variable span) = true
@@ -129,32 +134,32 @@ is_variable tree = variable_at (inside tree)
 
 -- a goal of the module that a term names: none of a variable, and a fault of another term
 
-abbrev pub goal_named : List ℕ → Role → Tree → Option (List ℕ) → Taken
-goal_named owner role tree (Some name) = record { met = None; module_ = name; row = Some (second_only (settled role)) }
-goal_named owner role tree None = record { met = if is_variable tree then None else Some (fault (start_of tree)); module_ = owner; row = None }
+abbrev pub goal_named : List ℕ → GoalArg → Tree → Option (List ℕ) → Taken
+goal_named owner role tree (Some name) = record { met = None; module_ = name; standing = by_row (second_only (settled role)) }
+goal_named owner role tree None = record { met = if is_variable tree then None else Some (fault (start_of tree)); module_ = owner; standing = no_goals }
 
-abbrev pub goal_of : List ℕ → Role → Tree → Taken
+abbrev pub goal_of : List ℕ → GoalArg → Tree → Taken
 goal_of owner role tree = goal_named owner role tree (atom_name tree)
 
-abbrev pub qualified_taken : List ℕ → Role → List Tree → Taken
+abbrev pub qualified_taken : List ℕ → GoalArg → List Tree → Taken
 qualified_taken owner role (tree ∷ trees) = goal_of owner role tree
-qualified_taken owner role [] = record { met = None; module_ = owner; row = None }
+qualified_taken owner role [] = record { met = None; module_ = owner; standing = no_goals }
 
-abbrev pub taken_by : Rows → Way → List ℕ → Role → List ℕ → List Tree → Taken
-taken_by T Silent module_ role name args = record { met = None; module_ = module_; row = None }
-taken_by T Behind module_ role name args = record { met = None; module_ = module_; row = Some (second_only Caret) }
-taken_by T Control module_ role name args = record { met = None; module_ = module_; row = Some (first_two (settled role)) }
+abbrev pub taken_by : Rows → Way → List ℕ → GoalArg → List ℕ → List Tree → Taken
+taken_by T Silent module_ role name args = record { met = None; module_ = module_; standing = no_goals }
+taken_by T Behind module_ role name args = record { met = None; module_ = module_; standing = by_row (second_only Caret) }
+taken_by T Control module_ role name args = record { met = None; module_ = module_; standing = by_row (first_two (settled role)) }
 taken_by T Qualified module_ role name args = qualified_taken module_ role args
 taken_by T Calling module_ role name args =
-    let arity = length args + added role in record { met = Some (call module_ name arity); module_ = module_; row = T module_ name arity }
+    let arity = length args + added role in record { met = Some (call module_ name arity); module_ = module_; standing = T module_ name arity }
 
-abbrev pub taken : Rows → List ℕ → Role → List ℕ → List Tree → Taken
+abbrev pub taken : Rows → List ℕ → GoalArg → List ℕ → List Tree → Taken
 taken T module_ role name args = taken_by T (way role name (length args)) module_ role name args
 
 -- what is met at a place itself
 
 -- `[]`, `{}` and `!` call nothing in a grammar body
-abbrev pub atom_met : List ℕ → Role → List ℕ → Option Met
+abbrev pub atom_met : List ℕ → GoalArg → List ℕ → Option Met
 atom_met module_ Plain name = None
 atom_met module_ (Goal e) name = Some (call module_ name e)
 atom_met module_ Caret name = Some (call module_ name 0)
@@ -167,13 +172,13 @@ is_text Integer = false
 is_text Float = false
 
 -- no constant is callable, but texts stand in grammar bodies
-abbrev pub constant_met : Role → ConstKind → ℕ → Option Met
+abbrev pub constant_met : GoalArg → ConstKind → ℕ → Option Met
 constant_met Plain kind at = None
 constant_met (Goal e) kind at = Some (fault at)
 constant_met Caret kind at = Some (fault at)
 constant_met Grammar kind at = if is_text kind then None else Some (fault at)
 
-abbrev pub met_at : Rows → List ℕ → Role → Tree → Option Met
+abbrev pub met_at : Rows → List ℕ → GoalArg → Tree → Option Met
 met_at T module_ role (constant kind minus value span) = constant_met role kind span.from
 met_at T module_ role (atom name span) = atom_met module_ role name
 met_at T module_ role (compound name args form span) = (taken T module_ role name (trees_in args)).met
@@ -182,31 +187,32 @@ met_at T module_ role _ = None
 -- which places are directly inside a place
 
 -- arguments behind the third are no goals
-abbrev pub row_role : Row → ℕ → Role
+abbrev pub row_role : Row → ℕ → GoalArg
 row_role row i = if i == 0 then row.first else if i == 1 then row.second else if i == 2 then row.third else Plain
 
-abbrev pub role_at : Option Row → ℕ → Role
-role_at (Some row) i = row_role row i
-role_at None i = Plain
+abbrev pub role_at : Standing → ℕ → GoalArg
+role_at no_goals i = Plain
+role_at (by_row row) i = row_role row i
+role_at (as_declared args) i = slice_index_or args i Plain
 
 -- the place is an argument of a compound
 pub record IsArgument (apart : Taken) (args : List Tree) (q : Place) : Type 0 where
   pub i : ℕ
   pub argument : slice_get args i ≡ Some q.tree
   pub in_module : q.module_ ≡ apart.module_
-  pub stands : q.role ≡ role_at apart.row i
+  pub stands : q.role ≡ role_at apart.standing i
 
 -- inner terms of curly brackets are goals in a grammar body
-abbrev pub curly_role : Role → Role
+abbrev pub curly_role : GoalArg → GoalArg
 curly_role Plain = Plain
 curly_role (Goal e) = Plain
 curly_role Caret = Plain
 curly_role Grammar = Goal 0
 
-abbrev pub place : List ℕ → Role → Tree → Place
+abbrev pub place : List ℕ → GoalArg → Tree → Place
 place module_ role tree = record { module_ = module_; role = role; tree = tree }
 
-abbrev pub IsPart : Rows → List ℕ → Role → Tree → Place → Type 0
+abbrev pub IsPart : Rows → List ℕ → GoalArg → Tree → Place → Type 0
 IsPart T module_ role (compound name args form span) q = IsArgument (taken T module_ role name (trees_in args)) (trees_in args) q
 IsPart T module_ role (curly inner span) q = q ≡ place module_ (curly_role role) inner
 IsPart T module_ role (paren inner span) q = q ≡ place module_ role inner

@@ -1,4 +1,5 @@
 pub mod Goals
+pub mod ProgramRows
 pub mod Seen
 pub mod Listed
 pub mod Calls

@@ -5,12 +5,13 @@ use Rattle.module_table.specs.declared.indicator.Indicator.{Indicator}
 use Rattle.module_table.specs.Defined.{Predicate}
 use Rattle.module_table.specs.Facts.{Facts}
 use Rattle.import_rules.specs.Program.{Seen, found}
+use Rattle.call_edges.specs.ProgramRows.{rows_of}
 use Rattle.call_edges.specs.Calls.{IsAmong, IsMetInGoals, GoesTo}
 
--- a module file gives the predicates of its exports, and another file those that it defines
+-- a module file gives the predicates of its exports, and another file those that it defines, in whichever module
 abbrev pub Gives : Seen → Facts → Bool → ℕ → Type 0
 Gives seen file true q = IsAmong (λ (i : Indicator) n. found seen file.module_ i.name i.arity ≡ Some n) file.exports q
-Gives seen file false q = IsAmong (λ (p : Predicate) n. found seen file.module_ p.name p.arity ≡ Some n) file.defined q
+Gives seen file false q = IsAmong (λ (p : Predicate) n. found seen p.module_ p.name p.arity ≡ Some n) file.defined q
 
 -- the file is a root file that gives the predicate
 pub record IsGivenByRoot (seen : Seen) (file : Facts) (q : ℕ) : Type 0 where
@@ -19,7 +20,7 @@ pub record IsGivenByRoot (seen : Seen) (file : Facts) (q : ℕ) : Type 0 where
 
 -- a goal directive of the file calls the predicate
 abbrev pub IsCalledByGoal : Seen → Facts → ℕ → Type 0
-IsCalledByGoal seen file q = GoesTo seen (IsMetInGoals file) q
+IsCalledByGoal seen file q = GoesTo seen (IsMetInGoals (rows_of seen) file) q
 
 -- one of the files makes the predicate a root
 abbrev pub IsRoot : Seen → ℕ → Type 0

@@ -2,17 +2,18 @@
 use Rattle.std.specs.Prelude.{ℕ, List, Option, Some, None, Bool, false, nat_eq, map, filter, length}
 use Rattle.std.specs.List.{flat_map, list_any, range_with_len}
 use Rattle.import_rules.specs.Program.{Seen}
-use Rattle.call_edges.specs.Goals.{Met, plain_rows}
+use Rattle.call_edges.specs.Goals.{Met, Rows}
+use Rattle.call_edges.specs.ProgramRows.{rows_of}
 use Rattle.call_edges.specs.Listed.{mets_in}
 use Rattle.call_edges.specs.Calls.{target}
 use Rattle.call_edges.specs.Bodies.{Body, bodies_in}
 
-abbrev pub body_mets : Body → List Met
-body_mets body = mets_in plain_rows body.at.module_ body.at.role body.at.tree
+abbrev pub body_mets : Rows → Body → List Met
+body_mets T body = mets_in T body.at.module_ body.at.role body.at.tree
 
 -- what is met in the clauses of the predicate of that number
 abbrev pub node_mets : Seen → ℕ → List Met
-node_mets seen node = flat_map body_mets (bodies_in seen node)
+node_mets seen node = flat_map (body_mets (rows_of seen)) (bodies_in seen node)
 
 abbrev pub is_target : ℕ → Option ℕ → Bool
 is_target q (Some callee) = nat_eq callee q

@@ -2,34 +2,38 @@
 
 ghost use Rattle.std.specs.Prelude.{◌≡◌, ◌≤◌, ◌+◌, length, map};
 ghost use Rattle.prolog_terms.specs.Tree.{tree_of};
-ghost use Rattle.call_edges.specs.Goals.{added, is_control, goal_way, way, settled, is_variable, goal_of, qualified_taken, plain_rows, taken};
-ghost use Rattle.call_edges.specs.Seen.{see_taken};
+ghost use Rattle.call_edges.specs.Goals.{added, is_control, goal_way, way, settled, is_variable, goal_of, qualified_taken, taken};
+ghost use Rattle.call_edges.specs.ProgramRows.{rows_of};
+ghost use Rattle.import_rules.specs.Program.{see_program};
+ghost use Rattle.call_edges.specs.Seen.{see_standing, see_taken};
 
-use crate::role::{Met, Role, Taken, Way};
+use crate::role::{Met, Standing, Taken, Way};
 use crate::table::{first_two, is_one_of, row_of, second_only};
+use import_rules::Program;
+use module_table::GoalArg;
 use prolog_terms::{Term, atom_name, inside, start_of};
 
 /// How many arguments are added to those that are written.
-fn added(role: Role) -> u32
+fn added(role: GoalArg) -> u32
     ensures { result ≡ added role }
 {
     match role {
-        Role::Plain => 0,
-        Role::Goal(more) => more,
-        Role::Caret => 0,
-        Role::Grammar => 2,
+        GoalArg::Plain => 0,
+        GoalArg::Goal(more) => more,
+        GoalArg::Caret => 0,
+        GoalArg::Grammar => 2,
     }
 }
 
 /// How a goal stands once the `V^`s before it are passed.
-fn settled(role: Role) -> Role
+fn settled(role: GoalArg) -> GoalArg
     ensures { result ≡ settled role }
 {
     match role {
-        Role::Plain => Role::Plain,
-        Role::Goal(more) => Role::Goal(more),
-        Role::Caret => Role::Goal(0),
-        Role::Grammar => Role::Grammar,
+        GoalArg::Plain => GoalArg::Plain,
+        GoalArg::Goal(more) => GoalArg::Goal(more),
+        GoalArg::Caret => GoalArg::Goal(0),
+        GoalArg::Grammar => GoalArg::Grammar,
     }
 }
 
@@ -56,19 +60,19 @@ fn goal_way(controls: bool, name: &str, count: usize) -> Way
 }
 
 /// What a compound of this name, with so many arguments, is where it stands so.
-fn way_of(role: Role, name: &str, count: usize) -> Way
+fn way_of(role: GoalArg, name: &str, count: usize) -> Way
     ensures { result ≡ way role name.now count }
 {
     match role {
-        Role::Plain => Way::Silent,
-        Role::Goal(more) => goal_way(more == 0, name, count),
-        Role::Caret => {
+        GoalArg::Plain => Way::Silent,
+        GoalArg::Goal(more) => goal_way(more == 0, name, count),
+        GoalArg::Caret => {
             if count == 2 && name == "^" {
                 return Way::Behind;
             }
             goal_way(true, name, count)
         }
-        Role::Grammar => goal_way(true, name, count),
+        GoalArg::Grammar => goal_way(true, name, count),
     }
 }
 
@@ -82,64 +86,89 @@ fn is_variable(term: &Term) -> bool
 }
 
 /// `M:G`, by the term for the module `M`.
-fn goal_of<'a>(owner: &'a str, role: Role, module: &'a Term) -> Taken<'a>
+fn goal_of<'a>(owner: &'a str, role: GoalArg, module: &'a Term) -> Taken<'a>
     ensures { see_taken result ≡ goal_of owner.now role (tree_of «module».now) }
 {
     if let Some(name) = atom_name(module) {
         return Taken {
             met: None,
             module: name,
-            row: Some(second_only(settled(role))),
+            standing: Standing::ByRow(second_only(settled(role))),
         };
     }
     if is_variable(module) {
         return Taken {
             met: None,
             module: owner,
-            row: None,
+            standing: Standing::Silent,
         };
     }
     Taken {
         met: Some(Met::Fault(start_of(module))),
         module: owner,
-        row: None,
+        standing: Standing::Silent,
     }
 }
 
-fn qualified<'a>(owner: &'a str, role: Role, args: &'a [Term]) -> Taken<'a>
+fn qualified<'a>(owner: &'a str, role: GoalArg, args: &'a [Term]) -> Taken<'a>
     ensures { see_taken result ≡ qualified_taken owner.now role (map tree_of args.now) }
 {
     match args {
         [] => Taken {
             met: None,
             module: owner,
-            row: None,
+            standing: Standing::Silent,
         },
         [first, ..] => goal_of(owner, role, first),
     }
 }
 
+/// How the arguments of a goal stand: as the predicate declares them that it calls, else by the table.
+fn standing_of<'a>(
+    program: &'a Program,
+    owner: &'a str,
+    name: &'a str,
+    arity: u32,
+) -> Standing<'a>
+    ensures { see_standing result ≡ rows_of (see_program program.now) owner.now name.now arity }
+{
+    let declared = program.meta_meant(owner, name, arity);
+    if !declared.is_empty() {
+        return Standing::Declared(declared);
+    }
+    match row_of(name, arity) {
+        Some(row) => Standing::ByRow(row),
+        None => Standing::Silent,
+    }
+}
+
 /// What is met at a compound that stands so in a body of the module `owner`, and how its arguments
 /// stand.
-pub fn take_apart<'a>(owner: &'a str, role: Role, name: &'a str, args: &'a [Term]) -> Taken<'a>
+pub fn take_apart<'a>(
+    program: &'a Program,
+    owner: &'a str,
+    role: GoalArg,
+    name: &'a str,
+    args: &'a [Term],
+) -> Taken<'a>
     requires { length args.now + added role ≤ 4294967295 }
-    ensures { see_taken result ≡ taken plain_rows owner.now role name.now (map tree_of args.now) }
+    ensures { see_taken result ≡ taken (rows_of (see_program program.now)) owner.now role name.now (map tree_of args.now) }
 {
     match way_of(role, name, args.len()) {
         Way::Silent => Taken {
             met: None,
             module: owner,
-            row: None,
+            standing: Standing::Silent,
         },
         Way::Behind => Taken {
             met: None,
             module: owner,
-            row: Some(second_only(Role::Caret)),
+            standing: Standing::ByRow(second_only(GoalArg::Caret)),
         },
         Way::Control => Taken {
             met: None,
             module: owner,
-            row: Some(first_two(settled(role))),
+            standing: Standing::ByRow(first_two(settled(role))),
         },
         Way::Qualified => qualified(owner, role, args),
         Way::Calling => {
@@ -151,7 +180,7 @@ pub fn take_apart<'a>(owner: &'a str, role: Role, name: &'a str, args: &'a [Term
                     arity,
                 }),
                 module: owner,
-                row: row_of(name, arity),
+                standing: standing_of(program, owner, name, arity),
             }
         }
     }

@@ -8,10 +8,9 @@ ghost use Rattle.import_rules.specs.Program.{see_program};
 ghost use Rattle.call_edges.specs.Calls.{body_of};
 ghost use Rattle.call_edges.specs.Bodies.{see_body, body_in, clause_bodies, bodies_in, goals_of_file, goals_in};
 
-use crate::role::Role;
 use clause_text::Clause;
 use import_rules::Program;
-use module_table::FileFacts;
+use module_table::{FileFacts, GoalArg};
 use prolog_terms::{Term, binary};
 use std::alloc::{AllocError, Global};
 
@@ -21,7 +20,7 @@ use std::alloc::{AllocError, Global};
 pub struct Body<'a> {
     pub file: u32,
     pub owner: &'a str,
-    pub role: Role,
+    pub role: GoalArg,
     pub term: &'a Term,
 }
 
@@ -35,7 +34,7 @@ fn body_of<'a>(file: u32, owner: &'a str, clause: &'a Term) -> Option<Body<'a>>
         return Some(Body {
             file,
             owner,
-            role: Role::Goal(0),
+            role: GoalArg::Goal(0),
             term: pair.right,
         });
     }
@@ -43,7 +42,7 @@ fn body_of<'a>(file: u32, owner: &'a str, clause: &'a Term) -> Option<Body<'a>>
         return Some(Body {
             file,
             owner,
-            role: Role::Grammar,
+            role: GoalArg::Grammar,
             term: pair.right,
         });
     }
@@ -112,7 +111,7 @@ fn push_goals<'a>(
         bodies.push(Body {
             file: place,
             owner: file.module.as_str(),
-            role: Role::Goal(0),
+            role: GoalArg::Goal(0),
             term: goal,
         })?;
     }

@@ -4,6 +4,7 @@ ghost use Rattle.std.specs.Prelude.{◌≡◌, ◌<◌, ◌↔◌, ℕ, [], All,
 ghost use Rattle.std.specs.List.Sorted.{IsStrictlyIncreasing};
 ghost use Rattle.import_rules.specs.Program.{see_program};
 ghost use Rattle.call_edges.specs.Goals.{Adds};
+ghost use Rattle.call_edges.specs.ProgramRows.{rows_of};
 ghost use Rattle.call_edges.specs.Seen.{see_met, see_mets};
 ghost use Rattle.call_edges.specs.Calls.{GoesTo, IsAmong, NodeCalls, target};
 ghost use Rattle.call_edges.specs.Bodies.{see_body, IsMetInBody, IsLight};
@@ -45,12 +46,12 @@ pub fn push_targets(program: &Program, met: &[Met], out: &mut Vec<u32>) -> Resul
 /// Adds the predicates that are called in bodies.
 pub fn push_called(program: &Program, bodies: &[Body], out: &mut Vec<u32>) -> Result<(), AllocError>
     requires { All IsLight (map see_body bodies.now) }
-    ensures { OnOk result (Adds (GoesTo (see_program program.now) (IsAmong IsMetInBody (map see_body bodies.now))) out.old.items out.new.items) }
+    ensures { OnOk result (Adds (GoesTo (see_program program.now) (IsAmong (IsMetInBody (rows_of (see_program program.now))) (map see_body bodies.now))) out.old.items out.new.items) }
 {
     let mut met = Vec::new(*out.allocator());
     for body in bodies {
         met.clear();
-        walk(body.term, body.owner, body.role, &mut met)?;
+        walk(program, body.term, body.owner, body.role, &mut met)?;
         push_targets(program, &met, out)?;
     }
     Ok(())

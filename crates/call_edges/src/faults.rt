@@ -3,6 +3,7 @@
 ghost use Rattle.std.specs.Prelude.{◌≡◌, ℕ, All, Contains, map, IfOk, OnOk};
 ghost use Rattle.import_rules.specs.Program.{see_program};
 ghost use Rattle.call_edges.specs.Goals.{Adds, fault};
+ghost use Rattle.call_edges.specs.ProgramRows.{rows_of};
 ghost use Rattle.call_edges.specs.Seen.{see_met, see_mets};
 ghost use Rattle.call_edges.specs.Bodies.{see_body, goals_in, IsLight};
 ghost use Rattle.call_edges.specs.FaultPlaces.{fault_at, AreFaultsIn};
@@ -37,15 +38,19 @@ pub fn push_places(file: u32, met: &[Met], places: &mut Vec<(u32, u32)>) -> Resu
 }
 
 /// The places of goals in bodies that aren't callable.
-fn faults_in(alloc: Global, bodies: &[Body]) -> Result<Vec<(u32, u32)>, AllocError>
+fn faults_in(
+    alloc: Global,
+    program: &Program,
+    bodies: &[Body],
+) -> Result<Vec<(u32, u32)>, AllocError>
     requires { All IsLight (map see_body bodies.now) }
-    ensures { IfOk result (λ faults. AreFaultsIn (map see_body bodies.now) faults.items) }
+    ensures { IfOk result (λ faults. AreFaultsIn (rows_of (see_program program.now)) (map see_body bodies.now) faults.items) }
 {
     let mut met = Vec::new(alloc);
     let mut faults = Vec::new(alloc);
     for body in bodies {
         met.clear();
-        walk(body.term, body.owner, body.role, &mut met)?;
+        walk(program, body.term, body.owner, body.role, &mut met)?;
         push_places(body.file, &met, &mut faults)?;
     }
     Ok(faults)
@@ -53,9 +58,9 @@ fn faults_in(alloc: Global, bodies: &[Body]) -> Result<Vec<(u32, u32)>, AllocErr
 
 /// The places of goals of directives that aren't callable.
 pub fn directive_faults(alloc: Global, program: &Program) -> Result<Vec<(u32, u32)>, AllocError>
-    ensures { IfOk result (λ faults. AreFaultsIn (goals_in (see_program program.now).loaded.files) faults.items) }
+    ensures { IfOk result (λ faults. AreFaultsIn (rows_of (see_program program.now)) (goals_in (see_program program.now).loaded.files) faults.items) }
 {
     program.is_known();
     let bodies = goals_of(alloc, program)?;
-    faults_in(alloc, &bodies)
+    faults_in(alloc, program, &bodies)
 }

@@ -2,6 +2,7 @@
 
 ghost use Rattle.std.specs.Prelude.{◌<◌, All, length, map, OnOk};
 ghost use Rattle.import_rules.specs.Program.{see_program};
+ghost use Rattle.call_edges.specs.ProgramRows.{rows_of};
 ghost use Rattle.call_edges.specs.Goals.{Adds};
 ghost use Rattle.call_edges.specs.Calls.{GoesTo, IsAmong};
 ghost use Rattle.call_edges.specs.Bodies.{see_body, bodies_in, IsLight, IsMetInBody};
@@ -35,19 +36,19 @@ impl<'a> Buffers<'a> {
 
 /// Adds what bodies call, in their order, and where goals in them aren't callable.
 fn found_in<'a>(
-    program: &Program,
+    program: &'a Program,
     bodies: &[Body<'a>],
     met: &mut Vec<Met<'a>>,
     callees: &mut Vec<u32>,
     faults: &mut Vec<(u32, u32)>,
 ) -> Result<(), AllocError>
     requires { All IsLight (map see_body bodies.now) }
-    ensures callees { OnOk result (Adds (GoesTo (see_program program.now) (IsAmong IsMetInBody (map see_body bodies.now))) callees.old.items callees.new.items) }
-    ensures faults { OnOk result (Adds (IsAmong IsFaultIn (map see_body bodies.now)) faults.old.items faults.new.items) }
+    ensures callees { OnOk result (Adds (GoesTo (see_program program.now) (IsAmong (IsMetInBody (rows_of (see_program program.now))) (map see_body bodies.now))) callees.old.items callees.new.items) }
+    ensures faults { OnOk result (Adds (IsAmong (IsFaultIn (rows_of (see_program program.now))) (map see_body bodies.now)) faults.old.items faults.new.items) }
 {
     for body in bodies {
         met.clear();
-        walk(body.term, body.owner, body.role, met)?;
+        walk(program, body.term, body.owner, body.role, met)?;
         push_targets(program, met, callees)?;
         push_places(body.file, met, faults)?;
     }
@@ -65,7 +66,7 @@ pub fn open<'a>(
 ) -> Result<(), AllocError>
     requires { node < length (see_program program.now).predicates }
     ensures callees { OnOk result (IsOpened (see_program program.now) node callees.new.items) }
-    ensures faults { OnOk result (Adds (IsAmong IsFaultIn (bodies_in (see_program program.now) node)) faults.old.items faults.new.items) }
+    ensures faults { OnOk result (Adds (IsAmong (IsFaultIn (rows_of (see_program program.now))) (bodies_in (see_program program.now) node)) faults.old.items faults.new.items) }
 {
     program.is_known();
     callees.clear();

@@ -1,24 +1,13 @@
 //! How terms stand in bodies, and what is met there.
 
-/// How a term stands in a body.
-#[derive(Clone, Copy, Debug, PartialEq, Eq)]
-pub enum Role {
-    /// It is no goal.
-    Plain,
-    /// It is a goal, with so many arguments added to those that are written.
-    Goal(u32),
-    /// It is a goal behind any number of `V^`.
-    Caret,
-    /// It is the body of a grammar rule, or a part of one.
-    Grammar,
-}
+use module_table::GoalArg;
 
 /// How the arguments of a predicate stand. Those behind the third are no goals.
 #[derive(Clone, Copy, Debug, PartialEq, Eq)]
 pub struct Row {
-    pub first: Role,
-    pub second: Role,
-    pub third: Role,
+    pub first: GoalArg,
+    pub second: GoalArg,
+    pub third: GoalArg,
 }
 
 /// What a compound term is to the body that it stands in.
@@ -47,11 +36,22 @@ pub enum Met<'a> {
     Fault(u32),
 }
 
+/// How the arguments of a compound of a body stand.
+#[derive(Clone, Copy, Debug)]
+pub enum Standing<'a> {
+    /// None of them is a goal.
+    Silent,
+    /// By a row of the table.
+    ByRow(Row),
+    /// As the predicate that is called declares them.
+    Declared(&'a [GoalArg]),
+}
+
 /// A compound of a body: what is met at the term itself, and how its arguments stand, in which
-/// module. Without a row none of them is a goal.
+/// module.
 #[derive(Clone, Copy, Debug)]
 pub struct Taken<'a> {
     pub met: Option<Met<'a>>,
     pub module: &'a str,
-    pub row: Option<Row>,
+    pub standing: Standing<'a>,
 }

@@ -5,7 +5,8 @@ ghost use Rattle.std.specs.List.{list_any};
 ghost use Rattle.std.specs.Str.{bytes_eq};
 ghost use Rattle.call_edges.specs.Goals.{first_only, second_only, first_two, first_and_third, adding_row, one_row, two_row, three_row, four_row, row};
 
-use crate::role::{Role, Row};
+use crate::role::Row;
+use module_table::GoalArg;
 
 /// Whether the name is one of the words.
 pub fn is_one_of(words: &[&str], name: &str) -> bool
@@ -14,42 +15,42 @@ pub fn is_one_of(words: &[&str], name: &str) -> bool
     words.iter().any(|word| *word == name)
 }
 
-fn first_only(role: Role) -> Row
+fn first_only(role: GoalArg) -> Row
     ensures { result ≡ first_only role }
 {
     Row {
         first: role,
-        second: Role::Plain,
-        third: Role::Plain,
+        second: GoalArg::Plain,
+        third: GoalArg::Plain,
     }
 }
 
-pub fn second_only(role: Role) -> Row
+pub fn second_only(role: GoalArg) -> Row
     ensures { result ≡ second_only role }
 {
     Row {
-        first: Role::Plain,
+        first: GoalArg::Plain,
         second: role,
-        third: Role::Plain,
+        third: GoalArg::Plain,
     }
 }
 
-pub fn first_two(role: Role) -> Row
+pub fn first_two(role: GoalArg) -> Row
     ensures { result ≡ first_two role }
 {
     Row {
         first: role,
         second: role,
-        third: Role::Plain,
+        third: GoalArg::Plain,
     }
 }
 
-fn first_and_third(role: Role) -> Row
+fn first_and_third(role: GoalArg) -> Row
     ensures { result ≡ first_and_third role }
 {
     Row {
         first: role,
-        second: Role::Plain,
+        second: GoalArg::Plain,
         third: role,
     }
 }
@@ -60,7 +61,7 @@ fn adding_row(name: &str, arity: u32) -> Option<Row>
     ensures { result ≡ adding_row name.now arity }
 {
     if is_one_of(&["call", "maplist"], name) {
-        return Some(first_only(Role::Goal(arity.saturating_sub(1))));
+        return Some(first_only(GoalArg::Goal(arity.saturating_sub(1))));
     }
     None
 }
@@ -69,7 +70,7 @@ fn one_row(name: &str) -> Option<Row>
     ensures { result ≡ one_row name.now }
 {
     if is_one_of(&["call", "once", "ignore", "not", "initialization"], name) {
-        return Some(first_only(Role::Goal(0)));
+        return Some(first_only(GoalArg::Goal(0)));
     }
     None
 }
@@ -78,13 +79,13 @@ fn two_row(name: &str) -> Option<Row>
     ensures { result ≡ two_row name.now }
 {
     if name == "forall" {
-        return Some(first_two(Role::Goal(0)));
+        return Some(first_two(GoalArg::Goal(0)));
     }
     if name == "initialization" {
-        return Some(first_only(Role::Goal(0)));
+        return Some(first_only(GoalArg::Goal(0)));
     }
     if name == "phrase" {
-        return Some(first_only(Role::Grammar));
+        return Some(first_only(GoalArg::Grammar));
     }
     adding_row(name, 2)
 }
@@ -93,16 +94,16 @@ fn three_row(name: &str) -> Option<Row>
     ensures { result ≡ three_row name.now }
 {
     if name == "findall" {
-        return Some(second_only(Role::Goal(0)));
+        return Some(second_only(GoalArg::Goal(0)));
     }
     if is_one_of(&["bagof", "setof"], name) {
-        return Some(second_only(Role::Caret));
+        return Some(second_only(GoalArg::Caret));
     }
     if name == "catch" {
-        return Some(first_and_third(Role::Goal(0)));
+        return Some(first_and_third(GoalArg::Goal(0)));
     }
     if name == "phrase" {
-        return Some(first_only(Role::Grammar));
+        return Some(first_only(GoalArg::Grammar));
     }
     adding_row(name, 3)
 }
@@ -111,7 +112,7 @@ fn four_row(name: &str) -> Option<Row>
     ensures { result ≡ four_row name.now }
 {
     if name == "findall" {
-        return Some(second_only(Role::Goal(0)));
+        return Some(second_only(GoalArg::Goal(0)));
     }
     adding_row(name, 4)
 }

@@ -67,7 +67,7 @@ fn push_unresolved<'a>(
 /// The names of calls in bodies that go to no predicate.
 fn unresolved_in<'a>(
     alloc: Global,
-    program: &Program,
+    program: &'a Program,
     bodies: &[Body<'a>],
 ) -> Result<Vec<Called<'a>>, AllocError>
     requires { All IsLight (map see_body bodies.now) }
@@ -77,7 +77,7 @@ fn unresolved_in<'a>(
     let mut names = Vec::new(alloc);
     for body in bodies {
         met.clear();
-        walk(body.term, body.owner, body.role, &mut met)?;
+        walk(program, body.term, body.owner, body.role, &mut met)?;
         push_unresolved(program, &met, &mut names)?;
     }
     Ok(names)

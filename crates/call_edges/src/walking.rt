@@ -1,28 +1,32 @@
 //! What is met within a body.
 
-ghost use Rattle.std.specs.Prelude.{◌≡◌, ◌≤◌, ◌+◌, ◌++◌, map, option_map, OnOk};
+ghost use Rattle.std.specs.Prelude.{◌≡◌, ◌≤◌, ◌+◌, ◌*◌, ◌++◌, true, map, option_map, OnOk};
 ghost use Rattle.std.specs.Option.{option_to_list};
 ghost use Rattle.prolog_terms.specs.Tree.{tree_of};
 ghost use Rattle.prolog_terms.specs.Weight.{weight};
-ghost use Rattle.call_edges.specs.Goals.{added, atom_met, constant_met, curly_role, row_role, plain_rows, place, AddsMet};
-ghost use Rattle.call_edges.specs.Seen.{see_met, see_mets};
+ghost use Rattle.call_edges.specs.Goals.{added, atom_met, constant_met, curly_role, row_role, role_at, no_goals, place, AddsMet};
+ghost use Rattle.call_edges.specs.ProgramRows.{rows_of};
+ghost use Rattle.call_edges.specs.Seen.{see_met, see_mets, see_standing};
+ghost use Rattle.import_rules.specs.Program.{see_program};
 
 use crate::apart::take_apart;
-use crate::role::{Met, Role, Row};
+use crate::role::{Met, Row, Standing};
 use crate::table::is_one_of;
+use import_rules::Program;
+use module_table::GoalArg;
 use prolog_terms::{ConstKind, Term};
 use std::alloc::AllocError;
 
 /// What is met at a constant that stands so, at this byte offset. No constant is callable, but texts
 /// stand in grammar bodies.
-fn constant_met<'a>(role: Role, kind: ConstKind, at: u32) -> Option<Met<'a>>
+fn constant_met<'a>(role: GoalArg, kind: ConstKind, at: u32) -> Option<Met<'a>>
     ensures { option_map see_met result ≡ constant_met role kind at }
 {
     match role {
-        Role::Plain => None,
-        Role::Goal(_) => Some(Met::Fault(at)),
-        Role::Caret => Some(Met::Fault(at)),
-        Role::Grammar => match kind {
+        GoalArg::Plain => None,
+        GoalArg::Goal(_) => Some(Met::Fault(at)),
+        GoalArg::Caret => Some(Met::Fault(at)),
+        GoalArg::Grammar => match kind {
             ConstKind::Str => None,
             ConstKind::BackStr => None,
             ConstKind::Integer => Some(Met::Fault(at)),
@@ -32,14 +36,14 @@ fn constant_met<'a>(role: Role, kind: ConstKind, at: u32) -> Option<Met<'a>>
 }
 
 /// What is met at an atom that stands so. `[]`, `{}` and `!` call nothing in a grammar body.
-fn atom_met<'a>(owner: &'a str, role: Role, name: &'a str) -> Option<Met<'a>>
+fn atom_met<'a>(owner: &'a str, role: GoalArg, name: &'a str) -> Option<Met<'a>>
     ensures { option_map see_met result ≡ atom_met owner.now role name.now }
 {
     let arity = match role {
-        Role::Plain => return None,
-        Role::Goal(more) => more,
-        Role::Caret => 0,
-        Role::Grammar => {
+        GoalArg::Plain => return None,
+        GoalArg::Goal(more) => more,
+        GoalArg::Caret => 0,
+        GoalArg::Grammar => {
             if is_one_of(&["[]", "{}", "!"], name) {
                 return None;
             }
@@ -54,26 +58,50 @@ fn atom_met<'a>(owner: &'a str, role: Role, name: &'a str) -> Option<Met<'a>>
 }
 
 /// How the inner term of curly brackets stands: as a goal in a grammar body.
-fn curly_role(role: Role) -> Role
+fn curly_role(role: GoalArg) -> GoalArg
     ensures { result ≡ curly_role role }
 {
     match role {
-        Role::Plain => Role::Plain,
-        Role::Goal(_) => Role::Plain,
-        Role::Caret => Role::Plain,
-        Role::Grammar => Role::Goal(0),
+        GoalArg::Plain => GoalArg::Plain,
+        GoalArg::Goal(_) => GoalArg::Plain,
+        GoalArg::Caret => GoalArg::Plain,
+        GoalArg::Grammar => GoalArg::Goal(0),
     }
 }
 
-/// How the argument at a place stands.
-fn role_of(row: Row, at: usize) -> Role
+fn role_in(row: Row, at: usize) -> GoalArg
     ensures { result ≡ row_role row at }
 {
     match at {
         0 => row.first,
         1 => row.second,
         2 => row.third,
-        _ => Role::Plain,
+        _ => GoalArg::Plain,
+    }
+}
+
+/// How the argument at a place stands.
+fn role_of(standing: Standing, at: usize) -> GoalArg
+    ensures { result ≡ role_at (see_standing standing.entry) at }
+{
+    match standing {
+        Standing::Silent => GoalArg::Plain,
+        Standing::ByRow(row) => role_in(row, at),
+        Standing::Declared(args) => match args.get(at) {
+            Some(arg) => *arg,
+            None => GoalArg::Plain,
+        },
+    }
+}
+
+/// Whether none of the arguments is a goal.
+fn is_silent(standing: Standing) -> bool
+    ensures { result ≡ true → see_standing standing.entry ≡ no_goals }
+{
+    match standing {
+        Standing::Silent => true,
+        Standing::ByRow(_) => false,
+        Standing::Declared(_) => false,
     }
 }
 
@@ -91,33 +119,33 @@ fn push_met<'a>(met: &mut Vec<Met<'a>>, one: Option<Met<'a>>) -> Result<(), Allo
 
 /// Adds what is met within a term that stands so in a body of the module `owner`.
 pub fn walk<'a>(
+    program: &'a Program,
     term: &'a Term,
     owner: &'a str,
-    role: Role,
+    role: GoalArg,
     met: &mut Vec<Met<'a>>,
 ) -> Result<(), AllocError>
-    requires { added role + weight (tree_of term.now) ≤ 4294967295 }
-    ensures { OnOk result (AddsMet plain_rows (place owner.now role (tree_of term.now)) (see_mets met.old.items) (see_mets met.new.items)) }
+    requires { added role + 10 * weight (tree_of term.now) ≤ 4294967295 }
+    ensures { OnOk result (AddsMet (rows_of (see_program program.now)) (place owner.now role (tree_of term.now)) (see_mets met.old.items) (see_mets met.new.items)) }
 {
     match term {
         Term::Var { .. } => Ok(()),
         Term::Const { kind, span, .. } => push_met(met, constant_met(role, *kind, span.from)),
         Term::Atom { name, .. } => push_met(met, atom_met(owner, role, name.as_str())),
         Term::Compound { name, args, .. } => {
-            let taken = take_apart(owner, role, name.as_str(), args);
+            program.is_known();
+            let taken = take_apart(program, owner, role, name.as_str(), args);
             push_met(met, taken.met)?;
-            match taken.row {
-                None => Ok(()),
-                Some(row) => {
-                    for (at, arg) in args.iter().enumerate() {
-                        walk(arg, taken.module, role_of(row, at), met)?;
-                    }
-                    Ok(())
-                }
+            if is_silent(taken.standing) {
+                return Ok(());
             }
+            for (at, arg) in args.iter().enumerate() {
+                walk(program, arg, taken.module, role_of(taken.standing, at), met)?;
+            }
+            Ok(())
         }
         Term::List { .. } => Ok(()),
-        Term::Curly { inner, .. } => walk(inner, owner, curly_role(role), met),
-        Term::Paren { inner, .. } => walk(inner, owner, role, met),
+        Term::Curly { inner, .. } => walk(program, inner, owner, curly_role(role), met),
+        Term::Paren { inner, .. } => walk(program, inner, owner, role, met),
     }
 }

@@ -1,23 +1,27 @@
 -- What directives and heads are refused for, and that none but the first declares a module.
-use Rattle.std.proofs.Common.{◌≡◌, ◌⊎◌, inl, inr, ℕ, Bool, true, false, List, [], ◌∷◌, Option, Some, None, Result, Ok, Err, codes, refl, if◌then◌else◌, map}
+use Rattle.std.proofs.Common.{◌≡◌, ◌⊎◌, inl, inr, ℕ, Bool, true, false, ◌&&◌, List, [], ◌∷◌, Option, Some, None, Result, Ok, Err, codes, refl, if◌then◌else◌, map}
 use Rattle.std.specs.Prelude.{All}
 use Rattle.std.specs.Str.{bytes_eq}
 use Rattle.std.proofs.lemmas.List.Elements.{All-nil, All-cons, All-append}
 use Rattle.prolog_terms.specs.declared.term.Span.{Span}
 use Rattle.prolog_terms.specs.declared.term.Form.{Form}
 use Rattle.prolog_terms.specs.Tree.{Tree, Trees, atom, compound, listed, tailed, paren, more as with_more, none}
-use Rattle.prolog_terms.specs.Views.{start_of, trees_in, Binary, binary, Named, name_and_arity, joined}
+use Rattle.prolog_terms.specs.Views.{start_of, trees_in, Binary, binary, Named, name_and_arity, atom_name}
 use Rattle.clause_text.specs.Lists.{written_items}
 use Rattle.clause_text.specs.Items.{directive_of}
-use Rattle.clause_text.specs.declared.cause.Cause.TheVariants.{LateModule, ControlHead, BadHead, NotInProfile}
+use Rattle.clause_text.specs.declared.cause.Cause.TheVariants.{LateModule, BadIndicator, ControlHead, BadHead, NotInProfile}
 use Rattle.module_table.specs.declared.indicator.Indicator.{Indicator}
 use Rattle.module_table.specs.declared.load.LoadKind.{LoadKind}
 use Rattle.module_table.specs.declared.load.LoadKind.TheVariants.{UseAll, UseSome, Ensure}
-use Rattle.module_table.specs.Said.{Said, Part, Declares, declares, loads, defines, goal, Refusal, refused, in_turn, each_said, nothing, only}
-use Rattle.module_table.specs.Heads.{is_among, control_names, headless_names, head_named, head, grammar_head}
-use Rattle.module_table.specs.Indicators.{indicator, one_indicator, indicators, list_of, declared_indicators, listed_indicators}
+use Rattle.module_table.specs.Metas.{Takes, takes_of}
+use Rattle.module_table.specs.Said.{Said, Part, Declares, declares, loads, defines, goal, Refusal, refused, in_turn, each_said, nothing, only, takes}
+use Rattle.module_table.specs.Heads.{is_among, control_names, headless_names, head_named, plain_head, behind_modules, Owned, owned_by, head, grammar_head}
+use Rattle.module_table.specs.Indicators.{indicator, one_indicator, indicators, list_of, listed_indicators}
+use Rattle.module_table.specs.declared.dynamic.Standing.{Standing}
+use Rattle.module_table.specs.declared.dynamic.Standing.TheVariants.{Whole, Joint, Item}
+use Rattle.module_table.specs.Dynamic.{owned, defined_bare, bare_said, is_joint, is_whole, dynamic_at, each_dynamic, dynamic_said}
 use Rattle.module_table.specs.Loading.{is_system, file_of, load_said, loads_said, use_all_said}
-use Rattle.module_table.specs.Directives.{defined_bare, defined_said, dynamic_said, some_said, use_some_said, is_operator, item_exports, exports_of, exports, declared_said, module_name, module_said, silent_names, outside_names, one_said, two_said, three_said, shallow_said, directive_said}
+use Rattle.module_table.specs.Directives.{Home, some_said, use_some_said, is_operator, item_exports, exports_of, exports, declared_said, module_name, module_said, silent_names, outside_names, one_said, two_said, three_said, shallow_said, directive_said, meta_said}
 use Rattle.module_table.specs.Facts.{with_added, head_with, clause_head, headed, clause_said}
 use Rattle.file_law.specs.Causes.{is_fact_cause}
 
@@ -31,6 +35,7 @@ abbrev pub IsPlain : Part → Type 0
 IsPlain (declares own) = ⊥
 IsPlain (loads own) = Unit {0}
 IsPlain (defines own) = Unit {0}
+IsPlain (takes own) = Unit {0}
 IsPlain (goal tree) = Unit {0}
 
 abbrev pub Plain : Said → Type 0
@@ -53,7 +58,7 @@ by_test : {A : Type 0} (P : A → Type 0) (test : Bool) (a b : Result A Refusal)
 by_test P true a b first second = first
 by_test P false a b first second = second
 
-by_said : (test : Bool) (a b : Said) → Plain a → Plain b → Plain (if test then a else b)
+pub by_said : (test : Bool) (a b : Said) → Plain a → Plain b → Plain (if test then a else b)
 by_said test a b first second = by_test (All IsPlain) test a b first second
 
 by_any : {A : Type 0} (test : Bool) (a b : Result A Refusal) → Any a → Any b → Any (if test then a else b)
@@ -71,7 +76,7 @@ one_plain (Ok parts) (inl plain) = plain
 one_plain (Ok parts) (inr one) = let both : false ≡ true = one.0 in absurd (cc)
 one_plain (Err refusal) one = one
 
-turns : (a b : Said) → Plain a → Plain b → Plain (in_turn a b)
+pub turns : (a b : Said) → Plain a → Plain b → Plain (in_turn a b)
 turns (Ok xs) (Ok ys) first second = All-append IsPlain xs ys first second
 turns (Ok xs) (Err refusal) first second = second
 turns (Err refusal) b first second = first
@@ -89,16 +94,16 @@ plain_each : (says : Tree → Said) → ((tree : Tree) → Plain (says tree)) �
 plain_each says one [] = All-nil IsPlain
 plain_each says one (tree ∷ trees) = turns (says tree) (each_said says trees) (one tree) (plain_each says one trees)
 
-only_plain : (part : Part) → IsPlain part → Plain (only part)
+pub only_plain : (part : Part) → IsPlain part → Plain (only part)
 only_plain part plain = All-cons IsPlain part [] plain (All-nil IsPlain)
 
-no_parts : Plain nothing
+pub no_parts : Plain nothing
 no_parts = All-nil IsPlain
 
 -- heads
 
-head_any : (tree : Tree) → Any (head tree)
-head_any tree = by_name (name_and_arity tree)
+plain_any : (tree : Tree) → Any (plain_head tree)
+plain_any tree = by_name (name_and_arity tree)
   where
     by_name : (found : Option Named) → Any (head_named tree found)
     by_name (Some named) =
@@ -106,22 +111,29 @@ head_any tree = by_name (name_and_arity tree)
         (by_any (is_among (headless_names named.arity) named.name) (refused BadHead tree) (Ok (record { name = named.name; arity = named.arity })) refl tt)
     by_name None = refl
 
-added_any : (n : ℕ) (told : Result Named Refusal) → Any told → Any (with_added n told)
+owned_any : (owner : List ℕ) (told : Result Named Refusal) → Any told → Any (owned_by owner told)
+owned_any owner (Ok named) any = tt
+owned_any owner (Err refusal) any = any
+
+head_any : (owner : List ℕ) (tree : Tree) → Any (head owner tree)
+head_any owner tree = let behind = behind_modules owner tree in owned_any behind.module_ (plain_head behind.tree) (plain_any behind.tree)
+
+added_any : (n : ℕ) (told : Result Owned Refusal) → Any told → Any (with_added n told)
 added_any n (Ok named) any = tt
 added_any n (Err refusal) any = any
 
-clause_head_any : (tree : Tree) → Any (clause_head tree)
-clause_head_any tree = by_pair (binary tree)
+pub clause_head_any : (owner : List ℕ) (tree : Tree) → Any (clause_head owner tree)
+clause_head_any owner tree = by_pair (binary tree)
   where
-    by_pair : (found : Option Binary) → Any (head_with tree found)
+    by_pair : (found : Option Binary) → Any (head_with owner tree found)
     by_pair (Some pair) =
-        by_any (bytes_eq pair.name (codes ":-")) (head pair.left) _ (head_any pair.left)
-        (by_any (bytes_eq pair.name (codes "-->")) (with_added 2 (head (grammar_head pair.left))) (head tree)
-        (added_any 2 (head (grammar_head pair.left)) (head_any (grammar_head pair.left))) (head_any tree))
-    by_pair None = head_any tree
+        by_any (bytes_eq pair.name (codes ":-")) (head owner pair.left) _ (head_any owner pair.left)
+        (by_any (bytes_eq pair.name (codes "-->")) (with_added 2 (head owner (grammar_head pair.left))) (head owner tree)
+        (added_any 2 (head owner (grammar_head pair.left)) (head_any owner (grammar_head pair.left))) (head_any owner tree))
+    by_pair None = head_any owner tree
 
-headed_plain : (told : Result Named Refusal) (tree : Tree) → Any told → Plain (headed told tree)
-headed_plain (Ok named) tree any = only_plain (defines (record { name = named.name; arity = named.arity; clause = Some tree })) tt
+pub headed_plain : (told : Result Owned Refusal) (tree : Tree) → Any told → Plain (headed told tree)
+headed_plain (Ok named) tree any = only_plain (defines (record { module_ = named.module_; name = named.name; arity = named.arity; clause = Some tree })) tt
 headed_plain (Err refusal) tree any = any
 
 -- indicators
@@ -136,14 +148,7 @@ one_any tree = by_option (indicator tree) refl
 indicators_any : (trees : List Tree) → Any (indicators trees)
 indicators_any trees = any_each one_indicator one_any trees
 
-declared_any : (tree : Tree) → Any (declared_indicators tree)
-declared_any tree = by_list (list_of tree) refl
-  where
-    by_list : (found : Option (List Tree)) → list_of tree ≡ found → Any (declared_indicators tree)
-    by_list (Some items) is = rw (is, declared_indicators) (indicators_any items)
-    by_list None is = rw (is, declared_indicators) (indicators_any (joined tree))
-
-listed_any : (tree : Tree) → Any (listed_indicators tree)
+pub listed_any : (tree : Tree) → Any (listed_indicators tree)
 listed_any tree = by_list (list_of tree) refl
   where
     by_list : (found : Option (List Tree)) → list_of tree ≡ found → Any (listed_indicators tree)
@@ -163,7 +168,7 @@ load_plain user kind items tree = by_system (is_system tree) refl
     by_system true is = rw (is, load_said) no_parts
     by_system false is = by_file (file_of user tree) is refl
 
-loads_plain : (user : List ℕ) (kind : LoadKind) (trees : List Tree) → Plain (loads_said user kind trees)
+pub loads_plain : (user : List ℕ) (kind : LoadKind) (trees : List Tree) → Plain (loads_said user kind trees)
 loads_plain user kind trees = plain_each (load_said user kind []) (λ tree. load_plain user kind [] tree) trees
 
 use_all_plain : (user : List ℕ) (tree : Tree) → Plain (use_all_said user tree)
@@ -175,15 +180,40 @@ use_all_plain user tree = by_list (written_items tree) refl
 
 -- directives
 
-all_defined : (is : List Indicator) → All IsPlain (map defined_bare is)
-all_defined [] = All-nil IsPlain
-all_defined (i ∷ is) = All-cons IsPlain (defined_bare i) (map defined_bare is) tt (all_defined is)
+bare_plain : (owner : List ℕ) (tree : Tree) → Plain (bare_said owner tree)
+bare_plain owner tree = by_owned (owned owner tree) refl
+  where
+    by_owned : (found : Option Owned) → owned owner tree ≡ found → Plain (bare_said owner tree)
+    by_owned (Some own) is = rw (is, bare_said) (only_plain (defined_bare own) tt)
+    by_owned None is = rw (is, bare_said) refl
 
-defined_plain : (told : Result (List Indicator) Refusal) → Any told → Plain (defined_said told)
-defined_plain (Ok is) any = all_defined is
-defined_plain (Err refusal) any = any
+inner_plain : (found : Option (List ℕ)) (right tree : Tree) → ((inner : List ℕ) → Plain (dynamic_at Whole inner right))
+    → Plain (elim found [ Some inner ↦ dynamic_at Whole inner right | None ↦ refused BadIndicator tree ])
+inner_plain (Some inner) right tree all = all inner
+inner_plain None right tree all = refl
 
-some_plain : (user : List ℕ) (file : Tree) (told : Result (List Indicator) Refusal) → Any told → Plain (some_said user file told)
+mutual
+  dynamic_plain : (at : Standing) (owner : List ℕ) (tree : Tree) → Plain (dynamic_at at owner tree)
+  dynamic_plain at owner (compound own (with_more left (with_more right none)) form span) =
+      let tree = compound own (with_more left (with_more right none)) form span in
+      by_said (is_joint at && bytes_eq own (codes ",")) (in_turn (dynamic_at Joint owner left) (dynamic_at Joint owner right)) _
+      (turns (dynamic_at Joint owner left) (dynamic_at Joint owner right) (dynamic_plain Joint owner left) (dynamic_plain Joint owner right))
+      (by_said (bytes_eq own (codes ":")) _ (bare_said owner tree) (inner_plain (atom_name left) right tree (λ inner. dynamic_plain Whole inner right)) (bare_plain owner tree))
+  dynamic_plain at owner (listed items span) = by_said (is_whole at) (each_dynamic owner items) (refused BadIndicator (listed items span)) (each_dynamic_plain owner items) refl
+  dynamic_plain at owner (atom own span) = by_said (is_whole at && bytes_eq own (codes "[]")) nothing (refused BadIndicator (atom own span)) no_parts refl
+  dynamic_plain at owner (paren inner span) = dynamic_plain at owner inner
+  dynamic_plain at owner tree = refl
+
+  each_dynamic_plain : (owner : List ℕ) (trees : Trees) → Plain (each_dynamic owner trees)
+  each_dynamic_plain owner none = no_parts
+  each_dynamic_plain owner (with_more tree trees) =
+      turns (dynamic_at Item owner tree) (each_dynamic owner trees) (dynamic_plain Item owner tree) (each_dynamic_plain owner trees)
+
+all_taken : (ts : List Takes) → All IsPlain (map takes ts)
+all_taken [] = All-nil IsPlain
+all_taken (t ∷ ts) = All-cons IsPlain (takes t) (map takes ts) tt (all_taken ts)
+
+pub some_plain : (user : List ℕ) (file : Tree) (told : Result (List Indicator) Refusal) → Any told → Plain (some_said user file told)
 some_plain user file (Ok items) any = load_plain user UseSome items file
 some_plain user file (Err refusal) any = turns (load_said user UseSome [] file) (Err refusal) (load_plain user UseSome [] file) any
 
@@ -208,32 +238,33 @@ module_one name list from = by_name (module_name name) refl
     by_name (Some own) is = rw (is, module_said) (of_exports own (exports list) (exports_any list))
     by_name None is = rw (is, module_said) refl
 
-one_said_plain : (user name : List ℕ) (argument tree : Tree) → Plain (one_said user name argument tree)
+pub one_said_plain : (user : Home) (name : List ℕ) (argument tree : Tree) → Plain (one_said user name argument tree)
 one_said_plain user name argument tree =
-    by_said (bytes_eq name (codes "use_module")) (use_all_said user argument) _ (use_all_plain user argument)
-    (by_said (is_among (codes "ensure_loaded" ∷ codes "consult" ∷ []) name) (load_said user Ensure [] argument) _ (load_plain user Ensure [] argument)
-    (by_said (is_among (codes "dynamic" ∷ codes "multifile" ∷ []) name) (dynamic_said argument) _ (defined_plain (declared_indicators argument) (declared_any argument))
+    by_said (bytes_eq name (codes "use_module")) (use_all_said user.file argument) _ (use_all_plain user.file argument)
+    (by_said (is_among (codes "ensure_loaded" ∷ codes "consult" ∷ []) name) (load_said user.file Ensure [] argument) _ (load_plain user.file Ensure [] argument)
+    (by_said (is_among (codes "dynamic" ∷ codes "multifile" ∷ []) name) (dynamic_said user.module_ argument) _ (dynamic_plain Whole user.module_ argument)
+    (by_said (bytes_eq name (codes "meta_predicate")) (meta_said argument) _ (all_taken (takes_of None argument))
     (by_said (is_among silent_names name) nothing _ no_parts
-    (by_said (is_among outside_names name) (refused NotInProfile tree) (only (goal tree)) refl (only_plain (goal tree) tt)))))
+    (by_said (is_among outside_names name) (refused NotInProfile tree) (only (goal tree)) refl (only_plain (goal tree) tt))))))
 
 late_or_first : (first : Bool) (left right tree : Tree) → One first (if first then module_said left right (start_of tree) else refused LateModule tree)
 late_or_first true left right tree = module_one left right (start_of tree)
 late_or_first false left right tree = refl
 
-two_said_one : (user : List ℕ) (first : Bool) (name : List ℕ) (left right tree : Tree) → One first (two_said user first name left right tree)
+two_said_one : (user : Home) (first : Bool) (name : List ℕ) (left right tree : Tree) → One first (two_said user first name left right tree)
 two_said_one user first name left right tree =
     by_one first (bytes_eq name (codes "module")) _ _ (late_or_first first left right tree)
     (plain_one first _
-    (by_said (bytes_eq name (codes "use_module")) (use_some_said user left right) _ (some_plain user left (listed_indicators right) (listed_any right))
+    (by_said (bytes_eq name (codes "use_module")) (use_some_said user.file left right) _ (some_plain user.file left (listed_indicators right) (listed_any right))
     (by_said (bytes_eq name (codes "set_prolog_flag")) nothing _ no_parts
     (by_said (bytes_eq name (codes "reexport")) (refused NotInProfile tree) (only (goal tree)) refl (only_plain (goal tree) tt)))))
 
-three_said_plain : (name : List ℕ) (tree : Tree) → Plain (three_said name tree)
+pub three_said_plain : (name : List ℕ) (tree : Tree) → Plain (three_said name tree)
 three_said_plain name tree =
     by_said (bytes_eq name (codes "op")) nothing _ no_parts
     (by_said (bytes_eq name (codes "use_module")) (refused NotInProfile tree) (only (goal tree)) refl (only_plain (goal tree) tt))
 
-compound_one : (user : List ℕ) (first : Bool) (name : List ℕ) (args : Trees) (form : Form) (span : Span) → One first (shallow_said user first (compound name args form span))
+compound_one : (user : Home) (first : Bool) (name : List ℕ) (args : Trees) (form : Form) (span : Span) → One first (shallow_said user first (compound name args form span))
 compound_one user first name none form span = inl (only_plain (goal (compound name none form span)) tt)
 compound_one user first name (with_more a none) form span =
     plain_one first (one_said user name a (compound name (with_more a none) form span)) (one_said_plain user name a (compound name (with_more a none) form span))
@@ -244,16 +275,16 @@ compound_one user first name (with_more a (with_more b (with_more c none))) form
 compound_one user first name (with_more a (with_more b (with_more c (with_more d others)))) form span =
     inl (only_plain (goal (compound name (with_more a (with_more b (with_more c (with_more d others)))) form span)) tt)
 
-shallow_one : (user : List ℕ) (first : Bool) (tree : Tree) → One first (shallow_said user first tree)
+shallow_one : (user : Home) (first : Bool) (tree : Tree) → One first (shallow_said user first tree)
 shallow_one user first (compound name args form span) = compound_one user first name args form span
 shallow_one user first (atom name span) =
     plain_one first _
     (by_said (is_among (codes "else" ∷ codes "endif" ∷ []) name) (refused NotInProfile (atom name span)) (only (goal (atom name span))) refl (only_plain (goal (atom name span)) tt))
-shallow_one user first (listed items span) = plain_one first (loads_said user Ensure (trees_in items)) (loads_plain user Ensure (trees_in items))
+shallow_one user first (listed items span) = plain_one first (loads_said user.file Ensure (trees_in items)) (loads_plain user.file Ensure (trees_in items))
 shallow_one user first (tailed items tail span) = refl
 shallow_one user first tree = inl (only_plain (goal tree) tt)
 
-directive_one : (user : List ℕ) (first : Bool) (tree : Tree) → One first (directive_said user first tree)
+pub directive_one : (user : Home) (first : Bool) (tree : Tree) → One first (directive_said user first tree)
 directive_one user first (compound name (with_more left (with_more right none)) form span) =
     by_one first (bytes_eq name (codes ",")) (in_turn (directive_said user false left) (directive_said user false right)) _
     (plain_one first (in_turn (directive_said user false left) (directive_said user false right))
@@ -265,15 +296,15 @@ directive_one user first tree = shallow_one user first tree
 
 -- clauses
 
-pub clause_one : (user : List ℕ) (first : Bool) (tree : Tree) → One first (clause_said user first tree)
+pub clause_one : (user : Home) (first : Bool) (tree : Tree) → One first (clause_said user first tree)
 clause_one user first tree = by_term (directive_of tree) refl
   where
     by_term : (found : Option Tree) → directive_of tree ≡ found → One first (clause_said user first tree)
     by_term (Some term) is = rw (is, clause_said) (directive_one user first term)
-    by_term None is = rw (is, clause_said) (plain_one first (headed (clause_head tree) tree) (headed_plain (clause_head tree) tree (clause_head_any tree)))
+    by_term None is = rw (is, clause_said) (plain_one first (headed (clause_head user.module_ tree) tree) (headed_plain (clause_head user.module_ tree) tree (clause_head_any user.module_ tree)))
 
-pub later_plain : (user : List ℕ) (tree : Tree) → Plain (clause_said user false tree)
+pub later_plain : (user : Home) (tree : Tree) → Plain (clause_said user false tree)
 later_plain user tree = one_plain (clause_said user false tree) (clause_one user false tree)
 
-pub later_all_plain : (user : List ℕ) (trees : List Tree) → Plain (each_said (clause_said user false) trees)
+pub later_all_plain : (user : Home) (trees : List Tree) → Plain (each_said (clause_said user false) trees)
 later_all_plain user trees = plain_each (clause_said user false) (later_plain user) trees

@@ -14,14 +14,14 @@ use Rattle.module_table.proofs.PredicateOrder.{predicate_cmp_total, same_ties, s
 module _ (ds : List Defines) where
   -- the predicate has the clauses of its definitions
   abbrev HasOwn : Predicate → Type 0
-  HasOwn p = p.clauses ≡ clauses_for p.name p.arity ds
+  HasOwn p = p.clauses ≡ clauses_for p.module_ p.name p.arity ds
 
   -- so two of one name and arity are one
   one_predicate : (p q : Predicate) → HasOwn p → HasOwn q → predicate_cmp p q ≡ Equal → p ≡ q
   one_predicate p q own other tie =
-      let parts = same_parts p.name p.arity q.name q.arity (same_ties p.name p.arity q.name q.arity ∙ ap is_eq tie) in
-      let clauses : p.clauses ≡ q.clauses = own ∙ ((λ i. clauses_for (parts.0 i) (parts.1 i) ds) ∙ sym other) in
-      λ i. record { name = parts.0 i; arity = parts.1 i; clauses = clauses i }
+      let parts = same_parts p.module_ p.name p.arity q.module_ q.name q.arity (same_ties p.module_ p.name p.arity q.module_ q.name q.arity ∙ ap is_eq tie) in
+      let clauses : p.clauses ≡ q.clauses = own ∙ ((λ i. clauses_for (parts.0 i) (parts.1 i) (parts.2 i) ds) ∙ sym other) in
+      λ i. record { module_ = parts.0 i; name = parts.1 i; arity = parts.2 i; clauses = clauses i }
 
   -- the predicates in order, with one more
   record IsWith (q : Predicate) (ps : List Predicate) : Type 0 where
@@ -117,7 +117,7 @@ module _ (ds : List Defines) where
           (less_turned (predicate_cmp q p) (predicate_cmp p q) (predicate_cmp_total.antisymm p q) is) found
 
   abbrev own_of : Defines → Predicate
-  own_of d = predicate_at d.name d.arity ds
+  own_of d = predicate_at d.module_ d.name d.arity ds
 
   -- the predicates of some of the definitions
   record ArePut (es : List Defines) : Type 0 where
@@ -160,7 +160,7 @@ defined_some ds =
         in_order = all.in_order;
         each = λ p has.
             let one = all.from p has in
-            (subst (λ (x : Predicate). IsDefined x.name x.arity ds) one.2 (record { clause = one.0.clause; stands = one.1 }), All-contains (HasOwn ds) all.out p all.own has);
-        all = λ name arity is. all.there (record { name = name; arity = arity; clause = is.clause }) is.stands;
+            (subst (λ (x : Predicate). IsDefined x.module_ x.name x.arity ds) one.2 (record { clause = one.0.clause; stands = one.1 }), All-contains (HasOwn ds) all.out p all.own has);
+        all = λ owner name arity is. all.there (record { module_ = owner; name = name; arity = arity; clause = is.clause }) is.stands;
       },
     )

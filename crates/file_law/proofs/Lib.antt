@@ -8,3 +8,4 @@ pub mod Utf8Cases
 pub mod FirstPart
 pub mod EachText
 pub mod Refused
+pub mod OwnModules

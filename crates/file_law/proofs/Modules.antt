@@ -4,15 +4,16 @@ use Rattle.std.specs.Prelude.{All, Contains}
 use Rattle.std.specs.List.{filter_map}
 use Rattle.std.proofs.lemmas.List.Elements.{All-cons, All-append, All-head, All-tail, All-weaker, All-contains, filter_map-append}
 use Rattle.prolog_terms.specs.Tree.{Tree}
-use Rattle.module_table.specs.Said.{Said, Part, Declares, declares, loads, defines, goal, Refusal, in_turn, each_said}
+use Rattle.module_table.specs.Said.{Said, Part, Declares, declares, loads, defines, takes, goal, Refusal, in_turn, each_said}
 use Rattle.module_table.specs.Kinds.{declared_part, first_of, IsModule}
-use Rattle.module_table.specs.Facts.{Facts, AreFacts, clause_said, file_said}
+use Rattle.module_table.specs.Directives.{Home, home}
+use Rattle.module_table.specs.Facts.{Facts, AreFacts, module_by, module_of, clause_said, trees_said, file_said}
 use Rattle.file_law.specs.Turns.{module_in, first_module}
 use Rattle.file_law.specs.Causes.{is_fact_cause}
 use Rattle.file_law.proofs.Turns.{both_say}
 use Rattle.file_law.proofs.Causes.{Plain, IsPlain, AtMostOne, One, clause_one, later_plain, later_all_plain}
 
-pub none_later : (user : List ℕ) (tree : Tree) (parts : List Part) (own : Declares) → clause_said user false tree ≡ Ok parts → Contains parts (declares own) → ⊥
+pub none_later : (user : Home) (tree : Tree) (parts : List Part) (own : Declares) → clause_said user false tree ≡ Ok parts → Contains parts (declares own) → ⊥
 none_later user tree parts own is has = All-contains IsPlain parts (declares own) (subst Plain is (later_plain user tree)) has
 
 -- it declares no module, or this one
@@ -34,8 +35,9 @@ only_first first behind parts own (inr (yes_, (one, alone))) later is has =
     alone ∙ ap (λ m. declares m ∷ []) (same_module one own (All-contains (IsNoneBut one) parts (declares own) (subst (All (IsNoneBut one)) whole all) has))
 
 pub module_first : (user : List ℕ) (tree : Tree) (trees : List Tree) (parts : List Part) (own : Declares) → file_said user (tree ∷ trees) ≡ Ok parts → Contains parts (declares own)
-    → clause_said user true tree ≡ Ok (declares own ∷ [])
-module_first user tree trees parts own is has =
+    → clause_said (home user (module_by tree)) true tree ≡ Ok (declares own ∷ [])
+module_first file tree trees parts own is has =
+    let user = home file (module_by tree) in
     let both = both_say (clause_said user true tree) (each_said (clause_said user false) trees) parts is in
     let one : AtMostOne true both.first = subst (One true) both.says (clause_one user true tree) in
     let later : All IsPlain both.behind = subst Plain both.then_says (later_all_plain user trees) in
@@ -60,27 +62,29 @@ of_both (Ok xs) (Ok ys) one other = tt
 of_both (Ok xs) (Err refusal) one other = other
 of_both (Err refusal) b one other = one
 
-file_caused : (user : List ℕ) (trees : List Tree) → IsCaused (file_said user trees)
+file_caused : (user : Home) (trees : List Tree) → IsCaused (trees_said user trees)
 file_caused user [] = tt
 file_caused user (tree ∷ trees) =
     of_both (clause_said user true tree) (each_said (clause_said user false) trees) (of_one (clause_said user true tree) (clause_one user true tree))
     (of_plain (each_said (clause_said user false) trees) (later_all_plain user trees))
 
 pub fact_cause : (user : List ℕ) (trees : List Tree) (refusal : Refusal) → file_said user trees ≡ Err refusal → is_fact_cause refusal.cause ≡ true
-fact_cause user trees refusal is = subst IsCaused is (file_caused user trees)
+fact_cause user trees refusal is = subst IsCaused is (file_caused (home user (module_of trees)) trees)
 
 -- the module of the facts
 
-none_declared : (parts : List Part) → All IsPlain parts → filter_map declared_part parts ≡ []
+pub none_declared : (parts : List Part) → All IsPlain parts → filter_map declared_part parts ≡ []
 none_declared [] all = refl
 none_declared (declares own ∷ parts) all = absurd (All-head IsPlain (declares own) parts all)
 none_declared (loads own ∷ parts) all = none_declared parts (All-tail IsPlain (loads own) parts all)
 none_declared (defines own ∷ parts) all = none_declared parts (All-tail IsPlain (defines own) parts all)
+none_declared (takes own ∷ parts) all = none_declared parts (All-tail IsPlain (takes own) parts all)
 none_declared (goal own ∷ parts) all = none_declared parts (All-tail IsPlain (goal own) parts all)
 
 module_told : (user : List ℕ) (trees : List Tree) (parts : List Part) → file_said user trees ≡ Ok parts → first_of (filter_map declared_part parts) ≡ first_module user trees
 module_told user [] parts is = let none : [] ≡ parts = cc in ap (λ ps. first_of (filter_map declared_part ps)) (sym none)
-module_told user (tree ∷ trees) parts is =
+module_told file (tree ∷ trees) parts is =
+    let user = home file (module_by tree) in
     let both = both_say (clause_said user true tree) (each_said (clause_said user false) trees) parts is in
     let later : All IsPlain both.behind = subst Plain both.then_says (later_all_plain user trees) in
     let declared : filter_map declared_part parts ≡ filter_map declared_part both.first =

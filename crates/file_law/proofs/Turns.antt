@@ -5,8 +5,10 @@ use Rattle.std.proofs.lemmas.List.Elements.{filter_map-append}
 use Rattle.prolog_terms.specs.Tree.{Tree}
 use Rattle.module_table.specs.Defined.{AreDefined}
 use Rattle.module_table.specs.Said.{Said, Part, Refusal, more, in_turn, each_said}
-use Rattle.module_table.specs.Kinds.{declared_part, load_part, defined_part, goal_part, first_of, IsModule}
-use Rattle.module_table.specs.Facts.{Facts, AreFacts, clause_said, file_said}
+use Rattle.module_table.specs.Metas.{declared_in}
+use Rattle.module_table.specs.Kinds.{declared_part, load_part, defined_part, goal_part, first_of, IsModule, takes_part}
+use Rattle.module_table.specs.Directives.{Home, home}
+use Rattle.module_table.specs.Facts.{Facts, AreFacts, module_of, clause_said, trees_said}
 use Rattle.module_table.proofs.SaidLemmas.{ok_once}
 use Rattle.file_law.specs.Turns.{clauses_said, said_behind, told, AreTold, all_of, IsFirstRefusal, AreFactsOfEach}
 
@@ -97,7 +99,7 @@ module _ (says : Tree → Said) where
 
 -- of a file
 
-pub file_told : (user : List ℕ) (trees : List Tree) (parts : List Part) → file_said user trees ≡ Ok parts → AreAll (clauses_said user trees) parts
+pub file_told : (user : Home) (trees : List Tree) (parts : List Part) → trees_said user trees ≡ Ok parts → AreAll (clauses_said user trees) parts
 file_told user [] parts is = record { lists = []; told_all = refl; join = sym (ok_once [] parts is) }
 file_told user (tree ∷ trees) parts is =
     let both = both_say (clause_said user true tree) (each_said (clause_said user false) trees) parts is in
@@ -108,7 +110,7 @@ file_told user (tree ∷ trees) parts is =
       join = both.join ∙ ap (λ ps. both.first ++ ps) rest.join;
     }
 
-told_file : (user : List ℕ) (trees : List Tree) (lists : List (List Part)) → AreTold user trees lists → file_said user trees ≡ Ok (all_of lists)
+told_file : (user : Home) (trees : List Tree) (lists : List (List Part)) → AreTold user trees lists → trees_said user trees ≡ Ok (all_of lists)
 told_file user [] [] is = refl
 told_file user [] (list ∷ lists) is = absurd (cc)
 told_file user (tree ∷ trees) [] is = absurd (cc)
@@ -117,15 +119,15 @@ told_file user (tree ∷ trees) (list ∷ lists) is =
     let rest : map (clause_said user false) trees ≡ map told lists = cc in
     say_both (clause_said user true tree) (each_said (clause_said user false) trees) list (all_of lists) first (told_each (clause_said user false) trees lists rest)
 
-pub parts_told : (user : List ℕ) (trees : List Tree) (parts : List Part)
-    → (file_said user trees ≡ Ok parts) ↔ ((lists : List (List Part)) × AreTold user trees lists × (parts ≡ all_of lists))
+pub parts_told : (user : Home) (trees : List Tree) (parts : List Part)
+    → (trees_said user trees ≡ Ok parts) ↔ ((lists : List (List Part)) × AreTold user trees lists × (parts ≡ all_of lists))
 parts_told user trees parts = (
   λ is. let all = file_told user trees parts is in (all.lists, all.told_all, all.join),
   λ all. told_file user trees all.0 all.1 ∙ ap (λ ps. Ok ps) (sym all.2),
 )
 
-refused_file : (user : List ℕ) (before after : List Tree) (tree : Tree) (lists : List (List Part)) (refusal : Refusal) → AreTold user before lists
-    → said_behind user before tree ≡ Err refusal → file_said user (before ++ tree ∷ after) ≡ Err refusal
+refused_file : (user : Home) (before after : List Tree) (tree : Tree) (lists : List (List Part)) (refusal : Refusal) → AreTold user before lists
+    → said_behind user before tree ≡ Err refusal → trees_said user (before ++ tree ∷ after) ≡ Err refusal
 refused_file user [] after tree lists refusal are is = ap (λ s. in_turn s (each_said (clause_said user false) after)) is
 refused_file user (first ∷ before) after tree [] refusal are is = absurd (cc)
 refused_file user (first ∷ before) after tree (list ∷ lists) refusal are is =
@@ -134,7 +136,7 @@ refused_file user (first ∷ before) after tree (list ∷ lists) refusal are is 
     ap (λ s. in_turn s (each_said (clause_said user false) (before ++ tree ∷ after))) here
     ∙ ap (more list) (refused_each (clause_said user false) before after tree lists refusal rest is)
 
-file_refused : (user : List ℕ) (trees : List Tree) (refusal : Refusal) → file_said user trees ≡ Err refusal → IsFirstRefusal user trees refusal
+file_refused : (user : Home) (trees : List Tree) (refusal : Refusal) → trees_said user trees ≡ Err refusal → IsFirstRefusal user trees refusal
 file_refused user [] refusal is = let both : Ok [] ≡ Err refusal = is in absurd (cc)
 file_refused user (tree ∷ trees) refusal is = by_first (clause_said user true tree) (each_said (clause_said user false) trees) refl refl is
   where
@@ -156,10 +158,10 @@ file_refused user (tree ∷ trees) refusal is = by_first (clause_said user true 
     by_first (Err own) rest first same said =
         record { before = []; tree = tree; after = trees; are = refl; lists = []; told_before = refl; refused = first ∙ said }
 
-pub first_refusal : (user : List ℕ) (trees : List Tree) (refusal : Refusal) → (file_said user trees ≡ Err refusal) ↔ IsFirstRefusal user trees refusal
+pub first_refusal : (user : Home) (trees : List Tree) (refusal : Refusal) → (trees_said user trees ≡ Err refusal) ↔ IsFirstRefusal user trees refusal
 first_refusal user trees refusal = (
   file_refused user trees refusal,
-  λ found. ap (file_said user) found.are ∙ refused_file user found.before found.after found.tree found.lists refusal found.told_before found.refused,
+  λ found. ap (trees_said user) found.are ∙ refused_file user found.before found.after found.tree found.lists refusal found.told_before found.refused,
 )
 
 -- the parts of one kind are those of each list
@@ -169,7 +171,7 @@ kind_of_each kind (list ∷ lists) = filter_map-append kind list (all_of lists) 
 
 pub facts_of_each : (user : List ℕ) (trees : List Tree) (facts : Facts) → AreFacts user trees facts → AreFactsOfEach user trees facts
 facts_of_each user trees facts are =
-    let all = file_told user trees are.parts are.said in
+    let all = file_told (home user (module_of trees)) trees are.parts are.said in
     let declared = ap (filter_map declared_part) all.join ∙ kind_of_each declared_part all.lists in
     let defined = ap (filter_map defined_part) all.join ∙ kind_of_each defined_part all.lists in
     record {
@@ -178,5 +180,6 @@ facts_of_each user trees facts are =
       of_module = subst (λ ds. IsModule (first_of ds) facts.module_ facts.is_module facts.module_from facts.exports) declared are.are.of_module;
       loads = are.are.loads ∙ (ap (filter_map load_part) all.join ∙ kind_of_each load_part all.lists);
       defined = subst (λ ds. AreDefined ds facts.defined) defined are.are.defined;
+      metas = are.are.metas ∙ ap (map (declared_in facts.module_)) (ap (filter_map takes_part) all.join ∙ kind_of_each takes_part all.lists);
       goals = are.are.goals ∙ (ap (filter_map goal_part) all.join ∙ kind_of_each goal_part all.lists);
     }

@@ -33,4 +33,4 @@ abbrev pub limit_line : Limit → List ℕ
 limit_line TooManyFiles = codes "groups: more than 1024 files\n"
 limit_line (FileTooLarge name) = codes "groups: " ++ (name ++ codes " is larger than 8388608 bytes\n")
 limit_line TooMuchText = codes "groups: more than 33554432 bytes of text\n"
-limit_line TooManyPredicates = codes "groups: more than 262144 predicates\n"
+limit_line TooManyPredicates = codes "groups: more than 1048576 predicates\n"

@@ -85,7 +85,7 @@ pub fn limit_line(alloc: Global, limit: &Limit) -> Result<String, AllocError>
             String::from_str(alloc, "groups: more than 33554432 bytes of text\n")
         }
         Limit::TooManyPredicates => {
-            String::from_str(alloc, "groups: more than 262144 predicates\n")
+            String::from_str(alloc, "groups: more than 1048576 predicates\n")
         }
     }
 }

@@ -14,7 +14,7 @@ pub enum Limit {
     FileTooLarge(Text),
     /// The files have more than 33,554,432 bytes together.
     TooMuchText,
-    /// The files define more than 262,144 predicates.
+    /// The files define more than 1,048,576 predicates.
     TooManyPredicates,
 }
 

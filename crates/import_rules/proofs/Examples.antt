@@ -1,5 +1,5 @@
 -- What small sets of files mean, by the definitions.
-use Rattle.std.proofs.Common.{◌≡◌, ℕ, List, [], ◌∷◌, Some, None, true, false, codes, flat_map, refl}
+use Rattle.std.proofs.Common.{◌≡◌, ℕ, List, [], ◌∷◌, Some, None, true, false, codes, flat_map, refl, map}
 use Rattle.module_table.specs.declared.indicator.Indicator.{Indicator}
 use Rattle.module_table.specs.declared.load.LoadKind.{LoadKind}
 use Rattle.module_table.specs.declared.load.LoadKind.TheVariants.{UseAll, UseSome, Ensure}
@@ -18,7 +18,11 @@ abbrev indicator : List ℕ → ℕ → ℕ → Indicator
 indicator name arity from = record { name = name; arity = arity; from = from }
 
 abbrev bare : List ℕ → ℕ → Predicate
-bare name arity = record { name = name; arity = arity; clauses = [] }
+bare name arity = record { module_ = []; name = name; arity = arity; clauses = [] }
+
+-- they are of the module
+abbrev of_module : List ℕ → List Predicate → List Predicate
+of_module owner defined = map (λ (p : Predicate). record p { module_ = owner }) defined
 
 abbrev pred : List ℕ → List ℕ → ℕ → PredName
 pred owner name arity = record { «module» = owner; name = name; arity = arity }
@@ -35,7 +39,8 @@ file_of name owner exports loads defined = record {
   module_from = 3;
   exports = exports;
   loads = loads;
-  defined = defined;
+  defined = of_module owner defined;
+  metas = [];
   goals = [];
 }
 
@@ -47,7 +52,8 @@ of_user name loads defined = record {
   module_from = 0;
   exports = [];
   loads = loads;
-  defined = defined;
+  defined = of_module (codes "user") defined;
+  metas = [];
   goals = [];
 }
 

@@ -3,6 +3,10 @@ pub mod Lists
 pub mod Runs
 pub mod NameOrder
 pub mod Chains
+pub mod FirstMetas
+pub mod MetasSoFar
+pub mod MetaThere
+pub mod MetaTold
 pub mod PartsSoFar
 pub mod Numbering
 pub mod NumberLemmas

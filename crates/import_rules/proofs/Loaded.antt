@@ -2,7 +2,7 @@
 use Rattle.std.proofs.Common.{◌≡◌, ℕ, suc, ◌≤◌, List, [], ◌∷◌, All, length, map, option_map, refl, ap, arith}
 use Rattle.std.specs.Prelude.{unwrap_or}
 use Rattle.std.specs.List.{AllZip}
-use Rattle.std.proofs.lemmas.List.Elements.{All-head, All-tail, All-nil, All-cons}
+use Rattle.std.proofs.lemmas.List.Elements.{All-head, All-tail, All-nil, All-cons, All-weaker}
 use Rattle.prolog_terms.specs.Tree.{Tree}
 use Rattle.prolog_terms.specs.Weight.{weight}
 use Rattle.prolog_tokens.proofs.Lookups.{cut_fewer}
@@ -10,13 +10,16 @@ use Rattle.clause_text.specs.Clauses.{ReadsAs, total_weight, opening_ops}
 use Rattle.clause_text.proofs.Offsets.{reading_placed}
 use Rattle.clause_text.proofs.TextLemmas.{clauses_weigh, each_light}
 use Rattle.module_table.specs.Facts.{Facts}
+use Rattle.module_table.specs.Metas.{Declaration}
 use Rattle.module_table.specs.FileText.{HasFacts}
 use Rattle.module_table.proofs.FactOffsets.{facts_placed}
-use Rattle.module_table.proofs.FactWeights.{clauses_light, goals_light}
-use Rattle.module_table.proofs.FewDefined.{few_defined}
+use Rattle.module_table.proofs.ClausesOf.{metas_small}
+use Rattle.module_table.proofs.FactWeights.{clauses_light, goals_light, metas_light}
+use Rattle.module_table.proofs.FewDefined.{few_defined, few_metas}
 use Rattle.file_library.specs.Library.{Files}
 use Rattle.file_library.specs.Loaded.{LoadedFiles, NamedText, IsTextOf, size_of, most_bytes, most_files}
 use Rattle.import_rules.specs.Loaded.{WasLoaded}
+use Rattle.import_rules.specs.Metas.{HasFewMetas}
 use Rattle.import_rules.specs.Program.{IsReadFrom}
 
 -- the clauses of a text weigh no more than it is long
@@ -36,6 +39,7 @@ read_from text facts has small =
       placed = facts_placed text.1 text.0 has.trees facts (reading_placed text.1 has.trees has.reads) has.are;
       light_clauses = clauses_light most_bytes text.0 has.trees facts light has.are;
       light_goals = goals_light most_bytes text.0 has.trees facts light has.are;
+      small_metas = metas_small text.0 has.trees facts has.are;
     }
 
 size_of_text : (files : Files) (roots : List (List ℕ)) (text : NamedText) → IsTextOf files roots text → size_of files text.0 ≡ length text.1
@@ -84,3 +88,18 @@ few_in_each loaded was =
     zip_right (λ (file : Facts). length file.defined ≤ most_bytes) loaded.texts loaded.files
     (each_read (λ text file. length file.defined ≤ most_bytes) was.files was.roots
     (λ text facts has small. omega (arith, few_in text facts has, small)) loaded.texts loaded.files was.is.texts was.is.within.each was.is.facts)
+
+-- few declarations of goal arguments, with few arguments
+
+few_declared : (text : NamedText) (facts : Facts) → HasFacts text.0 text.1 facts → length text.1 ≤ most_bytes → HasFewMetas facts
+few_declared text facts has small =
+    let heavy : total_weight has.trees ≤ most_bytes = omega (arith, text_light text.1 has.trees has.reads, small) in
+    let args = metas_light most_bytes text.0 has.trees facts (each_light has.trees most_bytes heavy) has.are in record {
+      few = omega (arith, few_metas text.0 has.trees facts has.are, heavy);
+      small = All-weaker (λ (d : Declaration). length d.args ≤ most_bytes) (λ (d : Declaration). length d.args ≤ 4294967295) (λ d le. omega (arith, le)) facts.metas args;
+    }
+
+pub few_metas_in_each : (loaded : LoadedFiles) → WasLoaded loaded → All HasFewMetas loaded.files
+few_metas_in_each loaded was =
+    zip_right HasFewMetas loaded.texts loaded.files
+    (each_read (λ text file. HasFewMetas file) was.files was.roots few_declared loaded.texts loaded.files was.is.texts was.is.within.each was.is.facts)

@@ -24,9 +24,9 @@ use Rattle.import_rules.proofs.PartsSoFar.{part_of, of_file}
 -- the names of parts
 
 names_from : (place n : ℕ) (file : Facts) (defined : List Predicate)
-    → map (λ (d : DefinedAt). d.name) (map (part_of place file) (enumerate_from n defined)) ≡ map (name_in file) defined
+    → map (λ (d : DefinedAt). d.name) (map (part_of place file) (enumerate_from n defined)) ≡ map name_in defined
 names_from place n file [] = refl
-names_from place n file (p ∷ defined) = ap (λ ps. name_in file p ∷ ps) (names_from place (n + 1) file defined)
+names_from place n file (p ∷ defined) = ap (λ ps. name_in p ∷ ps) (names_from place (n + 1) file defined)
 
 files_from : (n : ℕ) (files : List Facts) → map (λ (d : DefinedAt). d.name) (flat_map of_file (enumerate_from n files)) ≡ flat_map defined_in files
 files_from n [] = refl

@@ -22,7 +22,7 @@ enumerate_all : {X : Type 0} (xs : List X) (n : ℕ) → length xs ≤ n → tak
 enumerate_all {X} xs n past = take_all n (enumerate_from 0 xs) (omega (arith, past, length-enumerate_from 0 xs))
 
 abbrev pub part_of : ℕ → Facts → ℕ × Predicate → DefinedAt
-part_of place file part = record { name = name_in file part.1; at = (place, part.0) }
+part_of place file part = record { name = name_in part.1; at = (place, part.0) }
 
 -- the first predicates of a file
 abbrev pub parts_below : ℕ → Facts → ℕ → List DefinedAt

@@ -23,7 +23,7 @@ use Rattle.import_rules.proofs.PartsSoFar.{part_of, of_file}
 -- a part stands at its place among the files
 
 file_of_part : (n place : ℕ) (file : Facts) (d : DefinedAt) → Contains (parts_of_file place file) d
-    → (predicate : Predicate) × (d.at.0 ≡ place) × (slice_get file.defined d.at.1 ≡ Some predicate) × (name_in file predicate ≡ d.name)
+    → (predicate : Predicate) × (d.at.0 ≡ place) × (slice_get file.defined d.at.1 ≡ Some predicate) × (name_in predicate ≡ d.name)
 file_of_part n place file d has =
     let from = map_from (part_of place file) (enumerate_from 0 file.defined) d has in
     let counted = counted_from 0 file.defined from.0 from.1 in

@@ -15,14 +15,14 @@ use Rattle.import_rules.specs.Names.{pred_cmp, is_same}
 
 -- the last accepted number of predicates
 abbrev pub most_predicates : ℕ
-most_predicates = 262144
+most_predicates = 1048576
 
--- the name of a predicate that a file defines: it is one of the file's module
-abbrev pub name_in : Facts → Predicate → PredName
-name_in file p = record { «module» = file.module_; name = p.name; arity = p.arity }
+-- the name of a predicate that a file defines, for its own module or for another one
+abbrev pub name_in : Predicate → PredName
+name_in p = record { «module» = p.module_; name = p.name; arity = p.arity }
 
 abbrev pub defined_in : Facts → List PredName
-defined_in file = map (name_in file) file.defined
+defined_in file = map name_in file.defined
 
 -- the names that the files define, file by file
 abbrev pub all_defined : List Facts → List PredName
@@ -43,7 +43,7 @@ pub record IsDefinedAt (files : List Facts) (p : PredName) (place part : ℕ) : 
   pub predicate : Predicate
   pub at_place : slice_get files place ≡ Some file
   pub at_part : slice_get file.defined part ≡ Some predicate
-  pub is : name_in file predicate ≡ p
+  pub is : name_in predicate ≡ p
 
 abbrev pub pair_cmp : ℕ × ℕ → ℕ × ℕ → Ordering
 pair_cmp a b = ordering_then (nat_cmp a.0 b.0) (nat_cmp a.1 b.1)

@@ -1,4 +1,5 @@
 pub mod Names
+pub mod Metas
 pub mod Files
 pub mod Clashes
 pub mod Items

@@ -18,7 +18,7 @@ pub record DefinedAt : Type 0 where
 -- what a file defines, by its place among the files
 abbrev pub parts_of_file : ℕ → Facts → List DefinedAt
 parts_of_file place file =
-    map (λ (part : ℕ × Predicate). record { name = name_in file part.1; at = (place, part.0) }) (enumerate_from 0 file.defined)
+    map (λ (part : ℕ × Predicate). record { name = name_in part.1; at = (place, part.0) }) (enumerate_from 0 file.defined)
 
 -- what the files define, file by file
 abbrev pub parts_in : List Facts → List DefinedAt

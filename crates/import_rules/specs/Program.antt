@@ -3,7 +3,9 @@ use Rattle.std.specs.Prelude.{ℕ, ◌≡◌, ◌≢◌, ◌<◌, ◌≤◌, Lis
 use Rattle.std.specs.List.{AllZip}
 use Rattle.prolog_terms.specs.Tree.{Tree}
 use Rattle.prolog_terms.specs.Weight.{weight}
+use Rattle.module_table.specs.declared.goal_arg.GoalArg.{GoalArg}
 use Rattle.module_table.specs.Defined.{Predicate}
+use Rattle.module_table.specs.Metas.{Declaration, IsSmall}
 use Rattle.module_table.specs.Facts.{Facts}
 use Rattle.module_table.specs.Placed.{ArePlacedIn}
 use Rattle.file_library.specs.Asked.{AreInOrder}
@@ -18,6 +20,7 @@ pub use Rattle.import_rules.specs.Files.{most_predicates}
 use Rattle.import_rules.specs.Files.{AreNumbered}
 use Rattle.import_rules.specs.Find.{found_in}
 use Rattle.import_rules.specs.Flaws.{AreFlaws, AreImportFaults}
+use Rattle.import_rules.specs.Metas.{args_for}
 use Rattle.import_rules.specs.Numbers.{parts_in, places_for}
 
 -- a program as it is seen: what was loaded, and its predicates in the order of their numbers
@@ -40,6 +43,22 @@ places_in seen node = places_at seen.loaded.files (slice_get seen.predicates nod
 unfoldable pub found : Seen → List ℕ → List ℕ → ℕ → Option ℕ
 found seen owner name arity = found_in seen.loaded.files seen.predicates (pred_name owner name arity)
 
+abbrev pub args_at : List Facts → Option PredName → List GoalArg
+args_at files (Some p) = args_for files p
+args_at files None = []
+
+-- how the arguments of goals of the predicate of that number stand, where it is declared
+unfoldable pub meta_in : Seen → ℕ → List GoalArg
+meta_in seen node = args_at seen.loaded.files (slice_get seen.predicates node)
+
+abbrev pub meta_of_found : Seen → Option ℕ → List GoalArg
+meta_of_found seen (Some node) = meta_in seen node
+meta_of_found seen None = []
+
+-- those of the predicate that a name means
+abbrev pub meta_meant : Seen → List ℕ → List ℕ → ℕ → List GoalArg
+meta_meant seen owner name arity = meta_of_found seen (found seen owner name arity)
+
 -- the program of what was loaded: its predicates are numbered, they are few enough, and no import is at fault
 pub record IsProgram (loaded : LoadedFiles) (seen : Seen) : Type 0 where
   pub is : seen.loaded ≡ loaded
@@ -60,13 +79,14 @@ IsImportStop loaded (Faults faults) =
     HasPredicates loaded (λ n. n ≤ most_predicates) × AreImportFaults loaded faults.items × (faults.items ≢ [])
 IsImportStop loaded NoMemory = Unit {0}
 
--- the facts are those of a file with this text: they stand in it, and none of their terms is too heavy
+-- the facts are those of a file with this text: they stand in it, none of their terms is too heavy, and no more than nine arguments are added where it declares goals
 pub record IsReadFrom (text : NamedText) (facts : Facts) : Type 0 where
   pub named : facts.file ≡ text.0
   pub small : length text.1 ≤ most_bytes
   pub placed : ArePlacedIn text.1 facts
   pub light_clauses : All (λ (p : Predicate). All (λ (tree : Tree). weight tree ≤ most_bytes) p.clauses) facts.defined
   pub light_goals : All (λ (tree : Tree). weight tree ≤ most_bytes) facts.goals
+  pub small_metas : All (λ (d : Declaration). All IsSmall d.args) facts.metas
 
 -- what is known of each program: few predicates, and files in order of name, each read from its text
 pub record IsKnown (seen : Seen) : Type 0 where

@@ -1,7 +1,7 @@
 //! The predicates of all files of a program, and what a name means in each module.
 //!
 //! `resolve_all` takes what was loaded by one call of `load_all` and answers the `Program`, or why
-//! there is none: more than 262,144 predicates, or else the import faults, each with its line and
+//! there is none: more than 1,048,576 predicates, or else the import faults, each with its line and
 //! column. A `Program` numbers its predicates from 0 in order of module, name and arity. `find` is
 //! the predicate that a name means in a module: the module's own, else the one that it imports. It
 //! takes no memory.
@@ -22,6 +22,7 @@ mod known_file;
 mod laws;
 mod lookups;
 mod meanings;
+mod meta_places;
 mod name_table;
 mod names;
 mod number;

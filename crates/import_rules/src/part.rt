@@ -50,7 +50,7 @@ fn push_parts<'a>(
     parts.reserve(file.defined.len())?;
     for (part, defined) in file.defined.iter().enumerate() {
         parts.push(Part {
-            module: &file.module,
+            module: &defined.module,
             name: &defined.name,
             arity: defined.arity,
             file: place,

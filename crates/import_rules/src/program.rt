@@ -5,12 +5,14 @@ ghost use Rattle.import_rules.specs.Files.{AreNumbered, most_predicates};
 ghost use Rattle.import_rules.specs.Flaws.{AreFlaws};
 ghost use Rattle.import_rules.specs.Loaded.{WasLoaded};
 ghost use Rattle.import_rules.specs.Meanings.{AreTargets};
+ghost use Rattle.import_rules.specs.Metas.{AreDeclared, metas_in};
 ghost use Rattle.import_rules.specs.Numbers.{lists_of, places_for, parts_in};
 
 use crate::name_table::NameTable;
 use crate::names::PredName;
 use crate::places::Places;
 use file_library::Loaded;
+use module_table::GoalArg;
 
 /// The predicates of all files that were loaded, numbered from 0 in order of module, name and
 /// arity, and what each name means in each module.
@@ -25,6 +27,9 @@ pub struct Program {
     pub(crate) targets: Vec<u32>,
     /// For each predicate the places at which it is defined.
     pub(crate) places: Vec<Places>,
+    /// For each predicate the place of its declaration of goal arguments: that of a file, and one more
+    /// than that in the file; 0 where it has none. Empty where no predicate has one.
+    pub(crate) meta_places: Vec<(u32, u32)>,
     pub ghost was_loaded: { ∥ WasLoaded (see_loaded loaded) ∥₁ },
     pub ghost within: { count ≤ length names },
     pub ghost few: { count ≤ most_predicates },
@@ -32,10 +37,11 @@ pub struct Program {
     pub ghost faultless: { ∥ AreFlaws (see_loaded loaded).files (see_loaded loaded).absent [] ∥₁ },
     pub ghost meant: { AreTargets (see_loaded loaded).files (take count names) names targets.items } by { Prim.hlevel props },
     pub ghost placed: { lists_of places.items ≡ map (places_for (parts_in (see_loaded loaded).files)) (take count names) },
+    pub ghost told: { AreDeclared (metas_in (see_loaded loaded).files) (take count names) meta_places.items } by { Prim.hlevel props },
 }
 
 impl Program {
-    ghost use Rattle.import_rules.specs.Program.{see_program, places_in, found, IsKnown};
+    ghost use Rattle.import_rules.specs.Program.{see_program, places_in, meta_in, meta_meant, found, IsKnown};
 
     /// A program is few predicates in order, and files in order of name, each read from its text. It
     /// does nothing, and is called for this.
@@ -72,6 +78,36 @@ impl Program {
         ensures { result.now ≡ places_in (see_program self.now) node }
     {
         self.places[node as usize].as_slice()
+    }
+
+    /// How the arguments of goals of the predicate of a number below the count stand, by the first
+    /// declaration for it; empty where there is none.
+    pub fn meta_of(&self, node: u32) -> &[GoalArg]
+        requires { node < length (see_program self.now).predicates }
+        ensures { result.now ≡ meta_in (see_program self.now) node }
+    {
+        if self.meta_places.is_empty() {
+            return &[];
+        }
+        let (file, place) = self.meta_places[node as usize];
+        if place == 0 {
+            return &[];
+        }
+        &self.loaded.files[file as usize].metas[place as usize - 1].args
+    }
+
+    /// Those of the predicate that a name means in a module. Where nothing is declared, no name is
+    /// looked up.
+    pub fn meta_meant(&self, module: &str, name: &str, arity: u32) -> &[GoalArg]
+        ensures { result.now ≡ meta_meant (see_program self.now) module.now name.now arity }
+    {
+        if self.meta_places.is_empty() {
+            return &[];
+        }
+        match self.find(module, name, arity) {
+            Some(node) => self.meta_of(node),
+            None => &[],
+        }
     }
 
     /// The number of the predicate that a name means in a module: of the module's own predicate, else

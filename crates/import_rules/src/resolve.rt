@@ -11,6 +11,7 @@ ghost use Rattle.import_rules.specs.Numbers.{AreNumbers, lists_of, parts_in};
 ghost use Rattle.import_rules.specs.Program.{see_program, IsProgram, IsImportStop};
 
 use crate::check::{Checked, check_imports};
+use crate::meta_places::meta_places;
 use crate::meanings::{Meanings, with_imports};
 use crate::name_table::NameTable;
 use crate::number::{Numbered, number};
@@ -21,7 +22,7 @@ use file_library::Loaded;
 use std::alloc::{AllocError, Global};
 
 /// How many predicates a program may have.
-const MOST_PREDICATES: usize = 262_144;
+const MOST_PREDICATES: usize = 1_048_576;
 
 /// The predicates of the files, numbered.
 fn numbered(alloc: Global, loaded: &Loaded) -> Result<Numbered, AllocError>
@@ -61,6 +62,7 @@ pub fn resolve_all(alloc: Global, loaded: Loaded) -> Result<Program, ImportStop>
     }
     let count = predicates.len() as u32;
     let table = NameTable::make(alloc, predicates)?;
+    let meta_places = meta_places(alloc, &loaded.files, &table)?;
     let Meanings { names, targets } = match meanings(alloc, &loaded, table) {
         Ok(found) => found,
         Err(stop) => return Err(stop),
@@ -71,5 +73,6 @@ pub fn resolve_all(alloc: Global, loaded: Loaded) -> Result<Program, ImportStop>
         names,
         targets,
         places,
+        meta_places,
     })
 }

@@ -6,7 +6,7 @@ use std::alloc::AllocError;
 pub enum ImportStop {
     /// The import faults, in order of file, of offset and of the number of the cause.
     Faults(Vec<Fault>),
-    /// More than 262,144 predicates are defined.
+    /// More than 1,048,576 predicates are defined.
     TooManyPredicates,
     NoMemory,
 }

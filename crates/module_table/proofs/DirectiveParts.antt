@@ -1,19 +1,29 @@
 -- What directives say: definitions without a clause, and loads of files that specifications name.
-use Rattle.std.proofs.Common.{◌≡◌, ℕ, Bool, true, false, List, [], ◌∷◌, ◌++◌, Option, Some, None, Result, Ok, Err, map, codes, refl, if◌then◌else◌}
+use Rattle.std.proofs.Common.{◌≡◌, ℕ, Bool, true, false, ◌&&◌, List, [], ◌∷◌, ◌++◌, Option, Some, None, Result, Ok, Err, codes, refl, if◌then◌else◌, arith, map}
+use Rattle.std.proofs.lemmas.Bool.{leb-true}
+use Rattle.std.specs.Prelude.{nat_le}
 use Rattle.std.specs.List.{AllByRecursion}
 use Rattle.std.specs.Str.{bytes_eq}
-use Rattle.prolog_terms.specs.Tree.{Tree, variable, constant, atom, compound, listed, tailed, curly, paren, more as with_more, none}
-use Rattle.prolog_terms.specs.Views.{trees_in}
+use Rattle.prolog_terms.specs.declared.term.ConstKind.{ConstKind}
+use Rattle.prolog_terms.specs.declared.term.ConstKind.TheVariants.{Integer, Float, Str, BackStr}
+use Rattle.prolog_terms.specs.Tree.{Tree, Trees, variable, constant, atom, compound, listed, tailed, curly, paren, more as with_more, none}
+use Rattle.prolog_terms.specs.Views.{trees_in, atom_name, inside}
+use Rattle.module_table.specs.declared.goal_arg.GoalArg.TheVariants.{Plain, Goal, Caret, Grammar}
 use Rattle.clause_text.specs.Lists.{written_items}
 use Rattle.module_table.specs.declared.indicator.Indicator.{Indicator}
 use Rattle.module_table.specs.declared.load.LoadKind.{LoadKind}
 use Rattle.module_table.specs.declared.load.LoadKind.TheVariants.{UseAll, UseSome, Ensure}
 use Rattle.module_table.specs.FileName.{resolved}
-use Rattle.module_table.specs.Said.{Said, Part, declares, loads, defines, goal, Refusal, in_turn, each_said}
-use Rattle.module_table.specs.Heads.{is_among}
-use Rattle.module_table.specs.Indicators.{declared_indicators, listed_indicators}
+use Rattle.module_table.specs.Metas.{Takes, IsSmall, goal_arg, goal_arg_at, name_arg, digit_arg, taking, where_named, takes_of, all_takes}
+use Rattle.module_table.specs.Said.{Said, Part, declares, loads, defines, goal, Refusal, refused, in_turn, each_said, takes}
+use Rattle.clause_text.specs.declared.cause.Cause.TheVariants.{BadIndicator}
+use Rattle.module_table.specs.Indicators.{listed_indicators}
+use Rattle.module_table.specs.Heads.{is_among, Owned}
+use Rattle.module_table.specs.declared.dynamic.Standing.{Standing}
+use Rattle.module_table.specs.declared.dynamic.Standing.TheVariants.{Whole, Joint, Item}
+use Rattle.module_table.specs.Dynamic.{owned, bare_said, is_joint, is_whole, dynamic_at, each_dynamic}
 use Rattle.module_table.specs.Loading.{path_text, resolved_in, is_system, file_of, load_said, loads_said, use_all_said}
-use Rattle.module_table.specs.Directives.{defined_bare, defined_said, some_said, exports, declared_said, module_name, module_said, silent_names, outside_names, one_said, two_said, three_said, shallow_said, directive_said}
+use Rattle.module_table.specs.Directives.{Home, some_said, exports, declared_said, module_name, module_said, silent_names, outside_names, one_said, two_said, three_said, shallow_said, directive_said, meta_said}
 
 pub each_join : {A : Type 0} (P : A → Type 0) (xs ys : List A) → AllByRecursion P xs → AllByRecursion P ys → AllByRecursion P (xs ++ ys)
 each_join P [] ys all also = also
@@ -30,12 +40,82 @@ fit_in_turn P (Ok xs) (Ok ys) first second = each_join P xs ys first second
 fit_in_turn P (Ok xs) (Err refusal) first second = tt
 fit_in_turn P (Err refusal) b first second = tt
 
-module _ (user : List ℕ) where
+-- what is declared adds no more than a digit
+
+digit_small : (kind : ConstKind) (minus : Bool) (value : Option ℕ) → IsSmall (digit_arg kind minus value)
+digit_small Integer false (Some n) = by_test (nat_le n 9) refl
+  where
+    by_test : (test : Bool) → nat_le n 9 ≡ test → IsSmall (if test then Goal n else Plain)
+    by_test true is = leb-true n 9 is
+    by_test false is = omega arith
+digit_small Integer false None = omega arith
+digit_small Integer true value = omega arith
+digit_small Float minus value = omega arith
+digit_small Str minus value = omega arith
+digit_small BackStr minus value = omega arith
+
+name_small : (name : List ℕ) → IsSmall (name_arg name)
+name_small name = first (bytes_eq name (codes "^")) (bytes_eq name (codes "//"))
+  where
+    first : (a b : Bool) → IsSmall (if a then Caret else if b then Grammar else Plain)
+    first true b = omega arith
+    first false true = omega arith
+    first false false = omega arith
+
+arg_at_small : (tree : Tree) → IsSmall (goal_arg_at tree)
+arg_at_small (constant kind minus value span) = digit_small kind minus value
+arg_at_small (atom name span) = name_small name
+arg_at_small (variable span) = omega arith
+arg_at_small (compound name args form span) = omega arith
+arg_at_small (listed items span) = omega arith
+arg_at_small (tailed items tail span) = omega arith
+arg_at_small (curly inner span) = omega arith
+arg_at_small (paren inner span) = omega arith
+
+args_small : (trees : List Tree) → AllByRecursion IsSmall (map goal_arg trees)
+args_small [] = tt
+args_small (tree ∷ trees) = (arg_at_small (inside tree), args_small trees)
+
+abbrev AreSmall : Takes → Type 0
+AreSmall t = AllByRecursion IsSmall t.args
+
+small_if : (test : Bool) (a b : List Takes) → AllByRecursion AreSmall a → AllByRecursion AreSmall b → AllByRecursion AreSmall (if test then a else b)
+small_if true a b one other = one
+small_if false a b one other = other
+
+named_small : (found : Option (List ℕ)) (ts : List Takes) → AllByRecursion AreSmall ts → AllByRecursion AreSmall (where_named found ts)
+named_small (Some name) ts all = all
+named_small None ts all = tt
+
+mutual
+  takes_small : (owner : Option (List ℕ)) (tree : Tree) → AllByRecursion AreSmall (takes_of owner tree)
+  takes_small owner (compound name none form span) = (tt, tt)
+  takes_small owner (compound name (with_more a none) form span) = (args_small (a ∷ []), tt)
+  takes_small owner (compound name (with_more left (with_more right none)) form span) =
+      small_if (bytes_eq name (codes ",")) (takes_of owner left ++ takes_of owner right) _
+      (each_join AreSmall (takes_of owner left) (takes_of owner right) (takes_small owner left) (takes_small owner right))
+      (small_if (bytes_eq name (codes ":")) (where_named (atom_name left) (takes_of (atom_name left) right)) _
+      (named_small (atom_name left) (takes_of (atom_name left) right) (takes_small (atom_name left) right)) (args_small (left ∷ right ∷ []), tt))
+  takes_small owner (compound name (with_more a (with_more b (with_more c rest))) form span) = (args_small (trees_in (with_more a (with_more b (with_more c rest)))), tt)
+  takes_small owner (listed items span) = items_small owner items
+  takes_small owner (paren inner span) = takes_small owner inner
+  takes_small owner (atom name span) = tt
+  takes_small owner (tailed items tail span) = tt
+  takes_small owner (variable span) = tt
+  takes_small owner (constant kind minus value span) = tt
+  takes_small owner (curly inner span) = tt
+
+  items_small : (owner : Option (List ℕ)) (trees : Trees) → AllByRecursion AreSmall (all_takes owner trees)
+  items_small owner none = tt
+  items_small owner (with_more tree trees) = each_join AreSmall (takes_of owner tree) (all_takes owner trees) (takes_small owner tree) (items_small owner trees)
+
+module _ (user : Home) where
   -- a part that a directive says
   abbrev pub IsOfDirective : Part → Type 0
   IsOfDirective (declares own) = Unit {0}
-  IsOfDirective (loads own) = (spec : List ℕ) × (resolved user spec ≡ Some own.file)
+  IsOfDirective (loads own) = (spec : List ℕ) × (resolved user.file spec ≡ Some own.file)
   IsOfDirective (defines own) = own.clause ≡ None
+  IsOfDirective (takes own) = AllByRecursion IsSmall own.args
   IsOfDirective (goal own) = Unit {0}
 
   abbrev pub OfDirective : Said → Type 0
@@ -49,42 +129,68 @@ module _ (user : List ℕ) where
   each_of says fits [] = tt
   each_of says fits (tree ∷ trees) = fit_in_turn IsOfDirective (says tree) (each_said says trees) (fits tree) (each_of says fits trees)
 
-  named : (tree : Tree) (file : List ℕ) → file_of user tree ≡ Some file → (spec : List ℕ) × (resolved user spec ≡ Some file)
+  named : (tree : Tree) (file : List ℕ) → file_of user.file tree ≡ Some file → (spec : List ℕ) × (resolved user.file spec ≡ Some file)
   named tree file is = by_text (path_text tree) is
     where
-      by_text : (text : Option (List ℕ)) → resolved_in user text ≡ Some file → (spec : List ℕ) × (resolved user spec ≡ Some file)
+      by_text : (text : Option (List ℕ)) → resolved_in user.file text ≡ Some file → (spec : List ℕ) × (resolved user.file spec ≡ Some file)
       by_text (Some spec) e = (spec, e)
       by_text None e = absurd (let no : ⊥ = cc in no)
 
-  load_of : (kind : LoadKind) (items : List Indicator) (tree : Tree) → OfDirective (load_said user kind items tree)
-  load_of kind items tree = by_both (is_system tree) (file_of user tree) refl refl
+  load_of : (kind : LoadKind) (items : List Indicator) (tree : Tree) → OfDirective (load_said user.file kind items tree)
+  load_of kind items tree = by_both (is_system tree) (file_of user.file tree) refl refl
     where
-      by_both : (system : Bool) (file : Option (List ℕ)) → is_system tree ≡ system → file_of user tree ≡ file → OfDirective (load_said user kind items tree)
+      by_both : (system : Bool) (file : Option (List ℕ)) → is_system tree ≡ system → file_of user.file tree ≡ file → OfDirective (load_said user.file kind items tree)
       by_both true file s f = rw (s, load_said) tt
       by_both false (Some file) s f = let from = named tree file f in rw (s, f, load_said) (from, tt)
       by_both false None s f = rw (s, f, load_said) tt
 
-  loads_of : (kind : LoadKind) (trees : List Tree) → OfDirective (loads_said user kind trees)
-  loads_of kind trees = each_of (load_said user kind []) (load_of kind []) trees
+  loads_of : (kind : LoadKind) (trees : List Tree) → OfDirective (loads_said user.file kind trees)
+  loads_of kind trees = each_of (load_said user.file kind []) (load_of kind []) trees
 
-  use_all_of : (tree : Tree) → OfDirective (use_all_said user tree)
+  use_all_of : (tree : Tree) → OfDirective (use_all_said user.file tree)
   use_all_of tree = by_items (written_items tree) refl
     where
-      by_items : (items : Option (List Tree)) → written_items tree ≡ items → OfDirective (use_all_said user tree)
+      by_items : (items : Option (List Tree)) → written_items tree ≡ items → OfDirective (use_all_said user.file tree)
       by_items (Some trees) is = rw (is, use_all_said) (loads_of UseAll trees)
       by_items None is = rw (is, use_all_said) (load_of UseAll [] tree)
 
-  bare_of : (is : List Indicator) → AllByRecursion IsOfDirective (map defined_bare is)
-  bare_of [] = tt
-  bare_of (i ∷ is) = (refl, bare_of is)
+  bare_of : (owner : List ℕ) (tree : Tree) → OfDirective (bare_said owner tree)
+  bare_of owner tree = by_owned (owned owner tree) refl
+    where
+      by_owned : (found : Option Owned) → owned owner tree ≡ found → OfDirective (bare_said owner tree)
+      by_owned (Some own) is = rw (is, bare_said) (refl, tt)
+      by_owned None is = rw (is, bare_said) tt
 
-  defined_of : (told : Result (List Indicator) Refusal) → OfDirective (defined_said told)
-  defined_of (Ok is) = bare_of is
-  defined_of (Err refusal) = tt
+  inner_of : (found : Option (List ℕ)) (right tree : Tree) → ((inner : List ℕ) → OfDirective (dynamic_at Whole inner right))
+      → OfDirective (elim found [ Some inner ↦ dynamic_at Whole inner right | None ↦ refused BadIndicator tree ])
+  inner_of (Some inner) right tree all = all inner
+  inner_of None right tree all = tt
 
-  some_of : (file : Tree) (told : Result (List Indicator) Refusal) → OfDirective (some_said user file told)
+  -- what `dynamic` and `multifile` define has no clauses
+  mutual
+    dynamic_of : (at : Standing) (owner : List ℕ) (tree : Tree) → OfDirective (dynamic_at at owner tree)
+    dynamic_of at owner (compound own (with_more left (with_more right none)) form span) =
+        let tree = compound own (with_more left (with_more right none)) form span in
+        by_test (is_joint at && bytes_eq own (codes ",")) _ _
+        (fit_in_turn IsOfDirective (dynamic_at Joint owner left) (dynamic_at Joint owner right) (dynamic_of Joint owner left) (dynamic_of Joint owner right))
+        (by_test (bytes_eq own (codes ":")) _ _ (inner_of (atom_name left) right tree (λ inner. dynamic_of Whole inner right)) (bare_of owner tree))
+    dynamic_of at owner (listed items span) = by_test (is_whole at) _ _ (each_dynamic_of owner items) tt
+    dynamic_of at owner (atom own span) = by_test (is_whole at && bytes_eq own (codes "[]")) _ _ tt tt
+    dynamic_of at owner (paren inner span) = dynamic_of at owner inner
+    dynamic_of at owner tree = tt
+
+    each_dynamic_of : (owner : List ℕ) (trees : Trees) → OfDirective (each_dynamic owner trees)
+    each_dynamic_of owner none = tt
+    each_dynamic_of owner (with_more tree trees) =
+        fit_in_turn IsOfDirective (dynamic_at Item owner tree) (each_dynamic owner trees) (dynamic_of Item owner tree) (each_dynamic_of owner trees)
+
+  taken_of : (ts : List Takes) → AllByRecursion AreSmall ts → AllByRecursion IsOfDirective (map takes ts)
+  taken_of [] all = tt
+  taken_of (t ∷ ts) all = (all.0, taken_of ts all.1)
+
+  some_of : (file : Tree) (told : Result (List Indicator) Refusal) → OfDirective (some_said user.file file told)
   some_of file (Ok items) = load_of UseSome items file
-  some_of file (Err refusal) = fit_in_turn IsOfDirective (load_said user UseSome [] file) (Err refusal) (load_of UseSome [] file) tt
+  some_of file (Err refusal) = fit_in_turn IsOfDirective (load_said user.file UseSome [] file) (Err refusal) (load_of UseSome [] file) tt
 
   declared_of : (own : List ℕ) (from : ℕ) (told : Result (List Indicator) Refusal) → OfDirective (declared_said own from told)
   declared_of own from (Ok exports) = (tt, tt)
@@ -101,8 +207,9 @@ module _ (user : List ℕ) where
   one_of own argument tree =
       by_test (bytes_eq own (codes "use_module")) _ _ (use_all_of argument)
       (by_test (is_among (codes "ensure_loaded" ∷ codes "consult" ∷ []) own) _ _ (load_of Ensure [] argument)
-      (by_test (is_among (codes "dynamic" ∷ codes "multifile" ∷ []) own) _ _ (defined_of (declared_indicators argument))
-      (by_test (is_among silent_names own) _ _ tt (by_test (is_among outside_names own) _ _ tt (tt, tt)))))
+      (by_test (is_among (codes "dynamic" ∷ codes "multifile" ∷ []) own) _ _ (dynamic_of Whole user.module_ argument)
+      (by_test (bytes_eq own (codes "meta_predicate")) _ _ (taken_of (takes_of None argument) (takes_small None argument))
+      (by_test (is_among silent_names own) _ _ tt (by_test (is_among outside_names own) _ _ tt (tt, tt))))))
 
   two_of : (first : Bool) (own : List ℕ) (left right tree : Tree) → OfDirective (two_said user first own left right tree)
   two_of first own left right tree =

@@ -4,9 +4,9 @@ use Rattle.prolog_terms.specs.declared.term.Span.{Span}
 use Rattle.prolog_terms.specs.declared.term.Form.{Form}
 use Rattle.prolog_terms.specs.Tree.{Tree, compound, trees_from}
 use Rattle.module_table.specs.Said.{only, goal}
-use Rattle.module_table.specs.Directives.{one_said, two_said, three_said, shallow_said}
+use Rattle.module_table.specs.Directives.{Home, one_said, two_said, three_said, shallow_said}
 
-module _ (user : List ℕ) (first : Bool) (name : List ℕ) (form : Form) (span : Span) where
+module _ (user : Home) (first : Bool) (name : List ℕ) (form : Form) (span : Span) where
   abbrev whole : List Tree → Tree
   whole parts = compound name (trees_from parts) form span
 

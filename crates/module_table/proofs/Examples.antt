@@ -35,18 +35,21 @@ says trees = file_said (codes "d/f.pl") trees
 abbrev refusal : Cause → ℕ → Said
 refusal cause from = Err (record { cause = cause; offset = from })
 
+abbrev bare_in : List ℕ → List ℕ → ℕ → Part
+bare_in owner name arity = defines (record { module_ = owner; name = name; arity = arity; clause = None })
+
 abbrev bare : List ℕ → ℕ → Part
-bare name arity = defines (record { name = name; arity = arity; clause = None })
+bare name arity = bare_in (codes "user") name arity
 
 -- `p.`
-fact : says (p ∷ []) ≡ Ok (defines (record { name = codes "p"; arity = 0; clause = Some p }) ∷ [])
+fact : says (p ∷ []) ≡ Ok (defines (record { module_ = codes "user"; name = codes "p"; arity = 0; clause = Some p }) ∷ [])
 fact = refl
 
 -- `p(X) --> q.` has two arguments more
 abbrev rule : Tree
 rule = two (codes "-->") (one (codes "p") (variable (at 2)) 0) (atom (codes "q") (at 9)) 0
 
-grammar_rule : says (rule ∷ []) ≡ Ok (defines (record { name = codes "p"; arity = 3; clause = Some rule }) ∷ [])
+grammar_rule : says (rule ∷ []) ≡ Ok (defines (record { module_ = codes "user"; name = codes "p"; arity = 3; clause = Some rule }) ∷ [])
 grammar_rule = refl
 
 -- `p, q.`
@@ -101,7 +104,68 @@ list_is_no_file = refl
 abbrev q : Tree
 q = atom (codes "q") (at 3)
 
-clauses_in_order : clauses_for (codes "p") 0
-    (record { name = codes "p"; arity = 0; clause = Some p } ∷ record { name = codes "q"; arity = 0; clause = Some q } ∷ record { name = codes "p"; arity = 0; clause = Some q } ∷ [])
+clauses_in_order : clauses_for (codes "user") (codes "p") 0
+    (record { module_ = codes "user"; name = codes "p"; arity = 0; clause = Some p } ∷ record { module_ = codes "user"; name = codes "q"; arity = 0; clause = Some q } ∷ record { module_ = codes "user"; name = codes "p"; arity = 0; clause = Some q } ∷ [])
     ≡ p ∷ q ∷ []
 clauses_in_order = refl
+
+-- `user:hook(X) :- q(X).` in a file of the module `f`
+abbrev module_f : Tree
+module_f = directive (two (codes "module") (atom (codes "f") (at 10)) (atom (codes "[]") (at 13)) 3)
+
+abbrev hook : Tree
+hook = two (codes ":-") (two (codes ":") (atom (codes "user") (at 20)) (one (codes "hook") (variable (at 30)) 25) 20) (one (codes "q") (variable (at 38)) 36) 20
+
+head_elsewhere : says (module_f ∷ hook ∷ p ∷ [])
+    ≡ Ok (declares (record { name = codes "f"; from = 3; exports = [] })
+    ∷ defines (record { module_ = codes "user"; name = codes "hook"; arity = 1; clause = Some hook })
+    ∷ defines (record { module_ = codes "f"; name = codes "p"; arity = 0; clause = Some p }) ∷ [])
+head_elsewhere = refl
+
+-- `a:b:p.` is of `b`, and so is `a:(b:p).`
+abbrev of_b : Tree
+of_b = two (codes ":") (atom (codes "a") (at 0)) (two (codes ":") (atom (codes "b") (at 2)) (atom (codes "p") (at 4)) 2) 0
+
+innermost_counts : says (of_b ∷ []) ≡ Ok (defines (record { module_ = codes "b"; name = codes "p"; arity = 0; clause = Some of_b }) ∷ [])
+innermost_counts = refl
+
+-- `X:p.`
+variable_is_no_module : says (two (codes ":") (variable (at 0)) (atom (codes "p") (at 2)) 0 ∷ []) ≡ refusal BadHead 0
+variable_is_no_module = refl
+
+-- `m:3.`, at the number
+number_in_a_module : says (two (codes ":") (atom (codes "m") (at 0)) (number 3 2) 0 ∷ []) ≡ refusal BadHead 2
+number_in_a_module = refl
+
+-- `m:(p :- q).`
+rule_in_a_module : says (two (codes ":") (atom (codes "m") (at 0)) (paren (two (codes ":-") (atom (codes "p") (at 3)) (atom (codes "q") (at 8)) 3) (at 2)) 0 ∷ [])
+    ≡ refusal ControlHead 3
+rule_in_a_module = refl
+
+-- `m:(a, [x]) --> b.`
+abbrev pushed_in : Tree
+pushed_in = two (codes ",") (atom (codes "a") (at 3)) (listed (more (atom (codes "x") (at 7)) none) (at 6)) 3
+
+pushback_in_a_module : says (two (codes "-->") (two (codes ":") (atom (codes "m") (at 0)) (paren pushed_in (at 2)) 0) (atom (codes "b") (at 15)) 0 ∷ []) ≡ refusal ControlHead 3
+pushback_in_a_module = refl
+
+-- `:- multifile user:hook/1, m:[a/0, n:b//1].`, where `user:hook/1` is `(user:hook)/1`
+abbrev hook_indicator : Tree
+hook_indicator = two (codes "/") (two (codes ":") (atom (codes "user") (at 13)) (atom (codes "hook") (at 18)) 13) (number 1 23) 13
+
+abbrev list_in_m : Tree
+list_in_m = two (codes ":") (atom (codes "m") (at 26)) (listed (more (two (codes "/") (atom (codes "a") (at 29)) (number 0 31) 29)
+    (more (two (codes "//") (two (codes ":") (atom (codes "n") (at 34)) (atom (codes "b") (at 36)) 34) (number 1 39) 34) none)) (at 28)) 26
+
+multifile_elsewhere : says (directive (one (codes "multifile") (two (codes ",") hook_indicator list_in_m 13) 3) ∷ [])
+    ≡ Ok (bare_in (codes "user") (codes "hook") 1 ∷ bare_in (codes "m") (codes "a") 0 ∷ bare_in (codes "n") (codes "b") 3 ∷ [])
+multifile_elsewhere = refl
+
+-- `:- dynamic a:b:c/1.` is `(a:(b:c))/1`
+dynamic_deep : says (directive (one (codes "dynamic") (two (codes "/") (two (codes ":") (atom (codes "a") (at 11)) (two (codes ":") (atom (codes "b") (at 13)) (atom (codes "c") (at 15)) 13) 11)
+    (number 1 17) 11) 3) ∷ []) ≡ refusal BadIndicator 11
+dynamic_deep = refl
+
+-- `:- dynamic X:[p/0].`
+dynamic_of_variable : says (directive (one (codes "dynamic") (two (codes ":") (variable (at 11)) (listed (more (two (codes "/") p (number 0 16) 14) none) (at 13)) 11) 3) ∷ []) ≡ refusal BadIndicator 11
+dynamic_of_variable = refl

@@ -23,9 +23,11 @@ module _ (text : List ℕ) where
   offsets = record {
     Good = HasOffsets text;
     At = IsOffset text;
+    Many = λ n. Unit {0};
     start = span_stands text;
     inner = λ inner span stands. stands.1;
     args = λ name args form span stands. trees_placed args stands.1;
+    many = λ name args form span stands. tt;
     items = λ items span stands. trees_placed items stands.1;
   }
 
@@ -43,5 +45,6 @@ facts_placed text user trees facts all are =
       of_loads = λ i load below. (kept.of_loads i load below).0;
       of_items = λ i load below. (kept.of_loads i load below).1;
       of_clauses = kept.of_clauses;
+      of_metas = λ i d below. (kept.of_metas i d below).0;
       of_goals = kept.of_goals;
     }

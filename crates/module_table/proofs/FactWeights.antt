@@ -1,11 +1,13 @@
 -- The clauses and goals that the facts of a file keep weigh no more than the clauses of the file.
-use Rattle.std.proofs.Common.{ℕ, ◌≤◌, List, arith}
+use Rattle.std.proofs.Common.{ℕ, ◌≤◌, List, length, arith}
 use Rattle.std.specs.Prelude.{All}
 use Rattle.std.proofs.lemmas.List.Elements.{All-nil, All-cons}
 use Rattle.prolog_terms.specs.Tree.{Tree, Trees, more, none}
 use Rattle.prolog_terms.specs.Views.{trees_in}
 use Rattle.prolog_terms.specs.Weight.{weight, weights}
+use Rattle.prolog_terms.proofs.ViewLemmas.{items_count}
 use Rattle.module_table.specs.Defined.{Predicate}
+use Rattle.module_table.specs.Metas.{Declaration}
 use Rattle.module_table.specs.Facts.{Facts, AreFacts}
 use Rattle.module_table.proofs.HandedDown.{HandsDown}
 use Rattle.module_table.proofs.FactsKept.{facts_kept}
@@ -22,9 +24,11 @@ module _ (n : ℕ) where
   weighing = record {
     Good = IsLight;
     At = λ offset. Unit {0};
+    Many = λ m. m ≤ n;
     start = λ tree light. tt;
     inner = λ inner span light. omega (arith, light);
     args = λ name args form span light. all_light args light;
+    many = λ name args form span light. omega (arith, items_count args, light);
     items = λ items span light. all_light items light;
   }
 
@@ -37,3 +41,8 @@ pub goals_light : (n : ℕ) (user : List ℕ) (trees : List Tree) (facts : Facts
     → All (λ tree. weight tree ≤ n) facts.goals
 unfolding weighing
 goals_light n user trees facts all are = (facts_kept (weighing n) user trees facts all are).of_goals
+
+pub metas_light : (n : ℕ) (user : List ℕ) (trees : List Tree) (facts : Facts) → All (λ tree. weight tree ≤ n) trees → AreFacts user trees facts
+    → All (λ (d : Declaration). length d.args ≤ n) facts.metas
+unfolding weighing
+metas_light n user trees facts all are = λ i d below. ((facts_kept (weighing n) user trees facts all are).of_metas i d below).1

@@ -10,10 +10,12 @@ use Rattle.order_law.proofs.OneOrder.{nothing_in, first_or_rest, in_rest, in_fir
 use Rattle.prolog_terms.specs.Tree.{Tree}
 use Rattle.clause_text.specs.Clauses.{total_weight}
 use Rattle.module_table.specs.Defined.{Defines, Predicate, AreDefined, IsDefined, predicate_cmp, key}
-use Rattle.module_table.specs.Kinds.{defined_part}
-use Rattle.module_table.specs.Facts.{Facts, AreFacts}
+use Rattle.module_table.specs.Metas.{declared_in}
+use Rattle.module_table.specs.Kinds.{defined_part, takes_part}
+use Rattle.module_table.specs.Directives.{home}
+use Rattle.module_table.specs.Facts.{Facts, AreFacts, module_of}
 use Rattle.module_table.proofs.PredicateOrder.{predicate_cmp_total}
-use Rattle.module_table.proofs.SaidCounts.{DefinesAtMost, file_few}
+use Rattle.module_table.proofs.SaidCounts.{DefinesAtMost, trees_few, definitions}
 
 -- tests that some element passes
 
@@ -45,7 +47,7 @@ any_passes test (y ∷ xs) x has passes =
 -- each predicate is one of those that are defined
 
 abbrev named : Defines → Predicate
-named d = key d.name d.arity
+named d = key d.module_ d.name d.arity
 
 has_named : (ds : List Defines) (d : Defines) → Contains ds d → Contains (map named ds) (named d)
 has_named [] d has = absurd (nothing_in d has)
@@ -60,9 +62,9 @@ members : (ds : List Defines) (defined : List Predicate) → AreDefined ds defin
 members ds defined are q is =
     let found = some_passes (eq_by_cmp predicate_cmp q) defined is in
     let p = found.one in
-    let by : IsDefined p.name p.arity ds = (are.each p found.stands).0 in
-    any_passes (eq_by_cmp predicate_cmp q) (map named ds) (key p.name p.arity)
-    (has_named ds (record { name = p.name; arity = p.arity; clause = by.clause }) by.stands) found.passes
+    let by : IsDefined p.module_ p.name p.arity ds = (are.each p found.stands).0 in
+    any_passes (eq_by_cmp predicate_cmp q) (map named ds) (key p.module_ p.name p.arity)
+    (has_named ds (record { module_ = p.module_; name = p.name; arity = p.arity; clause = by.clause }) by.stands) found.passes
 
 pub few_grouped : (ds : List Defines) (defined : List Predicate) → AreDefined ds defined → length defined ≤ length ds
 few_grouped ds defined are =
@@ -72,5 +74,10 @@ few_grouped ds defined are =
 
 pub few_defined : (user : List ℕ) (trees : List Tree) (facts : Facts) → AreFacts user trees facts → length facts.defined ≤ total_weight trees
 few_defined user trees facts are =
-    let few : length (filter_map defined_part are.parts) ≤ total_weight trees = subst (DefinesAtMost (total_weight trees)) are.said (file_few user trees) in
+    let few : definitions are.parts ≤ total_weight trees = subst (DefinesAtMost (total_weight trees)) are.said (trees_few (home user (module_of trees)) trees) in
     omega (arith, few, few_grouped (filter_map defined_part are.parts) facts.defined are.are.defined)
+
+pub few_metas : (user : List ℕ) (trees : List Tree) (facts : Facts) → AreFacts user trees facts → length facts.metas ≤ total_weight trees
+few_metas user trees facts are =
+    let few : definitions are.parts ≤ total_weight trees = subst (DefinesAtMost (total_weight trees)) are.said (trees_few (home user (module_of trees)) trees) in
+    omega (arith, few, ap length are.are.metas, length-map (filter_map takes_part are.parts) (declared_in facts.module_))

@@ -1,9 +1,10 @@
 -- What the clauses of a file say, one more.
-use Rattle.std.proofs.Common.{◌≡◌, ℕ, Bool, true, false, List, [], ◌∷◌, ◌++◌, Ok, refl, ap, sym, ◌∙◌, subst}
+use Rattle.std.proofs.Common.{◌≡◌, Bool, true, false, List, [], ◌∷◌, ◌++◌, Ok, refl, ap, sym, ◌∙◌, subst}
 use Rattle.prolog_terms.specs.Tree.{Tree}
 use Rattle.module_table.specs.declared.said.FactFault.{FactFault}
 use Rattle.module_table.specs.Said.{Part, in_turn, each_said, IsWhy}
-use Rattle.module_table.specs.Facts.{clause_said, file_said}
+use Rattle.module_table.specs.Directives.{Home}
+use Rattle.module_table.specs.Facts.{clause_said, trees_said}
 use Rattle.module_table.proofs.SaidLemmas.{more_none, in_turn_none, in_turn_assoc, each_append, stops_first, stops_second}
 
 -- first tells whether there is none yet
@@ -18,10 +19,10 @@ pub more_first : (trees : List Tree) (tree : Tree) → IsFirst false (trees ++ t
 more_first [] tree = refl
 more_first (other ∷ trees) tree = refl
 
-module _ (user : List ℕ) where
+module _ (user : Home) where
   -- one clause more, and those behind it
   pub file_more : (first : Bool) (before : List Tree) (tree : Tree) (behind : List Tree) → IsFirst first before
-      → file_said user (before ++ tree ∷ behind) ≡ in_turn (in_turn (file_said user before) (clause_said user first tree)) (each_said (clause_said user false) behind)
+      → trees_said user (before ++ tree ∷ behind) ≡ in_turn (in_turn (trees_said user before) (clause_said user first tree)) (each_said (clause_said user false) behind)
   file_more first [] tree behind is =
       ap (λ s. in_turn s (each_said (clause_said user false) behind)) (sym (more_none (clause_said user first tree) ∙ ap (λ f. clause_said user f tree) is))
   file_more first (other ∷ before) tree behind is =
@@ -33,12 +34,12 @@ module _ (user : List ℕ) where
       ∙ ap (λ f. in_turn (in_turn (in_turn head (each_said says before)) (clause_said user f tree)) (each_said says behind)) (sym is)))
 
   pub file_one : (first : Bool) (before : List Tree) (tree : Tree) → IsFirst first before
-      → file_said user (before ++ tree ∷ []) ≡ in_turn (file_said user before) (clause_said user first tree)
-  file_one first before tree is = file_more first before tree [] is ∙ in_turn_none (in_turn (file_said user before) (clause_said user first tree))
+      → trees_said user (before ++ tree ∷ []) ≡ in_turn (trees_said user before) (clause_said user first tree)
+  file_one first before tree is = file_more first before tree [] is ∙ in_turn_none (in_turn (trees_said user before) (clause_said user first tree))
 
   pub file_stops : (first : Bool) (before : List Tree) (tree : Tree) (behind : List Tree) (parts : List Part) (fault : FactFault) → IsFirst first before
-      → file_said user before ≡ Ok parts → IsWhy (clause_said user first tree) fault → IsWhy (file_said user (before ++ tree ∷ behind)) fault
+      → trees_said user before ≡ Ok parts → IsWhy (clause_said user first tree) fault → IsWhy (trees_said user (before ++ tree ∷ behind)) fault
   file_stops first before tree behind parts fault is said why =
       subst (λ s. IsWhy s fault) (sym (file_more first before tree behind is))
-      (stops_first (in_turn (file_said user before) (clause_said user first tree)) (each_said (clause_said user false) behind) fault
-      (stops_second [] parts (file_said user before) (clause_said user first tree) fault (more_none (file_said user before) ∙ said) why))
+      (stops_first (in_turn (trees_said user before) (clause_said user first tree)) (each_said (clause_said user false) behind) fault
+      (stops_second [] parts (trees_said user before) (clause_said user first tree) fault (more_none (trees_said user before) ∙ said) why))

@@ -12,9 +12,9 @@ use Rattle.module_table.specs.declared.defined.Defined.{Defined}
 use Rattle.module_table.specs.Defined.{Defines, Predicate, IsDefined, AreDefined, NoneIsAfter, key, predicate_cmp, clause_for, clauses_for, clause_tree, see_defined, defined_by, defined_by_all, see_run}
 use Rattle.module_table.proofs.PredicateOrder.{predicate_cmp_total, same, same_parts, same_itself, apart_from_Less, Less-from_apart, sorted_push, sorted_front, sorted_below, not_itself, one_sorted_list}
 
--- the predicate of that name and arity, with its clauses
-abbrev pub predicate_at : List ℕ → ℕ → List Defines → Predicate
-predicate_at name arity ds = record { name = name; arity = arity; clauses = clauses_for name arity ds }
+-- the predicate of that module, name and arity, with its clauses
+abbrev pub predicate_at : List ℕ → List ℕ → ℕ → List Defines → Predicate
+predicate_at owner name arity ds = record { module_ = owner; name = name; arity = arity; clauses = clauses_for owner name arity ds }
 
 abbrev only_if : Bool → Option Tree → List Tree
 only_if b c = elim c [ Some tree ↦ if b then tree ∷ [] else [] | None ↦ [] ]
@@ -27,36 +27,36 @@ only_if_false : (b : Bool) (c : Option Tree) → b ≡ false → only_if b c ≡
 only_if_false b (Some tree) e = rw e refl
 only_if_false b None e = refl
 
-clause_of_it : (name : List ℕ) (arity : ℕ) (d : Defines) → same name arity d.name d.arity ≡ true → clause_for name arity d ≡ option_to_list d.clause
-clause_of_it name arity d e = only_if_true (same name arity d.name d.arity) d.clause e
+clause_of_it : (owner name : List ℕ) (arity : ℕ) (d : Defines) → same owner name arity d.module_ d.name d.arity ≡ true → clause_for owner name arity d ≡ option_to_list d.clause
+clause_of_it owner name arity d e = only_if_true (same owner name arity d.module_ d.name d.arity) d.clause e
 
-pub clause_of_another : (name : List ℕ) (arity : ℕ) (d : Defines) → same name arity d.name d.arity ≡ false → clause_for name arity d ≡ []
-clause_of_another name arity d e = only_if_false (same name arity d.name d.arity) d.clause e
+pub clause_of_another : (owner name : List ℕ) (arity : ℕ) (d : Defines) → same owner name arity d.module_ d.name d.arity ≡ false → clause_for owner name arity d ≡ []
+clause_of_another owner name arity d e = only_if_false (same owner name arity d.module_ d.name d.arity) d.clause e
 
-clauses_more : (name : List ℕ) (arity : ℕ) (ds : List Defines) (d : Defines)
-    → clauses_for name arity (ds ++ d ∷ []) ≡ clauses_for name arity ds ++ clause_for name arity d
-clauses_more name arity ds d =
-    flat_map-append (clause_for name arity) ds (d ∷ []) ∙ ap (λ x. clauses_for name arity ds ++ x) (append-nil (clause_for name arity d))
+clauses_more : (owner name : List ℕ) (arity : ℕ) (ds : List Defines) (d : Defines)
+    → clauses_for owner name arity (ds ++ d ∷ []) ≡ clauses_for owner name arity ds ++ clause_for owner name arity d
+clauses_more owner name arity ds d =
+    flat_map-append (clause_for owner name arity) ds (d ∷ []) ∙ ap (λ x. clauses_for owner name arity ds ++ x) (append-nil (clause_for owner name arity d))
 
-clauses_kept : (name : List ℕ) (arity : ℕ) (ds : List Defines) (d : Defines) → same name arity d.name d.arity ≡ false
-    → clauses_for name arity ds ≡ clauses_for name arity (ds ++ d ∷ [])
-clauses_kept name arity ds d other =
+clauses_kept : (owner name : List ℕ) (arity : ℕ) (ds : List Defines) (d : Defines) → same owner name arity d.module_ d.name d.arity ≡ false
+    → clauses_for owner name arity ds ≡ clauses_for owner name arity (ds ++ d ∷ [])
+clauses_kept owner name arity ds d other =
     sym
-    (clauses_more name arity ds d ∙ ap (λ x. clauses_for name arity ds ++ x) (clause_of_another name arity d other)
-    ∙ append-nil (clauses_for name arity ds))
+    (clauses_more owner name arity ds d ∙ ap (λ x. clauses_for owner name arity ds ++ x) (clause_of_another owner name arity d other)
+    ∙ append-nil (clauses_for owner name arity ds))
 
-defined_more : (name : List ℕ) (arity : ℕ) (ds : List Defines) (d : Defines) → IsDefined name arity ds → IsDefined name arity (ds ++ d ∷ [])
-defined_more name arity ds d has = record {
+defined_more : (owner name : List ℕ) (arity : ℕ) (ds : List Defines) (d : Defines) → IsDefined owner name arity ds → IsDefined owner name arity (ds ++ d ∷ [])
+defined_more owner name arity ds d has = record {
   clause = has.clause;
-  stands = Contains-append_left ds (d ∷ []) (record { name = name; arity = arity; clause = has.clause }) has.stands;
+  stands = Contains-append_left ds (d ∷ []) (record { module_ = owner; name = name; arity = arity; clause = has.clause }) has.stands;
 }
 
-defined_cases : (name : List ℕ) (arity : ℕ) (ds : List Defines) (d : Defines) → IsDefined name arity (ds ++ d ∷ [])
-    → IsDefined name arity ds ⊎ ((d.name ≡ name) × (d.arity ≡ arity))
-defined_cases name arity ds d has =
-    elim (Contains-push_cases ds d (record { name = name; arity = arity; clause = has.clause }) has.stands) [
+defined_cases : (owner name : List ℕ) (arity : ℕ) (ds : List Defines) (d : Defines) → IsDefined owner name arity (ds ++ d ∷ [])
+    → IsDefined owner name arity ds ⊎ ((d.module_ ≡ owner) × (d.name ≡ name) × (d.arity ≡ arity))
+defined_cases owner name arity ds d has =
+    elim (Contains-push_cases ds d (record { module_ = owner; name = name; arity = arity; clause = has.clause }) has.stands) [
       | inl before ↦ inl (record { clause = has.clause; stands = before })
-      | inr e ↦ inr (ap (λ (x : Defines). x.name) e, ap (λ (x : Defines). x.arity) e)
+      | inr e ↦ inr (ap (λ (x : Defines). x.module_) e, ap (λ (x : Defines). x.name) e, ap (λ (x : Defines). x.arity) e)
     ]
 
 pub by_test : {C : Type 0} (b : Bool) → (b ≡ true → C) → (b ≡ false → C) → C
@@ -65,126 +65,126 @@ by_test false yes_ no_ = no_ refl
 
 -- the predicate of d, with its clauses and that of d
 abbrev last_with : List Defines → Defines → Predicate
-last_with ds d = predicate_at d.name d.arity (ds ++ d ∷ [])
+last_with ds d = predicate_at d.module_ d.name d.arity (ds ++ d ∷ [])
 
 -- the last predicate is that of d, all before it stand as they stood
 put_last : (ds : List Defines) (d : Defines) (before : List Predicate) → IsStrictlySortedBy predicate_cmp before
-    → All (λ p. predicate_cmp p (key d.name d.arity) ≡ Less) before
-    → ((p : Predicate) → Contains before p → IsDefined p.name p.arity ds × (p.clauses ≡ clauses_for p.name p.arity ds))
-    → ((name : List ℕ) (arity : ℕ) → IsDefined name arity ds → same name arity d.name d.arity ≡ false → Contains before (predicate_at name arity ds))
-    → AreDefined (ds ++ d ∷ []) (before ++ predicate_at d.name d.arity (ds ++ d ∷ []) ∷ [])
+    → All (λ p. predicate_cmp p (key d.module_ d.name d.arity) ≡ Less) before
+    → ((p : Predicate) → Contains before p → IsDefined p.module_ p.name p.arity ds × (p.clauses ≡ clauses_for p.module_ p.name p.arity ds))
+    → ((owner name : List ℕ) (arity : ℕ) → IsDefined owner name arity ds → same owner name arity d.module_ d.name d.arity ≡ false → Contains before (predicate_at owner name arity ds))
+    → AreDefined (ds ++ d ∷ []) (before ++ predicate_at d.module_ d.name d.arity (ds ++ d ∷ []) ∷ [])
 put_last ds d before up below each all = record {
   in_order = sorted_push before (last_with ds d) up below;
   each = λ p has.
       elim (Contains-push_cases before (last_with ds d) p has) [
         | inl earlier ↦
-            let other : same p.name p.arity d.name d.arity ≡ false =
-            apart_from_Less p (key d.name d.arity) (All-contains (λ x. predicate_cmp x (key d.name d.arity) ≡ Less) before p below earlier) in
+            let other : same p.module_ p.name p.arity d.module_ d.name d.arity ≡ false =
+            apart_from_Less p (key d.module_ d.name d.arity) (All-contains (λ x. predicate_cmp x (key d.module_ d.name d.arity) ≡ Less) before p below earlier) in
             let is = each p earlier in
-            (defined_more p.name p.arity ds d is.0, is.1 ∙ clauses_kept p.name p.arity ds d other)
+            (defined_more p.module_ p.name p.arity ds d is.0, is.1 ∙ clauses_kept p.module_ p.name p.arity ds d other)
         | inr e ↦
-            subst (λ (x : Predicate). IsDefined x.name x.arity (ds ++ d ∷ []) × (x.clauses ≡ clauses_for x.name x.arity (ds ++ d ∷ []))) e
+            subst (λ (x : Predicate). IsDefined x.module_ x.name x.arity (ds ++ d ∷ []) × (x.clauses ≡ clauses_for x.module_ x.name x.arity (ds ++ d ∷ []))) e
             (record { clause = d.clause; stands = Contains-push ds d }, refl)
       ];
-  all = λ name arity has.
-      by_test (same name arity d.name d.arity)
+  all = λ owner name arity has.
+      by_test (same owner name arity d.module_ d.name d.arity)
       (λ is.
-      let parts = same_parts name arity d.name d.arity is in
+      let parts = same_parts owner name arity d.module_ d.name d.arity is in
       subst (λ (x : Predicate). Contains (before ++ last_with ds d ∷ []) x)
-      (λ i. predicate_at (sym parts.0 i) (sym parts.1 i) (ds ++ d ∷ [])) (Contains-push before (last_with ds d)))
+      (λ i. predicate_at (sym parts.0 i) (sym parts.1 i) (sym parts.2 i) (ds ++ d ∷ [])) (Contains-push before (last_with ds d)))
       (λ other.
-      elim (defined_cases name arity ds d has) [
+      elim (defined_cases owner name arity ds d has) [
         | inl earlier ↦
-            Contains-append_left before (last_with ds d ∷ []) (predicate_at name arity (ds ++ d ∷ []))
-            (subst (λ cs. Contains before (record { name = name; arity = arity; clauses = cs })) (clauses_kept name arity ds d other)
-            (all name arity earlier other))
+            Contains-append_left before (last_with ds d ∷ []) (predicate_at owner name arity (ds ++ d ∷ []))
+            (subst (λ cs. Contains before (record { module_ = owner; name = name; arity = arity; clauses = cs })) (clauses_kept owner name arity ds d other)
+            (all owner name arity earlier other))
         | inr e ↦
-            let itself : same name arity d.name d.arity ≡ true =
-            subst (λ n. same name arity n d.arity ≡ true) (sym e.0) (subst (λ k. same name arity name k ≡ true) (sym e.1) (same_itself name arity)) in
+            let itself : same owner name arity d.module_ d.name d.arity ≡ true =
+            (λ i. same owner name arity (e.0 i) (e.1 i) (e.2 i)) ∙ same_itself owner name arity in
             absurd (let clash : true ≡ false = sym itself ∙ other in cc)
       ]);
 }
 
-none_before : (name : List ℕ) (arity : ℕ) (ds : List Defines) → (IsDefined name arity ds → ⊥) → clauses_for name arity ds ≡ []
-none_before name arity [] none = refl
-none_before name arity (d ∷ ds) none =
-    let here : same name arity d.name d.arity ≡ true → IsDefined name arity (d ∷ ds) =
-    λ is. let parts = same_parts name arity d.name d.arity is in
+none_before : (owner name : List ℕ) (arity : ℕ) (ds : List Defines) → (IsDefined owner name arity ds → ⊥) → clauses_for owner name arity ds ≡ []
+none_before owner name arity [] none = refl
+none_before owner name arity (d ∷ ds) none =
+    let here : same owner name arity d.module_ d.name d.arity ≡ true → IsDefined owner name arity (d ∷ ds) =
+    λ is. let parts = same_parts owner name arity d.module_ d.name d.arity is in
     record {
       clause = d.clause;
       stands = subst (λ (x : Defines). Contains (d ∷ ds) x)
-          (λ i. record { name = sym parts.0 i; arity = sym parts.1 i; clause = d.clause })
+          (λ i. record { module_ = sym parts.0 i; name = sym parts.1 i; arity = sym parts.2 i; clause = d.clause })
           (Contains-append_left (d ∷ []) ds d (Contains-push [] d));
     } in
-    let later : IsDefined name arity ds → ⊥ =
+    let later : IsDefined owner name arity ds → ⊥ =
     λ has. none
     (record {
       clause = has.clause;
-      stands = Contains-append_right (d ∷ []) ds (record { name = name; arity = arity; clause = has.clause }) has.stands;
+      stands = Contains-append_right (d ∷ []) ds (record { module_ = owner; name = name; arity = arity; clause = has.clause }) has.stands;
     }) in
-    ap (λ x. x ++ clauses_for name arity ds)
-    (clause_of_another name arity d (false_from_ne_true (same name arity d.name d.arity) (λ is. none (here is))))
-    ∙ none_before name arity ds later
+    ap (λ x. x ++ clauses_for owner name arity ds)
+    (clause_of_another owner name arity d (false_from_ne_true (same owner name arity d.module_ d.name d.arity) (λ is. none (here is))))
+    ∙ none_before owner name arity ds later
 
 -- a predicate that comes after all so far
 new_last : (ds : List Defines) (d : Defines) (before : List Predicate) → AreDefined ds before
-    → All (λ p. predicate_cmp p (key d.name d.arity) ≡ Less) before
-    → AreDefined (ds ++ d ∷ []) (before ++ record { name = d.name; arity = d.arity; clauses = option_to_list d.clause } ∷ [])
+    → All (λ p. predicate_cmp p (key d.module_ d.name d.arity) ≡ Less) before
+    → AreDefined (ds ++ d ∷ []) (before ++ record { module_ = d.module_; name = d.name; arity = d.arity; clauses = option_to_list d.clause } ∷ [])
 new_last ds d before are below =
-    subst (λ cs. AreDefined (ds ++ d ∷ []) (before ++ record { name = d.name; arity = d.arity; clauses = cs } ∷ []))
-    (clauses_more d.name d.arity ds d
-    ∙ ap (λ x. x ++ clause_for d.name d.arity d) (none_before d.name d.arity ds none)
-    ∙ clause_of_it d.name d.arity d (same_itself d.name d.arity))
-    (put_last ds d before are.in_order below are.each (λ name arity has other. are.all name arity has))
+    subst (λ cs. AreDefined (ds ++ d ∷ []) (before ++ record { module_ = d.module_; name = d.name; arity = d.arity; clauses = cs } ∷ []))
+    (clauses_more d.module_ d.name d.arity ds d
+    ∙ ap (λ x. x ++ clause_for d.module_ d.name d.arity d) (none_before d.module_ d.name d.arity ds none)
+    ∙ clause_of_it d.module_ d.name d.arity d (same_itself d.module_ d.name d.arity))
+    (put_last ds d before are.in_order below are.each (λ owner name arity has other. are.all owner name arity has))
   where
-    none : IsDefined d.name d.arity ds → ⊥
+    none : IsDefined d.module_ d.name d.arity ds → ⊥
     none has =
-        not_itself (key d.name d.arity)
-        (All-contains (λ x. predicate_cmp x (key d.name d.arity) ≡ Less) before (predicate_at d.name d.arity ds) below (are.all d.name d.arity has))
+        not_itself (key d.module_ d.name d.arity)
+        (All-contains (λ x. predicate_cmp x (key d.module_ d.name d.arity) ≡ Less) before (predicate_at d.module_ d.name d.arity ds) below (are.all d.module_ d.name d.arity has))
 
 -- one more definition of the last predicate
 more_of_last : (ds : List Defines) (d : Defines) (before : List Predicate) (last : Predicate) → AreDefined ds (before ++ last ∷ [])
-    → same last.name last.arity d.name d.arity ≡ true
-    → AreDefined (ds ++ d ∷ []) (before ++ record { name = last.name; arity = last.arity; clauses = last.clauses ++ option_to_list d.clause } ∷ [])
+    → same last.module_ last.name last.arity d.module_ d.name d.arity ≡ true
+    → AreDefined (ds ++ d ∷ []) (before ++ record { module_ = last.module_; name = last.name; arity = last.arity; clauses = last.clauses ++ option_to_list d.clause } ∷ [])
 more_of_last ds d before last are is =
-    let parts = same_parts last.name last.arity d.name d.arity is in
-    let clauses_before : clauses_for d.name d.arity ds ≡ last.clauses =
-    sym ((are.each last (Contains-push before last)).1 ∙ (λ i. clauses_for (parts.0 i) (parts.1 i) ds)) in
-    let clauses : clauses_for d.name d.arity (ds ++ d ∷ []) ≡ last.clauses ++ option_to_list d.clause =
-    clauses_more d.name d.arity ds d ∙ (λ i. clauses_before i ++ clause_of_it d.name d.arity d (same_itself d.name d.arity) i) in
+    let parts = same_parts last.module_ last.name last.arity d.module_ d.name d.arity is in
+    let clauses_before : clauses_for d.module_ d.name d.arity ds ≡ last.clauses =
+    sym ((are.each last (Contains-push before last)).1 ∙ (λ i. clauses_for (parts.0 i) (parts.1 i) (parts.2 i) ds)) in
+    let clauses : clauses_for d.module_ d.name d.arity (ds ++ d ∷ []) ≡ last.clauses ++ option_to_list d.clause =
+    clauses_more d.module_ d.name d.arity ds d ∙ (λ i. clauses_before i ++ clause_of_it d.module_ d.name d.arity d (same_itself d.module_ d.name d.arity) i) in
     subst (λ (x : Predicate). AreDefined (ds ++ d ∷ []) (before ++ x ∷ []))
-    (λ i. record { name = sym parts.0 i; arity = sym parts.1 i; clauses = clauses i })
+    (λ i. record { module_ = sym parts.0 i; name = sym parts.1 i; arity = sym parts.2 i; clauses = clauses i })
     (put_last ds d before (sorted_front before last are.in_order)
-    (subst (λ k. All (λ p. predicate_cmp p k ≡ Less) before) (λ i. key (parts.0 i) (parts.1 i)) (sorted_below before last are.in_order))
+    (subst (λ k. All (λ p. predicate_cmp p k ≡ Less) before) (λ i. key (parts.0 i) (parts.1 i) (parts.2 i)) (sorted_below before last are.in_order))
     (λ p has. are.each p (Contains-append_left before (last ∷ []) p has))
-    (λ name arity has other.
-    elim (Contains-push_cases before last (predicate_at name arity ds) (are.all name arity has)) [
+    (λ owner name arity has other.
+    elim (Contains-push_cases before last (predicate_at owner name arity ds) (are.all owner name arity has)) [
       | inl earlier ↦ earlier
       | inr e ↦
-          let itself : same name arity d.name d.arity ≡ true = subst (λ (x : Predicate). same x.name x.arity d.name d.arity ≡ true) e is in
+          let itself : same owner name arity d.module_ d.name d.arity ≡ true = subst (λ (x : Predicate). same x.module_ x.name x.arity d.module_ d.name d.arity ≡ true) e is in
           absurd (let clash : true ≡ false = sym itself ∙ other in cc)
     ]))
 
 -- more clauses of the last predicate
-more_clauses : (name : List ℕ) (arity : ℕ) (ds : List Defines) (before : List Predicate) (clauses trees : List Tree)
-    → AreDefined ds (before ++ record { name = name; arity = arity; clauses = clauses } ∷ [])
-    → AreDefined (ds ++ map (defined_by name arity) trees) (before ++ record { name = name; arity = arity; clauses = clauses ++ trees } ∷ [])
-more_clauses name arity ds before clauses [] are =
-    subst (λ es. AreDefined es (before ++ record { name = name; arity = arity; clauses = clauses ++ [] } ∷ [])) (sym (append-nil ds))
-    (subst (λ cs. AreDefined ds (before ++ record { name = name; arity = arity; clauses = cs } ∷ [])) (sym (append-nil clauses)) are)
-more_clauses name arity ds before clauses (tree ∷ trees) are =
-    let d = defined_by name arity tree in
-    let last : Predicate = record { name = name; arity = arity; clauses = clauses } in
-    let one_more = more_of_last ds d before last are (same_itself name arity) in
-    subst (λ es. AreDefined es (before ++ record { name = name; arity = arity; clauses = clauses ++ tree ∷ trees } ∷ []))
-    (append_assoc ds (d ∷ []) (map (defined_by name arity) trees))
-    (subst (λ cs. AreDefined ((ds ++ d ∷ []) ++ map (defined_by name arity) trees) (before ++ record { name = name; arity = arity; clauses = cs } ∷ []))
+more_clauses : (owner name : List ℕ) (arity : ℕ) (ds : List Defines) (before : List Predicate) (clauses trees : List Tree)
+    → AreDefined ds (before ++ record { module_ = owner; name = name; arity = arity; clauses = clauses } ∷ [])
+    → AreDefined (ds ++ map (defined_by owner name arity) trees) (before ++ record { module_ = owner; name = name; arity = arity; clauses = clauses ++ trees } ∷ [])
+more_clauses owner name arity ds before clauses [] are =
+    subst (λ es. AreDefined es (before ++ record { module_ = owner; name = name; arity = arity; clauses = clauses ++ [] } ∷ [])) (sym (append-nil ds))
+    (subst (λ cs. AreDefined ds (before ++ record { module_ = owner; name = name; arity = arity; clauses = cs } ∷ [])) (sym (append-nil clauses)) are)
+more_clauses owner name arity ds before clauses (tree ∷ trees) are =
+    let d = defined_by owner name arity tree in
+    let last : Predicate = record { module_ = owner; name = name; arity = arity; clauses = clauses } in
+    let one_more = more_of_last ds d before last are (same_itself owner name arity) in
+    subst (λ es. AreDefined es (before ++ record { module_ = owner; name = name; arity = arity; clauses = clauses ++ tree ∷ trees } ∷ []))
+    (append_assoc ds (d ∷ []) (map (defined_by owner name arity) trees))
+    (subst (λ cs. AreDefined ((ds ++ d ∷ []) ++ map (defined_by owner name arity) trees) (before ++ record { module_ = owner; name = name; arity = arity; clauses = cs } ∷ []))
     (append_assoc clauses (tree ∷ []) trees)
-    (more_clauses name arity (ds ++ d ∷ []) before (clauses ++ tree ∷ []) trees one_more))
+    (more_clauses owner name arity (ds ++ d ∷ []) before (clauses ++ tree ∷ []) trees one_more))
 
 -- what a run of these clauses defines
 abbrev pub all_of : Predicate → List Defines
-all_of run = defined_by_all run.name run.arity run.clauses
+all_of run = defined_by_all run.module_ run.name run.arity run.clauses
 
 -- a run of a predicate that comes after all so far
 pub run_added : (ds : List Defines) (run : Predicate) (before : List Predicate) → AreDefined ds before
@@ -192,38 +192,38 @@ pub run_added : (ds : List Defines) (run : Predicate) (before : List Predicate) 
 run_added ds run before are below = by_clauses run.clauses
   where
     by_clauses : (clauses : List Tree)
-        → AreDefined (ds ++ defined_by_all run.name run.arity clauses) (before ++ record { name = run.name; arity = run.arity; clauses = clauses } ∷ [])
-    by_clauses [] = new_last ds (record { name = run.name; arity = run.arity; clause = None }) before are below
+        → AreDefined (ds ++ defined_by_all run.module_ run.name run.arity clauses) (before ++ record { module_ = run.module_; name = run.name; arity = run.arity; clauses = clauses } ∷ [])
+    by_clauses [] = new_last ds (record { module_ = run.module_; name = run.name; arity = run.arity; clause = None }) before are below
     by_clauses (tree ∷ trees) =
-        let d = defined_by run.name run.arity tree in
-        subst (λ es. AreDefined es (before ++ record { name = run.name; arity = run.arity; clauses = tree ∷ trees } ∷ []))
-        (append_assoc ds (d ∷ []) (map (defined_by run.name run.arity) trees))
-        (more_clauses run.name run.arity (ds ++ d ∷ []) before (tree ∷ []) trees (new_last ds d before are below))
+        let d = defined_by run.module_ run.name run.arity tree in
+        subst (λ es. AreDefined es (before ++ record { module_ = run.module_; name = run.name; arity = run.arity; clauses = tree ∷ trees } ∷ []))
+        (append_assoc ds (d ∷ []) (map (defined_by run.module_ run.name run.arity) trees))
+        (more_clauses run.module_ run.name run.arity (ds ++ d ∷ []) before (tree ∷ []) trees (new_last ds d before are below))
 
 -- a run of the last predicate
 pub run_joined : (ds : List Defines) (run : Predicate) (before : List Predicate) (last : Predicate) → AreDefined ds (before ++ last ∷ [])
-    → same last.name last.arity run.name run.arity ≡ true
-    → AreDefined (ds ++ all_of run) (before ++ record { name = last.name; arity = last.arity; clauses = last.clauses ++ run.clauses } ∷ [])
+    → same last.module_ last.name last.arity run.module_ run.name run.arity ≡ true
+    → AreDefined (ds ++ all_of run) (before ++ record { module_ = last.module_; name = last.name; arity = last.arity; clauses = last.clauses ++ run.clauses } ∷ [])
 run_joined ds run before last are is = by_clauses run.clauses
   where
-    by_clauses : (clauses : List Tree) → AreDefined (ds ++ defined_by_all run.name run.arity clauses)
-        (before ++ record { name = last.name; arity = last.arity; clauses = last.clauses ++ clauses } ∷ [])
-    by_clauses [] = more_of_last ds (record { name = run.name; arity = run.arity; clause = None }) before last are is
+    by_clauses : (clauses : List Tree) → AreDefined (ds ++ defined_by_all run.module_ run.name run.arity clauses)
+        (before ++ record { module_ = last.module_; name = last.name; arity = last.arity; clauses = last.clauses ++ clauses } ∷ [])
+    by_clauses [] = more_of_last ds (record { module_ = run.module_; name = run.name; arity = run.arity; clause = None }) before last are is
     by_clauses (tree ∷ trees) =
-        let parts = same_parts last.name last.arity run.name run.arity is in
-        subst (λ es. AreDefined (ds ++ es) (before ++ record { name = last.name; arity = last.arity; clauses = last.clauses ++ tree ∷ trees } ∷ []))
-        (λ i. map (defined_by (parts.0 i) (parts.1 i)) (tree ∷ trees))
-        (more_clauses last.name last.arity ds before last.clauses (tree ∷ trees) are)
+        let parts = same_parts last.module_ last.name last.arity run.module_ run.name run.arity is in
+        subst (λ es. AreDefined (ds ++ es) (before ++ record { module_ = last.module_; name = last.name; arity = last.arity; clauses = last.clauses ++ tree ∷ trees } ∷ []))
+        (λ i. map (defined_by (parts.0 i) (parts.1 i) (parts.2 i)) (tree ∷ trees))
+        (more_clauses last.module_ last.name last.arity ds before last.clauses (tree ∷ trees) are)
 
 -- all so far come before a predicate that isn't the last one's, where no definition so far comes after it
 all_before : (ds : List Defines) (run : Predicate) (before : List Predicate) (last : Predicate) → AreDefined ds (before ++ last ∷ [])
-    → NoneIsAfter run ds → same last.name last.arity run.name run.arity ≡ false → All (λ p. predicate_cmp p run ≡ Less) (before ++ last ∷ [])
+    → NoneIsAfter run ds → same last.module_ last.name last.arity run.module_ run.name run.arity ≡ false → All (λ p. predicate_cmp p run ≡ Less) (before ++ last ∷ [])
 all_before ds run before last are up other =
     let has = (are.each last (Contains-push before last)).0 in
     let less : predicate_cmp last run ≡ Less =
     Less-from_apart last run
-    (All-contains (λ (e : Defines). is_lt (predicate_cmp run (key e.name e.arity)) ≡ false) ds
-    (record { name = last.name; arity = last.arity; clause = has.clause }) up has.stands)
+    (All-contains (λ (e : Defines). is_lt (predicate_cmp run (key e.module_ e.name e.arity)) ≡ false) ds
+    (record { module_ = last.module_; name = last.name; arity = last.arity; clause = has.clause }) up has.stands)
     other in
     All-push (λ p. predicate_cmp p run ≡ Less) before last
     (All-weaker (λ p. predicate_cmp p last ≡ Less) (λ p. predicate_cmp p run ≡ Less)
@@ -237,7 +237,7 @@ add_to_none ds run old new empty is are =
     (run_added ds (see_defined run) [] (subst (AreDefined ds) (ap (map see_defined) empty) are) (All-nil (λ p. predicate_cmp p (see_defined run) ≡ Less)))
 
 pub add_behind : (ds : List Defines) (run : Defined) (old kept held new : List Defined) (last : Defined) → old ≡ kept ++ last ∷ []
-    → held ≡ kept ++ last ∷ [] → new ≡ held ++ run ∷ [] → same last.name last.arity run.name run.arity ≡ false → NoneIsAfter (see_defined run) ds
+    → held ≡ kept ++ last ∷ [] → new ≡ held ++ run ∷ [] → same last.module last.name last.arity run.module run.name run.arity ≡ false → NoneIsAfter (see_defined run) ds
     → AreDefined ds (map see_defined old) → AreDefined (ds ++ see_run run) (map see_defined new)
 add_behind ds run old kept held new last was stays is other up are =
     let front = map see_defined kept in
@@ -252,21 +252,22 @@ add_behind ds run old kept held new last was stays is other up are =
     (run_added ds (see_defined run) (front ++ see_defined last ∷ []) so_far (all_before ds (see_defined run) front (see_defined last) so_far up other))
 
 pub add_to_last : (ds : List Defines) (run : Defined) (old kept new : List Defined) (last longer : Defined) → old ≡ kept ++ last ∷ []
-    → new ≡ kept ++ longer ∷ [] → longer.name ≡ last.name → longer.arity ≡ last.arity
+    → new ≡ kept ++ longer ∷ [] → longer.module ≡ last.module → longer.name ≡ last.name → longer.arity ≡ last.arity
     → longer.clauses.items ≡ last.clauses.items ++ run.clauses.items
-    → same last.name last.arity run.name run.arity ≡ true
+    → same last.module last.name last.arity run.module run.name run.arity ≡ true
     → AreDefined ds (map see_defined old) → AreDefined (ds ++ see_run run) (map see_defined new)
-add_to_last ds run old kept new last longer was is names arities clauses own are =
+add_to_last ds run old kept new last longer was is modules names arities clauses own are =
     let front = map see_defined kept in
     let before : map see_defined old ≡ front ++ see_defined last ∷ [] = ap (map see_defined) was ∙ map-append see_defined kept (last ∷ []) in
     let trees : map clause_tree longer.clauses.items ≡ map clause_tree last.clauses.items ++ map clause_tree run.clauses.items =
     ap (map clause_tree) clauses ∙ map-append clause_tree last.clauses.items run.clauses.items in
     let whole : Predicate = record {
+      module_ = last.module;
       name = last.name;
       arity = last.arity;
       clauses = map clause_tree last.clauses.items ++ map clause_tree run.clauses.items;
     } in
-    let seen : see_defined longer ≡ whole = λ i. record { name = names i; arity = arities i; clauses = trees i } in
+    let seen : see_defined longer ≡ whole = λ i. record { module_ = modules i; name = names i; arity = arities i; clauses = trees i } in
     let after : front ++ whole ∷ [] ≡ map see_defined new =
     sym (ap (map see_defined) is ∙ map-append see_defined kept (longer ∷ []) ∙ ap (λ p. front ++ p ∷ []) seen) in
     subst (AreDefined (ds ++ see_run run)) after
@@ -277,7 +278,7 @@ unfolding IsStrictlySortedBy
 none_defined = record {
   in_order = tt;
   each = λ p has. absurd (let below : has.0 < 0 = has.1 in let none : ⊥ = omega arith in none);
-  all = λ name arity has. absurd (let below : has.stands.0 < 0 = has.stands.1 in let none : ⊥ = omega arith in none);
+  all = λ owner name arity has. absurd (let below : has.stands.0 < 0 = has.stands.1 in let none : ⊥ = omega arith in none);
 }
 
 -- the definitions leave one answer
@@ -288,4 +289,4 @@ one_grouping ds ps qs are others =
     members : (ds : List Defines) (ps qs : List Predicate) → AreDefined ds ps → AreDefined ds qs → (p : Predicate) → Contains ps p → Contains qs p
     members ds ps qs are others p has =
         let is = are.each p has in
-        subst (λ cs. Contains qs (record { name = p.name; arity = p.arity; clauses = cs })) (sym is.1) (others.all p.name p.arity is.0)
+        subst (λ cs. Contains qs (record { module_ = p.module_; name = p.name; arity = p.arity; clauses = cs })) (sym is.1) (others.all p.module_ p.name p.arity is.0)

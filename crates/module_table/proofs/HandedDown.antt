@@ -1,5 +1,5 @@
 -- What holds of a term and is handed down to the terms within it, and what so holds of where they start.
-use Rattle.std.proofs.Common.{◌≡◌, ℕ, Bool, true, false, List, [], ◌∷◌, ◌++◌, Option, Some, None, codes, refl, sym, ◌∙◌, subst, arith, if◌then◌else◌}
+use Rattle.std.proofs.Common.{◌≡◌, ℕ, Bool, true, false, List, [], ◌∷◌, ◌++◌, Option, Some, None, codes, length, refl, sym, ◌∙◌, subst, arith, if◌then◌else◌}
 use Rattle.std.specs.Prelude.{All}
 use Rattle.std.specs.Str.{bytes_eq}
 use Rattle.std.proofs.lemmas.List.Elements.{All-nil, All-cons, All-append}
@@ -11,13 +11,15 @@ use Rattle.clause_text.specs.Lists.{written_at, written_items}
 use Rattle.module_table.specs.Heads.{is_pushback, before_pushback, grammar_head}
 use Rattle.module_table.specs.Indicators.{list_of}
 
--- what is handed down, and what so holds of where a term starts
+-- what is handed down, and what so holds of where a term starts and of how many arguments it has
 pub record HandsDown : Type 1 where
   pub Good : Tree → Type 0
   pub At : ℕ → Type 0
+  pub Many : ℕ → Type 0
   pub start : (tree : Tree) → Good tree → At (span_of tree).from
   pub inner : (inner : Tree) (span : Span) → Good (paren inner span) → Good inner
   pub args : (name : List ℕ) (args : Trees) (form : Form) (span : Span) → Good (compound name args form span) → All Good (trees_in args)
+  pub many : (name : List ℕ) (args : Trees) (form : Form) (span : Span) → Good (compound name args form span) → Many (length (trees_in args))
   pub items : (items : Trees) (span : Span) → Good (listed items span) → All Good (trees_in items)
 
 module _ (k : HandsDown) where

@@ -1,10 +1,11 @@
 -- What is said, by kind.
-use Rattle.std.proofs.Common.{◌≡◌, List, [], ◌∷◌, ◌++◌, Option, Some, None, Result, Ok, Err, refl, ap, sym, ◌∙◌, append_assoc, append-nil}
+use Rattle.std.proofs.Common.{◌≡◌, map, List, [], ◌∷◌, ◌++◌, Option, Some, None, Result, Ok, Err, refl, ap, sym, ◌∙◌, append_assoc, append-nil}
 use Rattle.std.specs.List.{filter_map}
 use Rattle.std.proofs.lemmas.List.Elements.{filter_map-append}
 use Rattle.module_table.specs.declared.kinds.Kinds.{Kinds}
-use Rattle.module_table.specs.Said.{Said, Part, Refusal, Declares, declares, loads, defines, goal, more, in_turn}
-use Rattle.module_table.specs.Kinds.{declared_part, load_part, defined_part, goal_part, first_of, first_module_seen, ByKind, see_kinds, none_said, with_part, with_parts, with_said, AreSaid}
+use Rattle.module_table.specs.Metas.{Takes}
+use Rattle.module_table.specs.Said.{Said, Part, Refusal, Declares, declares, loads, defines, takes, goal, more, in_turn}
+use Rattle.module_table.specs.Kinds.{declared_part, load_part, defined_part, takes_part, goal_part, first_of, first_module_seen, ByKind, see_kinds, none_said, with_part, with_parts, with_said, AreSaid}
 
 module _ {B : Type 0} (f : Part → Option B) (parts : List Part) (part : Part) where
   only_none : (found : Option B) → f part ≡ found → found ≡ None → filter_map f (part ∷ []) ≡ []
@@ -30,6 +31,7 @@ by_kind parts = record {
   declared = first_of (filter_map declared_part parts);
   loads = filter_map load_part parts;
   definitions = filter_map defined_part parts;
+  takes = filter_map takes_part parts;
   goals = filter_map goal_part parts;
 }
 
@@ -39,29 +41,41 @@ one_more before (declares own) =
     let declared = first_more (filter_map declared_part before) own ∙ ap first_of (sym (added declared_part before part own refl)) in
     let loads_kept = sym (kept load_part before part refl) in
     let definitions = sym (kept defined_part before part refl) in
+    let takes_kept = sym (kept takes_part before part refl) in
     let goals = sym (kept goal_part before part refl) in
-    λ i. record { declared = declared i; loads = loads_kept i; definitions = definitions i; goals = goals i }
+    λ i. record { declared = declared i; loads = loads_kept i; definitions = definitions i; takes = takes_kept i; goals = goals i }
 one_more before (loads own) =
     let part = loads own in
     let declared = ap first_of (sym (kept declared_part before part refl)) in
     let loads_more = sym (added load_part before part own refl) in
     let definitions = sym (kept defined_part before part refl) in
+    let takes_kept = sym (kept takes_part before part refl) in
     let goals = sym (kept goal_part before part refl) in
-    λ i. record { declared = declared i; loads = loads_more i; definitions = definitions i; goals = goals i }
+    λ i. record { declared = declared i; loads = loads_more i; definitions = definitions i; takes = takes_kept i; goals = goals i }
 one_more before (defines own) =
     let part = defines own in
     let declared = ap first_of (sym (kept declared_part before part refl)) in
     let loads_kept = sym (kept load_part before part refl) in
     let definitions = sym (added defined_part before part own refl) in
+    let takes_kept = sym (kept takes_part before part refl) in
     let goals = sym (kept goal_part before part refl) in
-    λ i. record { declared = declared i; loads = loads_kept i; definitions = definitions i; goals = goals i }
+    λ i. record { declared = declared i; loads = loads_kept i; definitions = definitions i; takes = takes_kept i; goals = goals i }
+one_more before (takes own) =
+    let part = takes own in
+    let declared = ap first_of (sym (kept declared_part before part refl)) in
+    let loads_kept = sym (kept load_part before part refl) in
+    let definitions = sym (kept defined_part before part refl) in
+    let takes_more = sym (added takes_part before part own refl) in
+    let goals = sym (kept goal_part before part refl) in
+    λ i. record { declared = declared i; loads = loads_kept i; definitions = definitions i; takes = takes_more i; goals = goals i }
 one_more before (goal own) =
     let part = goal own in
     let declared = ap first_of (sym (kept declared_part before part refl)) in
     let loads_kept = sym (kept load_part before part refl) in
     let definitions = sym (kept defined_part before part refl) in
+    let takes_kept = sym (kept takes_part before part refl) in
     let goals = sym (added goal_part before part own refl) in
-    λ i. record { declared = declared i; loads = loads_kept i; definitions = definitions i; goals = goals i }
+    λ i. record { declared = declared i; loads = loads_kept i; definitions = definitions i; takes = takes_kept i; goals = goals i }
 
 some_more : (before parts : List Part) → with_parts (by_kind before) parts ≡ by_kind (before ++ parts)
 some_more before [] = ap by_kind (sym (append-nil before))
@@ -81,7 +95,7 @@ are_said (Ok parts) kinds is =
     record {
       parts = parts;
       is = refl;
-      are = record { declared = ap (λ k. k.declared) same; loads = ap (λ k. k.loads) same; definitions = ap (λ k. k.definitions) same; goals = ap (λ k. k.goals) same };
+      are = record { declared = ap (λ k. k.declared) same; loads = ap (λ k. k.loads) same; definitions = ap (λ k. k.definitions) same; takes = ap (λ k. k.takes) same; goals = ap (λ k. k.goals) same };
     }
 are_said (Err refusal) kinds is = let both : Err refusal ≡ told (see_kinds kinds) = is in absurd (cc)
 
@@ -98,6 +112,11 @@ with_more k parts (Err refusal) = refl
 pub kinds_go_on : (old mid new : ByKind) (a b : Said) → with_said old a ≡ Ok mid → with_said mid b ≡ Ok new → with_said old (in_turn a b) ≡ Ok new
 kinds_go_on old mid new (Ok parts) b is also = with_more old parts b ∙ (ap (λ k. with_said k b) (told_once (with_parts old parts) mid is) ∙ also)
 kinds_go_on old mid new (Err refusal) b is also = let both : Err refusal ≡ told mid = is in absurd (cc)
+
+-- declarations behind what was said
+pub takes_on : (k : ByKind) (more : List Takes) → with_parts k (map takes more) ≡ record k { takes = k.takes ++ more }
+takes_on k [] = λ i. record k { takes = sym (append-nil k.takes) i }
+takes_on k (one ∷ more) = takes_on (with_part k (takes one)) more ∙ (λ i. record k { takes = append_assoc k.takes (one ∷ []) more i })
 
 -- the parts that were added
 pub added_parts : (old new : ByKind) (said : Said) → with_said old said ≡ Ok new → (parts : List Part) × (said ≡ Ok parts)

@@ -7,8 +7,10 @@ pub mod SortedRuns
 pub mod PredicateOrder
 pub mod HeadLemmas
 pub mod Parts
+pub mod TakesLemmas
 pub mod KindLemmas
 pub mod DirectiveShapes
+pub mod DynamicShapes
 pub mod FileLemmas
 pub mod OneFacts
 pub mod Segments

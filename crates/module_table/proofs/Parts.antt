@@ -5,23 +5,12 @@ use Rattle.prolog_terms.specs.Tree.{Tree, variable, constant, atom, compound, li
 use Rattle.prolog_terms.specs.Views.{inside, sides_of, atom_name}
 use Rattle.prolog_terms.proofs.ViewLemmas.{of_sides, of_none}
 use Rattle.module_table.specs.Said.{in_turn}
-use Rattle.module_table.specs.Indicators.{one_indicator}
 use Rattle.module_table.specs.Loading.{both_texts, path_text}
-use Rattle.module_table.specs.Directives.{shallow_said, directive_said}
+use Rattle.module_table.specs.Directives.{Home, shallow_said, directive_said}
 
 -- commas
 
-pub indicator_inside : (tree : Tree) → one_indicator (inside tree) ≡ one_indicator tree
-indicator_inside (variable span) = refl
-indicator_inside (constant kind minus value span) = refl
-indicator_inside (atom name span) = refl
-indicator_inside (compound name args form span) = refl
-indicator_inside (listed items span) = refl
-indicator_inside (tailed items tail span) = refl
-indicator_inside (curly inner span) = refl
-indicator_inside (paren inner span) = indicator_inside inner
-
-pub directive_sides : (user : List ℕ) (first : Bool) (tree l r : Tree) → sides_of (codes ",") tree ≡ Some (l, r)
+pub directive_sides : (user : Home) (first : Bool) (tree l r : Tree) → sides_of (codes ",") tree ≡ Some (l, r)
     → directive_said user first tree ≡ in_turn (directive_said user false l) (directive_said user false r)
 directive_sides user first (compound name (with_more left (with_more right none)) form span) l r is =
     of_sides (λ a b. in_turn (directive_said user false a) (directive_said user false b))
@@ -29,7 +18,7 @@ directive_sides user first (compound name (with_more left (with_more right none)
 directive_sides user first (paren inner span) l r is = directive_sides user first inner l r is
 directive_sides user first tree l r is = let none : None ≡ Some (l, r) = is in absurd (cc)
 
-pub directive_alone : (user : List ℕ) (first : Bool) (tree : Tree) → sides_of (codes ",") tree ≡ None → directive_said user first tree ≡ shallow_said user first (inside tree)
+pub directive_alone : (user : Home) (first : Bool) (tree : Tree) → sides_of (codes ",") tree ≡ None → directive_said user first tree ≡ shallow_said user first (inside tree)
 directive_alone user first (compound name (with_more left (with_more right none)) form span) is =
     of_none (λ a b. in_turn (directive_said user false a) (directive_said user false b))
     (shallow_said user first (compound name (with_more left (with_more right none)) form span)) (bytes_eq name (codes ",")) left right is

@@ -20,30 +20,34 @@ use Rattle.module_table.specs.Defined.{Predicate, predicate_cmp, key}
 
 pub predicate_cmp_total : IsTotalOrder predicate_cmp
 predicate_cmp_total =
-    then_total (on_total (λ (p : Predicate). p.name) nat_list_cmp_total) (on_total (λ (p : Predicate). p.arity) nat_cmp_total)
+    then_total (on_total (λ (p : Predicate). p.module_) nat_list_cmp_total)
+    (then_total (on_total (λ (p : Predicate). p.name) nat_list_cmp_total) (on_total (λ (p : Predicate). p.arity) nat_cmp_total))
 
--- whether two names with their arities are those of one predicate
-abbrev pub same : List ℕ → ℕ → List ℕ → ℕ → Bool
-same name arity n k = bytes_eq name n && nat_eq arity k
+-- whether two modules, names and arities are those of one predicate
+abbrev pub same : List ℕ → List ℕ → ℕ → List ℕ → List ℕ → ℕ → Bool
+same owner name arity m n k = bytes_eq owner m && (bytes_eq name n && nat_eq arity k)
 
-pub same_ties : (name : List ℕ) (arity : ℕ) (n : List ℕ) (k : ℕ) → same name arity n k ≡ is_eq (predicate_cmp (key name arity) (key n k))
-same_ties name arity n k = both_tied _ _ _ _ (texts_ties name n) (unsigned_ties arity k)
+pub same_ties : (owner name : List ℕ) (arity : ℕ) (m n : List ℕ) (k : ℕ)
+    → same owner name arity m n k ≡ is_eq (predicate_cmp (key owner name arity) (key m n k))
+same_ties owner name arity m n k = both_tied _ _ _ _ (texts_ties owner m) (both_tied _ _ _ _ (texts_ties name n) (unsigned_ties arity k))
 
-pub same_parts : (name : List ℕ) (arity : ℕ) (n : List ℕ) (k : ℕ) → same name arity n k ≡ true → (name ≡ n) × (arity ≡ k)
-same_parts name arity n k e =
-    let both = and_parts (bytes_eq name n) (nat_eq arity k) e in
-    ((bytes_eq-Decides name n).0 both.0, (Decides-eqb arity k).0 both.1)
+pub same_parts : (owner name : List ℕ) (arity : ℕ) (m n : List ℕ) (k : ℕ) → same owner name arity m n k ≡ true
+    → (owner ≡ m) × (name ≡ n) × (arity ≡ k)
+same_parts owner name arity m n k e =
+    let outer = and_parts (bytes_eq owner m) (bytes_eq name n && nat_eq arity k) e in
+    let both = and_parts (bytes_eq name n) (nat_eq arity k) outer.1 in
+    ((bytes_eq-Decides owner m).0 outer.0, (bytes_eq-Decides name n).0 both.0, (Decides-eqb arity k).0 both.1)
 
-pub same_itself : (name : List ℕ) (arity : ℕ) → same name arity name arity ≡ true
-same_itself name arity = same_ties name arity name arity ∙ ap is_eq (tied_itself predicate_cmp_total (key name arity))
+pub same_itself : (owner name : List ℕ) (arity : ℕ) → same owner name arity owner name arity ≡ true
+same_itself owner name arity = same_ties owner name arity owner name arity ∙ ap is_eq (tied_itself predicate_cmp_total (key owner name arity))
 
-pub apart_from_Less : (p q : Predicate) → predicate_cmp p q ≡ Less → same p.name p.arity q.name q.arity ≡ false
-apart_from_Less p q e = same_ties p.name p.arity q.name q.arity ∙ ap is_eq e
+pub apart_from_Less : (p q : Predicate) → predicate_cmp p q ≡ Less → same p.module_ p.name p.arity q.module_ q.name q.arity ≡ false
+apart_from_Less p q e = same_ties p.module_ p.name p.arity q.module_ q.name q.arity ∙ ap is_eq e
 
 -- of two predicates, the first of which isn't after the second
-pub Less-from_apart : (p q : Predicate) → is_lt (predicate_cmp q p) ≡ false → same p.name p.arity q.name q.arity ≡ false → predicate_cmp p q ≡ Less
+pub Less-from_apart : (p q : Predicate) → is_lt (predicate_cmp q p) ≡ false → same p.module_ p.name p.arity q.module_ q.name q.arity ≡ false → predicate_cmp p q ≡ Less
 Less-from_apart p q up other =
-    rank (predicate_cmp q p) (predicate_cmp p q) (predicate_cmp_total.antisymm p q) up (sym (same_ties p.name p.arity q.name q.arity) ∙ other)
+    rank (predicate_cmp q p) (predicate_cmp p q) (predicate_cmp_total.antisymm p q) up (sym (same_ties p.module_ p.name p.arity q.module_ q.name q.arity) ∙ other)
   where
     rank : (back r : Ordering) → r ≡ ordering_reverse back → is_lt back ≡ false → is_eq r ≡ false → r ≡ Less
     rank Less r e up other = cc

@@ -34,12 +34,12 @@ pub all_then : (before : List Defined) (run : Defined) → flat_map see_run (bef
 all_then before run = flat_map-append see_run before (run ∷ []) ∙ ap (λ ds. flat_map see_run before ++ ds) (append-nil (see_run run))
 
 -- one more clause of a run with clauses
-one_more : (name : List ℕ) (arity : ℕ) (clauses : List Clause) (clause : Clause) → clauses ≢ []
-    → defined_by_all name arity (map clause_tree (clauses ++ clause ∷ [])) ≡ defined_by_all name arity (map clause_tree clauses) ++ defined_by name arity (clause_tree clause) ∷ []
-one_more name arity [] clause some = absurd (some refl)
-one_more name arity (first ∷ clauses) clause some =
-    ap (map (defined_by name arity)) (map-append clause_tree (first ∷ clauses) (clause ∷ []))
-    ∙ map-append (defined_by name arity) (map clause_tree (first ∷ clauses)) (clause_tree clause ∷ [])
+one_more : (owner name : List ℕ) (arity : ℕ) (clauses : List Clause) (clause : Clause) → clauses ≢ []
+    → defined_by_all owner name arity (map clause_tree (clauses ++ clause ∷ [])) ≡ defined_by_all owner name arity (map clause_tree clauses) ++ defined_by owner name arity (clause_tree clause) ∷ []
+one_more owner name arity [] clause some = absurd (some refl)
+one_more owner name arity (first ∷ clauses) clause some =
+    ap (map (defined_by owner name arity)) (map-append clause_tree (first ∷ clauses) (clause ∷ []))
+    ∙ map-append (defined_by owner name arity) (map clause_tree (first ∷ clauses)) (clause_tree clause ∷ [])
 
 -- two lists that end in one each end in the same
 ends_once : (xs ys : List Defined) (x y : Defined) → xs ++ x ∷ [] ≡ ys ++ y ∷ [] → (xs ≡ ys) × (x ≡ y)
@@ -55,24 +55,25 @@ ends_once (a ∷ xs) (b ∷ ys) x y e =
     ((λ i. first i ∷ rest.0 i), rest.1)
 
 -- one more clause of the last run
-pub push_to_last : (name : List ℕ) (arity : ℕ) (old before new : List Defined) (last longer : Defined) (clause : Clause) → EndIn name arity old
-    → old ≡ before ++ last ∷ [] → new ≡ before ++ longer ∷ [] → longer.name ≡ last.name → longer.arity ≡ last.arity
+pub push_to_last : (owner name : List ℕ) (arity : ℕ) (old before new : List Defined) (last longer : Defined) (clause : Clause) → EndIn owner name arity old
+    → old ≡ before ++ last ∷ [] → new ≡ before ++ longer ∷ [] → longer.module ≡ last.module → longer.name ≡ last.name → longer.arity ≡ last.arity
     → longer.clauses.items ≡ last.clauses.items ++ clause ∷ []
-    → flat_map see_run new ≡ flat_map see_run old ++ defined_by name arity (clause_tree clause) ∷ []
-push_to_last name arity old before new last longer clause end was is names arities clauses =
+    → flat_map see_run new ≡ flat_map see_run old ++ defined_by owner name arity (clause_tree clause) ∷ []
+push_to_last owner name arity old before new last longer clause end was is modules names arities clauses =
     let it : last ≡ end.last = (ends_once before end.before last end.last (sym was ∙ end.are)).1 in
     let some : last.clauses.items ≢ [] = λ none. end.some (subst (λ (r : Defined). r.clauses.items ≡ []) it none) in
+    let own_module : last.module ≡ owner = ap (λ (r : Defined). r.module) it ∙ end.modules in
     let own_name : last.name ≡ name = ap (λ (r : Defined). r.name) it ∙ end.names in
     let own_arity : last.arity ≡ arity = ap (λ (r : Defined). r.arity) it ∙ end.arities in
-    let seen : see_run longer ≡ see_run last ++ defined_by name arity (clause_tree clause) ∷ [] =
-    (λ i. defined_by_all (names i) (arities i) (map clause_tree (clauses i)))
-    ∙ one_more last.name last.arity last.clauses.items clause some
-    ∙ (λ i. see_run last ++ defined_by (own_name i) (own_arity i) (clause_tree clause) ∷ []) in
+    let seen : see_run longer ≡ see_run last ++ defined_by owner name arity (clause_tree clause) ∷ [] =
+    (λ i. defined_by_all (modules i) (names i) (arities i) (map clause_tree (clauses i)))
+    ∙ one_more last.module last.name last.arity last.clauses.items clause some
+    ∙ (λ i. see_run last ++ defined_by (own_module i) (own_name i) (own_arity i) (clause_tree clause) ∷ []) in
     ap (flat_map see_run) is
     ∙ all_then before longer
     ∙ ap (λ ds. flat_map see_run before ++ ds) seen
-    ∙ sym (append_assoc (flat_map see_run before) (see_run last) (defined_by name arity (clause_tree clause) ∷ []))
-    ∙ ap (λ ds. ds ++ defined_by name arity (clause_tree clause) ∷ []) (sym (ap (flat_map see_run) was ∙ all_then before last))
+    ∙ sym (append_assoc (flat_map see_run before) (see_run last) (defined_by owner name arity (clause_tree clause) ∷ []))
+    ∙ ap (λ ds. ds ++ defined_by owner name arity (clause_tree clause) ∷ []) (sym (ap (flat_map see_run) was ∙ all_then before last))
 
 -- whether there are clauses, and the last run is of a predicate
 
@@ -82,16 +83,18 @@ some_there clauses count counted some none =
     let clash : true ≡ false = sym (ap (λ n. n == 0) zero) ∙ some in
     absurd (cc)
 
-pub ends_here : (test : Bool) (name : List ℕ) (arity : ℕ) (runs before : List Defined) (last : Defined) → runs ≡ before ++ last ∷ [] → last.clauses.items ≢ []
-    → test ≡ (nat_eq last.arity arity && bytes_eq last.name name) → OnTrue test (EndIn name arity runs)
-ends_here true name arity runs before last are some is =
-    let both = and_parts (nat_eq last.arity arity) (bytes_eq last.name name) (sym is) in
+pub ends_here : (test : Bool) (owner name : List ℕ) (arity : ℕ) (runs before : List Defined) (last : Defined) → runs ≡ before ++ last ∷ [] → last.clauses.items ≢ []
+    → test ≡ (nat_eq last.arity arity && (bytes_eq last.name name && bytes_eq last.module owner)) → OnTrue test (EndIn owner name arity runs)
+ends_here true owner name arity runs before last are some is =
+    let both = and_parts (nat_eq last.arity arity) (bytes_eq last.name name && bytes_eq last.module owner) (sym is) in
+    let texts = and_parts (bytes_eq last.name name) (bytes_eq last.module owner) both.1 in
     record {
       before = before;
       last = last;
       are = are;
-      names = (bytes_eq-Decides last.name name).0 both.1;
+      modules = (bytes_eq-Decides last.module owner).0 texts.1;
+      names = (bytes_eq-Decides last.name name).0 texts.0;
       arities = (Decides-eqb last.arity arity).0 both.0;
       some = some;
     }
-ends_here false name arity runs before last are some is = tt
+ends_here false owner name arity runs before last are some is = tt

@@ -1,30 +1,35 @@
 -- Clauses define no more than they weigh.
-use Rattle.std.proofs.Common.{◌≡◌, ℕ, ◌+◌, ◌≤◌, Bool, true, false, ◌||◌, List, [], ◌∷◌, ◌++◌, Option, Some, None, Result, Ok, Err, length, map, sum_by, codes, refl, ap, subst, ◌∙◌, sym, arith, if◌then◌else◌, length-append}
+use Rattle.std.proofs.Common.{◌≡◌, ℕ, ◌+◌, ◌≤◌, Bool, true, false, ◌||◌, ◌&&◌, List, [], ◌∷◌, ◌++◌, Option, Some, None, Result, Ok, Err, length, sum_by, codes, refl, ap, subst, ◌∙◌, sym, arith, if◌then◌else◌, length-append, map}
 use Rattle.std.specs.List.{filter_map}
 use Rattle.std.specs.Str.{bytes_eq}
 use Rattle.std.proofs.lemmas.List.Elements.{filter_map-append}
 use Rattle.std.proofs.lemmas.List.Sums.{sum_by-cons}
-use Rattle.prolog_terms.specs.Tree.{Tree, variable, constant, atom, compound, listed, tailed, curly, paren, more as with_more, none}
-use Rattle.prolog_terms.specs.Views.{inside, trees_in, joined, atom_name, Named}
-use Rattle.prolog_terms.specs.Weight.{weight}
-use Rattle.prolog_terms.proofs.ViewLemmas.{inside_weight, items_count, joined_count}
-use Rattle.clause_text.specs.Lists.{written_at, written_items}
+use Rattle.prolog_terms.specs.Tree.{Tree, Trees, variable, constant, atom, compound, listed, tailed, curly, paren, more as with_more, none}
+use Rattle.prolog_terms.specs.Views.{inside, trees_in, atom_name}
+use Rattle.prolog_terms.specs.Weight.{weight, weights}
+use Rattle.prolog_terms.proofs.ViewLemmas.{inside_weight}
+use Rattle.clause_text.specs.Lists.{written_items}
 use Rattle.clause_text.specs.Items.{directive_at, directive_of}
 use Rattle.clause_text.specs.Clauses.{total_weight}
 use Rattle.module_table.specs.declared.indicator.Indicator.{Indicator}
 use Rattle.module_table.specs.declared.load.LoadKind.{LoadKind}
 use Rattle.module_table.specs.declared.load.LoadKind.TheVariants.{UseAll, UseSome, Ensure}
-use Rattle.module_table.specs.Said.{Said, Part, Refusal, in_turn, each_said}
-use Rattle.module_table.specs.Kinds.{defined_part}
-use Rattle.module_table.specs.Heads.{is_among}
-use Rattle.module_table.specs.Indicators.{indicator, one_indicator, indicators, list_of, declared_indicators, listed_indicators}
+use Rattle.module_table.specs.Metas.{Takes, taking, where_named, takes_of, all_takes}
+use Rattle.module_table.specs.Said.{Said, Part, Refusal, refused, in_turn, each_said, takes}
+use Rattle.clause_text.specs.declared.cause.Cause.TheVariants.{BadIndicator}
+use Rattle.module_table.specs.Kinds.{defined_part, takes_part}
+use Rattle.module_table.specs.Heads.{is_among, Owned}
+use Rattle.module_table.specs.Indicators.{listed_indicators}
+use Rattle.module_table.specs.declared.dynamic.Standing.{Standing}
+use Rattle.module_table.specs.declared.dynamic.Standing.TheVariants.{Whole, Joint, Item}
+use Rattle.module_table.specs.Dynamic.{owned, bare_said, is_joint, is_whole, dynamic_at, each_dynamic}
 use Rattle.module_table.specs.Loading.{is_system, file_of, load_said, loads_said, use_all_said}
-use Rattle.module_table.specs.Directives.{defined_bare, defined_said, some_said, exports, declared_said, module_name, module_said, silent_names, outside_names, one_said, two_said, three_said, shallow_said, directive_said}
-use Rattle.module_table.specs.Facts.{clause_head, headed, clause_said, file_said}
+use Rattle.module_table.specs.Directives.{Home, some_said, exports, declared_said, module_name, module_said, silent_names, outside_names, one_said, two_said, three_said, shallow_said, directive_said, meta_said}
+use Rattle.module_table.specs.Facts.{clause_head, headed, clause_said, trees_said}
 
--- how many things a file defines
+-- how many things a file defines, and for how many it declares goal arguments
 abbrev pub definitions : List Part → ℕ
-definitions parts = length (filter_map defined_part parts)
+definitions parts = length (filter_map defined_part parts) + length (filter_map takes_part parts)
 
 -- what is told has at most so many
 abbrev Few : {A : Type 0} → (List A → ℕ) → ℕ → Result (List A) Refusal → Type 0
@@ -43,7 +48,14 @@ more_allowed m n (Ok parts) less few = omega (arith, less, few)
 more_allowed m n (Err refusal) less few = tt
 
 both_counted : (xs ys : List Part) → definitions (xs ++ ys) ≡ definitions xs + definitions ys
-both_counted xs ys = ap length (filter_map-append defined_part xs ys) ∙ length-append (filter_map defined_part xs) (filter_map defined_part ys)
+both_counted xs ys =
+    omega (
+      arith,
+      ap length (filter_map-append defined_part xs ys),
+      length-append (filter_map defined_part xs) (filter_map defined_part ys),
+      ap length (filter_map-append takes_part xs ys),
+      length-append (filter_map takes_part xs) (filter_map takes_part ys),
+    )
 
 turns : (m n : ℕ) (a b : Said) → DefinesAtMost m a → DefinesAtMost n b → DefinesAtMost (m + n) (in_turn a b)
 turns m n (Ok xs) (Ok ys) first second = omega (arith, first, second, both_counted xs ys)
@@ -56,89 +68,108 @@ each_counted f says one (tree ∷ trees) =
     subst (λ n. DefinesAtMost n (in_turn (says tree) (each_said says trees))) (sym (sum_by-cons f tree trees))
     (turns (f tree) (sum_by f trees) (says tree) (each_said says trees) (one tree) (each_counted f says one trees))
 
--- indicators
+-- what `dynamic` and `multifile` define
 
-list_turns : (m n : ℕ) (a b : Result (List Indicator) Refusal) → Few length m a → Few length n b → Few length (m + n) (in_turn a b)
-list_turns m n (Ok xs) (Ok ys) first second = omega (arith, first, second, length-append xs ys)
-list_turns m n (Ok xs) (Err refusal) first second = tt
-list_turns m n (Err refusal) b first second = tt
-
-one_listed : (tree : Tree) → Few length 1 (one_indicator tree)
-one_listed tree = by_option (indicator tree) refl
+bare_few : (owner : List ℕ) (tree : Tree) → DefinesAtMost 1 (bare_said owner tree)
+bare_few owner tree = by_owned (owned owner tree) refl
   where
-    by_option : (found : Option Indicator) → indicator tree ≡ found → Few length 1 (one_indicator tree)
-    by_option (Some i) is = rw (is, one_indicator) (omega arith)
-    by_option None is = rw (is, one_indicator) tt
+    by_owned : (found : Option Owned) → owned owner tree ≡ found → DefinesAtMost 1 (bare_said owner tree)
+    by_owned (Some own) is = rw (is, bare_said) (omega arith)
+    by_owned None is = rw (is, bare_said) tt
 
-all_listed : (trees : List Tree) → Few length (length trees) (indicators trees)
-all_listed [] = omega arith
-all_listed (tree ∷ trees) =
-    let long : 1 + length trees ≡ length (tree ∷ trees) = omega arith in
-    subst (λ n. Few length n (indicators (tree ∷ trees))) long
-    (list_turns 1 (length trees) (one_indicator tree) (indicators trees) (one_listed tree) (all_listed trees))
+by_inner : (found : Option (List ℕ)) (right tree : Tree) → ((inner : List ℕ) → DefinesAtMost (weight tree + 1) (dynamic_at Whole inner right))
+    → DefinesAtMost (weight tree + 1) (elim found [ Some inner ↦ dynamic_at Whole inner right | None ↦ refused BadIndicator tree ])
+by_inner (Some inner) right tree all = all inner
+by_inner None right tree all = tt
 
-more_listed : (m n : ℕ) (told : Result (List Indicator) Refusal) → m ≤ n → Few length m told → Few length n told
-more_listed m n (Ok is) less few = omega (arith, less, few)
-more_listed m n (Err refusal) less few = tt
+mutual
+  dynamic_few : (at : Standing) (owner : List ℕ) (tree : Tree) → DefinesAtMost (weight tree + 1) (dynamic_at at owner tree)
+  dynamic_few at owner (compound own (with_more left (with_more right none)) form span) =
+      let tree = compound own (with_more left (with_more right none)) form span in
+      by_test (weight tree + 1) (is_joint at && bytes_eq own (codes ",")) _ _
+      (more_allowed (weight left + 1 + (weight right + 1)) (weight tree + 1) (in_turn (dynamic_at Joint owner left) (dynamic_at Joint owner right)) (omega arith)
+      (turns (weight left + 1) (weight right + 1) (dynamic_at Joint owner left) (dynamic_at Joint owner right) (dynamic_few Joint owner left) (dynamic_few Joint owner right)))
+      (by_test (weight tree + 1) (bytes_eq own (codes ":")) _ _
+      (by_inner (atom_name left) right tree (λ inner. more_allowed (weight right + 1) (weight tree + 1) (dynamic_at Whole inner right) (omega arith) (dynamic_few Whole inner right)))
+      (more_allowed 1 (weight tree + 1) (bare_said owner tree) (omega arith) (bare_few owner tree)))
+  dynamic_few at owner (listed items span) =
+      let tree = listed items span in
+      by_test (weight tree + 1) (is_whole at) _ _ (more_allowed (weights items) (weight tree + 1) (each_dynamic owner items) (omega arith) (each_dynamic_few owner items)) tt
+  dynamic_few at owner (atom own span) = by_test (weight (atom own span) + 1) (is_whole at && bytes_eq own (codes "[]")) _ _ (omega arith) tt
+  dynamic_few at owner (paren inner span) = more_allowed (weight inner + 1) (weight (paren inner span) + 1) (dynamic_at at owner inner) (omega arith) (dynamic_few at owner inner)
+  dynamic_few at owner tree = tt
 
-written_at_count : (tree : Tree) (items : List Tree) → written_at tree ≡ Some items → length items ≤ weight tree
-written_at_count (listed own span) items is =
-    let same : trees_in own ≡ items = (let both : Some (trees_in own) ≡ Some items = is in cc) in omega (arith, items_count own, ap length same)
-written_at_count tree items is = let both : None ≡ Some items = is in absurd (cc)
+  each_dynamic_few : (owner : List ℕ) (trees : Trees) → DefinesAtMost (weights trees) (each_dynamic owner trees)
+  each_dynamic_few owner none = omega arith
+  each_dynamic_few owner (with_more tree trees) =
+      more_allowed (weight tree + 1 + weights trees) (weights (with_more tree trees)) (in_turn (dynamic_at Item owner tree) (each_dynamic owner trees)) (omega arith)
+      (turns (weight tree + 1) (weights trees) (dynamic_at Item owner tree) (each_dynamic owner trees) (dynamic_few Item owner tree) (each_dynamic_few owner trees))
 
-list_count : (tree : Tree) (items : List Tree) → list_of tree ≡ Some items → length items ≤ weight tree
-list_count tree items is = by_name (atom_name tree) refl is
-  where
-    of_test : (test : Bool) → (if test then Some [] else None) ≡ Some items → length items ≤ weight tree
-    of_test true same = let none : [] ≡ items = (let both : Some [] ≡ Some items = same in cc) in omega (arith, ap length none)
-    of_test false same = let both : None ≡ Some items = same in absurd (cc)
+-- declarations of goal arguments
 
-    by_name : (found : Option (List ℕ)) → atom_name tree ≡ found → list_of tree ≡ Some items → length items ≤ weight tree
-    by_name (Some name) found same = of_test (bytes_eq name (codes "[]")) (sym (rw (found, list_of) refl) ∙ same)
-    by_name None found same = omega (arith, written_at_count (inside tree) items (sym (rw (found, list_of) refl) ∙ same), inside_weight tree)
+taking_count : (owner : Option (List ℕ)) (name : List ℕ) (args : Trees) (from : ℕ) → length (taking owner name args from) ≡ 1
+taking_count owner name args from = refl
 
-declared_few : (tree : Tree) → Few length (weight tree + 1) (declared_indicators tree)
-declared_few tree = by_list (list_of tree) refl
-  where
-    by_list : (found : Option (List Tree)) → list_of tree ≡ found → Few length (weight tree + 1) (declared_indicators tree)
-    by_list (Some items) is =
-        rw (is, declared_indicators) (more_listed (length items) (weight tree + 1) (indicators items) (omega (arith, list_count tree items is)) (all_listed items))
-    by_list None is =
-        rw (is, declared_indicators) (more_listed (length (joined tree)) (weight tree + 1) (indicators (joined tree)) (joined_count tree) (all_listed (joined tree)))
+count_if : (n : ℕ) (test : Bool) (a b : List Takes) → length a ≤ n → length b ≤ n → length (if test then a else b) ≤ n
+count_if n true a b one other = one
+count_if n false a b one other = other
 
-all_definitions : (is : List Indicator) → definitions (map defined_bare is) ≡ length is
-all_definitions [] = refl
-all_definitions (i ∷ is) = omega (arith, all_definitions is)
+named_count : (n : ℕ) (found : Option (List ℕ)) (ts : List Takes) → length ts ≤ n → length (where_named found ts) ≤ n
+named_count n (Some name) ts few = few
+named_count n None ts few = omega arith
 
-defined_few : (n : ℕ) (told : Result (List Indicator) Refusal) → Few length n told → DefinesAtMost n (defined_said told)
-defined_few n (Ok is) few = omega (arith, few, all_definitions is)
-defined_few n (Err refusal) few = tt
+mutual
+  takes_few : (owner : Option (List ℕ)) (tree : Tree) → length (takes_of owner tree) ≤ weight tree + 1
+  takes_few owner (compound name none form span) = omega arith
+  takes_few owner (compound name (with_more a none) form span) = omega arith
+  takes_few owner (compound name (with_more left (with_more right none)) form span) =
+      let n = weight (compound name (with_more left (with_more right none)) form span) + 1 in
+      count_if n (bytes_eq name (codes ",")) (takes_of owner left ++ takes_of owner right) _
+      (omega (arith, length-append (takes_of owner left) (takes_of owner right), takes_few owner left, takes_few owner right))
+      (count_if n (bytes_eq name (codes ":")) (where_named (atom_name left) (takes_of (atom_name left) right)) _
+      (named_count n (atom_name left) (takes_of (atom_name left) right) (omega (arith, takes_few (atom_name left) right))) (omega arith))
+  takes_few owner (compound name (with_more a (with_more b (with_more c rest))) form span) = omega arith
+  takes_few owner (listed items span) = omega (arith, all_takes_few owner items)
+  takes_few owner (paren inner span) = omega (arith, takes_few owner inner)
+  takes_few owner (atom name span) = omega arith
+  takes_few owner (tailed items tail span) = omega arith
+  takes_few owner (variable span) = omega arith
+  takes_few owner (constant kind minus value span) = omega arith
+  takes_few owner (curly inner span) = omega arith
+
+  all_takes_few : (owner : Option (List ℕ)) (trees : Trees) → length (all_takes owner trees) ≤ weights trees
+  all_takes_few owner none = omega arith
+  all_takes_few owner (with_more tree trees) = omega (arith, length-append (takes_of owner tree) (all_takes owner trees), takes_few owner tree, all_takes_few owner trees)
+
+all_counted : (ts : List Takes) → definitions (map takes ts) ≡ length ts
+all_counted [] = refl
+all_counted (t ∷ ts) = omega (arith, all_counted ts)
 
 -- loads and modules define nothing
 
-module _ (user : List ℕ) where
-  load_none : (kind : LoadKind) (items : List Indicator) (tree : Tree) → DefinesAtMost 0 (load_said user kind items tree)
-  load_none kind items tree = by_both (is_system tree) (file_of user tree) refl refl
+module _ (user : Home) where
+  load_none : (kind : LoadKind) (items : List Indicator) (tree : Tree) → DefinesAtMost 0 (load_said user.file kind items tree)
+  load_none kind items tree = by_both (is_system tree) (file_of user.file tree) refl refl
     where
-      by_both : (system : Bool) (file : Option (List ℕ)) → is_system tree ≡ system → file_of user tree ≡ file → DefinesAtMost 0 (load_said user kind items tree)
+      by_both : (system : Bool) (file : Option (List ℕ)) → is_system tree ≡ system → file_of user.file tree ≡ file → DefinesAtMost 0 (load_said user.file kind items tree)
       by_both true file s f = rw (s, load_said) (omega arith)
       by_both false (Some file) s f = rw (s, f, load_said) (omega arith)
       by_both false None s f = rw (s, f, load_said) tt
 
-  loads_none : (kind : LoadKind) (trees : List Tree) → DefinesAtMost 0 (loads_said user kind trees)
+  loads_none : (kind : LoadKind) (trees : List Tree) → DefinesAtMost 0 (loads_said user.file kind trees)
   loads_none kind [] = omega arith
-  loads_none kind (tree ∷ trees) = turns 0 0 (load_said user kind [] tree) (loads_said user kind trees) (load_none kind [] tree) (loads_none kind trees)
+  loads_none kind (tree ∷ trees) = turns 0 0 (load_said user.file kind [] tree) (loads_said user.file kind trees) (load_none kind [] tree) (loads_none kind trees)
 
-  use_all_none : (tree : Tree) → DefinesAtMost 0 (use_all_said user tree)
+  use_all_none : (tree : Tree) → DefinesAtMost 0 (use_all_said user.file tree)
   use_all_none tree = by_items (written_items tree) refl
     where
-      by_items : (items : Option (List Tree)) → written_items tree ≡ items → DefinesAtMost 0 (use_all_said user tree)
+      by_items : (items : Option (List Tree)) → written_items tree ≡ items → DefinesAtMost 0 (use_all_said user.file tree)
       by_items (Some trees) is = rw (is, use_all_said) (loads_none UseAll trees)
       by_items None is = rw (is, use_all_said) (load_none UseAll [] tree)
 
-  some_none : (file : Tree) (told : Result (List Indicator) Refusal) → DefinesAtMost 0 (some_said user file told)
+  some_none : (file : Tree) (told : Result (List Indicator) Refusal) → DefinesAtMost 0 (some_said user.file file told)
   some_none file (Ok items) = load_none UseSome items file
-  some_none file (Err refusal) = turns 0 0 (load_said user UseSome [] file) (Err refusal) (load_none UseSome [] file) tt
+  some_none file (Err refusal) = turns 0 0 (load_said user.file UseSome [] file) (Err refusal) (load_none UseSome [] file) tt
 
   declared_none : (own : List ℕ) (from : ℕ) (told : Result (List Indicator) Refusal) → DefinesAtMost 0 (declared_said own from told)
   declared_none own from (Ok exports) = omega arith
@@ -159,10 +190,11 @@ module _ (user : List ℕ) where
   one_few : (own : List ℕ) (argument tree : Tree) → DefinesAtMost (weight argument + 1) (one_said user own argument tree)
   one_few own argument tree =
       let n = weight argument + 1 in
-      by_test n (bytes_eq own (codes "use_module")) _ _ (at_most n (use_all_said user argument) (use_all_none argument))
-      (by_test n (is_among (codes "ensure_loaded" ∷ codes "consult" ∷ []) own) _ _ (at_most n (load_said user Ensure [] argument) (load_none Ensure [] argument))
-      (by_test n (is_among (codes "dynamic" ∷ codes "multifile" ∷ []) own) _ _ (defined_few n (declared_indicators argument) (declared_few argument))
-      (by_test n (is_among silent_names own) _ _ (omega arith) (by_test n (is_among outside_names own) _ _ tt (omega arith)))))
+      by_test n (bytes_eq own (codes "use_module")) _ _ (at_most n (use_all_said user.file argument) (use_all_none argument))
+      (by_test n (is_among (codes "ensure_loaded" ∷ codes "consult" ∷ []) own) _ _ (at_most n (load_said user.file Ensure [] argument) (load_none Ensure [] argument))
+      (by_test n (is_among (codes "dynamic" ∷ codes "multifile" ∷ []) own) _ _ (dynamic_few Whole user.module_ argument)
+      (by_test n (bytes_eq own (codes "meta_predicate")) _ _ (omega (arith, all_counted (takes_of None argument), takes_few None argument))
+      (by_test n (is_among silent_names own) _ _ (omega arith) (by_test n (is_among outside_names own) _ _ tt (omega arith))))))
 
   two_none : (first : Bool) (own : List ℕ) (left right tree : Tree) → DefinesAtMost 0 (two_said user first own left right tree)
   two_none first own left right tree =
@@ -185,7 +217,7 @@ module _ (user : List ℕ) where
       let tree = compound own (with_more a (with_more b (with_more c none))) form span in at_most (weight tree) (three_said own tree) (three_none own tree)
   shallow_few first (compound own (with_more a (with_more b (with_more c (with_more d rest)))) form span) = omega arith
   shallow_few first (atom own span) = by_test 0 (is_among (codes "else" ∷ codes "endif" ∷ []) own) _ _ tt (omega arith)
-  shallow_few first (listed items span) = at_most (weight (listed items span)) (loads_said user Ensure (trees_in items)) (loads_none Ensure (trees_in items))
+  shallow_few first (listed items span) = at_most (weight (listed items span)) (loads_said user.file Ensure (trees_in items)) (loads_none Ensure (trees_in items))
   shallow_few first (tailed items tail span) = tt
   shallow_few first (variable span) = omega arith
   shallow_few first (constant kind minus value span) = omega arith
@@ -204,7 +236,7 @@ module _ (user : List ℕ) where
 
   -- clauses
 
-  headed_few : (told : Result Named Refusal) (tree : Tree) → DefinesAtMost 1 (headed told tree)
+  headed_few : (told : Result Owned Refusal) (tree : Tree) → DefinesAtMost 1 (headed told tree)
   headed_few (Ok named) tree = omega arith
   headed_few (Err refusal) tree = tt
 
@@ -223,11 +255,11 @@ module _ (user : List ℕ) where
       by_term (Some term) is =
           rw (is, clause_said)
           (more_allowed (weight term) (weight tree + 2) (directive_said user first term) (omega (arith, directive_at_weight (inside tree) term is, inside_weight tree)) (directive_few first term))
-      by_term None is = rw (is, clause_said) (more_allowed 1 (weight tree + 2) (headed (clause_head tree) tree) (omega arith) (headed_few (clause_head tree) tree))
+      by_term None is = rw (is, clause_said) (more_allowed 1 (weight tree + 2) (headed (clause_head user.module_ tree) tree) (omega arith) (headed_few (clause_head user.module_ tree) tree))
 
-  pub file_few : (trees : List Tree) → DefinesAtMost (total_weight trees) (file_said user trees)
-  file_few [] = omega arith
-  file_few (tree ∷ trees) =
-      subst (λ n. DefinesAtMost n (file_said user (tree ∷ trees))) (sym (sum_by-cons (λ t. weight t + 2) tree trees))
+  pub trees_few : (trees : List Tree) → DefinesAtMost (total_weight trees) (trees_said user trees)
+  trees_few [] = omega arith
+  trees_few (tree ∷ trees) =
+      subst (λ n. DefinesAtMost n (trees_said user (tree ∷ trees))) (sym (sum_by-cons (λ t. weight t + 2) tree trees))
       (turns (weight tree + 2) (total_weight trees) (clause_said user true tree) (each_said (clause_said user false) trees) (clause_few true tree)
       (each_counted (λ t. weight t + 2) (clause_said user false) (clause_few false) trees))

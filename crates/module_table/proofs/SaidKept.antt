@@ -1,25 +1,30 @@
 -- What is handed down from clauses holds of what they say: of its goals, and of where all of it and a refusal stand.
-use Rattle.std.proofs.Common.{◌≡◌, ℕ, suc, Bool, true, false, ◌||◌, List, [], ◌∷◌, Option, Some, None, Result, Ok, Err, codes, refl, ap, subst, arith, if◌then◌else◌, map}
+use Rattle.std.proofs.Common.{◌≡◌, ℕ, suc, Bool, true, false, ◌||◌, ◌&&◌, List, [], ◌∷◌, Option, Some, None, Result, Ok, Err, codes, refl, ap, subst, arith, if◌then◌else◌, ◌++◌, length, sym, map}
+use Rattle.std.proofs.lemmas.List.{length-map}
 use Rattle.std.specs.Prelude.{All}
 use Rattle.std.specs.Str.{bytes_eq}
 use Rattle.std.proofs.lemmas.List.Elements.{All-nil, All-cons, All-append}
 use Rattle.prolog_terms.specs.declared.term.Span.{Span}
 use Rattle.prolog_terms.specs.declared.term.Form.{Form}
-use Rattle.prolog_terms.specs.Tree.{Tree, Trees, atom, compound, listed, tailed, paren, more as with_more, none}
-use Rattle.prolog_terms.specs.Views.{inside, start_of, trees_in, Binary, binary, Named, name_and_arity, joined, atom_name}
+use Rattle.prolog_terms.specs.Tree.{Tree, Trees, atom, compound, listed, tailed, paren, more as with_more, none, variable, constant, curly}
+use Rattle.prolog_terms.specs.Views.{inside, start_of, trees_in, Binary, binary, Named, name_and_arity, atom_name}
 use Rattle.clause_text.specs.Lists.{written_items}
 use Rattle.clause_text.specs.Items.{directive_at, directive_of}
-use Rattle.clause_text.specs.declared.cause.Cause.TheVariants.{LateModule, ControlHead, BadHead, NotInProfile}
+use Rattle.clause_text.specs.declared.cause.Cause.TheVariants.{LateModule, BadIndicator, ControlHead, BadHead, NotInProfile}
 use Rattle.module_table.specs.declared.indicator.Indicator.{Indicator}
 use Rattle.module_table.specs.declared.load.LoadKind.{LoadKind}
 use Rattle.module_table.specs.declared.load.LoadKind.TheVariants.{UseAll, UseSome, Ensure}
-use Rattle.module_table.specs.Said.{Said, Part, declares, loads, defines, goal, Refusal, refused, in_turn, each_said, nothing, only}
-use Rattle.module_table.specs.Heads.{is_among, control_names, headless_names, named_head, head_named, head, grammar_head}
-use Rattle.module_table.specs.Indicators.{indicator_of, indicator_with, indicator_from, arguments_added, arity_of, indicator, one_indicator, indicators, list_of, declared_indicators, listed_indicators}
+use Rattle.module_table.specs.Metas.{Takes, goal_arg, takes_of, all_takes, taking, where_named}
+use Rattle.module_table.specs.Said.{Said, Part, declares, loads, defines, goal, Refusal, refused, in_turn, each_said, nothing, only, takes}
+use Rattle.module_table.specs.Heads.{is_among, control_names, headless_names, named_head, head_named, plain_head, within, behind_modules, Owned, owned_by, head, grammar_head}
+use Rattle.module_table.specs.Indicators.{indicator_of, indicator_with, indicator_from, arguments_added, arity_of, indicator, one_indicator, indicators, list_of, listed_indicators}
+use Rattle.module_table.specs.declared.dynamic.Standing.{Standing}
+use Rattle.module_table.specs.declared.dynamic.Standing.TheVariants.{Whole, Joint, Item}
+use Rattle.module_table.specs.Dynamic.{owned, defined_bare, bare_said, is_joint, is_whole, dynamic_at, each_dynamic, dynamic_said}
 use Rattle.module_table.specs.Loading.{is_system, file_of, load_said, loads_said, use_all_said}
-use Rattle.module_table.specs.Directives.{defined_bare, defined_said, dynamic_said, some_said, use_some_said, is_operator, item_exports, exports_of, exports, declared_said, module_name, module_said, silent_names, outside_names, one_said, two_said, three_said, shallow_said, directive_said}
-use Rattle.module_table.specs.Facts.{with_added, head_with, clause_head, headed, clause_said, file_said}
-use Rattle.module_table.proofs.HandedDown.{HandsDown, inside_good, start_good, first_good, second_good, AreGood, pair_good, grammar_good, written_good, list_good, joined_good}
+use Rattle.module_table.specs.Directives.{Home, home, some_said, use_some_said, is_operator, item_exports, exports_of, exports, declared_said, module_name, module_said, silent_names, outside_names, one_said, two_said, three_said, shallow_said, directive_said, meta_said}
+use Rattle.module_table.specs.Facts.{with_added, head_with, clause_head, headed, clause_said, module_of, trees_said, file_said}
+use Rattle.module_table.proofs.HandedDown.{HandsDown, inside_good, start_good, first_good, second_good, AreGood, pair_good, grammar_good, written_good, list_good}
 
 -- where an indicator starts
 from_parts : (name : Option (List ℕ)) (arity : Option ℕ) (from : ℕ) (i : Indicator) → indicator_of name arity from ≡ Some i → from ≡ i.from
@@ -50,6 +55,7 @@ module _ (k : HandsDown) where
   IsKept (declares own) = k.At own.from × All IsAt own.exports
   IsKept (loads own) = k.At own.from × All IsAt own.items
   IsKept (defines own) = Unit {0}
+  IsKept (takes own) = k.At own.from × k.Many (length own.args)
   IsKept (goal tree) = k.Good tree
 
   abbrev pub Kept : Said → Type 0
@@ -58,7 +64,7 @@ module _ (k : HandsDown) where
   abbrev Listed : Result (List Indicator) Refusal → Type 0
   Listed told = Holds (All IsAt) told
 
-  abbrev AnyHead : Result Named Refusal → Type 0
+  abbrev AnyHead : {A : Type 0} → Result A Refusal → Type 0
   AnyHead told = Holds (λ named. Unit {0}) told
 
   -- a test, two in turn, and each of some trees
@@ -94,30 +100,54 @@ module _ (k : HandsDown) where
       by_test (λ named. Unit {0}) (is_among (control_names arity) name) (refused ControlHead tree) _ (start_good k tree good)
       (by_test (λ named. Unit {0}) (is_among (headless_names arity) name) (refused BadHead tree) (Ok (record { name = name; arity = arity })) (start_good k tree good) tt)
 
-  head_kept : (tree : Tree) → k.Good tree → AnyHead (head tree)
-  head_kept tree good = by_name (name_and_arity tree)
+  plain_kept : (tree : Tree) → k.Good tree → AnyHead (plain_head tree)
+  plain_kept tree good = by_name (name_and_arity tree)
     where
       by_name : (found : Option Named) → AnyHead (head_named tree found)
       by_name (Some named) = named_kept tree named.name named.arity good
       by_name None = start_good k tree good
 
-  added_kept : (n : ℕ) (told : Result Named Refusal) → AnyHead told → AnyHead (with_added n told)
+  -- what stands behind the names of modules
+  behind_good : (owner : List ℕ) (tree : Tree) → k.Good tree → k.Good (behind_modules owner tree).tree
+  behind_good owner (compound name (with_more left (with_more right none)) form span) good =
+      of_test (bytes_eq name (codes ":")) (atom_name left) (λ own. behind_good own right (second_good k name left right none form span good))
+    where
+      tree : Tree
+      tree = compound name (with_more left (with_more right none)) form span
+
+      of_test : (test : Bool) (found : Option (List ℕ)) → ((own : List ℕ) → k.Good (behind_modules own right).tree)
+          → k.Good (if test then elim found [ Some own ↦ behind_modules own right | None ↦ within owner tree ] else within owner tree).tree
+      of_test true (Some own) all = all own
+      of_test true None all = good
+      of_test false found all = good
+  behind_good owner (paren inner span) good = behind_good owner inner (k.inner inner span good)
+  behind_good owner tree good = good
+
+  owned_kept : (owner : List ℕ) (told : Result Named Refusal) → AnyHead told → AnyHead (owned_by owner told)
+  owned_kept owner (Ok named) kept = tt
+  owned_kept owner (Err refusal) kept = kept
+
+  head_kept : (owner : List ℕ) (tree : Tree) → k.Good tree → AnyHead (head owner tree)
+  head_kept owner tree good =
+      let behind = behind_modules owner tree in owned_kept behind.module_ (plain_head behind.tree) (plain_kept behind.tree (behind_good owner tree good))
+
+  added_kept : (n : ℕ) (told : Result Owned Refusal) → AnyHead told → AnyHead (with_added n told)
   added_kept n (Ok named) kept = tt
   added_kept n (Err refusal) kept = kept
 
-  clause_head_kept : (tree : Tree) → k.Good tree → AnyHead (clause_head tree)
-  clause_head_kept tree good = by_pair (binary tree) refl
+  clause_head_kept : (owner : List ℕ) (tree : Tree) → k.Good tree → AnyHead (clause_head owner tree)
+  clause_head_kept owner tree good = by_pair (binary tree) refl
     where
-      by_pair : (found : Option Binary) → binary tree ≡ found → AnyHead (head_with tree found)
+      by_pair : (found : Option Binary) → binary tree ≡ found → AnyHead (head_with owner tree found)
       by_pair (Some pair) is =
           let are : AreGood k pair = pair_good k tree pair is good in
-          by_test (λ named. Unit {0}) (bytes_eq pair.name (codes ":-")) (head pair.left) _ (head_kept pair.left are.left)
-          (by_test (λ named. Unit {0}) (bytes_eq pair.name (codes "-->")) (with_added 2 (head (grammar_head pair.left))) (head tree)
-          (added_kept 2 (head (grammar_head pair.left)) (head_kept (grammar_head pair.left) (grammar_good k pair.left are.left))) (head_kept tree good))
-      by_pair None is = head_kept tree good
+          by_test (λ named. Unit {0}) (bytes_eq pair.name (codes ":-")) (head owner pair.left) _ (head_kept owner pair.left are.left)
+          (by_test (λ named. Unit {0}) (bytes_eq pair.name (codes "-->")) (with_added 2 (head owner (grammar_head pair.left))) (head owner tree)
+          (added_kept 2 (head owner (grammar_head pair.left)) (head_kept owner (grammar_head pair.left) (grammar_good k pair.left are.left))) (head_kept owner tree good))
+      by_pair None is = head_kept owner tree good
 
-  headed_kept : (told : Result Named Refusal) (tree : Tree) → AnyHead told → Kept (headed told tree)
-  headed_kept (Ok named) tree kept = only_kept (defines (record { name = named.name; arity = named.arity; clause = Some tree })) tt
+  headed_kept : (told : Result Owned Refusal) (tree : Tree) → AnyHead told → Kept (headed told tree)
+  headed_kept (Ok named) tree kept = only_kept (defines (record { module_ = named.module_; name = named.name; arity = named.arity; clause = Some tree })) tt
   headed_kept (Err refusal) tree kept = kept
 
   -- indicators
@@ -132,13 +162,6 @@ module _ (k : HandsDown) where
 
   indicators_kept : (trees : List Tree) → All k.Good trees → Listed (indicators trees)
   indicators_kept trees all = each_kept IsAt one_indicator one_kept trees all
-
-  declared_kept : (tree : Tree) → k.Good tree → Listed (declared_indicators tree)
-  declared_kept tree good = by_list (list_of tree) refl
-    where
-      by_list : (found : Option (List Tree)) → list_of tree ≡ found → Listed (declared_indicators tree)
-      by_list (Some items) is = rw (is, declared_indicators) (indicators_kept items (list_good k tree items is good))
-      by_list None is = rw (is, declared_indicators) (indicators_kept (joined tree) (joined_good k tree good))
 
   listed_kept : (tree : Tree) → k.Good tree → Listed (listed_indicators tree)
   listed_kept tree good = by_list (list_of tree) refl
@@ -173,13 +196,41 @@ module _ (k : HandsDown) where
 
   -- directives
 
-  all_defined : (is : List Indicator) → All IsKept (map defined_bare is)
-  all_defined [] = All-nil IsKept
-  all_defined (i ∷ is) = All-cons IsKept (defined_bare i) (map defined_bare is) tt (all_defined is)
+  bare_kept : (owner : List ℕ) (tree : Tree) → k.Good tree → Kept (bare_said owner tree)
+  bare_kept owner tree good = by_owned (owned owner tree) refl
+    where
+      by_owned : (found : Option Owned) → owned owner tree ≡ found → Kept (bare_said owner tree)
+      by_owned (Some own) is = rw (is, bare_said) (only_kept (defined_bare own) tt)
+      by_owned None is = rw (is, bare_said) (start_good k tree good)
 
-  defined_kept : (told : Result (List Indicator) Refusal) → Listed told → Kept (defined_said told)
-  defined_kept (Ok is) kept = all_defined is
-  defined_kept (Err refusal) kept = kept
+  inner_kept : (found : Option (List ℕ)) (right tree : Tree) → k.Good tree → ((inner : List ℕ) → Kept (dynamic_at Whole inner right))
+      → Kept (elim found [ Some inner ↦ dynamic_at Whole inner right | None ↦ refused BadIndicator tree ])
+  inner_kept (Some inner) right tree good all = all inner
+  inner_kept None right tree good all = start_good k tree good
+
+  mutual
+    dynamic_kept : (at : Standing) (owner : List ℕ) (tree : Tree) → k.Good tree → Kept (dynamic_at at owner tree)
+    dynamic_kept at owner (compound own (with_more left (with_more right none)) form span) good =
+        let tree = compound own (with_more left (with_more right none)) form span in
+        let one = first_good k own left (with_more right none) form span good in
+        let other = second_good k own left right none form span good in
+        by_test_said (is_joint at && bytes_eq own (codes ",")) (in_turn (dynamic_at Joint owner left) (dynamic_at Joint owner right)) _
+        (turns IsKept (dynamic_at Joint owner left) (dynamic_at Joint owner right) (dynamic_kept Joint owner left one) (dynamic_kept Joint owner right other))
+        (by_test_said (bytes_eq own (codes ":")) _ (bare_said owner tree)
+        (inner_kept (atom_name left) right tree good (λ inner. dynamic_kept Whole inner right other)) (bare_kept owner tree good))
+    dynamic_kept at owner (listed items span) good =
+        by_test_said (is_whole at) (each_dynamic owner items) (refused BadIndicator (listed items span)) (each_dynamic_kept owner items (k.items items span good))
+        (start_good k (listed items span) good)
+    dynamic_kept at owner (atom own span) good =
+        by_test_said (is_whole at && bytes_eq own (codes "[]")) nothing (refused BadIndicator (atom own span)) no_parts (start_good k (atom own span) good)
+    dynamic_kept at owner (paren inner span) good = dynamic_kept at owner inner (k.inner inner span good)
+    dynamic_kept at owner tree good = start_good k tree good
+
+    each_dynamic_kept : (owner : List ℕ) (trees : Trees) → All k.Good (trees_in trees) → Kept (each_dynamic owner trees)
+    each_dynamic_kept owner none all = no_parts
+    each_dynamic_kept owner (with_more tree trees) all =
+        turns IsKept (dynamic_at Item owner tree) (each_dynamic owner trees) (dynamic_kept Item owner tree (all 0 tree (omega arith)))
+        (each_dynamic_kept owner trees (λ i x below. all (suc i) x (omega (arith, below))))
 
   some_kept : (user : List ℕ) (file : Tree) (told : Result (List Indicator) Refusal) → k.Good file → Listed told → Kept (some_said user file told)
   some_kept user file (Ok items) good kept = load_kept user UseSome items file kept good
@@ -206,21 +257,73 @@ module _ (k : HandsDown) where
       by_name (Some own) is = rw (is, module_said) (declared_said_kept own from (exports list) at (exports_kept list good))
       by_name None is = rw (is, module_said) (start_good k name named)
 
-  one_said_kept : (user name : List ℕ) (argument tree : Tree) → k.Good argument → k.Good tree → Kept (one_said user name argument tree)
-  one_said_kept user name argument tree inner good =
-      by_test_said (bytes_eq name (codes "use_module")) (use_all_said user argument) _ (use_all_kept user argument inner)
-      (by_test_said (is_among (codes "ensure_loaded" ∷ codes "consult" ∷ []) name) (load_said user Ensure [] argument) _ (load_kept user Ensure [] argument (All-nil IsAt) inner)
-      (by_test_said (is_among (codes "dynamic" ∷ codes "multifile" ∷ []) name) (dynamic_said argument) _ (defined_kept (declared_indicators argument) (declared_kept argument inner))
-      (by_test_said (is_among silent_names name) nothing _ no_parts
-      (by_test_said (is_among outside_names name) (refused NotInProfile tree) (only (goal tree)) (start_good k tree good) (only_kept (goal tree) good)))))
+  -- declarations of goal arguments
 
-  two_said_kept : (user : List ℕ) (first : Bool) (name : List ℕ) (left right tree : Tree) → k.Good left → k.Good right → k.Good tree
+  abbrev IsTaken : Takes → Type 0
+  IsTaken t = k.At t.from × k.Many (length t.args)
+
+  all_taken : (ts : List Takes) → All IsTaken ts → All IsKept (map takes ts)
+  all_taken [] all = All-nil IsKept
+  all_taken (t ∷ ts) all = All-cons IsKept (takes t) (map takes ts) (all 0 t (omega arith)) (all_taken ts (λ i x below. all (suc i) x (omega (arith, below))))
+
+  taking_kept : (owner : Option (List ℕ)) (name : List ℕ) (args : Trees) (form : Form) (span : Span) → k.Good (compound name args form span) → All IsTaken (taking owner name args span.from)
+  taking_kept owner name args form span good =
+      let one : Takes = record { owner = owner; name = name; args = map goal_arg (trees_in args); from = span.from } in
+      let many : k.Many (length one.args) = subst k.Many (sym (length-map (trees_in args) goal_arg)) (k.many name args form span good) in
+      All-cons IsTaken one [] (k.start (compound name args form span) good, many) (All-nil IsTaken)
+
+  named_taken : (found : Option (List ℕ)) (ts : List Takes) → All IsTaken ts → All IsTaken (where_named found ts)
+  named_taken (Some name) ts all = all
+  named_taken None ts all = All-nil IsTaken
+
+  taken_if : (test : Bool) (a b : List Takes) → All IsTaken a → All IsTaken b → All IsTaken (if test then a else b)
+  taken_if true a b one other = one
+  taken_if false a b one other = other
+
+  mutual
+    takes_kept : (owner : Option (List ℕ)) (tree : Tree) → k.Good tree → All IsTaken (takes_of owner tree)
+    takes_kept owner (compound name none form span) good = taking_kept owner name none form span good
+    takes_kept owner (compound name (with_more a none) form span) good = taking_kept owner name (with_more a none) form span good
+    takes_kept owner (compound name (with_more left (with_more right none)) form span) good =
+        let one = first_good k name left (with_more right none) form span good in
+        let other = second_good k name left right none form span good in
+        taken_if (bytes_eq name (codes ",")) (takes_of owner left ++ takes_of owner right) _
+        (All-append IsTaken (takes_of owner left) (takes_of owner right) (takes_kept owner left one) (takes_kept owner right other))
+        (taken_if (bytes_eq name (codes ":")) (where_named (atom_name left) (takes_of (atom_name left) right)) _
+        (named_taken (atom_name left) (takes_of (atom_name left) right) (takes_kept (atom_name left) right other))
+        (taking_kept owner name (with_more left (with_more right none)) form span good))
+    takes_kept owner (compound name (with_more a (with_more b (with_more c rest))) form span) good =
+        taking_kept owner name (with_more a (with_more b (with_more c rest))) form span good
+    takes_kept owner (listed items span) good = items_kept owner items (k.items items span good)
+    takes_kept owner (paren inner span) good = takes_kept owner inner (k.inner inner span good)
+    takes_kept owner (atom name span) good = All-nil IsTaken
+    takes_kept owner (tailed items tail span) good = All-nil IsTaken
+    takes_kept owner (variable span) good = All-nil IsTaken
+    takes_kept owner (constant kind minus value span) good = All-nil IsTaken
+    takes_kept owner (curly inner span) good = All-nil IsTaken
+
+    items_kept : (owner : Option (List ℕ)) (trees : Trees) → All k.Good (trees_in trees) → All IsTaken (all_takes owner trees)
+    items_kept owner none all = All-nil IsTaken
+    items_kept owner (with_more tree trees) all =
+        All-append IsTaken (takes_of owner tree) (all_takes owner trees) (takes_kept owner tree (all 0 tree (omega arith)))
+        (items_kept owner trees (λ i x below. all (suc i) x (omega (arith, below))))
+
+  one_said_kept : (user : Home) (name : List ℕ) (argument tree : Tree) → k.Good argument → k.Good tree → Kept (one_said user name argument tree)
+  one_said_kept user name argument tree inner good =
+      by_test_said (bytes_eq name (codes "use_module")) (use_all_said user.file argument) _ (use_all_kept user.file argument inner)
+      (by_test_said (is_among (codes "ensure_loaded" ∷ codes "consult" ∷ []) name) (load_said user.file Ensure [] argument) _ (load_kept user.file Ensure [] argument (All-nil IsAt) inner)
+      (by_test_said (is_among (codes "dynamic" ∷ codes "multifile" ∷ []) name) (dynamic_said user.module_ argument) _ (dynamic_kept Whole user.module_ argument inner)
+      (by_test_said (bytes_eq name (codes "meta_predicate")) (meta_said argument) _ (all_taken (takes_of None argument) (takes_kept None argument inner))
+      (by_test_said (is_among silent_names name) nothing _ no_parts
+      (by_test_said (is_among outside_names name) (refused NotInProfile tree) (only (goal tree)) (start_good k tree good) (only_kept (goal tree) good))))))
+
+  two_said_kept : (user : Home) (first : Bool) (name : List ℕ) (left right tree : Tree) → k.Good left → k.Good right → k.Good tree
       → Kept (two_said user first name left right tree)
   two_said_kept user first name left right tree one other good =
       by_test_said (bytes_eq name (codes "module")) _ _
       (by_test_said first (module_said left right (start_of tree)) (refused LateModule tree) (module_kept left right (start_of tree) (start_good k tree good) one other)
       (start_good k tree good))
-      (by_test_said (bytes_eq name (codes "use_module")) (use_some_said user left right) _ (some_kept user left (listed_indicators right) one (listed_kept right other))
+      (by_test_said (bytes_eq name (codes "use_module")) (use_some_said user.file left right) _ (some_kept user.file left (listed_indicators right) one (listed_kept right other))
       (by_test_said (bytes_eq name (codes "set_prolog_flag")) nothing _ no_parts
       (by_test_said (bytes_eq name (codes "reexport")) (refused NotInProfile tree) (only (goal tree)) (start_good k tree good) (only_kept (goal tree) good))))
 
@@ -229,7 +332,7 @@ module _ (k : HandsDown) where
       by_test_said (bytes_eq name (codes "op")) nothing _ no_parts
       (by_test_said (bytes_eq name (codes "use_module")) (refused NotInProfile tree) (only (goal tree)) (start_good k tree good) (only_kept (goal tree) good))
 
-  compound_kept : (user : List ℕ) (first : Bool) (name : List ℕ) (args : Trees) (form : Form) (span : Span) → k.Good (compound name args form span)
+  compound_kept : (user : Home) (first : Bool) (name : List ℕ) (args : Trees) (form : Form) (span : Span) → k.Good (compound name args form span)
       → Kept (shallow_said user first (compound name args form span))
   compound_kept user first name none form span good = only_kept (goal (compound name none form span)) good
   compound_kept user first name (with_more a none) form span good =
@@ -242,16 +345,16 @@ module _ (k : HandsDown) where
   compound_kept user first name (with_more a (with_more b (with_more c (with_more d others)))) form span good =
       only_kept (goal (compound name (with_more a (with_more b (with_more c (with_more d others)))) form span)) good
 
-  shallow_kept : (user : List ℕ) (first : Bool) (tree : Tree) → k.Good tree → Kept (shallow_said user first tree)
+  shallow_kept : (user : Home) (first : Bool) (tree : Tree) → k.Good tree → Kept (shallow_said user first tree)
   shallow_kept user first (compound name args form span) good = compound_kept user first name args form span good
   shallow_kept user first (atom name span) good =
       by_test_said (is_among (codes "else" ∷ codes "endif" ∷ []) name) (refused NotInProfile (atom name span)) (only (goal (atom name span))) (start_good k (atom name span) good)
       (only_kept (goal (atom name span)) good)
-  shallow_kept user first (listed items span) good = loads_kept user Ensure (trees_in items) (k.items items span good)
+  shallow_kept user first (listed items span) good = loads_kept user.file Ensure (trees_in items) (k.items items span good)
   shallow_kept user first (tailed items tail span) good = start_good k (tailed items tail span) good
   shallow_kept user first tree good = only_kept (goal tree) good
 
-  directive_kept : (user : List ℕ) (first : Bool) (tree : Tree) → k.Good tree → Kept (directive_said user first tree)
+  directive_kept : (user : Home) (first : Bool) (tree : Tree) → k.Good tree → Kept (directive_said user first tree)
   directive_kept user first (compound name (with_more left (with_more right none)) form span) good =
       by_test_said (bytes_eq name (codes ",")) (in_turn (directive_said user false left) (directive_said user false right)) _
       (turns IsKept (directive_said user false left) (directive_said user false right)
@@ -274,15 +377,18 @@ module _ (k : HandsDown) where
       of_test false same = let both : None ≡ Some term = same in absurd (cc)
   directive_at_good tree term is good = let both : None ≡ Some term = is in absurd (cc)
 
-  clause_kept : (user : List ℕ) (first : Bool) (tree : Tree) → k.Good tree → Kept (clause_said user first tree)
+  clause_kept : (user : Home) (first : Bool) (tree : Tree) → k.Good tree → Kept (clause_said user first tree)
   clause_kept user first tree good = by_term (directive_of tree) refl
     where
       by_term : (found : Option Tree) → directive_of tree ≡ found → Kept (clause_said user first tree)
       by_term (Some term) is = rw (is, clause_said) (directive_kept user first term (directive_at_good (inside tree) term is (inside_good k tree good)))
-      by_term None is = rw (is, clause_said) (headed_kept (clause_head tree) tree (clause_head_kept tree good))
+      by_term None is = rw (is, clause_said) (headed_kept (clause_head user.module_ tree) tree (clause_head_kept user.module_ tree good))
 
-  pub file_kept : (user : List ℕ) (trees : List Tree) → All k.Good trees → Kept (file_said user trees)
-  file_kept user [] all = no_parts
-  file_kept user (tree ∷ trees) all =
+  trees_kept : (user : Home) (trees : List Tree) → All k.Good trees → Kept (trees_said user trees)
+  trees_kept user [] all = no_parts
+  trees_kept user (tree ∷ trees) all =
       turns IsKept (clause_said user true tree) (each_said (clause_said user false) trees) (clause_kept user true tree (all 0 tree (omega arith)))
       (each_kept IsKept (clause_said user false) (λ t good. clause_kept user false t good) trees (λ i x below. all (suc i) x (omega (arith, below))))
+
+  pub file_kept : (user : List ℕ) (trees : List Tree) → All k.Good trees → Kept (file_said user trees)
+  file_kept user trees all = trees_kept (home user (module_of trees)) trees all

@@ -30,24 +30,24 @@ tied_is_same Less back e = refl
 tied_is_same Equal back e = rw e refl
 tied_is_same Greater back e = rw e refl
 
-ties_same : (asked run : Defined) → ties comes_before asked run ≡ same asked.name asked.arity run.name run.arity
+ties_same : (asked run : Defined) → ties comes_before asked run ≡ same asked.module asked.name asked.arity run.module run.name run.arity
 ties_same asked run =
     tied_is_same (predicate_cmp (see_defined asked) (see_defined run)) (predicate_cmp (see_defined run) (see_defined asked))
     (predicate_cmp_total.antisymm (see_defined run) (see_defined asked))
-    ∙ sym (same_ties asked.name asked.arity run.name run.arity)
+    ∙ sym (same_ties asked.module asked.name asked.arity run.module run.name run.arity)
 
 -- all that a run defines is of its predicate
 
-all_of_run : (P : Defines → Type 0) (run : Predicate) → ((clause : Option Tree) → P (record { name = run.name; arity = run.arity; clause = clause }))
+all_of_run : (P : Defines → Type 0) (run : Predicate) → ((clause : Option Tree) → P (record { module_ = run.module_; name = run.name; arity = run.arity; clause = clause }))
     → All P (all_of run)
 all_of_run P run one = by_clauses run.clauses
   where
-    trees_of : (trees : List Tree) → All P (map (defined_by run.name run.arity) trees)
+    trees_of : (trees : List Tree) → All P (map (defined_by run.module_ run.name run.arity) trees)
     trees_of [] = All-nil P
-    trees_of (tree ∷ trees) = All-cons P (defined_by run.name run.arity tree) (map (defined_by run.name run.arity) trees) (one (Some tree)) (trees_of trees)
+    trees_of (tree ∷ trees) = All-cons P (defined_by run.module_ run.name run.arity tree) (map (defined_by run.module_ run.name run.arity) trees) (one (Some tree)) (trees_of trees)
 
-    by_clauses : (clauses : List Tree) → All P (defined_by_all run.name run.arity clauses)
-    by_clauses [] = All-cons P (record { name = run.name; arity = run.arity; clause = None }) [] (one None) (All-nil P)
+    by_clauses : (clauses : List Tree) → All P (defined_by_all run.module_ run.name run.arity clauses)
+    by_clauses [] = All-cons P (record { module_ = run.module_; name = run.name; arity = run.arity; clause = None }) [] (one None) (All-nil P)
     by_clauses (tree ∷ trees) = trees_of (tree ∷ trees)
 
 all_of_runs : (P : Defines → Type 0) (runs : List Defined) → All (λ run. All P (see_run run)) runs → All P (flat_map see_run runs)
@@ -56,27 +56,27 @@ all_of_runs P (run ∷ runs) all =
     All-append P (see_run run) (flat_map see_run runs) (All-head (λ r. All P (see_run r)) run runs all)
     (all_of_runs P runs (All-tail (λ r. All P (see_run r)) run runs all))
 
-none_of : (name : List ℕ) (arity : ℕ) (ds : List Defines) → All (λ (d : Defines). same name arity d.name d.arity ≡ false) ds → clauses_for name arity ds ≡ []
-none_of name arity [] all = refl
-none_of name arity (d ∷ ds) all =
-    ap (λ x. x ++ clauses_for name arity ds) (clause_of_another name arity d (All-head (λ (e : Defines). same name arity e.name e.arity ≡ false) d ds all))
-    ∙ none_of name arity ds (All-tail (λ (e : Defines). same name arity e.name e.arity ≡ false) d ds all)
+none_of : (owner name : List ℕ) (arity : ℕ) (ds : List Defines) → All (λ (d : Defines). same owner name arity d.module_ d.name d.arity ≡ false) ds → clauses_for owner name arity ds ≡ []
+none_of owner name arity [] all = refl
+none_of owner name arity (d ∷ ds) all =
+    ap (λ x. x ++ clauses_for owner name arity ds) (clause_of_another owner name arity d (All-head (λ (e : Defines). same owner name arity e.module_ e.name e.arity ≡ false) d ds all))
+    ∙ none_of owner name arity ds (All-tail (λ (e : Defines). same owner name arity e.module_ e.name e.arity ≡ false) d ds all)
 
 -- the clauses of a predicate are those of its own runs
-clauses_of_own : (asked : Defined) (runs : List Defined) → clauses_for asked.name asked.arity (flat_map see_run runs)
-    ≡ clauses_for asked.name asked.arity (flat_map see_run (filter (ties comes_before asked) runs))
+clauses_of_own : (asked : Defined) (runs : List Defined) → clauses_for asked.module asked.name asked.arity (flat_map see_run runs)
+    ≡ clauses_for asked.module asked.name asked.arity (flat_map see_run (filter (ties comes_before asked) runs))
 clauses_of_own asked [] = refl
 clauses_of_own asked (run ∷ runs) =
-    let of_asked = clauses_for asked.name asked.arity in
-    let join = λ (others : List Defined). flat_map-append (clause_for asked.name asked.arity) (see_run run) (flat_map see_run others) in
+    let of_asked = clauses_for asked.module asked.name asked.arity in
+    let join = λ (others : List Defined). flat_map-append (clause_for asked.module asked.name asked.arity) (see_run run) (flat_map see_run others) in
     by_test (ties comes_before asked run)
     (λ is. rw is
     (join runs ∙ ap (λ x. of_asked (see_run run) ++ x) (clauses_of_own asked runs) ∙ sym (join (filter (ties comes_before asked) runs))))
     (λ other. rw other
     (join runs
     ∙ ap (λ x. x ++ of_asked (flat_map see_run runs))
-    (none_of asked.name asked.arity (see_run run)
-    (all_of_run (λ (d : Defines). same asked.name asked.arity d.name d.arity ≡ false) (see_defined run) (λ clause. sym (ties_same asked run) ∙ other)))
+    (none_of asked.module asked.name asked.arity (see_run run)
+    (all_of_run (λ (d : Defines). same asked.module asked.name asked.arity d.module_ d.name d.arity ≡ false) (see_defined run) (λ clause. sym (ties_same asked run) ∙ other)))
     ∙ clauses_of_own asked runs))
 
 -- the run that defines a predicate
@@ -111,40 +111,42 @@ pub from_sorted : (xs ys : List Defined) (out : List Predicate) → IsPermutatio
 from_sorted xs ys out moved stable are = record {
   in_order = are.in_order;
   each = λ p has.
-      let is = are.each p has in (turned ys xs p.name p.arity (IsPermutation-sym xs ys moved) is.0, is.1 ∙ clauses p.name p.arity is.0);
-  all = λ name arity has.
-      let there = turned xs ys name arity moved has in
-      subst (λ cs. Contains out (record { name = name; arity = arity; clauses = cs })) (clauses name arity there) (are.all name arity there);
+      let is = are.each p has in (turned ys xs p.module_ p.name p.arity (IsPermutation-sym xs ys moved) is.0, is.1 ∙ clauses p.module_ p.name p.arity is.0);
+  all = λ owner name arity has.
+      let there = turned xs ys owner name arity moved has in
+      subst (λ cs. Contains out (record { module_ = owner; name = name; arity = arity; clauses = cs })) (clauses owner name arity there) (are.all owner name arity there);
 }
   where
-    turned : (us vs : List Defined) (name : List ℕ) (arity : ℕ) → IsPermutation us vs → IsDefined name arity (flat_map see_run us) → IsDefined name arity (flat_map see_run vs)
-    turned us vs name arity moved has =
-        let d : Defines = record { name = name; arity = arity; clause = has.clause } in
+    turned : (us vs : List Defined) (owner name : List ℕ) (arity : ℕ) → IsPermutation us vs → IsDefined owner name arity (flat_map see_run us) → IsDefined owner name arity (flat_map see_run vs)
+    turned us vs owner name arity moved has =
+        let d : Defines = record { module_ = owner; name = name; arity = arity; clause = has.clause } in
         let it = run_of us d has.stands in
         record { clause = has.clause; stands = within_runs vs it.run d (Contains-permutation us vs it.run moved it.stands) it.has }
 
-    clauses : (name : List ℕ) (arity : ℕ) → IsDefined name arity (flat_map see_run ys)
-        → clauses_for name arity (flat_map see_run ys) ≡ clauses_for name arity (flat_map see_run xs)
-    clauses name arity has =
-        let d : Defines = record { name = name; arity = arity; clause = has.clause } in
+    clauses : (owner name : List ℕ) (arity : ℕ) → IsDefined owner name arity (flat_map see_run ys)
+        → clauses_for owner name arity (flat_map see_run ys) ≡ clauses_for owner name arity (flat_map see_run xs)
+    clauses owner name arity has =
+        let d : Defines = record { module_ = owner; name = name; arity = arity; clause = has.clause } in
         let it = run_of ys d has.stands in
         let run = it.run in
+        let modules : run.module ≡ owner =
+        All-contains (λ (e : Defines). run.module ≡ e.module_) (see_run run) d (all_of_run (λ (e : Defines). run.module ≡ e.module_) (see_defined run) (λ clause. refl)) it.has in
         let names : run.name ≡ name =
         All-contains (λ (e : Defines). run.name ≡ e.name) (see_run run) d (all_of_run (λ (e : Defines). run.name ≡ e.name) (see_defined run) (λ clause. refl)) it.has in
         let arities : run.arity ≡ arity =
         All-contains (λ (e : Defines). run.arity ≡ e.arity) (see_run run) d (all_of_run (λ (e : Defines). run.arity ≡ e.arity) (see_defined run) (λ clause. refl)) it.has in
-        let own : clauses_for run.name run.arity (flat_map see_run ys) ≡ clauses_for run.name run.arity (flat_map see_run xs) =
+        let own : clauses_for run.module run.name run.arity (flat_map see_run ys) ≡ clauses_for run.module run.name run.arity (flat_map see_run xs) =
         clauses_of_own run ys
-        ∙ ap (λ runs. clauses_for run.name run.arity (flat_map see_run runs)) (stable run)
+        ∙ ap (λ runs. clauses_for run.module run.name run.arity (flat_map see_run runs)) (stable run)
         ∙ sym (clauses_of_own run xs) in
-        subst (λ n. clauses_for n arity (flat_map see_run ys) ≡ clauses_for n arity (flat_map see_run xs)) names
-        (subst (λ k. clauses_for run.name k (flat_map see_run ys) ≡ clauses_for run.name k (flat_map see_run xs)) arities own)
+        subst (λ (r : Predicate). clauses_for r.module_ r.name r.arity (flat_map see_run ys) ≡ clauses_for r.module_ r.name r.arity (flat_map see_run xs))
+        (λ i. key (modules i) (names i) (arities i)) own
 
 -- in sorted runs none so far comes after the next one
 pub none_after_next : (runs done : List Defined) (run : Defined) → IsSortedBy comes_before runs → done ≡ take (length done) runs
     → length done < length runs → run ≡ get_or runs (length done) run → NoneIsAfter (see_defined run) (flat_map see_run done)
 none_after_next runs done run up so_far within is =
-    let far_from = λ (e : Defines). is_lt (predicate_cmp (see_defined run) (key e.name e.arity)) ≡ false in
+    let far_from = λ (e : Defines). is_lt (predicate_cmp (see_defined run) (key e.module_ e.name e.arity)) ≡ false in
     all_of_runs far_from done
     (All-weaker (λ r. comes_before run r ≡ false) (λ r. All far_from (see_run r)) (λ r far. all_of_run far_from (see_defined r) (λ clause. far)) done
     (All-from_get_or (λ r. comes_before run r ≡ false) done run

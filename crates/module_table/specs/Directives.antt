@@ -1,5 +1,5 @@
 -- What directives say.
-use Rattle.std.specs.Prelude.{ℕ, List, [], ◌∷◌, Option, Some, None, Result, Ok, Err, Bool, false, if◌then◌else◌, codes, map, is_some}
+use Rattle.std.specs.Prelude.{ℕ, List, [], ◌∷◌, Option, Some, None, Result, Ok, Err, Bool, false, if◌then◌else◌, codes, is_some, map}
 use Rattle.std.specs.Str.{bytes_eq}
 use Rattle.prolog_terms.specs.Tree.{Tree, atom, compound, listed, tailed, paren, more as with_more, none}
 use Rattle.prolog_terms.specs.Views.{start_of, trees_in, atom_name}
@@ -7,22 +7,20 @@ use Rattle.clause_text.specs.Items.{item_of}
 use Rattle.clause_text.specs.declared.cause.Cause.TheVariants.{LateModule, BadIndicator, BadSpec, NotInProfile}
 use Rattle.module_table.specs.declared.indicator.Indicator.{Indicator}
 use Rattle.module_table.specs.declared.load.LoadKind.TheVariants.{UseSome, Ensure}
-use Rattle.module_table.specs.Said.{Said, Part, nothing, only, goal, defines, declares, refused, Refusal, in_turn, each_said}
+use Rattle.module_table.specs.Metas.{takes_of}
+use Rattle.module_table.specs.Said.{Said, nothing, only, goal, declares, refused, Refusal, in_turn, each_said, takes}
 use Rattle.module_table.specs.Heads.{is_among}
-use Rattle.module_table.specs.Indicators.{list_of, one_indicator, declared_indicators, listed_indicators}
+use Rattle.module_table.specs.Indicators.{list_of, one_indicator, listed_indicators}
+use Rattle.module_table.specs.Dynamic.{dynamic_said}
 use Rattle.module_table.specs.Loading.{load_said, loads_said, use_all_said}
 
--- a predicate is defined, with no clause
-abbrev pub defined_bare : Indicator → Part
-defined_bare i = defines (record { name = i.name; arity = i.arity; clause = None })
+-- a file that says something: its name, and its module
+pub record Home : Type 0 where
+  pub file : List ℕ
+  pub module_ : List ℕ
 
-abbrev pub defined_said : Result (List Indicator) Refusal → Said
-defined_said (Ok is) = Ok (map defined_bare is)
-defined_said (Err refusal) = Err refusal
-
--- what `dynamic` and `multifile` say
-abbrev pub dynamic_said : Tree → Said
-dynamic_said tree = defined_said (declared_indicators tree)
+abbrev pub home : List ℕ → List ℕ → Home
+home file owner = record { file = file; module_ = owner }
 
 -- the indicators that are imported, with their load before a refusal of theirs
 abbrev pub some_said : List ℕ → Tree → Result (List Indicator) Refusal → Said
@@ -60,27 +58,32 @@ module_name tree = elim (atom_name tree) [ Some name ↦ if bytes_eq name (codes
 abbrev pub module_said : Tree → Tree → ℕ → Said
 module_said name list from = elim (module_name name) [ Some own ↦ declared_said own from (exports list) | None ↦ refused BadIndicator name ]
 
+-- what `meta_predicate` says
+abbrev pub meta_said : Tree → Said
+meta_said tree = Ok (map takes (takes_of None tree))
+
 -- directives that say nothing here
 abbrev pub silent_names : List (List ℕ)
-silent_names = codes "discontiguous" ∷ codes "meta_predicate" ∷ codes "mode" ∷ codes "public" ∷ codes "table" ∷ []
+silent_names = codes "discontiguous" ∷ codes "mode" ∷ codes "public" ∷ codes "table" ∷ []
 
 -- directives of one argument that are outside the profile
 abbrev pub outside_names : List (List ℕ)
 outside_names = codes "if" ∷ codes "elif" ∷ codes "include" ∷ codes "reexport" ∷ []
 
-abbrev pub one_said : List ℕ → List ℕ → Tree → Tree → Said
+abbrev pub one_said : Home → List ℕ → Tree → Tree → Said
 one_said user name argument tree =
-    if bytes_eq name (codes "use_module") then use_all_said user argument
-    else if is_among (codes "ensure_loaded" ∷ codes "consult" ∷ []) name then load_said user Ensure [] argument
-    else if is_among (codes "dynamic" ∷ codes "multifile" ∷ []) name then dynamic_said argument
+    if bytes_eq name (codes "use_module") then use_all_said user.file argument
+    else if is_among (codes "ensure_loaded" ∷ codes "consult" ∷ []) name then load_said user.file Ensure [] argument
+    else if is_among (codes "dynamic" ∷ codes "multifile" ∷ []) name then dynamic_said user.module_ argument
+    else if bytes_eq name (codes "meta_predicate") then meta_said argument
     else if is_among silent_names name then nothing
     else if is_among outside_names name then refused NotInProfile tree
     else only (goal tree)
 
-abbrev pub two_said : List ℕ → Bool → List ℕ → Tree → Tree → Tree → Said
+abbrev pub two_said : Home → Bool → List ℕ → Tree → Tree → Tree → Said
 two_said user first name left right tree =
     if bytes_eq name (codes "module") then (if first then module_said left right (start_of tree) else refused LateModule tree)
-    else if bytes_eq name (codes "use_module") then use_some_said user left right
+    else if bytes_eq name (codes "use_module") then use_some_said user.file left right
     else if bytes_eq name (codes "set_prolog_flag") then nothing
     else if bytes_eq name (codes "reexport") then refused NotInProfile tree
     else only (goal tree)
@@ -92,7 +95,7 @@ three_said name tree =
     else only (goal tree)
 
 -- what a directive says that is no comma and has no brackets round it
-abbrev pub shallow_said : List ℕ → Bool → Tree → Said
+abbrev pub shallow_said : Home → Bool → Tree → Said
 shallow_said user first (compound name (with_more argument none) form span) =
     one_said user name argument (compound name (with_more argument none) form span)
 shallow_said user first (compound name (with_more left (with_more right none)) form span) =
@@ -100,12 +103,12 @@ shallow_said user first (compound name (with_more left (with_more right none)) f
 shallow_said user first (compound name (with_more a (with_more b (with_more c none))) form span) =
     three_said name (compound name (with_more a (with_more b (with_more c none))) form span)
 shallow_said user first (atom name span) = if is_among (codes "else" ∷ codes "endif" ∷ []) name then refused NotInProfile (atom name span) else only (goal (atom name span))
-shallow_said user first (listed items span) = loads_said user Ensure (trees_in items)
+shallow_said user first (listed items span) = loads_said user.file Ensure (trees_in items)
 shallow_said user first (tailed items tail span) = refused BadSpec (tailed items tail span)
 shallow_said user first tree = only (goal tree)
 
 -- what a directive says; first tells whether it is the whole of the first clause
-abbrev pub directive_said : List ℕ → Bool → Tree → Said
+abbrev pub directive_said : Home → Bool → Tree → Said
 directive_said user first (compound name (with_more left (with_more right none)) form span) =
     if bytes_eq name (codes ",") then in_turn (directive_said user false left) (directive_said user false right)
     else shallow_said user first (compound name (with_more left (with_more right none)) form span)

@@ -1,9 +1,9 @@
 -- Heads of clauses: what they define.
-use Rattle.std.specs.Prelude.{ℕ, ◌==◌, List, [], ◌∷◌, Option, Some, None, Result, Ok, Bool, true, false, if◌then◌else◌, codes}
+use Rattle.std.specs.Prelude.{ℕ, ◌==◌, List, [], ◌∷◌, Option, Some, None, Result, Ok, Err, Bool, true, false, if◌then◌else◌, codes}
 use Rattle.std.specs.List.{list_any}
 use Rattle.std.specs.Str.{bytes_eq}
-use Rattle.prolog_terms.specs.Tree.{Tree, constant, atom, listed, tailed}
-use Rattle.prolog_terms.specs.Views.{inside, sides_of, Named, name_and_arity}
+use Rattle.prolog_terms.specs.Tree.{Tree, constant, atom, compound, listed, tailed, paren, more, none}
+use Rattle.prolog_terms.specs.Views.{inside, sides_of, Named, name_and_arity, atom_name}
 use Rattle.prolog_terms.specs.declared.term.ConstKind.{ConstKind}
 use Rattle.prolog_terms.specs.declared.term.ConstKind.TheVariants.{Str}
 use Rattle.clause_text.specs.declared.cause.Cause.TheVariants.{ControlHead, BadHead}
@@ -20,7 +20,7 @@ control_names arity =
     else if arity == 2 then codes "," ∷ codes ";" ∷ codes "|" ∷ codes "->" ∷ codes ":-" ∷ codes "-->" ∷ []
     else []
 
--- the empty list, the empty curly brackets, and what names a module
+-- the empty list, the empty curly brackets, and what names no module
 abbrev pub headless_names : ℕ → List (List ℕ)
 headless_names arity =
     if arity == 0 then codes "[]" ∷ codes "{}" ∷ []
@@ -38,9 +38,43 @@ abbrev pub head_named : Tree → Option Named → Result Named Refusal
 head_named tree (Some named) = named_head tree named.name named.arity
 head_named tree None = refused BadHead tree
 
--- what a head defines, an atom or a compound
-abbrev pub head : Tree → Result Named Refusal
-head tree = head_named tree (name_and_arity tree)
+-- what a head without modules defines, an atom or a compound
+abbrev pub plain_head : Tree → Result Named Refusal
+plain_head tree = head_named tree (name_and_arity tree)
+
+-- a term in a module
+pub record Within : Type 0 where
+  pub module_ : List ℕ
+  pub tree : Tree
+
+abbrev pub within : List ℕ → Tree → Within
+within owner tree = record { module_ = owner; tree = tree }
+
+-- the term behind the names of modules, in the innermost of these, and in the module of the file where none is named
+abbrev pub behind_modules : List ℕ → Tree → Within
+behind_modules owner (compound name (more left (more right none)) form span) =
+    if bytes_eq name (codes ":") then
+      elim (atom_name left) [ Some own ↦ behind_modules own right | None ↦ within owner (compound name (more left (more right none)) form span) ]
+    else within owner (compound name (more left (more right none)) form span)
+behind_modules owner (paren inner span) = behind_modules owner inner
+behind_modules owner tree = within owner tree
+
+-- the module, name and number of arguments of a predicate
+pub record Owned : Type 0 where
+  pub module_ : List ℕ
+  pub name : List ℕ
+  pub arity : ℕ
+
+abbrev pub owned_by : List ℕ → Result Named Refusal → Result Owned Refusal
+owned_by owner (Ok named) = Ok (record { module_ = owner; name = named.name; arity = named.arity })
+owned_by owner (Err refusal) = Err refusal
+
+abbrev pub head_within : Within → Result Owned Refusal
+head_within own = owned_by own.module_ (plain_head own.tree)
+
+-- what a head defines in a file of the module
+abbrev pub head : List ℕ → Tree → Result Owned Refusal
+head owner tree = head_within (behind_modules owner tree)
 
 abbrev is_string : ConstKind → Bool
 is_string Str = true

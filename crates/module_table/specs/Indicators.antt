@@ -48,10 +48,6 @@ indicators trees = each_said one_indicator trees
 abbrev pub list_of : Tree → Option (List Tree)
 list_of tree = elim (atom_name tree) [ Some name ↦ if bytes_eq name (codes "[]") then Some [] else None | None ↦ written_items tree ]
 
--- the indicators of a list, or of the terms that commas join
-abbrev pub declared_indicators : Tree → Result (List Indicator) Refusal
-declared_indicators tree = elim (list_of tree) [ Some items ↦ indicators items | None ↦ indicators (joined tree) ]
-
 -- the indicators of what must be a list
 abbrev pub listed_indicators : Tree → Result (List Indicator) Refusal
 listed_indicators tree = elim (list_of tree) [ Some items ↦ indicators items | None ↦ refused BadIndicator tree ]

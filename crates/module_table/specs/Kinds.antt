@@ -5,7 +5,8 @@ use Rattle.prolog_terms.specs.Tree.{Tree, tree_of}
 use Rattle.module_table.specs.declared.indicator.Indicator.{Indicator}
 use Rattle.module_table.specs.declared.kinds.Kinds.{Kinds}
 use Rattle.module_table.specs.Defined.{Defines, see_run}
-use Rattle.module_table.specs.Said.{Part, Said, Refusal, Declares, Loads, declares, loads, defines, goal, see_module, see_load}
+use Rattle.module_table.specs.Metas.{Takes, see_takes}
+use Rattle.module_table.specs.Said.{Part, Said, Refusal, Declares, Loads, declares, loads, defines, takes, goal, see_module, see_load}
 
 abbrev pub declared_part : Part → Option Declares
 declared_part (declares own) = Some own
@@ -18,6 +19,10 @@ load_part part = None
 abbrev pub defined_part : Part → Option Defines
 defined_part (defines own) = Some own
 defined_part part = None
+
+abbrev pub takes_part : Part → Option Takes
+takes_part (takes own) = Some own
+takes_part part = None
 
 abbrev pub goal_part : Part → Option Tree
 goal_part (goal own) = Some own
@@ -42,6 +47,7 @@ pub record AreKinds (parts : List Part) (kinds : Kinds) : Type 0 where
   pub declared : option_map see_module kinds.declared ≡ first_of (filter_map declared_part parts)
   pub loads : map see_load kinds.loads.items ≡ filter_map load_part parts
   pub definitions : flat_map see_run kinds.definitions.items ≡ filter_map defined_part parts
+  pub takes : map see_takes kinds.takes.items ≡ filter_map takes_part parts
   pub goals : map tree_of kinds.goals.items ≡ filter_map goal_part parts
 
 -- what is said, by kind
@@ -49,6 +55,7 @@ pub record ByKind : Type 0 where
   pub declared : Option Declares
   pub loads : List Loads
   pub definitions : List Defines
+  pub takes : List Takes
   pub goals : List Tree
 
 abbrev pub see_kinds : Kinds → ByKind
@@ -56,17 +63,19 @@ see_kinds k = record {
   declared = option_map see_module k.declared;
   loads = map see_load k.loads.items;
   definitions = flat_map see_run k.definitions.items;
+  takes = map see_takes k.takes.items;
   goals = map tree_of k.goals.items;
 }
 
 abbrev pub none_said : ByKind
-none_said = record { declared = None; loads = []; definitions = []; goals = [] }
+none_said = record { declared = None; loads = []; definitions = []; takes = []; goals = [] }
 
 -- one part more
 abbrev pub with_part : ByKind → Part → ByKind
 with_part k (declares own) = record k { declared = first_module_seen k.declared own }
 with_part k (loads own) = record k { loads = k.loads ++ own ∷ [] }
 with_part k (defines own) = record k { definitions = k.definitions ++ own ∷ [] }
+with_part k (takes own) = record k { takes = k.takes ++ own ∷ [] }
 with_part k (goal own) = record k { goals = k.goals ++ own ∷ [] }
 
 abbrev pub with_parts : ByKind → List Part → ByKind

@@ -1,9 +1,11 @@
 pub mod Defined
 pub mod FileName
 pub mod Paths
+pub mod Metas
 pub mod Said
 pub mod Heads
 pub mod Indicators
+pub mod Dynamic
 pub mod Loading
 pub mod Directives
 pub mod Told

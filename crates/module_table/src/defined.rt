@@ -8,15 +8,17 @@ use prolog_tokens::Text;
 use std::alloc::{AllocError, Global};
 use std::cmp::Ordering;
 
-/// A predicate of a file, with its clauses in the order of the text.
+/// A predicate that a file defines, for its own module or for another one, with its clauses in the
+/// order of the text.
 #[derive(Drop)]
 pub struct Defined {
+    pub module: Text,
     pub name: Text,
     pub arity: u32,
     pub clauses: Vec<Clause>,
 }
 
-/// The predicates of the runs, each once, in the order of names and, under one name, of arities. Each
+/// The predicates of the runs, each once, in the order of modules, names and arities. Each
 /// has its clauses, in the order of the runs.
 pub fn group(alloc: Global, mut runs: Vec<Defined>) -> Result<Vec<Defined>, AllocError>
     ensures { IfOk result (λ defined. AreDefined (flat_map see_run runs.items) (map see_defined defined.items)) }
@@ -36,7 +38,9 @@ pub fn group(alloc: Global, mut runs: Vec<Defined>) -> Result<Vec<Defined>, Allo
 fn compare(a: &Defined, b: &Defined) -> Ordering
     ensures { result ≡ predicate_cmp (see_defined a.now) (see_defined b.now) }
 {
-    a.name.cmp(&b.name).then(a.arity.cmp(&b.arity))
+    a.module
+        .cmp(&b.module)
+        .then(a.name.cmp(&b.name).then(a.arity.cmp(&b.arity)))
 }
 
 fn comes_before(a: &Defined, b: &Defined) -> bool
@@ -64,7 +68,7 @@ fn add(defined: &mut Vec<Defined>, mut run: Defined) -> Result<(), AllocError>
 }
 
 fn is_of(run: &Defined, predicate: &Defined) -> bool
-    ensures { result ≡ (bytes_eq predicate.now.name run.now.name && nat_eq predicate.now.arity run.now.arity) }
+    ensures { result ≡ (bytes_eq predicate.now.module run.now.module && (bytes_eq predicate.now.name run.now.name && nat_eq predicate.now.arity run.now.arity)) }
 {
-    predicate.name == run.name && predicate.arity == run.arity
+    predicate.module == run.module && (predicate.name == run.name && predicate.arity == run.arity)
 }

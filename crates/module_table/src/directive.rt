@@ -5,13 +5,14 @@ ghost use Rattle.prolog_terms.specs.Tree.{tree_of};
 ghost use Rattle.module_table.specs.Said.{IsWhy};
 ghost use Rattle.module_table.specs.Kinds.{ByKind, see_kinds, with_said};
 ghost use Rattle.module_table.specs.Told.{IsTold};
-ghost use Rattle.module_table.specs.Directives.{dynamic_said, use_some_said, one_said, two_said, three_said, shallow_said, directive_said};
+ghost use Rattle.module_table.specs.Directives.{home, use_some_said, one_said, two_said, three_said, shallow_said, directive_said, meta_said};
 
-use crate::indicator::{declared_indicators, listed_indicators};
+use crate::dynamic::{Standing, push_dynamic};
+use crate::indicator::listed_indicators;
 use crate::kinds::{Kinds, push_part};
 use crate::load::{LoadKind, push_load, push_loads, push_use_all};
+use crate::meta::push_takes;
 use crate::module_directive::module_of;
-use crate::runs::push_bare;
 use crate::said::{FactFault, Part, refusal};
 use crate::taken::{Sides, sides_taken};
 use crate::terms::is_one_of;
@@ -26,14 +27,12 @@ pub enum Told {
     Done,
 }
 
-/// Adds what `dynamic` and `multifile` define.
-fn push_dynamic(alloc: Global, list: &Term, kinds: &mut Kinds) -> Result<(), FactFault>
-    ensures ok { OnOk result (with_said (see_kinds kinds.old) (dynamic_said (tree_of list.now)) ≡ Ok (see_kinds kinds.new)) }
-    ensures refused { IfErr result (λ fault. IsWhy (dynamic_said (tree_of list.now)) fault) }
+/// Adds what `meta_predicate` declares.
+fn push_meta(alloc: Global, declared: &Term, kinds: &mut Kinds) -> Result<(), FactFault>
+    ensures ok { OnOk result (with_said (see_kinds kinds.old) (meta_said (tree_of declared.now)) ≡ Ok (see_kinds kinds.new)) }
+    ensures refused { IfErr result (λ fault. IsWhy (meta_said (tree_of declared.now)) fault) }
 {
-    for one in declared_indicators(alloc, list)? {
-        push_bare(alloc, &mut kinds.definitions, one.name, one.arity)?;
-    }
+    push_takes(alloc, None, declared, &mut kinds.takes)?;
     Ok(())
 }
 
@@ -62,13 +61,14 @@ fn push_use_some(
 fn one_told(
     alloc: Global,
     user: &str,
+    owner: &str,
     name: &str,
     argument: &Term,
     directive: &Term,
     kinds: &mut Kinds,
 ) -> Result<Told, FactFault>
-    ensures ok { IfOk result (λ told. IsTold told (see_kinds kinds.old) (one_said user.now name.now (tree_of argument.now) (tree_of directive.now)) (tree_of directive.now) (see_kinds kinds.new)) }
-    ensures refused { IfErr result (λ fault. IsWhy (one_said user.now name.now (tree_of argument.now) (tree_of directive.now)) fault) }
+    ensures ok { IfOk result (λ told. IsTold told (see_kinds kinds.old) (one_said (home user.now owner.now) name.now (tree_of argument.now) (tree_of directive.now)) (tree_of directive.now) (see_kinds kinds.new)) }
+    ensures refused { IfErr result (λ fault. IsWhy (one_said (home user.now owner.now) name.now (tree_of argument.now) (tree_of directive.now)) fault) }
 {
     if name == "use_module" {
         push_use_all(alloc, user, argument, kinds)?;
@@ -86,10 +86,14 @@ fn one_told(
         return Ok(Told::Done);
     }
     if is_one_of(&["dynamic", "multifile"], name) {
-        push_dynamic(alloc, argument, kinds)?;
+        push_dynamic(alloc, Standing::Whole, owner, argument, kinds)?;
         return Ok(Told::Done);
     }
-    let silent = ["discontiguous", "meta_predicate", "mode", "public", "table"];
+    if name == "meta_predicate" {
+        push_meta(alloc, argument, kinds)?;
+        return Ok(Told::Done);
+    }
+    let silent = ["discontiguous", "mode", "public", "table"];
     if is_one_of(&silent, name) {
         return Ok(Told::Done);
     }
@@ -103,6 +107,7 @@ fn one_told(
 fn two_told(
     alloc: Global,
     user: &str,
+    owner: &str,
     first: bool,
     name: &str,
     left: &Term,
@@ -110,8 +115,8 @@ fn two_told(
     directive: &Term,
     kinds: &mut Kinds,
 ) -> Result<Told, FactFault>
-    ensures ok { IfOk result (λ told. IsTold told (see_kinds kinds.old) (two_said user.now first name.now (tree_of left.now) (tree_of right.now) (tree_of directive.now)) (tree_of directive.now) (see_kinds kinds.new)) }
-    ensures refused { IfErr result (λ fault. IsWhy (two_said user.now first name.now (tree_of left.now) (tree_of right.now) (tree_of directive.now)) fault) }
+    ensures ok { IfOk result (λ told. IsTold told (see_kinds kinds.old) (two_said (home user.now owner.now) first name.now (tree_of left.now) (tree_of right.now) (tree_of directive.now)) (tree_of directive.now) (see_kinds kinds.new)) }
+    ensures refused { IfErr result (λ fault. IsWhy (two_said (home user.now owner.now) first name.now (tree_of left.now) (tree_of right.now) (tree_of directive.now)) fault) }
 {
     if name == "module" {
         if !first {
@@ -152,22 +157,23 @@ fn three_told(name: &str, directive: &Term) -> Result<Told, FactFault>
 fn tell(
     alloc: Global,
     user: &str,
+    owner: &str,
     first: bool,
     directive: &Term,
     kinds: &mut Kinds,
 ) -> Result<Told, FactFault>
-    ensures ok { IfOk result (λ told. IsTold told (see_kinds kinds.old) (shallow_said user.now first (tree_of directive.now)) (tree_of directive.now) (see_kinds kinds.new)) }
-    ensures refused { IfErr result (λ fault. IsWhy (shallow_said user.now first (tree_of directive.now)) fault) }
+    ensures ok { IfOk result (λ told. IsTold told (see_kinds kinds.old) (shallow_said (home user.now owner.now) first (tree_of directive.now)) (tree_of directive.now) (see_kinds kinds.new)) }
+    ensures refused { IfErr result (λ fault. IsWhy (shallow_said (home user.now owner.now) first (tree_of directive.now)) fault) }
 {
     match directive {
         Term::Compound { name, args, .. } => {
             let name = name.as_str();
             if args.len() == 1 {
-                return one_told(alloc, user, name, &args[0], directive, kinds);
+                return one_told(alloc, user, owner, name, &args[0], directive, kinds);
             }
             if args.len() == 2 {
                 return two_told(
-                    alloc, user, first, name, &args[0], &args[1], directive, kinds,
+                    alloc, user, owner, first, name, &args[0], &args[1], directive, kinds,
                 );
             }
             if args.len() == 3 {
@@ -196,19 +202,20 @@ fn tell(
 pub fn push_directive(
     alloc: Global,
     user: &str,
+    owner: &str,
     first: bool,
     directive: Term,
     kinds: &mut Kinds,
 ) -> Result<(), FactFault>
-    ensures ok { OnOk result (with_said (see_kinds kinds.old) (directive_said user.now first (tree_of directive)) ≡ Ok (see_kinds kinds.new)) }
-    ensures refused { IfErr result (λ fault. IsWhy (directive_said user.now first (tree_of directive)) fault) }
+    ensures ok { OnOk result (with_said (see_kinds kinds.old) (directive_said (home user.now owner.now) first (tree_of directive)) ≡ Ok (see_kinds kinds.new)) }
+    ensures refused { IfErr result (λ fault. IsWhy (directive_said (home user.now owner.now) first (tree_of directive)) fault) }
 {
     match sides_taken(directive) {
         Sides::Both(left, right) => {
-            push_directive(alloc, user, false, left, kinds)?;
-            push_directive(alloc, user, false, right, kinds)
+            push_directive(alloc, user, owner, false, left, kinds)?;
+            push_directive(alloc, user, owner, false, right, kinds)
         }
-        Sides::Alone(alone) => match tell(alloc, user, first, &alone, kinds)? {
+        Sides::Alone(alone) => match tell(alloc, user, owner, first, &alone, kinds)? {
             Told::Goal => push_part(kinds, Part::Goal(alone)),
             Told::Done => Ok(()),
         },

@@ -6,19 +6,21 @@ ghost use Rattle.prolog_terms.specs.Weight.{weight};
 ghost use Rattle.module_table.specs.Defined.{clause_tree};
 ghost use Rattle.module_table.specs.Said.{IsWhy};
 ghost use Rattle.module_table.specs.Kinds.{AreSaid, see_kinds, with_said};
-ghost use Rattle.module_table.specs.Facts.{clause_head, headed, clause_said, file_said, AreFacts, Facts, see_facts};
+ghost use Rattle.module_table.specs.Directives.{home};
+ghost use Rattle.module_table.specs.Facts.{clause_head, headed, clause_said, module_of, trees_said, file_said, AreFacts, Facts, see_facts};
 
 use crate::defined::{Defined, group};
 use crate::directive::push_directive;
-use crate::head::{grammar_head, head};
+use crate::head::{OwnedHead, grammar_head, head};
 use crate::indicator::Indicator;
 use crate::kinds::{Kinds, module_of_file, none_said};
 use crate::load::Load;
+use crate::meta::{Meta, all_declared};
 use crate::runs::{end_in, push_last, push_run};
 use crate::said::FactFault;
 use crate::taken::{Taken, directive_taken};
-use clause_text::Clause;
-use prolog_terms::{Term, binary};
+use clause_text::{Clause, directive_of};
+use prolog_terms::{Term, atom_name, binary, sides};
 use prolog_tokens::Text;
 use std::alloc::Global;
 
@@ -33,81 +35,127 @@ pub struct FileFacts {
     pub exports: Vec<Indicator>,
     /// One for each file specification that makes a load, in the order of the text.
     pub loads: Vec<Load>,
-    /// In order of name and arity, each once.
+    /// In order of module, name and arity, each once.
     pub defined: Vec<Defined>,
+    /// How arguments of goals stand, as it is declared, in the order of the text.
+    pub metas: Vec<Meta>,
     /// The terms of the goal directives, in the order of the text.
     pub goals: Vec<Term>,
 }
 
-/// The name and the number of arguments of the predicate that a clause defines.
-fn clause_head(clause: &Term) -> Result<(&str, usize), FactFault>
+/// The predicate that a clause defines in a file of the module `owner`.
+fn clause_head<'a>(owner: &'a str, clause: &'a Term) -> Result<OwnedHead<'a>, FactFault>
     requires { weight (tree_of clause.now) ≤ 8388608 }
-    ensures ok { IfOk result (λ named. clause_head (tree_of clause.now) ≡ Ok (record { name = named.0.now; arity = named.1 })) }
-    ensures refused { IfErr result (λ fault. IsWhy (clause_head (tree_of clause.now)) fault) }
+    ensures ok { IfOk result (λ own. clause_head owner.now (tree_of clause.now) ≡ Ok (record { module_ = own.module.now; name = own.name.now; arity = own.arity })) }
+    ensures refused { IfErr result (λ fault. IsWhy (clause_head owner.now (tree_of clause.now)) fault) }
 {
     let Some(pair) = binary(clause) else {
-        return head(clause);
+        return head(owner, clause);
     };
     if pair.name == ":-" {
-        return head(pair.left);
+        return head(owner, pair.left);
     }
     if pair.name != "-->" {
-        return head(clause);
+        return head(owner, clause);
     }
-    match head(grammar_head(pair.left)) {
-        Ok((name, arity)) => Ok((name, arity + 2)),
+    match head(owner, grammar_head(pair.left)) {
+        Ok(own) => Ok(OwnedHead {
+            module: own.module,
+            name: own.name,
+            arity: own.arity + 2,
+        }),
         Err(fault) => Err(fault),
     }
 }
 
 /// Adds a clause that is no directive: to the last run, where that has clauses of the same
 /// predicate, and else as a run of its own.
-fn push_headed(alloc: Global, clause: Clause, kinds: &mut Kinds) -> Result<(), FactFault>
+fn push_headed(
+    alloc: Global,
+    owner: &str,
+    clause: Clause,
+    kinds: &mut Kinds,
+) -> Result<(), FactFault>
     requires { weight (clause_tree clause) ≤ 8388608 }
-    ensures ok { OnOk result (with_said (see_kinds kinds.old) (headed (clause_head (clause_tree clause)) (clause_tree clause)) ≡ Ok (see_kinds kinds.new)) }
-    ensures refused { IfErr result (λ fault. IsWhy (headed (clause_head (clause_tree clause)) (clause_tree clause)) fault) }
+    ensures ok { OnOk result (with_said (see_kinds kinds.old) (headed (clause_head owner.now (clause_tree clause)) (clause_tree clause)) ≡ Ok (see_kinds kinds.new)) }
+    ensures refused { IfErr result (λ fault. IsWhy (headed (clause_head owner.now (clause_tree clause)) (clause_tree clause)) fault) }
 {
-    let (name, arity) = match clause_head(&clause.term) {
-        Ok(named) => named,
+    let own = match clause_head(owner, &clause.term) {
+        Ok(own) => own,
         Err(fault) => return Err(fault),
     };
-    if end_in(&kinds.definitions, name, arity) {
+    let arity = own.arity;
+    if end_in(&kinds.definitions, own.module, own.name, arity) {
         push_last(&mut kinds.definitions, clause)?;
         return Ok(());
     }
-    let name = Text::new(alloc, name)?;
-    push_run(alloc, &mut kinds.definitions, name, arity as u32, clause)?;
+    let module = Text::new(alloc, own.module)?;
+    let name = Text::new(alloc, own.name)?;
+    push_run(
+        alloc,
+        &mut kinds.definitions,
+        module,
+        name,
+        arity as u32,
+        clause,
+    )?;
     Ok(())
 }
 
-/// Adds what a clause says; first tells whether it is the first of the file.
+/// Adds what a clause says in a file of the module `owner`; first tells whether it is the first of the
+/// file.
 fn push_clause(
     alloc: Global,
     file: &str,
+    owner: &str,
     first: bool,
     clause: Clause,
     kinds: &mut Kinds,
 ) -> Result<(), FactFault>
     requires { weight (clause_tree clause) ≤ 8388608 }
-    ensures ok { OnOk result (with_said (see_kinds kinds.old) (clause_said file.now first (clause_tree clause)) ≡ Ok (see_kinds kinds.new)) }
-    ensures refused { IfErr result (λ fault. IsWhy (clause_said file.now first (clause_tree clause)) fault) }
+    ensures ok { OnOk result (with_said (see_kinds kinds.old) (clause_said (home file.now owner.now) first (clause_tree clause)) ≡ Ok (see_kinds kinds.new)) }
+    ensures refused { IfErr result (λ fault. IsWhy (clause_said (home file.now owner.now) first (clause_tree clause)) fault) }
 {
     match directive_taken(clause) {
-        Taken::Directive(directive) => push_directive(alloc, file, first, directive, kinds),
-        Taken::Headed(clause) => push_headed(alloc, clause, kinds),
+        Taken::Directive(directive) => push_directive(alloc, file, owner, first, directive, kinds),
+        Taken::Headed(clause) => push_headed(alloc, owner, clause, kinds),
     }
 }
 
-/// All that the clauses say, by kind.
-fn said(alloc: Global, file: &str, clauses: Vec<Clause>) -> Result<Kinds, FactFault>
+/// The module of a file with these clauses.
+fn module_of(clauses: &[Clause]) -> &str
+    ensures { result.now ≡ module_of (map clause_tree clauses.now) }
+{
+    let Some(first) = clauses.first() else {
+        return "user";
+    };
+    let Some(directive) = directive_of(&first.term) else {
+        return "user";
+    };
+    let Some((name, _exports)) = sides(directive, "module") else {
+        return "user";
+    };
+    match atom_name(name) {
+        Some(own) => own,
+        None => "user",
+    }
+}
+
+/// All that the clauses say in a file of the module `owner`, by kind.
+fn said(
+    alloc: Global,
+    file: &str,
+    owner: &str,
+    clauses: Vec<Clause>,
+) -> Result<Kinds, FactFault>
     requires { All (λ tree. weight tree ≤ 8388608) (map clause_tree clauses.items) }
-    ensures ok { IfOk result (λ kinds. AreSaid (file_said file.now (map clause_tree clauses.items)) kinds) }
-    ensures refused { IfErr result (λ fault. IsWhy (file_said file.now (map clause_tree clauses.items)) fault) }
+    ensures ok { IfOk result (λ kinds. AreSaid (trees_said (home file.now owner.now) (map clause_tree clauses.items)) kinds) }
+    ensures refused { IfErr result (λ fault. IsWhy (trees_said (home file.now owner.now) (map clause_tree clauses.items)) fault) }
 {
     let mut kinds = none_said(alloc, clauses.len())?;
     let mut first = true;
     for clause in clauses {
-        push_clause(alloc, file, first, clause, &mut kinds)?;
+        push_clause(alloc, file, owner, first, clause, &mut kinds)?;
         first = false;
     }
     Ok(kinds)
@@ -120,8 +168,10 @@ pub fn facts(alloc: Global, file: &str, clauses: Vec<Clause>) -> Result<FileFact
     ensures only { IfOk result (λ found. (other : Facts) → AreFacts file.now (map clause_tree clauses.items) other → other ≡ see_facts found) }
     ensures refused { IfErr result (λ fault. IsWhy (file_said file.now (map clause_tree clauses.items)) fault) }
 {
-    let kinds = said(alloc, file, clauses)?;
+    let owner = Text::new(alloc, module_of(&clauses))?;
+    let kinds = said(alloc, file, owner.as_str(), clauses)?;
     let own = module_of_file(alloc, kinds.declared)?;
+    let metas = all_declared(alloc, own.name.as_str(), kinds.takes)?;
     Ok(FileFacts {
         file: Text::new(alloc, file)?,
         module: own.name,
@@ -130,6 +180,7 @@ pub fn facts(alloc: Global, file: &str, clauses: Vec<Clause>) -> Result<FileFact
         exports: own.exports,
         loads: kinds.loads,
         defined: group(alloc, kinds.definitions)?,
+        metas,
         goals: kinds.goals,
     })
 }

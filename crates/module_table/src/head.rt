@@ -3,12 +3,12 @@
 ghost use Rattle.std.specs.Prelude.{◌≡◌, IfOk, IfErr, Ok};
 ghost use Rattle.prolog_terms.specs.Tree.{tree_of};
 ghost use Rattle.module_table.specs.Said.{IsWhy};
-ghost use Rattle.module_table.specs.Heads.{is_among, control_names, headless_names, named_head, head, is_pushback, grammar_head};
+ghost use Rattle.module_table.specs.Heads.{is_among, control_names, headless_names, named_head, plain_head, behind_modules, head, is_pushback, grammar_head};
 
 use crate::said::{FactFault, refusal};
 use crate::terms::is_one_of;
 use clause_text::Cause;
-use prolog_terms::{ConstKind, Term, inside, name_and_arity, sides};
+use prolog_terms::{ConstKind, Term, atom_name, inside, name_and_arity, sides};
 
 fn is_control(name: &str, arity: usize) -> bool
     ensures { result ≡ is_among (control_names arity) name.now }
@@ -45,14 +45,64 @@ fn named_head<'a>(term: &Term, name: &'a str, arity: usize) -> Result<(&'a str, 
     Ok((name, arity))
 }
 
-/// The name and the number of arguments of what a head defines.
-pub fn head(term: &Term) -> Result<(&str, usize), FactFault>
-    ensures ok { IfOk result (λ named. head (tree_of term.now) ≡ Ok (record { name = named.0.now; arity = named.1 })) }
-    ensures refused { IfErr result (λ fault. IsWhy (head (tree_of term.now)) fault) }
+/// A term in a module.
+#[derive(Clone, Copy)]
+pub struct Within<'a> {
+    pub module: &'a str,
+    pub term: &'a Term,
+}
+
+/// The term behind the names of modules, in the innermost of these; in `owner` where none is named.
+fn behind_modules<'a>(owner: &'a str, term: &'a Term) -> Within<'a>
+    ensures { record { module_ = result.module.now; tree = tree_of result.term.now } ≡ behind_modules owner.now (tree_of term.now) }
+{
+    let Some((left, right)) = sides(term, ":") else {
+        return Within {
+            module: owner,
+            term: inside(term),
+        };
+    };
+    match atom_name(left) {
+        Some(own) => behind_modules(own, right),
+        None => Within {
+            module: owner,
+            term: inside(term),
+        },
+    }
+}
+
+/// The name and the number of arguments of what a head without modules defines.
+fn plain_head(term: &Term) -> Result<(&str, usize), FactFault>
+    ensures ok { IfOk result (λ named. plain_head (tree_of term.now) ≡ Ok (record { name = named.0.now; arity = named.1 })) }
+    ensures refused { IfErr result (λ fault. IsWhy (plain_head (tree_of term.now)) fault) }
 {
     match name_and_arity(term) {
         Some((name, arity)) => named_head(term, name, arity),
         None => Err(refusal(Cause::BadHead, term)),
+    }
+}
+
+/// The module, the name and the number of arguments of what a head defines.
+#[derive(Clone, Copy)]
+pub struct OwnedHead<'a> {
+    pub module: &'a str,
+    pub name: &'a str,
+    pub arity: usize,
+}
+
+/// What a head defines in a file of the module `owner`.
+pub fn head<'a>(owner: &'a str, term: &'a Term) -> Result<OwnedHead<'a>, FactFault>
+    ensures ok { IfOk result (λ own. head owner.now (tree_of term.now) ≡ Ok (record { module_ = own.module.now; name = own.name.now; arity = own.arity })) }
+    ensures refused { IfErr result (λ fault. IsWhy (head owner.now (tree_of term.now)) fault) }
+{
+    let within = behind_modules(owner, term);
+    match plain_head(within.term) {
+        Ok((name, arity)) => Ok(OwnedHead {
+            module: within.module,
+            name,
+            arity,
+        }),
+        Err(fault) => Err(fault),
     }
 }
 

@@ -2,14 +2,13 @@
 
 ghost use Rattle.std.specs.Prelude.{◌≡◌, IfOk, IfErr, OnOk, Ok, Some, map};
 ghost use Rattle.prolog_terms.specs.Tree.{tree_of};
-ghost use Rattle.prolog_terms.specs.Views.{joined};
 ghost use Rattle.module_table.specs.Said.{IsWhy, more};
-ghost use Rattle.module_table.specs.Indicators.{arity_of, arguments_added, indicator, one_indicator, indicators, declared_indicators, listed_indicators};
+ghost use Rattle.module_table.specs.Indicators.{arity_of, arguments_added, indicator, one_indicator, indicators, listed_indicators};
 
 use crate::said::{FactFault, refusal};
 use crate::terms::list_items;
 use clause_text::Cause;
-use prolog_terms::{ConstKind, Term, atom_name, binary, inside, sides, start_of};
+use prolog_terms::{ConstKind, Term, atom_name, binary, inside, start_of};
 use prolog_tokens::Text;
 use std::alloc::{AllocError, Global};
 
@@ -22,7 +21,7 @@ pub struct Indicator {
 }
 
 /// The value of an integer without minus, and so many more, where that is an arity.
-fn arity_of(term: &Term, added: u32) -> Option<u32>
+pub fn arity_of(term: &Term, added: u32) -> Option<u32>
     ensures { result ≡ arity_of (tree_of term.now) added }
 {
     let Term::Const {
@@ -47,7 +46,7 @@ fn arity_of(term: &Term, added: u32) -> Option<u32>
 }
 
 /// How many arguments an indicator of this name adds.
-fn arguments_added(name: &str) -> Option<u32>
+pub fn arguments_added(name: &str) -> Option<u32>
     ensures { result ≡ arguments_added name.now }
 {
     if name == "/" {
@@ -109,33 +108,6 @@ pub fn indicators(alloc: Global, terms: &[Term]) -> Result<Vec<Indicator>, FactF
     for term in terms {
         push_indicator(alloc, term, &mut found)?;
     }
-    Ok(found)
-}
-
-/// Adds the indicators that commas join.
-fn push_joined(alloc: Global, term: &Term, found: &mut Vec<Indicator>) -> Result<(), FactFault>
-    ensures ok { OnOk result (more found.old.items (indicators (joined (tree_of term.now))) ≡ Ok found.new.items) }
-    ensures refused { IfErr result (λ fault. IsWhy (indicators (joined (tree_of term.now))) fault) }
-{
-    match sides(term, ",") {
-        Some((left, right)) => {
-            push_joined(alloc, left, found)?;
-            push_joined(alloc, right, found)
-        }
-        None => push_indicator(alloc, term, found),
-    }
-}
-
-/// The indicators of a list, or those that commas join.
-pub fn declared_indicators(alloc: Global, term: &Term) -> Result<Vec<Indicator>, FactFault>
-    ensures ok { IfOk result (λ found. declared_indicators (tree_of term.now) ≡ Ok found.items) }
-    ensures refused { IfErr result (λ fault. IsWhy (declared_indicators (tree_of term.now)) fault) }
-{
-    if let Some(items) = list_items(term) {
-        return indicators(alloc, items);
-    }
-    let mut found = Vec::new(alloc);
-    push_joined(alloc, term, &mut found)?;
     Ok(found)
 }
 

@@ -8,6 +8,7 @@ ghost use Rattle.module_table.specs.Kinds.{IsModule, none_said, see_kinds, with_
 use crate::defined::Defined;
 use crate::indicator::Indicator;
 use crate::load::Load;
+use crate::meta::Takes;
 use crate::said::{FactFault, Module, Part};
 use prolog_terms::Term;
 use prolog_tokens::Text;
@@ -20,6 +21,7 @@ pub struct Kinds {
     pub declared: Option<Module>,
     pub loads: Vec<Load>,
     pub definitions: Vec<Defined>,
+    pub takes: Vec<Takes>,
     pub goals: Vec<Term>,
 }
 
@@ -31,6 +33,7 @@ pub fn none_said(alloc: Global, room: usize) -> Result<Kinds, AllocError>
         declared: None,
         loads: Vec::new(alloc),
         definitions: Vec::with_capacity(alloc, room)?,
+        takes: Vec::new(alloc),
         goals: Vec::new(alloc),
     })
 }

@@ -10,8 +10,9 @@ ghost use Rattle.clause_text.specs.Offsets.{HasOffsets};
 ghost use Rattle.module_table.specs.FileName.{begins_with_slash, folder, resolved};
 ghost use Rattle.module_table.specs.Paths.{IsFolder, IsFileName, led, as_prolog};
 ghost use Rattle.module_table.specs.Defined.{Predicate};
+ghost use Rattle.module_table.specs.Metas.{Declaration, IsSmall};
 ghost use Rattle.module_table.specs.Said.{Refusal, Loads};
-ghost use Rattle.module_table.specs.Facts.{Facts, AreFacts, file_said, is_clause_of};
+ghost use Rattle.module_table.specs.Facts.{Facts, AreFacts, file_said, module_of, is_clause_of};
 ghost use Rattle.module_table.specs.Placed.{ArePlacedIn};
 ghost use Rattle.module_table.specs.FileText.{HasFacts, HasFault};
 
@@ -31,17 +32,27 @@ pub fn facts_placed()
     ensures { (text user : List ℕ) (trees : List Tree) (facts : Facts) → All (HasOffsets text) trees → AreFacts user trees facts → ArePlacedIn text facts }
 {}
 
-/// Each clause and each goal that the facts of a file keep weighs no more than its heaviest clause.
+/// Each clause and each goal that the facts of a file keep weighs no more than its heaviest clause, and
+/// no declaration has more arguments than that.
 pub fn facts_light()
     ensures clauses { (n : ℕ) (user : List ℕ) (trees : List Tree) (facts : Facts) → All (λ tree. weight tree ≤ n) trees → AreFacts user trees facts
         → All (λ (p : Predicate). All (λ tree. weight tree ≤ n) p.clauses) facts.defined }
     ensures goals { (n : ℕ) (user : List ℕ) (trees : List Tree) (facts : Facts) → All (λ tree. weight tree ≤ n) trees → AreFacts user trees facts
         → All (λ tree. weight tree ≤ n) facts.goals }
+    ensures metas { (n : ℕ) (user : List ℕ) (trees : List Tree) (facts : Facts) → All (λ tree. weight tree ≤ n) trees → AreFacts user trees facts
+        → All (λ (d : Declaration). length d.args ≤ n) facts.metas }
 {}
 
-/// A file has no more predicates than its clauses weigh, and so no more than its text has bytes.
+/// A file has no more predicates than its clauses weigh, and so no more than its text has bytes; and
+/// no more declarations of goal arguments.
 pub fn few_defined()
-    ensures { (user : List ℕ) (trees : List Tree) (facts : Facts) → AreFacts user trees facts → length facts.defined ≤ total_weight trees }
+    ensures defined { (user : List ℕ) (trees : List Tree) (facts : Facts) → AreFacts user trees facts → length facts.defined ≤ total_weight trees }
+    ensures metas { (user : List ℕ) (trees : List Tree) (facts : Facts) → AreFacts user trees facts → length facts.metas ≤ total_weight trees }
+{}
+
+/// No declaration adds more than nine arguments to a goal.
+pub fn few_added()
+    ensures { (user : List ℕ) (trees : List Tree) (facts : Facts) → AreFacts user trees facts → All (λ (d : Declaration). All IsSmall d.args) facts.metas }
 {}
 
 /// A text has one record of facts at most in a file of a name, or one fault, and never both.
@@ -51,11 +62,11 @@ pub fn one_of_text()
     ensures never_both { (name text : List ℕ) (fault : Refusal) (facts : Facts) → HasFault name text fault → HasFacts name text facts → ⊥ }
 {}
 
-/// The clauses of a predicate are those of the file that are of its name and arity, in order. Each
+/// The clauses of a predicate are those of the file that are of its module, name and arity, in order. Each
 /// clause of the file that is no directive is one of a predicate.
 pub fn clauses_kept()
     ensures are { (user : List ℕ) (trees : List Tree) (facts : Facts) → AreFacts user trees facts → (p : Predicate) → Contains facts.defined p
-        → p.clauses ≡ filter (is_clause_of p.name p.arity) trees }
+        → p.clauses ≡ filter (is_clause_of (module_of trees) p.module_ p.name p.arity) trees }
     ensures all { (user : List ℕ) (trees : List Tree) (facts : Facts) → AreFacts user trees facts → (tree : Tree) → Contains trees tree → directive_of tree ≡ None
         → (p : Predicate) × Contains facts.defined p × Contains p.clauses tree }
 {}

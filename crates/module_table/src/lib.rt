@@ -10,13 +10,16 @@
 
 mod defined;
 mod directive;
+mod dynamic;
 mod file_facts;
 mod file_name;
+mod goal_arg;
 mod head;
 mod indicator;
 mod kinds;
 mod laws;
 mod load;
+mod meta;
 mod module_directive;
 mod runs;
 mod said;
@@ -26,10 +29,12 @@ mod terms;
 pub use defined::Defined;
 pub use file_facts::{FileFacts, facts};
 pub use file_name::resolve_name;
+pub use goal_arg::GoalArg;
 pub use indicator::Indicator;
 pub use laws::{
-    clauses_kept, facts_light, facts_placed, few_defined, folders_cut, loads_named, names_kept,
+    clauses_kept, facts_light, facts_placed, few_added, few_defined, folders_cut, loads_named, names_kept,
     names_lead, names_resolved, none_named, one_facts, one_name, one_of_text, refusals_placed,
 };
 pub use load::{Load, LoadKind};
+pub use meta::Meta;
 pub use said::FactFault;

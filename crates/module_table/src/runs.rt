@@ -11,15 +11,15 @@ use clause_text::Clause;
 use prolog_tokens::Text;
 use std::alloc::{AllocError, Global};
 
-fn is_named(run: &Defined, name: &str, arity: usize) -> bool
-    ensures { result ≡ (nat_eq run.now.arity arity && bytes_eq run.now.name name.now) }
+fn is_named(run: &Defined, owner: &str, name: &str, arity: usize) -> bool
+    ensures { result ≡ (nat_eq run.now.arity arity && (bytes_eq run.now.name name.now && bytes_eq run.now.module owner.now)) }
 {
-    run.arity as usize == arity && run.name.as_str() == name
+    run.arity as usize == arity && (run.name.as_str() == name && run.module.as_str() == owner)
 }
 
 /// Whether the runs end in one with clauses of the predicate.
-pub fn end_in(runs: &[Defined], name: &str, arity: usize) -> bool
-    ensures { OnTrue result (EndIn name.now arity runs.now) }
+pub fn end_in(runs: &[Defined], owner: &str, name: &str, arity: usize) -> bool
+    ensures { OnTrue result (EndIn owner.now name.now arity runs.now) }
 {
     let Some(last) = runs.last() else {
         return false;
@@ -27,13 +27,13 @@ pub fn end_in(runs: &[Defined], name: &str, arity: usize) -> bool
     if last.clauses.is_empty() {
         return false;
     }
-    is_named(last, name, arity)
+    is_named(last, owner, name, arity)
 }
 
 /// Adds a clause to the last run.
 pub fn push_last(runs: &mut Vec<Defined>, clause: Clause) -> Result<(), AllocError>
-    ensures { OnOk result ((name : List ℕ) (arity : ℕ) → EndIn name arity runs.old.items
-        → flat_map see_run runs.new.items ≡ flat_map see_run runs.old.items ++ defined_by name arity (clause_tree clause) ∷ []) }
+    ensures { OnOk result ((owner name : List ℕ) (arity : ℕ) → EndIn owner name arity runs.old.items
+        → flat_map see_run runs.new.items ≡ flat_map see_run runs.old.items ++ defined_by owner name arity (clause_tree clause) ∷ []) }
 {
     let Some(last) = runs.last_mut() else {
         return Ok(());
@@ -46,14 +46,16 @@ pub fn push_last(runs: &mut Vec<Defined>, clause: Clause) -> Result<(), AllocErr
 pub fn push_run(
     alloc: Global,
     runs: &mut Vec<Defined>,
+    owner: Text,
     name: Text,
     arity: u32,
     clause: Clause,
 ) -> Result<(), AllocError>
-    ensures { OnOk result (flat_map see_run runs.new.items ≡ flat_map see_run runs.old.items ++ defined_by name arity (clause_tree clause) ∷ []) }
+    ensures { OnOk result (flat_map see_run runs.new.items ≡ flat_map see_run runs.old.items ++ defined_by owner name arity (clause_tree clause) ∷ []) }
 {
     let clauses = vec![in alloc; clause]?;
     runs.push(Defined {
+        module: owner,
         name,
         arity,
         clauses,
@@ -65,12 +67,14 @@ pub fn push_run(
 pub fn push_bare(
     alloc: Global,
     runs: &mut Vec<Defined>,
+    owner: Text,
     name: Text,
     arity: u32,
 ) -> Result<(), AllocError>
-    ensures { OnOk result (flat_map see_run runs.new.items ≡ flat_map see_run runs.old.items ++ record { name = name; arity = arity; clause = None } ∷ []) }
+    ensures { OnOk result (flat_map see_run runs.new.items ≡ flat_map see_run runs.old.items ++ record { module_ = owner; name = name; arity = arity; clause = None } ∷ []) }
 {
     runs.push(Defined {
+        module: owner,
         name,
         arity,
         clauses: Vec::new(alloc),

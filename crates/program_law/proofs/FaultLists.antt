@@ -20,7 +20,8 @@ use Rattle.import_rules.specs.Loaded.{WasLoaded}
 use Rattle.import_rules.specs.Program.{Seen, IsProgram, IsKnown, IsReadFrom}
 use Rattle.import_rules.proofs.Lists.{all_by}
 use Rattle.import_rules.proofs.Loaded.{was_read}
-use Rattle.call_edges.specs.Goals.{Met, call, fault}
+use Rattle.call_edges.specs.Goals.{Met, call, fault, Rows}
+use Rattle.call_edges.specs.ProgramRows.{rows_of}
 use Rattle.call_edges.specs.GoalFaults.{AreGoalFaults, IsMetInFile}
 use Rattle.call_edges.specs.FaultPlaces.{IsFaultPlace, AreFaultPlaces, IsPlaced}
 use Rattle.call_edges.proofs.CheckLemmas.{pair_cmp_total}
@@ -65,27 +66,27 @@ one_place file (fault at) p = (
       subst (Contains ((file, at) ∷ [])) same (in_first (file, at) []),
 )
 
-abbrev file_places : ℕ × Facts → List (ℕ × ℕ)
-file_places at = flat_map (met_places at.0) (file_mets at.1)
+abbrev file_places : Rows → ℕ × Facts → List (ℕ × ℕ)
+file_places T at = flat_map (met_places at.0) (file_mets T at.1)
 
-abbrev all_places : List Facts → List (ℕ × ℕ)
-all_places files = flat_map file_places (enumerate_from 0 files)
+abbrev all_places : Rows → List Facts → List (ℕ × ℕ)
+all_places T files = flat_map (file_places T) (enumerate_from 0 files)
 
-abbrev IsInFile : ℕ × Facts → ℕ × ℕ → Type 0
-IsInFile at p = (p.0 ≡ at.0) × IsMetInFile at.1 (fault p.1)
+abbrev IsInFile : Rows → ℕ × Facts → ℕ × ℕ → Type 0
+IsInFile T at p = (p.0 ≡ at.0) × IsMetInFile T at.1 (fault p.1)
 
-in_file : (at : ℕ × Facts) (p : ℕ × ℕ) → Contains (file_places at) p ↔ IsInFile at p
-in_file at p =
-    let flat = given_has (met_places at.0) (IsFaultAt at.0) (one_place at.0) (file_mets at.1) p in
-    let has = file_has at.1 (fault p.1) in (
-      λ there. let among = flat.0 there in (among.is.0, has.0 (subst (Contains (file_mets at.1)) among.is.1 among.has)),
+in_file : (T : Rows) (at : ℕ × Facts) (p : ℕ × ℕ) → Contains (file_places T at) p ↔ IsInFile T at p
+in_file T at p =
+    let flat = given_has (met_places at.0) (IsFaultAt at.0) (one_place at.0) (file_mets T at.1) p in
+    let has = file_has T at.1 (fault p.1) in (
+      λ there. let among = flat.0 there in (among.is.0, has.0 (subst (Contains (file_mets T at.1)) among.is.1 among.has)),
       λ is. flat.1 (record { one = fault p.1; has = has.1 is.1; is = (is.0, refl) }),
     )
 
-places_are : (seen : Seen) (p : ℕ × ℕ) → Contains (all_places seen.loaded.files) p ↔ IsFaultPlace seen p
+places_are : (seen : Seen) (p : ℕ × ℕ) → Contains (all_places (rows_of seen) seen.loaded.files) p ↔ IsFaultPlace seen p
 places_are seen p =
     let files = seen.loaded.files in
-    let flat = given_has file_places IsInFile in_file (enumerate_from 0 files) p in (
+    let flat = given_has (file_places (rows_of seen)) (IsInFile (rows_of seen)) (in_file (rows_of seen)) (enumerate_from 0 files) p in (
       λ has.
           let among = flat.0 has in
           record { file = among.one.1; is = ap (slice_get files) among.is.0 ∙ enumerated files among.one among.has; met = among.is.1 },
@@ -105,7 +106,7 @@ both_same a b tie = at (nat_cmp a.0 b.0) refl tie
 
 has_places : (seen : Seen) → (places : List (ℕ × ℕ)) × AreFaultPlaces seen places
 has_places seen =
-    let found : HasOnce pair_cmp pair_cmp_total (all_places seen.loaded.files) = has_once pair_cmp pair_cmp_total both_same (all_places seen.loaded.files) in (
+    let found : HasOnce pair_cmp pair_cmp_total (all_places (rows_of seen) seen.loaded.files) = has_once pair_cmp pair_cmp_total both_same (all_places (rows_of seen) seen.loaded.files) in (
       found.once,
       record {
         ordered = found.rising;
@@ -134,7 +135,7 @@ has_text (t ∷ texts) (f ∷ files) (suc k) file read here =
 one_placed : (seen : Seen) → IsKnown seen → (p : ℕ × ℕ) → IsFaultPlace seen p → (one : Fault) × IsPlaced seen.loaded.texts p one
 one_placed seen is_known p wrong =
     let own : HasText seen.loaded.texts p.0 wrong.file = has_text seen.loaded.texts seen.loaded.files p.0 wrong.file is_known.read wrong.is in
-    let place : (q : Place) × IsPlace own.text.1 p.1 q = has_place own.text.1 p.1 (file_fault_stands own.text.1 wrong.file p.1 own.read.placed wrong.met) in (
+    let place : (q : Place) × IsPlace own.text.1 p.1 q = has_place own.text.1 p.1 (file_fault_stands own.text.1 (rows_of seen) wrong.file p.1 own.read.placed wrong.met) in (
       record { file = own.text.0; offset = p.1; place = place.0; cause = NotCallable },
       record { text = own.text; is = own.is; placed = record { in_file = refl; offset = refl; cause = refl; stands = place.1 } },
     )

@@ -16,6 +16,7 @@ use Rattle.module_table.specs.declared.indicator.Indicator.{Indicator}
 use Rattle.module_table.specs.Defined.{Predicate}
 use Rattle.module_table.specs.Facts.{Facts}
 use Rattle.import_rules.specs.Program.{Seen, found}
+use Rattle.call_edges.specs.ProgramRows.{rows_of}
 use Rattle.call_edges.specs.Calls.{target}
 use Rattle.call_edges.specs.Roots.{Gives, IsGivenByRoot, IsCalledByGoal, IsRoot}
 use Rattle.call_edges.proofs.AmongLemmas.{any_is, is_any}
@@ -33,15 +34,15 @@ one_there (Some n) q = (
 
 abbrev given_by : Seen → Facts → Bool → List ℕ
 given_by seen file true = flat_map (λ (i : Indicator). option_to_list (found seen file.module_ i.name i.arity)) file.exports
-given_by seen file false = flat_map (λ (p : Predicate). option_to_list (found seen file.module_ p.name p.arity)) file.defined
+given_by seen file false = flat_map (λ (p : Predicate). option_to_list (found seen p.module_ p.name p.arity)) file.defined
 
 given_are : (seen : Seen) (file : Facts) (b : Bool) (q : ℕ) → Contains (given_by seen file b) q ↔ Gives seen file b q
 given_are seen file true q =
     given_has (λ (i : Indicator). option_to_list (found seen file.module_ i.name i.arity)) (λ (i : Indicator) n. found seen file.module_ i.name i.arity ≡ Some n)
     (λ i n. one_there (found seen file.module_ i.name i.arity) n) file.exports q
 given_are seen file false q =
-    given_has (λ (p : Predicate). option_to_list (found seen file.module_ p.name p.arity)) (λ (p : Predicate) n. found seen file.module_ p.name p.arity ≡ Some n)
-    (λ p n. one_there (found seen file.module_ p.name p.arity) n) file.defined q
+    given_has (λ (p : Predicate). option_to_list (found seen p.module_ p.name p.arity)) (λ (p : Predicate) n. found seen p.module_ p.name p.arity ≡ Some n)
+    (λ p n. one_there (found seen p.module_ p.name p.arity) n) file.defined q
 
 -- what it gives where it is a root file
 
@@ -78,13 +79,13 @@ root_given seen file q = (
 -- what its goals call
 
 abbrev goals_call : Seen → Facts → List ℕ
-goals_call seen file = flat_map (λ m. option_to_list (target seen m)) (goal_mets file)
+goals_call seen file = flat_map (λ m. option_to_list (target seen m)) (goal_mets (rows_of seen) file)
 
 called_are : (seen : Seen) (file : Facts) (q : ℕ) → Contains (goals_call seen file) q ↔ IsCalledByGoal seen file q
 called_are seen file q =
-    let flat = given_has (λ m. option_to_list (target seen m)) (λ m n. target seen m ≡ Some n) (λ m n. one_there (target seen m) n) (goal_mets file) q in (
-      λ has. let among = flat.0 has in record { met = among.one; is = (goals_have file among.one).0 among.has; goes = among.is },
-      λ goes. flat.1 (record { one = goes.met; has = (goals_have file goes.met).1 goes.is; is = goes.goes }),
+    let flat = given_has (λ m. option_to_list (target seen m)) (λ m n. target seen m ≡ Some n) (λ m n. one_there (target seen m) n) (goal_mets (rows_of seen) file) q in (
+      λ has. let among = flat.0 has in record { met = among.one; is = (goals_have (rows_of seen) file among.one).0 among.has; goes = among.is },
+      λ goes. flat.1 (record { one = goes.met; has = (goals_have (rows_of seen) file goes.met).1 goes.is; is = goes.goes }),
     )
 
 -- all roots

@@ -1,6 +1,6 @@
 use Rattle.std.proofs.Common.{◌≡◌, ◌++◌, map, take}
 use Rattle.prolog_terms.specs.Tree.{tree_of}
-use Rattle.call_edges.specs.declared.role.Role.TheVariants.{Goal}
+use Rattle.module_table.specs.declared.goal_arg.GoalArg.TheVariants.{Goal}
 use Rattle.call_edges.specs.Goals.{place}
 use Rattle.call_edges.specs.Bodies.{see_body, body_in}
 use Rattle.call_edges.proofs.body.push_goals.Given as goal

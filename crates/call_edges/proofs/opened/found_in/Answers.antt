@@ -1,6 +1,7 @@
 use Rattle.std.proofs.Common.{◌≡◌, map, get_or, ap, sym, ◌∙◌, subst, arith}
 use Rattle.std.proofs.lemmas.List.{length-map, get_or-map}
 use Rattle.import_rules.specs.Program.{see_program}
+use Rattle.call_edges.specs.ProgramRows.{rows_of}
 use Rattle.call_edges.specs.Seen.{see_mets}
 use Rattle.call_edges.specs.Bodies.{see_body, IsLight}
 use Rattle.call_edges.proofs.AmongLemmas.{among_more, among_all}
@@ -35,8 +36,8 @@ loop-body-preserved c =
           (body_goes seen (see_body body) met (see_mets c.clear.new.self.items) callees called empty c.in_ok-walk.ensures
           (rw c.deref.ensures.value at c.in_ok-push_targets.ensures));
       faults =
-          among_more IsSeenFault bodies k body c.args.faults.now.items faults placed c.loop-body-test.true c.body-item.is so_far.faults
-          (body_faults (see_body body) met (see_mets c.clear.new.self.items) faults placed empty c.in_ok-walk.ensures
+          among_more (IsSeenFault (rows_of (see_program c.args.program.now))) bodies k body c.args.faults.now.items faults placed c.loop-body-test.true c.body-item.is so_far.faults
+          (body_faults (rows_of (see_program c.args.program.now)) (see_body body) met (see_mets c.clear.new.self.items) faults placed empty c.in_ok-walk.ensures
           (rw c.deref-in-loop-body.ensures.value at c.in_ok-push_places.ensures));
     }
 
@@ -53,4 +54,4 @@ returns-clause-faults c =
     let bodies = c.args.bodies.now in
     let faults = c.loop-body.faults.items in
     let old = c.args.faults.now.items in
-    seen_faults bodies old faults (among_all IsSeenFault bodies c.loop-body.body-index old faults c.loop-body-test.false c.loop-body.invariant.faults)
+    seen_faults (rows_of (see_program c.args.program.now)) bodies old faults (among_all (IsSeenFault (rows_of (see_program c.args.program.now))) bodies c.loop-body.body-index old faults c.loop-body-test.false c.loop-body.invariant.faults)

@@ -1,6 +1,7 @@
 use Rattle.std.proofs.Common.{◌≡◌, List, All, ◌++◌, map, ap, sym, ◌∙◌, subst}
 use Rattle.import_rules.specs.Program.{see_program}
 use Rattle.call_edges.specs.Goals.{Adds}
+use Rattle.call_edges.specs.ProgramRows.{rows_of}
 use Rattle.call_edges.specs.Calls.{IsAmong}
 use Rattle.call_edges.specs.Bodies.{Body, see_body, bodies_in, IsLight}
 use Rattle.call_edges.specs.FaultPlaces.{IsFaultIn}
@@ -39,5 +40,5 @@ returns-clause-faults c =
     let bodies = map see_body c.deref.result.now in
     let are : bodies ≡ bodies_in seen c.args.node =
     ap (map see_body) c.deref.ensures.value ∙ (c.in_ok-push_bodies_of.ensures ∙ ap (λ bs. map see_body bs ++ bodies_in seen c.args.node) c.clear-2.ensures.items) in
-    let P : List Body → Type 0 = λ bs. Adds (IsAmong IsFaultIn bs) c.args.faults.now.items c.found_in.new.faults.items in
+    let P : List Body → Type 0 = λ bs. Adds (IsAmong (IsFaultIn (rows_of seen)) bs) c.args.faults.now.items c.found_in.new.faults.items in
     subst P are c.in_ok-found_in.ensures.faults

@@ -4,10 +4,12 @@ use Rattle.std.proofs.lemmas.List.{length-map}
 use Rattle.prolog_terms.specs.Tree.{tree_of, depth}
 use Rattle.prolog_terms.specs.Weight.{weight}
 use Rattle.prolog_terms.proofs.ViewLemmas.{compound_seen}
-use Rattle.call_edges.specs.declared.role.Role.{Role}
-use Rattle.call_edges.specs.Goals.{added, atom_met, plain_rows, place, taken, Taken, role_at, AddsMet}
+use Rattle.module_table.specs.declared.goal_arg.GoalArg.{GoalArg}
+use Rattle.call_edges.specs.Goals.{added, atom_met, place, taken, Taken, role_at, AddsMet}
+use Rattle.import_rules.specs.Program.{see_program}
+use Rattle.call_edges.specs.ProgramRows.{rows_of}
 use Rattle.call_edges.specs.Seen.{see_mets, see_taken}
-use Rattle.call_edges.proofs.AddedLemmas.{plain_within, argument_within, arguments_within}
+use Rattle.call_edges.proofs.AddedLemmas.{rows_within, argument_within, arguments_within}
 use Rattle.call_edges.proofs.MetLemmas.{first_none, first_more, first_rowless}
 use Rattle.call_edges.proofs.WalkLemmas.{taken_is, on_ok, deepest_one, read_seen, variable_walked, list_walked, constant_walked, atom_walked, curly_walked, paren_walked, compound_walked}
 use Rattle.call_edges.proofs.walking.+walk.Goals as goal
@@ -21,7 +23,7 @@ take_apart-taken-requires t c =
 
 pub loop-at-init : goal.loop-at-init
 loop-at-init t c =
-    first_none plain_rows (see_taken c.take_apart-taken.result) (map tree_of c.deref-arg-items.result.now) (see_mets c.args.met.now.items)
+    first_none (rows_of (see_program c.args.program.now)) (see_taken c.take_apart-taken.result) (map tree_of c.deref-arg-items.result.now) (see_mets c.args.met.now.items)
     (see_mets c.push_met-in-Compound.new.met.items) c.in_ok-push_met-in-Compound.ensures
 
 pub walk-requires : goal.walk-requires
@@ -36,13 +38,12 @@ walk-requires t c =
     let read : slice_get parts k ≡ Some tree =
     subst (λ xs. slice_get (map tree_of xs) k ≡ Some tree) c.deref-arg-items.ensures.value
     (read_seen c.deref-arg-items.result.now k c.arg-item.result c.loop-at-test.true c.arg-item.is) in
-    let apart : see_taken c.take_apart-taken.result ≡ taken plain_rows owner role v.name parts =
-    taken_is plain_rows owner role c.as_str-in-Compound.result.now v.name c.deref.result.now v.args.items (see_taken c.take_apart-taken.result) c.take_apart-taken.ensures
+    let apart : see_taken c.take_apart-taken.result ≡ taken (rows_of (see_program c.args.program.now)) owner role v.name parts =
+    taken_is (rows_of (see_program c.args.program.now)) owner role c.as_str-in-Compound.result.now v.name c.deref.result.now v.args.items (see_taken c.take_apart-taken.result) c.take_apart-taken.ensures
     c.as_str-in-Compound.ensures c.deref.ensures.value in
-    let stands : c.role_of.result ≡ role_at (taken plain_rows owner role v.name parts).row k =
-    c.role_of.ensures ∙ (ap (λ row. role_at row k) (sym c.in-Some.is) ∙ ap (λ (a : Taken). role_at a.row k) apart) in (
+    let stands : c.role_of.result ≡ role_at (taken (rows_of (see_program c.args.program.now)) owner role v.name parts).standing k = c.role_of.ensures ∙ ap (λ (a : Taken). role_at a.standing k) apart in (
       omega (arith, deepest_one parts k tree read, ap depth is),
-      omega (arith, argument_within plain_rows plain_within owner role v.name parts k tree read, ap added stands, ap weight is, c.requires),
+      omega (arith, argument_within (rows_of (see_program c.args.program.now)) (rows_within (see_program c.args.program.now) c.is_known.ensures) owner role v.name parts k tree read, ap added stands, ap weight is, c.requires),
     )
 
 pub loop-at-preserved : goal.loop-at-preserved
@@ -54,15 +55,15 @@ loop-at-preserved t c =
     let old = see_mets c.args.met.now.items in
     let mid = see_mets c.loop-at.met.items in
     let new = see_mets c.walk.new.met.items in
-    let stands : c.role_of.result ≡ role_at apart.row k = c.role_of.ensures ∙ ap (λ row. role_at row k) (sym c.in-Some.is) in
-    let P : Role → Type 0 = λ role. AddsMet plain_rows (place apart.module_ role tree) mid new in
-    first_more plain_rows apart (map tree_of items) k tree old mid new (read_seen items k c.arg-item.result c.loop-at-test.true c.arg-item.is) c.loop-at.invariant
-    (subst P stands c.in_ok-walk-in-Some.ensures)
+    let stands : c.role_of.result ≡ role_at apart.standing k = c.role_of.ensures in
+    let P : GoalArg → Type 0 = λ role. AddsMet (rows_of (see_program c.args.program.now)) (place apart.module_ role tree) mid new in
+    first_more (rows_of (see_program c.args.program.now)) apart (map tree_of items) k tree old mid new (read_seen items k c.arg-item.result c.loop-at-test.true c.arg-item.is) c.loop-at.invariant
+    (subst P stands c.in_ok-walk-in-Compound.ensures)
 
 pub returns-in-Var : goal.returns-in-Var
 returns-in-Var t c =
     let old = see_mets c.args.met.now.items in
-    variable_walked plain_rows c.args.owner.now c.args.role c.args.term.now old old c.in-Var.span c.in-Var.is refl
+    variable_walked (rows_of (see_program c.args.program.now)) c.args.owner.now c.args.role c.args.term.now old old c.in-Var.span c.in-Var.is refl
 
 pub returns-in-Const : goal.returns-in-Const
 returns-in-Const t c =
@@ -70,7 +71,7 @@ returns-in-Const t c =
     let old = see_mets c.args.met.now.items in
     let new = see_mets c.push_met.new.met.items in
     on_ok c.push_met.result c.push_met.ensures (λ adds.
-    constant_walked plain_rows c.args.owner.now c.args.role c.args.term.now old new v.kind v.minus v.value v.span v.is
+    constant_walked (rows_of (see_program c.args.program.now)) c.args.owner.now c.args.role c.args.term.now old new v.kind v.minus v.value v.span v.is
     (adds ∙ ap (λ o. old ++ option_to_list o) c.constant_met.ensures))
 
 pub returns-in-Atom : goal.returns-in-Atom
@@ -81,11 +82,11 @@ returns-in-Atom t c =
     let old = see_mets c.args.met.now.items in
     let new = see_mets c.push_met-in-Atom.new.met.items in
     on_ok c.push_met-in-Atom.result c.push_met-in-Atom.ensures (λ adds.
-    atom_walked plain_rows owner role c.args.term.now old new v.name v.span v.is
+    atom_walked (rows_of (see_program c.args.program.now)) owner role c.args.term.now old new v.name v.span v.is
     (adds ∙ (ap (λ o. old ++ option_to_list o) c.atom_met.ensures ∙ ap (λ name. old ++ option_to_list (atom_met owner role name)) c.as_str.ensures)))
 
-pub returns-in-None : goal.returns-in-None
-returns-in-None t c =
+pub returns-then-is_silent : goal.returns-then-is_silent
+returns-then-is_silent t c =
     let v = c.in-Compound in
     let parts = map tree_of v.args.items in
     let owner = c.args.owner.now in
@@ -93,11 +94,11 @@ returns-in-None t c =
     let old = see_mets c.args.met.now.items in
     let new = see_mets c.push_met-in-Compound.new.met.items in
     let here = see_taken c.take_apart-taken.result in
-    let apart : here ≡ taken plain_rows owner role v.name parts =
-    taken_is plain_rows owner role c.as_str-in-Compound.result.now v.name c.deref.result.now v.args.items (see_taken c.take_apart-taken.result) c.take_apart-taken.ensures
+    let apart : here ≡ taken (rows_of (see_program c.args.program.now)) owner role v.name parts =
+    taken_is (rows_of (see_program c.args.program.now)) owner role c.as_str-in-Compound.result.now v.name c.deref.result.now v.args.items (see_taken c.take_apart-taken.result) c.take_apart-taken.ensures
     c.as_str-in-Compound.ensures c.deref.ensures.value in
-    compound_walked plain_rows owner role c.args.term.now old new v.name v.args v.form v.span here parts (length parts) v.is refl apart (omega arith)
-    (first_rowless plain_rows here parts (length parts) old new c.in-None.is (first_none plain_rows here parts old new c.in_ok-push_met-in-Compound.ensures))
+    compound_walked (rows_of (see_program c.args.program.now)) owner role c.args.term.now old new v.name v.args v.form v.span here parts (length parts) v.is refl apart (omega arith)
+    (first_rowless (rows_of (see_program c.args.program.now)) here parts (length parts) old new (c.is_silent.ensures c.if-is_silent.true) (first_none (rows_of (see_program c.args.program.now)) here parts old new c.in_ok-push_met-in-Compound.ensures))
 
 pub returns-after-loop-at : goal.returns-after-loop-at
 returns-after-loop-at t c =
@@ -109,17 +110,17 @@ returns-after-loop-at t c =
     let new = see_mets c.loop-at.met.items in
     let here = see_taken c.take_apart-taken.result in
     let items = c.deref-arg-items.result.now in
-    let apart : here ≡ taken plain_rows owner role v.name parts =
-    taken_is plain_rows owner role c.as_str-in-Compound.result.now v.name c.deref.result.now v.args.items (see_taken c.take_apart-taken.result) c.take_apart-taken.ensures
+    let apart : here ≡ taken (rows_of (see_program c.args.program.now)) owner role v.name parts =
+    taken_is (rows_of (see_program c.args.program.now)) owner role c.as_str-in-Compound.result.now v.name c.deref.result.now v.args.items (see_taken c.take_apart-taken.result) c.take_apart-taken.ensures
     c.as_str-in-Compound.ensures c.deref.ensures.value in
-    compound_walked plain_rows owner role c.args.term.now old new v.name v.args v.form v.span here (map tree_of items) c.loop-at.at v.is
+    compound_walked (rows_of (see_program c.args.program.now)) owner role c.args.term.now old new v.name v.args v.form v.span here (map tree_of items) c.loop-at.at v.is
     (ap (map tree_of) c.deref-arg-items.ensures.value) apart (omega (arith, length-map items tree_of, c.loop-at-test.false)) c.loop-at.invariant
 
 pub returns-in-List : goal.returns-in-List
 returns-in-List t c =
     let v = c.in-List in
     let old = see_mets c.args.met.now.items in
-    list_walked plain_rows c.args.owner.now c.args.role c.args.term.now old old v.items v.tail v.span v.is refl
+    list_walked (rows_of (see_program c.args.program.now)) c.args.owner.now c.args.role c.args.term.now old old v.items v.tail v.span v.is refl
 
 pub returns-in-Curly : goal.returns-in-Curly
 returns-in-Curly t c =
@@ -128,7 +129,7 @@ returns-in-Curly t c =
     let old = see_mets c.args.met.now.items in
     let new = see_mets c.walk-in-Curly.new.met.items in
     on_ok c.walk-in-Curly.result c.walk-in-Curly.ensures (λ adds.
-    curly_walked plain_rows owner c.args.role c.args.term.now old new v.inner v.span v.is
+    curly_walked (rows_of (see_program c.args.program.now)) owner c.args.role c.args.term.now old new v.inner v.span v.is
     (rw (c.curly_role.ensures, c.deref-in-Curly.ensures) at adds))
 
 pub returns-in-Paren : goal.returns-in-Paren
@@ -138,4 +139,4 @@ returns-in-Paren t c =
     let old = see_mets c.args.met.now.items in
     let new = see_mets c.walk-in-Paren.new.met.items in
     on_ok c.walk-in-Paren.result c.walk-in-Paren.ensures (λ adds.
-    paren_walked plain_rows owner c.args.role c.args.term.now old new v.inner v.span v.is (rw c.deref-in-Paren.ensures at adds))
+    paren_walked (rows_of (see_program c.args.program.now)) owner c.args.role c.args.term.now old new v.inner v.span v.is (rw c.deref-in-Paren.ensures at adds))

@@ -1,10 +1,16 @@
-use Rattle.std.proofs.Common.{◌≡◌, List, length, map, take, sym, ap, subst, ◌∙◌, arith}
-use Rattle.std.proofs.lemmas.List.{length-take}
+use Rattle.std.proofs.Common.{◌≡◌, List, All, AllPairs, length, map, take, sym, ap, subst, ◌∙◌, arith}
+use Rattle.std.specs.declared.cmp.Ordering.TheVariants.{Less}
+use Rattle.std.proofs.lemmas.List.{length-take, length-map}
+use Rattle.module_table.specs.declared.file_facts.FileFacts.{FileFacts}
+use Rattle.module_table.specs.Facts.{see_facts}
 use Rattle.file_library.specs.SortedOut.{see_loaded}
 use Rattle.import_rules.specs.declared.names.PredName.{PredName}
 use Rattle.import_rules.specs.Files.{AreNumbered}
 use Rattle.import_rules.specs.Meanings.{AreTargets}
+use Rattle.import_rules.specs.Metas.{AreDeclared, HasFewMetas, metas_in}
+use Rattle.import_rules.specs.Names.{pred_cmp}
 use Rattle.import_rules.specs.Numbers.{lists_of, parts_in, places_for}
+use Rattle.import_rules.proofs.Loaded.{few_files, few_metas_in_each}
 use Rattle.import_rules.proofs.NumberLemmas.{numbered_by}
 use Rattle.import_rules.proofs.Seen.{is_program}
 use Rattle.import_rules.proofs.resolve.resolve_all.Goals as goal
@@ -42,6 +48,9 @@ invariant_of-result c =
       faultless = ∣ c.in-Ok.ensures.faultless ∣₁;
       meant = subst (λ ps. AreTargets files ps names c.in-Ok.found.targets.items) (sym taken) c.in-Ok.ensures.targets;
       placed = numbers.placed ∙ ap (map (places_for (parts_in files))) (sym are);
+      told =
+          subst (λ (ps : List PredName). AreDeclared (metas_in files) ps c.in_ok-meta_places.meta_places.items) (sym taken)
+          (subst (λ (fs : List FileFacts). AreDeclared (metas_in (map see_facts fs)) c.in_ok-table.table c.in_ok-meta_places.meta_places.items) c.deref.ensures.value c.in_ok-meta_places.ensures);
     }
 
 pub returns-clause-ok : goal.returns-clause-ok
@@ -56,3 +65,16 @@ returns-clause-ok c =
     ap (λ n. take n names) (count ∙ sym same) ∙ c.in-Ok.ensures.kept ∙ c.in_ok-table.ensures in
     is_program _ predicates are (numbered_by files predicates (lists_of made.places.items) c.in_ok-predicates.ensures)
     (omega (arith, c.if-len-gt-MOST_PREDICATES.false, c.len.ensures, made.predicates.ok.0)) c.in-Ok.ensures.faultless
+
+pub meta_places-requires-clause-few : goal.meta_places-requires-clause-few
+meta_places-requires-clause-few c =
+    let loaded = c.args.loaded in
+    omega (arith, few_files (see_loaded loaded) c.requires, length-map loaded.files.items see_facts, ap length c.deref.ensures.value)
+
+pub meta_places-requires-clause-small : goal.meta_places-requires-clause-small
+meta_places-requires-clause-small c =
+    subst (λ (files : List FileFacts). All HasFewMetas (map see_facts files)) (sym c.deref.ensures.value) (few_metas_in_each (see_loaded c.args.loaded) c.requires)
+
+pub meta_places-requires-clause-in_order : goal.meta_places-requires-clause-in_order
+meta_places-requires-clause-in_order c =
+    subst (λ (ps : List PredName). AllPairs (λ p q. pred_cmp p q ≡ Less) ps) (sym c.in_ok-table.ensures) c.in_ok-predicates.ensures.in_order

@@ -6,7 +6,7 @@ use Rattle.module_table.specs.Said.{IsWhy, goal as goal_said}
 use Rattle.module_table.specs.Kinds.{see_kinds, with_part, with_said}
 use Rattle.module_table.specs.declared.directive.Told.TheVariants.{Goal, Done}
 use Rattle.module_table.specs.Told.{IsTold}
-use Rattle.module_table.specs.Directives.{shallow_said, directive_said}
+use Rattle.module_table.specs.Directives.{home, shallow_said, directive_said}
 use Rattle.module_table.proofs.SaidLemmas.{more_none, stops_first, stops_second}
 use Rattle.module_table.proofs.KindLemmas.{kinds_go_on, added_parts}
 use Rattle.prolog_terms.proofs.ViewLemmas.{AreBelow, sides_below}
@@ -25,7 +25,7 @@ push_directive-requires-in-Both t c =
 
 pub returns-in_err-push_directive-in-Both-clause-refused : goal.returns-in_err-push_directive-in-Both-clause-refused
 returns-in_err-push_directive-in-Both-clause-refused t c =
-    let user = c.args.user.now in
+    let user = home c.args.user.now c.args.owner.now in
     let tree = tree_of c.args.directive in
     let left = tree_of c.in-Both.left in
     let right = tree_of c.in-Both.right in
@@ -39,7 +39,7 @@ returns-in_err-push_directive-in-Both-clause-refused t c =
 
 pub returns-in_ok-push_directive-in-Both-clause-ok : goal.returns-in_ok-push_directive-in-Both-clause-ok
 returns-in_ok-push_directive-in-Both-clause-ok t c =
-    let user = c.args.user.now in
+    let user = home c.args.user.now c.args.owner.now in
     let tree = tree_of c.args.directive in
     let left = tree_of c.in-Both.left in
     let right = tree_of c.in-Both.right in
@@ -54,7 +54,7 @@ returns-in_ok-push_directive-in-Both-clause-ok t c =
 
 pub returns-in_ok-push_directive-in-Both-clause-refused : goal.returns-in_ok-push_directive-in-Both-clause-refused
 returns-in_ok-push_directive-in-Both-clause-refused t c =
-    let user = c.args.user.now in
+    let user = home c.args.user.now c.args.owner.now in
     let tree = tree_of c.args.directive in
     let left = tree_of c.in-Both.left in
     let right = tree_of c.in-Both.right in
@@ -70,7 +70,7 @@ returns-in_ok-push_directive-in-Both-clause-refused t c =
 
 pub returns-in_err-tell-in-Alone-clause-refused : goal.returns-in_err-tell-in-Alone-clause-refused
 returns-in_err-tell-in-Alone-clause-refused t c =
-    let user = c.args.user.now in
+    let user = home c.args.user.now c.args.owner.now in
     let tree = tree_of c.args.directive in
     let own = tree_of c.in-Alone.alone in
     let same : shallow_said user c.args.first own ≡ directive_said user c.args.first tree =
@@ -80,7 +80,7 @@ returns-in_err-tell-in-Alone-clause-refused t c =
 
 pub returns-in-Goal-clause-ok : goal.returns-in-Goal-clause-ok
 returns-in-Goal-clause-ok t c =
-    let user = c.args.user.now in
+    let user = home c.args.user.now c.args.owner.now in
     let tree = tree_of c.args.directive in
     let own = tree_of c.in-Alone.alone in
     let same : shallow_said user c.args.first own ≡ directive_said user c.args.first tree =
@@ -94,7 +94,7 @@ returns-in-Goal-clause-ok t c =
 
 pub returns-in-Done-clause-ok : goal.returns-in-Done-clause-ok
 returns-in-Done-clause-ok t c =
-    let user = c.args.user.now in
+    let user = home c.args.user.now c.args.owner.now in
     let tree = tree_of c.args.directive in
     let own = tree_of c.in-Alone.alone in
     let same : shallow_said user c.args.first own ≡ directive_said user c.args.first tree =

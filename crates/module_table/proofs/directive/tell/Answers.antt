@@ -10,13 +10,13 @@ use Rattle.module_table.specs.Said.{IsWhy, only, goal as goal_said}
 use Rattle.module_table.specs.Kinds.{ByKind, see_kinds, with_said}
 use Rattle.module_table.specs.Told.{IsTold}
 use Rattle.module_table.specs.Loading.{loads_said}
-use Rattle.module_table.specs.Directives.{three_said, shallow_said}
+use Rattle.module_table.specs.Directives.{home, three_said, shallow_said}
 use Rattle.module_table.proofs.DirectiveShapes.{shallow_three, shallow_other}
 use Rattle.module_table.proofs.directive.tell.Goals as goal
 
 pub returns-then-len-eq3-clause-ok : goal.returns-then-len-eq3-clause-ok
 returns-then-len-eq3-clause-ok c =
-    let user = c.args.user.now in
+    let user = home c.args.user.now c.args.owner.now in
     let first = c.args.first in
     let tree = tree_of c.args.directive.now in
     let v = c.in-Compound in
@@ -34,7 +34,7 @@ returns-then-len-eq3-clause-ok c =
 
 pub returns-then-len-eq3-clause-refused : goal.returns-then-len-eq3-clause-refused
 returns-then-len-eq3-clause-refused c =
-    let user = c.args.user.now in
+    let user = home c.args.user.now c.args.owner.now in
     let first = c.args.first in
     let tree = tree_of c.args.directive.now in
     let v = c.in-Compound in
@@ -49,7 +49,7 @@ returns-then-len-eq3-clause-refused c =
 
 pub returns-else-len-eq3-clause-ok : goal.returns-else-len-eq3-clause-ok
 returns-else-len-eq3-clause-ok c =
-    let user = c.args.user.now in
+    let user = home c.args.user.now c.args.owner.now in
     let first = c.args.first in
     let tree = tree_of c.args.directive.now in
     let v = c.in-Compound in
@@ -64,7 +64,7 @@ returns-else-len-eq3-clause-ok c =
 
 pub returns-in_err-push_loads-in-None-clause-refused : goal.returns-in_err-push_loads-in-None-clause-refused
 returns-in_err-push_loads-in-None-clause-refused c =
-    let user = c.args.user.now in
+    let user = home c.args.user.now c.args.owner.now in
     let first = c.args.first in
     let tree = tree_of c.args.directive.now in
     let v = c.in-List in
@@ -72,14 +72,14 @@ returns-in_err-push_loads-in-None-clause-refused c =
     let bare = ap (λ t. list_term v.items t v.span) c.in-None.is in
     let is : tree ≡ listed (trees_from parts) v.span =
     list_seen c.args.directive.now v.items v.span (v.is ∙ bare) in
-    let same : loads_said user Ensure (map tree_of c.deref.result.now) ≡ shallow_said user first tree =
-    ap (λ l. loads_said user Ensure (map tree_of l)) c.deref.ensures.value ∙ (ap (loads_said user Ensure) (sym (trees_back parts)) ∙ ap (shallow_said user first) (sym is)) in
+    let same : loads_said user.file Ensure (map tree_of c.deref.result.now) ≡ shallow_said user first tree =
+    ap (λ l. loads_said user.file Ensure (map tree_of l)) c.deref.ensures.value ∙ (ap (loads_said user.file Ensure) (sym (trees_back parts)) ∙ ap (shallow_said user first) (sym is)) in
     let exit = err_from_is_err_and c.from_residual.result c.from_residual.ensures.1 in
     rw (exit.1, exit.2) (subst (λ said. IsWhy said c.in_err-push_loads-in-None.field-0.0) same c.in_err-push_loads-in-None.ensures.refused)
 
 pub returns-in_ok-push_loads-in-None-clause-ok : goal.returns-in_ok-push_loads-in-None-clause-ok
 returns-in_ok-push_loads-in-None-clause-ok c =
-    let user = c.args.user.now in
+    let user = home c.args.user.now c.args.owner.now in
     let first = c.args.first in
     let tree = tree_of c.args.directive.now in
     let v = c.in-List in
@@ -87,6 +87,6 @@ returns-in_ok-push_loads-in-None-clause-ok c =
     let bare = ap (λ t. list_term v.items t v.span) c.in-None.is in
     let is : tree ≡ listed (trees_from parts) v.span =
     list_seen c.args.directive.now v.items v.span (v.is ∙ bare) in
-    let same : loads_said user Ensure (map tree_of c.deref.result.now) ≡ shallow_said user first tree =
-    ap (λ l. loads_said user Ensure (map tree_of l)) c.deref.ensures.value ∙ (ap (loads_said user Ensure) (sym (trees_back parts)) ∙ ap (shallow_said user first) (sym is)) in
+    let same : loads_said user.file Ensure (map tree_of c.deref.result.now) ≡ shallow_said user first tree =
+    ap (λ l. loads_said user.file Ensure (map tree_of l)) c.deref.ensures.value ∙ (ap (loads_said user.file Ensure) (sym (trees_back parts)) ∙ ap (shallow_said user first) (sym is)) in
     subst (λ said. with_said (see_kinds c.args.kinds.now) said ≡ Ok (see_kinds c.push_loads.new.kinds)) same c.in_ok-push_loads-in-None.ensures.ok

@@ -11,13 +11,14 @@ use Rattle.module_table.proofs.file_facts.clause_head.Goals as goal
 pub overflow_add-result : goal.overflow_add-result
 overflow_add-result c =
     let pair : Binary = record { name = c.in-Some.pair.name.now; left = tree_of c.in-Some.pair.left.now; right = tree_of c.in-Some.pair.right.now } in
-    let is = ap head (sym c.grammar_head.ensures) ∙ c.in-Ok.ensures.ok in
+    let owner = c.args.owner.now in
+    let is = ap (head owner) (sym c.grammar_head.ensures) ∙ c.in-Ok.ensures.ok in
     omega (
       arith,
       c.requires,
       pair_weight (tree_of c.args.clause.now) pair (sym c.in-Some.ensures),
       grammar_weight pair.left,
-      head_small (grammar_head pair.left) (record { name = c.in-Ok.name.now; arity = c.in-Ok.arity }) is,
+      head_small owner (grammar_head pair.left) (record { module_ = c.in-Ok.own.module.now; name = c.in-Ok.own.name.now; arity = c.in-Ok.own.arity }) is,
     )
 
 pub returns-in-Err-clause-refused : goal.returns-in-Err-clause-refused
@@ -25,6 +26,6 @@ returns-in-Err-clause-refused c =
     let pair : Binary = record { name = c.in-Some.pair.name.now; left = tree_of c.in-Some.pair.left.now; right = tree_of c.in-Some.pair.right.now } in
     let rule : bytes_eq pair.name (codes ":-") ≡ false = sym c.eq.ensures ∙ c.if-eq.false in
     let grammar : bytes_eq pair.name (codes "-->") ≡ true = is_true _ (sym c.if-ne.false ∙ c.ne.ensures) in
-    let why = subst (λ t. IsWhy (head t) c.in-Err.fault) c.grammar_head.ensures c.in-Err.ensures.refused in
-    subst (λ said. IsWhy said c.in-Err.fault) (grammar_said (tree_of c.args.clause.now) pair (sym c.in-Some.ensures) rule grammar)
-    (why_added (head (grammar_head pair.left)) c.in-Err.fault why)
+    let why = subst (λ t. IsWhy (head c.args.owner.now t) c.in-Err.fault) c.grammar_head.ensures c.in-Err.ensures.refused in
+    subst (λ said. IsWhy said c.in-Err.fault) (grammar_said c.args.owner.now (tree_of c.args.clause.now) pair (sym c.in-Some.ensures) rule grammar)
+    (why_added (head c.args.owner.now (grammar_head pair.left)) c.in-Err.fault why)

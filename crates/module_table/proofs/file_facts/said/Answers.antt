@@ -15,7 +15,8 @@ use Rattle.clause_text.specs.declared.Clause.{Clause}
 use Rattle.module_table.specs.Defined.{clause_tree}
 use Rattle.module_table.specs.Said.{IsWhy}
 use Rattle.module_table.specs.Kinds.{none_said, see_kinds, with_said}
-use Rattle.module_table.specs.Facts.{clause_said, file_said}
+use Rattle.module_table.specs.Directives.{home}
+use Rattle.module_table.specs.Facts.{clause_said, trees_said}
 use Rattle.module_table.proofs.KindLemmas.{kinds_go_on, added_parts, are_said}
 use Rattle.module_table.proofs.FileLemmas.{IsFirst, file_one, file_stops, more_first}
 use Rattle.module_table.proofs.file_facts.said.Goals as goal
@@ -54,21 +55,21 @@ returns-in_err-push_clause-clause-refused c =
     let whole : map clause_tree done ++ clause_tree clause ∷ map clause_tree behind ≡ map clause_tree clauses =
     sym (map-append clause_tree done (clause ∷ behind)) ∙ ap (map clause_tree) (split clauses done clause so_far turn.0 turn.1) in
     let exit = err_from_is_err_and c.from_residual-in_err-push_clause.result c.from_residual-in_err-push_clause.ensures.1 in
-    let added = added_parts none_said (see_kinds c.loop-clause.kinds) (file_said c.args.file.now (map clause_tree done)) c.loop-clause.invariant.0 in
+    let added = added_parts none_said (see_kinds c.loop-clause.kinds) (trees_said (home c.args.file.now c.args.owner.now) (map clause_tree done)) c.loop-clause.invariant.0 in
     let fault = c.in_err-push_clause.field-0.0 in
     rw (exit.1, exit.2)
-    (subst (λ trees. IsWhy (file_said c.args.file.now trees) fault) whole
-    (file_stops c.args.file.now c.loop-clause.first (map clause_tree done) (clause_tree clause) (map clause_tree behind) added.0 fault
+    (subst (λ trees. IsWhy (trees_said (home c.args.file.now c.args.owner.now) trees) fault) whole
+    (file_stops (home c.args.file.now c.args.owner.now) c.loop-clause.first (map clause_tree done) (clause_tree clause) (map clause_tree behind) added.0 fault
     c.loop-clause.invariant.1 added.1 c.in_err-push_clause.ensures.refused))
 
 pub loop-clause-preserved : goal.loop-clause-preserved
 loop-clause-preserved c =
     let done = map clause_tree c.loop-clause.yielded in
     let tree = clause_tree c.in-Some.clause in
-    let file = c.args.file.now in
+    let file = home c.args.file.now c.args.owner.now in
     let all : map clause_tree (c.loop-clause.yielded ++ c.in-Some.clause ∷ []) ≡ done ++ tree ∷ [] = map-append clause_tree c.loop-clause.yielded (c.in-Some.clause ∷ []) in (
-      ap (with_said none_said) (ap (file_said file) all ∙ file_one file c.loop-clause.first done tree c.loop-clause.invariant.1)
-          ∙ kinds_go_on none_said (see_kinds c.loop-clause.kinds) (see_kinds c.push_clause.new.kinds) (file_said file done) (clause_said file c.loop-clause.first tree)
+      ap (with_said none_said) (ap (trees_said file) all ∙ file_one file c.loop-clause.first done tree c.loop-clause.invariant.1)
+          ∙ kinds_go_on none_said (see_kinds c.loop-clause.kinds) (see_kinds c.push_clause.new.kinds) (trees_said file done) (clause_said file c.loop-clause.first tree)
           c.loop-clause.invariant.0 c.in_ok-push_clause.ensures.ok,
       subst (IsFirst false) (sym all) (more_first done tree),
     )
@@ -80,5 +81,5 @@ returns-clause-ok c =
     let road = YieldsList-from_vec {s = c.into_iter-clause-iterator.result} c.args.clauses.items gives.0 (gives.1 ∙ c.args.clauses.ok.0) in
     let all : done ≡ c.args.clauses.items =
     sym (map-id done) ∙ (YieldsList-end road done c.loop-clause.clause-iterator c.loop-clause.yielded_by c.next.result c.next.new.self c.in-None.is c.next.ensures.steps).0 in
-    are_said (file_said c.args.file.now (map clause_tree c.args.clauses.items)) c.loop-clause.kinds
-    (subst (λ clauses. with_said none_said (file_said c.args.file.now (map clause_tree clauses)) ≡ Ok (see_kinds c.loop-clause.kinds)) all c.loop-clause.invariant.0)
+    are_said (trees_said (home c.args.file.now c.args.owner.now) (map clause_tree c.args.clauses.items)) c.loop-clause.kinds
+    (subst (λ clauses. with_said none_said (trees_said (home c.args.file.now c.args.owner.now) (map clause_tree clauses)) ≡ Ok (see_kinds c.loop-clause.kinds)) all c.loop-clause.invariant.0)

@@ -6,3 +6,6 @@ returns-clause-clauses c = λ n user trees facts all are. of_files.clauses_light
 
 pub returns-clause-goals : goal.returns-clause-goals
 returns-clause-goals c = λ n user trees facts all are. of_files.goals_light n user trees facts all are
+
+pub returns-clause-metas : goal.returns-clause-metas
+returns-clause-metas c = λ n user trees facts all are. of_files.metas_light n user trees facts all are

@@ -1,5 +1,0 @@
-use Rattle.prolog_terms.specs.Tree.{tree_of, depth}
-use Rattle.module_table.proofs.indicator.+push_joined.Given as goal
-
-abbrev pub decreases-push_joined : goal.decreases-push_joined
-decreases-push_joined l = depth (tree_of l.term.now)
