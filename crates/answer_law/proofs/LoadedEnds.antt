@@ -12,10 +12,11 @@ use Rattle.call_edges.specs.Roots.{IsRoot}
 use Rattle.group_words.specs.Settings.{Settings}
 use Rattle.group_tool.specs.declared.stop.Limit.TheVariants.{TooManyPredicates}
 use Rattle.group_tool.specs.LoadedEnd.{AreCallable, LoadedComesTo}
-use Rattle.group_tool.specs.Roots.{LacksRoot, HasRoots}
+use Rattle.group_tool.specs.Roots.{LacksRoot, HasRoots, asked_names}
 use Rattle.group_tool.specs.End.{End, faults, missing, limit, report}
 use Rattle.answer_law.specs.Layers.{ReportsExist, OrderReportsExist}
 use Rattle.answer_law.proofs.NamedRoots.{has_or_lacks, some_roots, all_below}
+use Rattle.answer_law.proofs.PartBytes.{PartLaws, roots_there}
 use Rattle.answer_law.proofs.ReportBytes.{GraphLaws, SomeSearch, some_report}
 
 -- too many predicates, import faults, or a program
@@ -29,6 +30,7 @@ pub record LoadedLaws : Type 0 where
   pub graphs : GraphLaws
   pub reported : ReportsExist
   pub in_order : OrderReportsExist
+  pub parted : PartLaws
   pub programs : (loaded : LoadedFiles) → WasLoaded loaded → ProgramOrFaults loaded
   pub goals : (loaded : LoadedFiles) (seen : Seen) → WasLoaded loaded → IsProgram loaded seen → (list : List Fault) × AreGoalFaults seen list
   pub roots : (seen : Seen) → (roots : List ℕ) × (IsStrictlyIncreasing roots × ((q : ℕ) → Contains roots q ↔ IsRoot seen q))
@@ -39,17 +41,17 @@ SomeLoadedEnd settings found = (end : End) × LoadedComesTo settings found end
 
 module _ (laws : LoadedLaws) (settings : Settings) (some : SomeSearch settings.searches) (found : LoadedFiles) (was : WasLoaded found) where
   -- of a callable program
-  rooted_end : (seen : Seen) → AreCallable found seen → HasRoots settings.roots seen ⊎ ((root : PredName) × LacksRoot settings.roots seen root) → SomeLoadedEnd settings found
+  rooted_end : (seen : Seen) → AreCallable found seen → HasRoots (asked_names settings.path settings.roots) seen ⊎ ((root : PredName) × LacksRoot (asked_names settings.path settings.roots) seen root) → SomeLoadedEnd settings found
   rooted_end seen callable (inl has) =
-      let roots = some_roots laws.roots settings.roots seen callable.program.numbered.in_order has in
+      let roots = some_roots laws.roots settings.roots seen callable.program.numbered.in_order (roots_there settings.path settings.roots seen has) in
       let below = all_below laws.below settings.roots seen roots.0 roots.1 in
-      let bytes = some_report laws.graphs laws.reported laws.in_order settings seen roots.0 some roots.1 below in
+      let bytes = some_report laws.graphs laws.reported laws.in_order laws.parted settings seen roots.0 some roots.1 has below in
       (report bytes.0, record { seen = seen; program = callable; rooted = has; reports = bytes.1 })
   rooted_end seen callable (inr lacks) = (missing lacks.0, record { seen = seen; program = callable; lacks = lacks.1 })
 
   -- of a program with these goal faults
   program_end : (seen : Seen) → IsProgram found seen → (list : List Fault) → AreGoalFaults seen list → SomeLoadedEnd settings found
-  program_end seen program [] are = rooted_end seen (record { program = program; callable = are }) (has_or_lacks settings.roots seen)
+  program_end seen program [] are = rooted_end seen (record { program = program; callable = are }) (has_or_lacks (asked_names settings.path settings.roots) seen)
   program_end seen program (one ∷ list) are = (faults (one ∷ list), inr (record { seen = seen; program = program; are = are; some = λ none. cc }))
 
   found_end : ProgramOrFaults found → SomeLoadedEnd settings found

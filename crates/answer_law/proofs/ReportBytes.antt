@@ -1,5 +1,5 @@
 -- The groups that roots reach, their levels, and the bytes of their report.
-use Rattle.std.proofs.Common.{ℕ, ◌<◌, Bool, true, false, List, Option, Some, None, All, length, refl}
+use Rattle.std.proofs.Common.{ℕ, ◌<◌, ◌++◌, Bool, true, false, List, Option, Some, None, All, length, refl}
 use Rattle.std.specs.Option.{IfSome}
 use Rattle.graph_law.specs.Classes.{HasMember}
 use Rattle.graph_law.specs.Graph.{Calls, IsClosed}
@@ -15,9 +15,10 @@ use Rattle.group_words.specs.Settings.{Settings}
 use Rattle.loop_report.specs.Report.{head_line}
 use Rattle.loop_report.specs.Reportable.{AreGroups, AreLeveled, AreReportable}
 use Rattle.group_tool.specs.Driving.{AreInOrder}
-use Rattle.group_tool.specs.Roots.{AreRoots}
+use Rattle.group_tool.specs.Roots.{AreRoots, HasRoots, asked_names}
 use Rattle.group_tool.specs.LoadedEnd.{IsOutput, ReportsProgram}
 use Rattle.group_tool.proofs.GroupLemmas.{roots_listed, reportable, reports}
+use Rattle.answer_law.proofs.PartBytes.{PartLaws, some_parts}
 use Rattle.answer_law.specs.Layers.{ReportsExist, OrderReportsExist}
 
 -- what there is for each graph, as the laws say it
@@ -66,7 +67,7 @@ module _ (laws : GraphLaws) where
         order = groups.1;
       }
 
-  module _ (reported : ReportsExist) (in_order : OrderReportsExist) where
+  module _ (reported : ReportsExist) (in_order : OrderReportsExist) (parted : PartLaws) where
     some_output : (make : Option ℕ) (order unreached : Bool) (seen : Seen) (groups : List (List ℕ)) (levels : List Level) → AreReportable (length seen.predicates) groups levels
         → (bytes : List ℕ) × IsOutput make order unreached seen groups levels bytes
     some_output (Some count) order unreached seen groups levels can = (head_line groups levels, refl)
@@ -75,8 +76,8 @@ module _ (laws : GraphLaws) where
 
     -- what the roots reach has a report
     pub some_report : (settings : Settings) (seen : Seen) (roots : List ℕ) → SomeSearch settings.searches → AreRoots settings.roots seen roots
-        → All (λ q. q < length seen.predicates) roots → (bytes : List ℕ) × ReportsProgram settings seen bytes
-    some_report settings seen roots some are below =
+        → HasRoots (asked_names settings.path settings.roots) seen → All (λ q. q < length seen.predicates) roots → (bytes : List ℕ) × ReportsProgram settings seen bytes
+    some_report settings seen roots some are has below =
         let lists = successor_lists seen in
         let closed = lists_closed seen in
         let found : HasGroups settings.searches lists roots = some_groups settings.searches lists roots some closed (roots_listed seen roots below) in
@@ -84,4 +85,5 @@ module _ (laws : GraphLaws) where
         let leveled : AreLeveled (Calls lists) roots found.groups levels.0 = record { are = found.are; leveled = levels.1 } in
         let output =
         some_output settings.make settings.order settings.unreached seen found.groups levels.0 (reportable seen roots found.groups levels.0 below leveled) in
-        (output.0, reports settings seen roots found.groups levels.0 output.0 are leveled found.order output.1)
+        let parts = some_parts parted seen roots found.groups levels.0 below leveled settings has in
+        (output.0 ++ parts.0, reports settings seen roots found.groups levels.0 output.0 parts.0 (output.0 ++ parts.0) are leveled found.order output.1 parts.1 refl)

@@ -8,6 +8,7 @@ ghost use Rattle.group_tool.specs.End.{End};
 
 use call_edges::roots_below;
 use group_words::settings_within;
+use loop_paths::some_shortest;
 use load_law::load_or_faults;
 use program_law::{goal_faults_exist, program_or_faults, roots_exist};
 use report_law::reports_exist;
@@ -30,5 +31,6 @@ pub fn some_answer()
     order_exists();
     levels_exist();
     reports_exist();
+    some_shortest();
     settings_within();
 }

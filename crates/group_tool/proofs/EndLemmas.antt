@@ -21,7 +21,7 @@ use Rattle.group_words.proofs.OneSettings.{one_settings}
 use Rattle.group_tool.specs.declared.stop.Stop.{Stop}
 use Rattle.group_tool.specs.declared.stop.Stop.TheVariants as of_stop
 use Rattle.group_tool.specs.Wanted.{AreJust, AskForNone, HasNoOptions, one_file, made_name, files_read, names_read}
-use Rattle.group_tool.specs.Roots.{IsRootStop}
+use Rattle.group_tool.specs.Roots.{IsRootStop, asked_names}
 use Rattle.group_tool.specs.Answer.{ComesTo, IsLoadedEnd, IsLawfulAnswer}
 use Rattle.group_tool.specs.End.{End, usage, faults, missing, unread, limit, report, no_memory}
 use Rattle.group_tool.specs.Run.{Asking, EndsAsking, IsReadEnd, IsDecidedEnd, IsLeft, EndsReading, IsLawfulEnd, IsAsked, EndIs, Taking, SaidEnd, IsRun}
@@ -255,7 +255,7 @@ check_end settings found seen (of_check.Faults list) program is = inr (inr (reco
 check_end settings found seen of_check.NoMemory program is = inl refl
 
 -- where a root is missing
-pub root_end : (settings : Settings) (found : LoadedFiles) (seen : Seen) (stop : Stop) → IsProgram found seen → AreGoalFaults seen [] → IsRootStop settings.roots seen stop
+pub root_end : (settings : Settings) (found : LoadedFiles) (seen : Seen) (stop : Stop) → IsProgram found seen → AreGoalFaults seen [] → IsRootStop (asked_names settings.path settings.roots) seen stop
     → IsLoadedEnd settings found (end_of_stop stop)
 root_end settings found seen of_stop.Usage program callable is = absurd is
 root_end settings found seen (of_stop.Faults list) program callable is = absurd is

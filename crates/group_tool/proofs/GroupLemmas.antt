@@ -1,5 +1,5 @@
 -- The groups of a program: what holds of its successor lists holds of its calls.
-use Rattle.std.proofs.Common.{◌≡◌, ◌<◌, ◌≤◌, ℕ, List, [], All, Contains, length, ap, subst, inl, inr, arith}
+use Rattle.std.proofs.Common.{◌≡◌, ◌<◌, ◌≤◌, ◌++◌, ℕ, List, [], All, Contains, length, ap, subst, inl, inr, arith}
 use Rattle.std.proofs.lemmas.Bool.{cases_lt}
 use Rattle.std.proofs.lemmas.List.{get_or_past}
 use Rattle.std.proofs.lemmas.List.Elements.{All-contains}
@@ -20,6 +20,7 @@ use Rattle.group_words.specs.Settings.{Settings}
 use Rattle.loop_report.specs.Reportable.{AreGroups, AreLeveled, AreReportable}
 use Rattle.group_tool.specs.Driving.{AreInOrder}
 use Rattle.group_tool.specs.Roots.{AreRoots}
+use Rattle.group_tool.specs.Parts.{AreParts}
 use Rattle.group_tool.specs.LoadedEnd.{IsOutput, ReportsProgram}
 
 -- what has no number is defined nowhere
@@ -91,15 +92,20 @@ reportable seen roots groups levels below is = record {
   leveled = is.leveled;
 }
 
-pub reports : (settings : Settings) (seen : Seen) (roots : List ℕ) (groups : List (List ℕ)) (levels : List Level) (bytes : List ℕ) → AreRoots settings.roots seen roots
+pub reports : (settings : Settings) (seen : Seen) (roots : List ℕ) (groups : List (List ℕ)) (levels : List Level) (first parts bytes : List ℕ) → AreRoots settings.roots seen roots
     → AreLeveled (Calls (successor_lists seen)) roots groups levels → AreInOrder settings.searches (successor_lists seen) roots groups
-    → IsOutput settings.make settings.order settings.unreached seen groups levels bytes → ReportsProgram settings seen bytes
-reports settings seen roots groups levels bytes are leveled order output = record {
+    → IsOutput settings.make settings.order settings.unreached seen groups levels first → AreParts settings seen groups levels parts → bytes ≡ first ++ parts
+    → ReportsProgram settings seen bytes
+reports settings seen roots groups levels first parts bytes are leveled order output are_parts is = record {
   roots = roots;
   are_roots = are;
   groups = groups;
   levels = levels;
   leveled = leveled_calls seen roots groups levels leveled.are leveled.leveled;
   order = order;
+  report = first;
   output = output;
+  parts = parts;
+  are_parts = are_parts;
+  is = is;
 }

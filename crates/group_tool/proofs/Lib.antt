@@ -2,12 +2,16 @@ pub mod Said
 pub mod Examples
 pub mod ToldWaves
 pub mod ToldEnd
+mod OneCircuits
+mod OneParts
 pub mod OneLoaded
 pub mod OneAnswer
 pub mod EndLemmas
 pub mod CarryingLemmas
 pub mod OneFileLemmas
 pub mod RootLemmas
+pub mod KindLemmas
+pub mod PartLemmas
 pub mod GroupLemmas
 pub mod RunLemmas
 pub mod AskedNames

@@ -1,5 +1,5 @@
 -- Loaded files come to one end.
-use Rattle.std.proofs.Common.{◌≡◌, ℕ, ◌<◌, ◌≤◌, ◌⊎◌, List, [], ◌∷◌, ◌++◌, All, Contains, Bool, true, false, Option, Some, None, length, get_or, AllPairs, refl, ap, sym, ◌∙◌, subst, inl, inr, arith}
+use Rattle.std.proofs.Common.{◌≡◌, ℕ, ◌<◌, ◌≤◌, ◌⊎◌, List, [], ◌∷◌, ◌++◌, All, Contains, Bool, true, false, Option, Some, None, length, get_or, AllPairs, refl, ap, ap₂, sym, ◌∙◌, subst, inl, inr, arith}
 use Rattle.std.specs.List.{AllZip}
 use Rattle.std.specs.List.Sorted.{IsStrictlyIncreasing}
 use Rattle.std.specs.declared.cmp.Ordering.TheVariants.{Less}
@@ -24,7 +24,9 @@ use Rattle.loop_report.specs.Reportable.{AreLeveled}
 use Rattle.group_words.specs.Settings.{Settings}
 use Rattle.loop_report.proofs.OneHead.{same_head}
 use Rattle.loop_report.proofs.OneReport.{same_report}
-use Rattle.group_tool.specs.Roots.{AreRoots, LacksRoot, HasRoots}
+use Rattle.group_tool.specs.Roots.{AreRoots, LacksRoot, HasRoots, asked_names}
+use Rattle.group_tool.proofs.OneParts.{same_parts}
+use Rattle.group_tool.proofs.RootLemmas.{AreRising}
 use Rattle.group_tool.specs.LoadedEnd.{DefineTooMany, HaveImportFaults, HaveGoalFaults, AreCallable, LackRoot, IsOutput, ReportsProgram, ReportsLoaded, LoadedComesTo}
 use Rattle.group_tool.specs.End.{End, usage, faults, missing, unread, limit, report, no_memory}
 
@@ -72,11 +74,15 @@ same_output None true unreached seen roots groups others levels marks bytes othe
 same_output None false unreached seen roots groups others levels marks bytes other unordered a b is also =
     same_report seen.predicates seen.loaded.files unreached bytes other a b is also
 
-one_report_of : (settings : Settings) (seen : Seen) (bytes other : List ℕ) → settings.order ≡ false → ReportsProgram settings seen bytes → ReportsProgram settings seen other → bytes ≡ other
-one_report_of settings seen bytes other unordered is also =
+one_report_of : (settings : Settings) (seen : Seen) (bytes other : List ℕ) → AreRising seen.predicates → settings.order ≡ false → ReportsProgram settings seen bytes → ReportsProgram settings seen other → bytes ≡ other
+one_report_of settings seen bytes other rising unordered is also =
     let roots : also.roots ≡ is.roots = one_root_list settings.roots seen also.roots is.roots also.are_roots is.are_roots in
-    same_output settings.make settings.order settings.unreached seen is.roots is.groups also.groups is.levels also.levels bytes other unordered is.leveled
-    (subst (λ rs. AreLeveled (NodeCalls seen) rs also.groups also.levels) roots also.leveled) is.output also.output
+    let leveled : AreLeveled (NodeCalls seen) is.roots also.groups also.levels = subst (λ rs. AreLeveled (NodeCalls seen) rs also.groups also.levels) roots also.leveled in
+    is.is
+    ∙ (ap₂ (λ a b. a ++ b)
+    (same_output settings.make settings.order settings.unreached seen is.roots is.groups also.groups is.levels also.levels is.report also.report unordered is.leveled leveled is.output also.output)
+    (same_parts settings seen is.roots is.groups also.groups is.levels also.levels is.parts also.parts rising is.leveled leveled is.are_parts also.are_parts)
+    ∙ sym also.is)
 
 -- and one root that is first missing
 
@@ -138,17 +144,17 @@ module _ (settings : Settings) (unordered : settings.order ≡ false) (found : L
   same_missing : (root other : PredName) → LackRoot settings found root → LackRoot settings found other → root ≡ other
   same_missing root other is also =
       let same : also.seen ≡ is.seen = one_program found also.seen is.seen also.program.program is.program.program in
-      one_missing settings.roots is.seen root other is.lacks (subst (λ seen. LacksRoot settings.roots seen other) same also.lacks)
+      one_missing (asked_names settings.path settings.roots) is.seen root other is.lacks (subst (λ seen. LacksRoot (asked_names settings.path settings.roots) seen other) same also.lacks)
 
   report_or_missing : (bytes : List ℕ) (root : PredName) → ReportsLoaded settings found bytes → LackRoot settings found root → ⊥
   report_or_missing bytes root is also =
       let same : also.seen ≡ is.seen = one_program found also.seen is.seen also.program.program is.program.program in
-      there_or_missing settings.roots is.seen root is.rooted (subst (λ seen. LacksRoot settings.roots seen root) same also.lacks)
+      there_or_missing (asked_names settings.path settings.roots) is.seen root is.rooted (subst (λ seen. LacksRoot (asked_names settings.path settings.roots) seen root) same also.lacks)
 
   same_reports : (bytes other : List ℕ) → ReportsLoaded settings found bytes → ReportsLoaded settings found other → bytes ≡ other
   same_reports bytes other is also =
       let same : also.seen ≡ is.seen = one_program found also.seen is.seen also.program.program is.program.program in
-      one_report_of settings is.seen bytes other unordered is.reports (subst (λ seen. ReportsProgram settings seen other) same also.reports)
+      one_report_of settings is.seen bytes other is.program.program.numbered.in_order unordered is.reports (subst (λ seen. ReportsProgram settings seen other) same also.reports)
 
   pub one_loaded_end : WasLoaded found → (end other : End) → LoadedComesTo settings found end → LoadedComesTo settings found other → end ≡ other
   one_loaded_end was usage other is also = absurd is

@@ -1,9 +1,9 @@
 -- The predicates that a list of names lists.
-use Rattle.std.proofs.Common.{◌≡◌, ℕ, ◌<◌, ◌≤◌, ◌↔◌, ◌+◌, List, [], ◌∷◌, ◌++◌, Option, Some, Result, IfOk, All, AllPairs, Contains, length, take, drop, get_or, sym, subst, ap, ◌∙◌, inl, inr, arith}
+use Rattle.std.proofs.Common.{◌≡◌, ℕ, ◌<◌, ◌≤◌, ◌↔◌, ◌+◌, List, [], ◌∷◌, ◌++◌, Option, Some, None, Result, refl, IfOk, All, AllPairs, Contains, length, take, drop, get_or, sym, subst, ap, ◌∙◌, inl, inr, arith}
 use Rattle.std.specs.List.{AllZip}
 use Rattle.std.specs.declared.cmp.Ordering.TheVariants.{Less}
 use Rattle.std.proofs.lemmas.List.{append_assoc, take-append-drop, take_more, take_all}
-use Rattle.std.proofs.lemmas.List.Elements.{All-cons}
+use Rattle.std.proofs.lemmas.List.Elements.{All-append, All-cons, All-nil}
 use Rattle.std.proofs.lemmas.Option.{slice_get_within, get_or_from_slice_get, slice_get-get_or}
 use Rattle.order_law.proofs.OneOrder.{nothing_in, first_or_rest, in_first, in_rest}
 use Rattle.import_rules.specs.declared.names.PredName.{PredName}
@@ -12,7 +12,9 @@ use Rattle.import_rules.specs.Names.{pred_cmp}
 use Rattle.import_rules.specs.Program.{Seen, found}
 use Rattle.import_rules.proofs.NumberLemmas.{number_at}
 use Rattle.call_edges.specs.Calls.{IsAmong}
-use Rattle.group_tool.specs.Roots.{HasRoots, IsNamed, IsFirstMissing}
+use Rattle.group_tool.specs.declared.stop.Stop.{Stop}
+use Rattle.group_tool.specs.declared.stop.Stop.TheVariants as of_stop
+use Rattle.group_tool.specs.Roots.{AreEnds, HasRoots, IsEndStop, IsFirstMissing, IsNamed, IsRootStop, LacksRoot, asked_names}
 
 abbrev pub AreRising : List PredName → Type 0
 AreRising predicates = AllPairs (λ p q. pred_cmp p q ≡ Less) predicates
@@ -111,3 +113,99 @@ zip_whole predicates names numbers i whole zip = subst (λ ns. AllZip (IsNamed p
 pub rooted_by : {X E : Type 0} (r : Result X E) (list : Option (List PredName)) (names : List PredName) (seen : Seen) → list ≡ Some names → IfOk r (λ x. HasRoots (Some names) seen)
     → IfOk r (λ x. HasRoots list seen)
 rooted_by {X} {E} r list names seen is rooted = subst (λ (l : Option (List PredName)). IfOk r (λ x. HasRoots l seen)) (sym is) rooted
+
+-- names that are asked for, with the ends of a path behind them
+
+-- a root that is missing is the first missing one
+pub asked_lacks : (path : Option (PredName × PredName)) (roots : Option (List PredName)) (seen : Seen) (name : PredName) → LacksRoot roots seen name
+    → LacksRoot (asked_names path roots) seen name
+asked_lacks None roots seen name lacks = lacks
+asked_lacks (Some both) None seen name lacks = absurd lacks
+asked_lacks (Some both) (Some list) seen name lacks = record {
+  before = lacks.before;
+  after = lacks.after ++ both.0 ∷ both.1 ∷ [];
+  is = ap (λ ns. ns ++ both.0 ∷ both.1 ∷ []) lacks.is ∙ append_assoc lacks.before (name ∷ lacks.after) (both.0 ∷ both.1 ∷ []);
+  there = lacks.there;
+  missing = lacks.missing;
+}
+
+pub asked_stop : (path : Option (PredName × PredName)) (roots : Option (List PredName)) (seen : Seen) (stop : Stop) → IsRootStop roots seen stop
+    → IsRootStop (asked_names path roots) seen stop
+asked_stop path roots seen of_stop.Usage is = is
+asked_stop path roots seen (of_stop.Faults list) is = is
+asked_stop path roots seen (of_stop.NoPredicate root) is = asked_lacks path roots seen root is
+asked_stop path roots seen (of_stop.ReadFault name) is = is
+asked_stop path roots seen (of_stop.Passed passed) is = is
+asked_stop path roots seen of_stop.NoMemory is = is
+
+-- the end that a path leaves is missing
+lacks_from : (both : PredName × PredName) (roots : Option (List PredName)) (seen : Seen) → HasRoots roots seen → (Contains seen.predicates both.0 → ⊥)
+    → LacksRoot (asked_names (Some both) roots) seen both.0
+lacks_from both None seen has lacks = record { before = []; after = both.1 ∷ []; is = refl; there = All-nil (Contains seen.predicates); missing = lacks }
+lacks_from both (Some list) seen has lacks = record { before = list; after = both.1 ∷ []; is = refl; there = has; missing = lacks }
+
+-- the end that it comes to is
+lacks_to : (both : PredName × PredName) (roots : Option (List PredName)) (seen : Seen) → HasRoots roots seen → Contains seen.predicates both.0
+    → (Contains seen.predicates both.1 → ⊥) → LacksRoot (asked_names (Some both) roots) seen both.1
+lacks_to both None seen has there lacks = record {
+  before = both.0 ∷ [];
+  after = [];
+  is = refl;
+  there = All-cons (Contains seen.predicates) both.0 [] there (All-nil (Contains seen.predicates));
+  missing = lacks;
+}
+lacks_to both (Some list) seen has there lacks = record {
+  before = list ++ both.0 ∷ [];
+  after = [];
+  is = sym (append_assoc list (both.0 ∷ []) (both.1 ∷ []));
+  there = All-append (Contains seen.predicates) list (both.0 ∷ []) has (All-cons (Contains seen.predicates) both.0 [] there (All-nil (Contains seen.predicates)));
+  missing = lacks;
+}
+
+two_there : (both : PredName × PredName) (predicates : List PredName) → Contains predicates both.0 → Contains predicates both.1
+    → All (Contains predicates) (both.0 ∷ both.1 ∷ [])
+two_there both predicates from to =
+    All-cons (Contains predicates) both.0 (both.1 ∷ []) from (All-cons (Contains predicates) both.1 [] to (All-nil (Contains predicates)))
+
+-- all names are there
+asked_there : (both : PredName × PredName) (roots : Option (List PredName)) (seen : Seen) → HasRoots roots seen → Contains seen.predicates both.0
+    → Contains seen.predicates both.1 → HasRoots (asked_names (Some both) roots) seen
+asked_there both None seen has from to = two_there both seen.predicates from to
+asked_there both (Some list) seen has from to = All-append (Contains seen.predicates) list (both.0 ∷ both.1 ∷ []) has (two_there both seen.predicates from to)
+
+-- what a stop at either end is
+pub from_stop : (path : Option (PredName × PredName)) (both : PredName × PredName) (roots : Option (List PredName)) (seen : Seen) (stop : Stop) → path ≡ Some both → HasRoots roots seen
+    → IsEndStop seen.predicates both.0 stop → IsRootStop (asked_names path roots) seen stop
+from_stop path both roots seen stop at has is = subst (λ p. IsRootStop (asked_names p roots) seen stop) (sym at) (go stop is)
+  where
+    go : (stop : Stop) → IsEndStop seen.predicates both.0 stop → IsRootStop (asked_names (Some both) roots) seen stop
+    go of_stop.Usage is = is
+    go (of_stop.Faults list) is = is
+    go (of_stop.NoPredicate root) is = subst (LacksRoot (asked_names (Some both) roots) seen) (sym is.0) (lacks_from both roots seen has is.1)
+    go (of_stop.ReadFault name) is = is
+    go (of_stop.Passed passed) is = is
+    go of_stop.NoMemory is = is
+
+pub to_stop : (path : Option (PredName × PredName)) (both : PredName × PredName) (roots : Option (List PredName)) (seen : Seen) (stop : Stop) (from : ℕ) → path ≡ Some both → HasRoots roots seen
+    → IsNamed seen.predicates both.0 from → IsEndStop seen.predicates both.1 stop → IsRootStop (asked_names path roots) seen stop
+to_stop path both roots seen stop from at has named is = subst (λ p. IsRootStop (asked_names p roots) seen stop) (sym at) (go stop is)
+  where
+    go : (stop : Stop) → IsEndStop seen.predicates both.1 stop → IsRootStop (asked_names (Some both) roots) seen stop
+    go of_stop.Usage is = is
+    go (of_stop.Faults list) is = is
+    go (of_stop.NoPredicate root) is =
+        subst (LacksRoot (asked_names (Some both) roots) seen) (sym is.0) (lacks_to both roots seen has (named_there seen.predicates both.0 from named) is.1)
+    go (of_stop.ReadFault name) is = is
+    go (of_stop.Passed passed) is = is
+    go of_stop.NoMemory is = is
+
+-- and what two ends that are there are
+pub ends_there : (path : Option (PredName × PredName)) (both : PredName × PredName) (roots : Option (List PredName)) (seen : Seen) (from to : ℕ) → path ≡ Some both → HasRoots roots seen
+    → IsNamed seen.predicates both.0 from → IsNamed seen.predicates both.1 to → HasRoots (asked_names path roots) seen
+ends_there path both roots seen from to at has from_is to_is =
+    subst (λ p. HasRoots (asked_names p roots) seen) (sym at)
+    (asked_there both roots seen has (named_there seen.predicates both.0 from from_is) (named_there seen.predicates both.1 to to_is))
+
+pub ends_are : (path : Option (PredName × PredName)) (both : PredName × PredName) (seen : Seen) (from to : ℕ) → path ≡ Some both
+    → IsNamed seen.predicates both.0 from → IsNamed seen.predicates both.1 to → AreEnds path seen (Some (from, to))
+ends_are path both seen from to at from_is to_is = subst (λ p. AreEnds p seen (Some (from, to))) (sym at) (from_is, to_is)

@@ -4,6 +4,7 @@ pub mod StreamSink
 pub mod Say
 pub mod Wanted
 pub mod Roots
+pub mod Parts
 pub mod Lines
 pub mod Carrying
 pub mod Driving

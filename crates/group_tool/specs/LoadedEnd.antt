@@ -1,5 +1,5 @@
 -- What loaded files come to.
-use Rattle.std.specs.Prelude.{◌≡◌, ◌≢◌, ℕ, ◌<◌, ◌≤◌, ◌⊎◌, Option, Some, None, Bool, true, false, List, []}
+use Rattle.std.specs.Prelude.{◌≡◌, ◌≢◌, ℕ, ◌<◌, ◌≤◌, ◌⊎◌, ◌++◌, Option, Some, None, Bool, true, false, List, []}
 use Rattle.group_release.specs.declared.level.Level.{Level}
 use Rattle.file_library.specs.declared.fault.Fault.{Fault}
 use Rattle.file_library.specs.Loaded.{LoadedFiles}
@@ -14,7 +14,8 @@ use Rattle.loop_report.specs.Report.{IsReport, IsOrderReport, head_line}
 use Rattle.loop_report.specs.Reportable.{AreLeveled}
 use Rattle.group_tool.specs.declared.stop.Limit.TheVariants.{TooManyPredicates}
 use Rattle.group_tool.specs.Driving.{AreInOrder}
-use Rattle.group_tool.specs.Roots.{AreRoots, LacksRoot, HasRoots}
+use Rattle.group_tool.specs.Roots.{AreRoots, LacksRoot, HasRoots, asked_names}
+use Rattle.group_tool.specs.Parts.{AreParts}
 use Rattle.group_tool.specs.End.{End, faults, missing, limit, report}
 
 -- they define too many predicates
@@ -39,11 +40,11 @@ pub record AreCallable (found : LoadedFiles) (seen : Seen) : Type 0 where
   pub program : IsProgram found seen
   pub callable : AreGoalFaults seen []
 
--- they are a callable program, and this is the first of the roots that it does not have
+-- they are a callable program, and this is the first of the asked names that it does not have
 pub record LackRoot (settings : Settings) (found : LoadedFiles) (root : PredName) : Type 0 where
   pub seen : Seen
   pub program : AreCallable found seen
-  pub lacks : LacksRoot settings.roots seen root
+  pub lacks : LacksRoot (asked_names settings.path settings.roots) seen root
 
 -- the bytes are the report of the groups: of a made program the first line; else with the lines of the groups in order of height, or in the order of the groups where that is wanted
 abbrev pub IsOutput : Option ℕ → Bool → Bool → Seen → List (List ℕ) → List Level → List ℕ → Type 0
@@ -51,7 +52,7 @@ IsOutput (Some count) order unreached seen groups levels bytes = bytes ≡ head_
 IsOutput None true unreached seen groups levels bytes = IsOrderReport seen.predicates seen.loaded.files groups levels unreached bytes
 IsOutput None false unreached seen groups levels bytes = IsReport seen.predicates seen.loaded.files groups levels unreached bytes
 
--- the bytes are the report of the groups that the roots reach, in some legal order, or in that of the schedule where one is wanted
+-- the bytes are the report of the groups that the roots reach, in some legal order, or in that of the schedule where one is wanted, and the parts behind it
 pub record ReportsProgram (settings : Settings) (seen : Seen) (bytes : List ℕ) : Type 0 where
   pub roots : List ℕ
   pub are_roots : AreRoots settings.roots seen roots
@@ -59,13 +60,17 @@ pub record ReportsProgram (settings : Settings) (seen : Seen) (bytes : List ℕ)
   pub levels : List Level
   pub leveled : AreLeveled (NodeCalls seen) roots groups levels
   pub order : AreInOrder settings.searches (successor_lists seen) roots groups
-  pub output : IsOutput settings.make settings.order settings.unreached seen groups levels bytes
+  pub report : List ℕ
+  pub output : IsOutput settings.make settings.order settings.unreached seen groups levels report
+  pub parts : List ℕ
+  pub are_parts : AreParts settings seen groups levels parts
+  pub is : bytes ≡ report ++ parts
 
 -- they are a callable program that has the roots, and the bytes are its report
 pub record ReportsLoaded (settings : Settings) (found : LoadedFiles) (bytes : List ℕ) : Type 0 where
   pub seen : Seen
   pub program : AreCallable found seen
-  pub rooted : HasRoots settings.roots seen
+  pub rooted : HasRoots (asked_names settings.path settings.roots) seen
   pub reports : ReportsProgram settings seen bytes
 
 -- too many predicates come before import faults, these before goal faults, and these before a root that is missing

@@ -1,5 +1,5 @@
 -- Where reach begins: at the roots of a program, or at those that a list names.
-use Rattle.std.specs.Prelude.{◌≡◌, ℕ, ◌↔◌, List, ◌∷◌, ◌++◌, Option, Some, None, All, Contains, slice_get}
+use Rattle.std.specs.Prelude.{◌≡◌, ℕ, ◌↔◌, List, [], ◌∷◌, ◌++◌, Option, Some, None, All, Contains, slice_get}
 use Rattle.std.specs.List.Sorted.{IsStrictlyIncreasing}
 use Rattle.import_rules.specs.declared.names.PredName.{PredName}
 use Rattle.import_rules.specs.Program.{Seen}
@@ -30,6 +30,12 @@ pub record IsFirstMissing (predicates list : List PredName) (name : PredName) : 
   pub there : All (Contains predicates) before
   pub missing : Contains predicates name → ⊥
 
+-- the names that are asked for: those of the list, and the two ends of a path behind them
+abbrev pub asked_names : Option (PredName × PredName) → Option (List PredName) → Option (List PredName)
+asked_names None roots = roots
+asked_names (Some both) None = Some (both.0 ∷ both.1 ∷ [])
+asked_names (Some both) (Some list) = Some (list ++ both.0 ∷ both.1 ∷ [])
+
 -- the list names a predicate that the program does not have, and this is the first such name
 abbrev pub LacksRoot : Option (List PredName) → Seen → PredName → Type 0
 LacksRoot None seen name = ⊥
@@ -39,6 +45,18 @@ LacksRoot (Some list) seen name = IsFirstMissing seen.predicates list name
 abbrev pub HasRoots : Option (List PredName) → Seen → Type 0
 HasRoots None seen = Unit {0}
 HasRoots (Some list) seen = All (Contains seen.predicates) list
+
+-- the numbers of the two ends of a path
+abbrev pub AreEnds : Option (PredName × PredName) → Seen → Option (ℕ × ℕ) → Type 0
+AreEnds None seen None = Unit {0}
+AreEnds (Some both) seen (Some ends) = IsNamed seen.predicates both.0 ends.0 × IsNamed seen.predicates both.1 ends.1
+AreEnds both seen ends = ⊥
+
+-- why a name has no number: none of the predicates has it, or memory was wanting
+abbrev pub IsEndStop : List PredName → PredName → Stop → Type 0
+IsEndStop predicates name (NoPredicate root) = (root ≡ name) × (Contains predicates name → ⊥)
+IsEndStop predicates name NoMemory = Unit {0}
+IsEndStop predicates name stop = ⊥
 
 -- why there are no roots: one is missing, or memory was wanting
 abbrev pub IsRootStop : Option (List PredName) → Seen → Stop → Type 0

@@ -7,7 +7,7 @@ ghost use Rattle.group_words.specs.Settings.{AreLawful, see_options};
 ghost use Rattle.group_tool.specs.Carrying.{ProgramComesTo};
 ghost use Rattle.group_tool.specs.Driving.{AreInOrder};
 ghost use Rattle.group_tool.specs.LoadedEnd.{IsOutput, ReportsProgram};
-ghost use Rattle.group_tool.specs.Roots.{AreRoots};
+ghost use Rattle.group_tool.specs.Roots.{AreEnds, AreRoots};
 ghost use Rattle.group_tool.specs.Run.{EndIs};
 ghost use Rattle.group_tool.specs.Stop.{end_of};
 ghost use Rattle.group_tool.specs.Wanted.{AreJust};
@@ -16,7 +16,8 @@ ghost use Rattle.loop_report.specs.Reportable.{AreGroups, AreLeveled, AreReporta
 
 use crate::driver::{groups_alone, groups_by_workers};
 use crate::loading::load_program;
-use crate::roots::roots_by;
+use crate::parts::{joined, parts_of};
+use crate::roots::{ends_by, roots_by};
 use crate::stop::Stop;
 use call_edges::{CallLists, call_lists};
 use file_library::Library;
@@ -99,8 +100,11 @@ fn tell_alone<R: Threads + Sync>(
 {
     let calls = call_lists(rt, alloc, program)?;
     let roots = roots_by(alloc, program, options)?;
+    let ends = ends_by(alloc, program, options)?;
     let groups = groups_alone(alloc, options, program, &calls, &roots)?;
-    let bytes = report_groups(alloc, options, program, &calls, &roots, &groups)?;
+    let bytes = report_groups(
+        rt, alloc, options, program, &calls, &roots, ends, &groups,
+    )?;
     Ok(bytes)
 }
 
@@ -118,18 +122,23 @@ fn tell_by_workers<R: Threads + Wait + Sync, G: Gate>(
 {
     let calls = call_lists(rt, alloc, program)?;
     let roots = roots_by(alloc, program, options)?;
+    let ends = ends_by(alloc, program, options)?;
     let groups = groups_by_workers(rt, alloc, options, program, &calls, &roots, gate)?;
-    let bytes = report_groups(alloc, options, program, &calls, &roots, &groups)?;
+    let bytes = report_groups(
+        rt, alloc, options, program, &calls, &roots, ends, &groups,
+    )?;
     Ok(bytes)
 }
 
 /// The report of the groups that the roots reach, by what the predicates call.
-fn report_groups(
+fn report_groups<R: Threads + Sync>(
+    rt: &R,
     alloc: Global,
     options: &Options,
     program: &Program,
     calls: &CallLists<'_>,
     roots: &[u32],
+    ends: Option<(u32, u32)>,
     groups: &[Vec<u32>],
 ) -> Result<Vec<u8>, AllocError>
     requires calls { see_call_lists calls.now ≡ see_program program.now }
@@ -137,10 +146,16 @@ fn report_groups(
     requires roots { AreRoots (see_options options.now).roots (see_program program.now) roots.now }
     requires groups { AreGroups (ListCalls (successor_lists (see_program program.now))) roots.now (lists_of groups.now) }
     requires order { AreInOrder (see_options options.now).searches (successor_lists (see_program program.now)) roots.now (lists_of groups.now) }
+    requires ends { AreEnds (see_options options.now).path (see_program program.now) ends }
     ensures { IfOk result (λ bytes. ReportsProgram (see_options options.now) (see_program program.now) bytes.items) }
 {
     let levels = levels_of(alloc, program, calls, roots, groups)?;
-    written(alloc, options, program, groups, &levels)
+    let first = written(alloc, options, program, groups, &levels)?;
+    let parts = parts_of(
+        rt, alloc, options, program, calls, roots, ends, groups, &levels,
+    )?;
+    let bytes = joined(first, &parts)?;
+    Ok(bytes)
 }
 
 /// The levels of the groups that the roots reach.

@@ -23,6 +23,8 @@ mod lines;
 mod loading;
 mod memory_sink;
 mod one_file;
+mod own_kinds;
+mod parts;
 mod roots;
 mod run;
 mod say;

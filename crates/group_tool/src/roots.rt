@@ -4,7 +4,7 @@ ghost use Rattle.std.specs.Prelude.{◌≡◌, ◌<◌, ◌↔◌, ◌++◌, ◌
 ghost use Rattle.std.specs.List.{AllZip};
 ghost use Rattle.import_rules.specs.Program.{see_program};
 ghost use Rattle.group_words.specs.Settings.{see_options};
-ghost use Rattle.group_tool.specs.Roots.{AreRoots, HasRoots, IsNamed, IsRootStop};
+ghost use Rattle.group_tool.specs.Roots.{AreRoots, HasRoots, IsNamed, IsRootStop, IsEndStop, AreEnds, asked_names};
 
 use crate::stop::Stop;
 use call_edges::roots_of;
@@ -101,4 +101,34 @@ pub fn roots_by(alloc: Global, program: &Program, options: &Options) -> Result<V
         Some(list) => listed_roots(alloc, program, list),
         None => Ok(roots_of(alloc, program)?),
     }
+}
+
+/// The number of the predicate of that name, or that there is none.
+fn end_of_path(alloc: Global, program: &Program, name: &PredName) -> Result<u32, Stop>
+    ensures ok { IfOk result (IsNamed (see_program program.now).predicates name.now) }
+    ensures err { IfErr result (IsEndStop (see_program program.now).predicates name.now) }
+{
+    let Some(node) = number_of(program, name) else {
+        return Err(Stop::NoPredicate(copied(alloc, name)?));
+    };
+    Ok(node)
+}
+
+/// The numbers of the two predicates between which the options ask for a path. The roots are there.
+pub fn ends_by(
+    alloc: Global,
+    program: &Program,
+    options: &Options,
+) -> Result<Option<(u32, u32)>, Stop>
+    requires { HasRoots (see_options options.now).roots (see_program program.now) }
+    ensures ends { IfOk result (AreEnds (see_options options.now).path (see_program program.now)) }
+    ensures rooted { IfOk result (λ _. HasRoots (asked_names (see_options options.now).path (see_options options.now).roots) (see_program program.now)) }
+    ensures err { IfErr result (IsRootStop (asked_names (see_options options.now).path (see_options options.now).roots) (see_program program.now)) }
+{
+    let Some(both) = &options.path else {
+        return Ok(None);
+    };
+    let from = end_of_path(alloc, program, &both.0)?;
+    let to = end_of_path(alloc, program, &both.1)?;
+    Ok(Some((from, to)))
 }

@@ -23,7 +23,7 @@ use std::sync::Wait;
 use std::thread::Threads;
 
 const USAGE: &str =
-    "usage: groups [--jobs N | --searches K --seed S] [--roots LIST] [--order] [--unreached] FILE... | groups --make N [--jobs N | --searches K --seed S]\n";
+    "usage: groups [--jobs N | --searches K --seed S] [--roots LIST] [--order] [--unreached] [--effects] [--loops] [--path LIST] FILE... | groups --make N [--jobs N | --searches K --seed S]\n";
 
 const OUT_OF_MEMORY: &str = "groups: out of memory\n";
 

@@ -7,7 +7,7 @@ use Rattle.clap.specs.Walk.{Row, Rule, Text, all_of, default_rows, has_row, idle
 use Rattle.clap.specs.Simple.{built, entered, matches_of}
 use Rattle.clap.specs.Kinds.{Kinds, or_else}
 use Rattle.clap.specs.Faults.{default_fault, defaults_fault, entered_fault, fault_of, level_fault, walk_fault}
-use Rattle.group_words.specs.Words.{Key, Order, Unreached, key_name, same_key, takes_value}
+use Rattle.group_words.specs.Words.{Key, Jobs, Searches, Seed, Roots, Path, Order, Unreached, Effects, Loops, Make, key_name, same_key, takes_value}
 use Rattle.group_words.specs.ClapCommand.{words_app}
 use Rattle.group_words.proofs.WordRules.{all_keys, called_own, file_id, file_not, file_rule, not_file, rule_at, shape}
 use Rattle.group_words.proofs.WordClasses.{eq_text}
@@ -131,8 +131,14 @@ flag_keys key bare (own ∷ keys) rows = flag_keys key bare keys (with_default r
         ap (λ k. all_of (key_name key) (with_default rows (rule_at k))) (key_same own key e) ∙ default_flag rows key bare in
         ap (λ o. if list_any (λ k. same_key k key) keys then or_unset o else o) is ∙ twice (list_any (λ k. same_key k key) keys) (all_of (key_name key) rows)
 
-pub order_kept : (rows : List Row) → all_of (key_name Order) (with_defaults rows) ≡ or_unset (all_of (key_name Order) rows)
-order_kept rows = flag_keys Order refl all_keys rows
-
-pub unreached_kept : (rows : List Row) → all_of (key_name Unreached) (with_defaults rows) ≡ or_unset (all_of (key_name Unreached) rows)
-unreached_kept rows = flag_keys Unreached refl all_keys rows
+pub flag_kept : (key : Key) → takes_value key ≡ false → (rows : List Row) → all_of (key_name key) (with_defaults rows) ≡ or_unset (all_of (key_name key) rows)
+flag_kept Order bare rows = flag_keys Order refl all_keys rows
+flag_kept Unreached bare rows = flag_keys Unreached refl all_keys rows
+flag_kept Effects bare rows = flag_keys Effects refl all_keys rows
+flag_kept Loops bare rows = flag_keys Loops refl all_keys rows
+flag_kept Jobs bare rows = let both : true ≡ false = bare in cc
+flag_kept Searches bare rows = let both : true ≡ false = bare in cc
+flag_kept Seed bare rows = let both : true ≡ false = bare in cc
+flag_kept Roots bare rows = let both : true ≡ false = bare in cc
+flag_kept Path bare rows = let both : true ≡ false = bare in cc
+flag_kept Make bare rows = let both : true ≡ false = bare in cc

@@ -10,7 +10,7 @@ use Rattle.import_rules.specs.Names.{pred_name}
 use Rattle.group_words.specs.Made.{line}
 use Rattle.group_words.specs.Numbers.{IsNumber, is_digit}
 use Rattle.group_words.specs.RootList.{named_predicate}
-use Rattle.group_words.specs.Words.{Key, Jobs, Searches, Seed, Roots, Order, Unreached, Make, file, apart, joined, IsPart, IsReading, as_list, is_file, is_plain, values}
+use Rattle.group_words.specs.Words.{Key, Jobs, Searches, Seed, Roots, Path, Order, Unreached, Effects, Loops, Make, file, apart, joined, IsPart, IsReading, as_list, is_file, is_plain, values}
 use Rattle.group_words.specs.Settings.{AreLawful, JobsAre, Settings, each_once}
 use Rattle.group_words.proofs.Readings.{one_given}
 
@@ -82,8 +82,11 @@ two_once Jobs = refl
 two_once Searches = refl
 two_once Seed = refl
 two_once Roots = refl
+two_once Path = refl
 two_once Order = refl
 two_once Unreached = refl
+two_once Effects = refl
+two_once Loops = refl
 two_once Make = refl
 
 reads_two : IsReading two_words two_jobs (codes "f.pl" ∷ [])
@@ -105,7 +108,7 @@ one_digit b is = record {
 }
 
 abbrev two_settings : Settings
-two_settings = record { jobs = 2; searches = None; roots = None; order = false; unreached = false; make = None; files = codes "f.pl" ∷ [] }
+two_settings = record { jobs = 2; searches = None; roots = None; order = false; unreached = false; effects = false; loops = false; path = None; make = None; files = codes "f.pl" ∷ [] }
 
 lawful_two : AreLawful two_words two_settings
 lawful_two = record {
@@ -123,6 +126,9 @@ lawful_two = record {
     roots = tt;
     order = refl;
     unreached = refl;
+    effects = refl;
+    loops = refl;
+    path = tt;
     make = tt;
     named = record { names = codes "f.pl" ∷ []; resolve = refl; each = refl };
   };
@@ -142,8 +148,11 @@ many_once Jobs = refl
 many_once Searches = refl
 many_once Seed = refl
 many_once Roots = refl
+many_once Path = refl
 many_once Order = refl
 many_once Unreached = refl
+many_once Effects = refl
+many_once Loops = refl
 many_once Make = refl
 
 reads_many : IsReading many_words many_jobs (codes "f" ∷ [])

@@ -8,7 +8,7 @@ use Rattle.clap.specs.Walk.{Row, Text, all_of, first_of}
 use Rattle.clap.specs.Simple.{matches_of}
 use Rattle.clap.specs.Faults.{fault_of}
 use Rattle.group_words.specs.declared.given.Given.{Given}
-use Rattle.group_words.specs.Words.{Key, Jobs, Searches, Seed, Roots, Order, Unreached, Make, Part, file, flag, apart, joined, IsPart, IsReading, as_list, is_file, is_plain, key_name, part_files, rest_files, same_key, takes_value, values}
+use Rattle.group_words.specs.Words.{Key, Jobs, Searches, Seed, Roots, Path, Order, Unreached, Effects, Loops, Make, Part, file, flag, apart, joined, IsPart, IsReading, as_list, is_file, is_plain, key_name, part_files, rest_files, same_key, takes_value, values}
 use Rattle.group_words.specs.ClapCommand.{IsGiven, file_words, given_of, has_plain_values, is_plain_value, is_set, set_flag, words_app}
 use Rattle.group_words.proofs.WalkSteps.{IsBare, same_text}
 use Rattle.group_words.proofs.WordClasses.{plain_bare}
@@ -101,8 +101,11 @@ module _ (words : List Text) (given other : Key → Option Text) (files more : L
   one_given Searches = same_valued Searches refl
   one_given Seed = same_valued Seed refl
   one_given Roots = same_valued Roots refl
-  one_given Order = same_flag Order refl (sym views.order ∙ others.order)
-  one_given Unreached = same_flag Unreached refl (sym views.unreached ∙ others.unreached)
+  one_given Path = same_valued Path refl
+  one_given Order = same_flag Order refl (sym (views.flags Order refl) ∙ others.flags Order refl)
+  one_given Unreached = same_flag Unreached refl (sym (views.flags Unreached refl) ∙ others.flags Unreached refl)
+  one_given Effects = same_flag Effects refl (sym (views.flags Effects refl) ∙ others.flags Effects refl)
+  one_given Loops = same_flag Loops refl (sym (views.flags Loops refl) ∙ others.flags Loops refl)
   one_given Make = same_valued Make refl
 
   pub one_files : files ≡ more
@@ -151,8 +154,11 @@ module _ (rows : List Row) (g : Given) (is : IsGiven rows g) (parts : List Part)
   held Searches = valued_held Searches refl is.searches
   held Seed = valued_held Seed refl is.seed
   held Roots = valued_held Roots refl is.roots
-  held Order = flag_held Order refl v.order g.order is.order
-  held Unreached = flag_held Unreached refl v.unreached g.unreached is.unreached
+  held Path = valued_held Path refl is.path
+  held Order = flag_held Order refl (v.flags Order refl) g.order is.order
+  held Unreached = flag_held Unreached refl (v.flags Unreached refl) g.unreached is.unreached
+  held Effects = flag_held Effects refl (v.flags Effects refl) g.effects is.effects
+  held Loops = flag_held Loops refl (v.flags Loops refl) g.loops is.loops
   held Make = valued_held Make refl is.make
 
   pub files_held : file_words g ≡ flat_map part_files parts ++ rest_files rest
@@ -294,13 +300,14 @@ list_plain : (o : Option Text) → ArePlain (as_list o) → is_plain_value o ≡
 list_plain None all = refl
 list_plain (Some v) all = all.0
 
-five : (a b c d e : Bool) → (a && b && c && d && e) ≡ true → (a ≡ true) × (b ≡ true) × (c ≡ true) × (d ≡ true) × (e ≡ true)
-five a b c d e all =
-    let one = and_both (a && b && c && d) e all in
-    let two = and_both (a && b && c) d one.0 in
-    let three = and_both (a && b) c two.0 in
-    let four = and_both a b three.0 in
-    (four.0, four.1, three.1, two.1, one.1)
+six : (a b c d e f : Bool) → (a && b && c && d && e && f) ≡ true → (a ≡ true) × (b ≡ true) × (c ≡ true) × (d ≡ true) × (e ≡ true) × (f ≡ true)
+six a b c d e f all =
+    let one = and_both (a && b && c && d && e) f all in
+    let two = and_both (a && b && c && d) e one.0 in
+    let three = and_both (a && b && c) d two.0 in
+    let four = and_both (a && b) c three.0 in
+    let five = and_both a b four.0 in
+    (five.0, five.1, four.1, three.1, two.1, one.1)
 
 module _ (words : List Text) (g : Given) (is : IsGiven (matches_of words_app words) g) where
   -- the matches are a reading, where values and files are lawful
@@ -323,18 +330,21 @@ module _ (words : List Text) (g : Given) (is : IsGiven (matches_of words_app wor
       all = files_tested (flat_map part_files p.parts ++ rest_files p.rest) (ap (list_all is_file) (sym (files_held rows g is p.parts p.rest p.views p.are p.once)) ∙ files)
 
       tests : (is_plain_value (given_of g Jobs) ≡ true) × (is_plain_value (given_of g Searches) ≡ true) × (is_plain_value (given_of g Seed) ≡ true)
-          × (is_plain_value (given_of g Roots) ≡ true) × (is_plain_value (given_of g Make) ≡ true)
-      tests = five (is_plain_value (given_of g Jobs)) (is_plain_value (given_of g Searches)) (is_plain_value (given_of g Seed)) (is_plain_value (given_of g Roots))
-          (is_plain_value (given_of g Make)) plain
+          × (is_plain_value (given_of g Roots) ≡ true) × (is_plain_value (given_of g Path) ≡ true) × (is_plain_value (given_of g Make) ≡ true)
+      tests = six (is_plain_value (given_of g Jobs)) (is_plain_value (given_of g Searches)) (is_plain_value (given_of g Seed)) (is_plain_value (given_of g Roots))
+          (is_plain_value (given_of g Path)) (is_plain_value (given_of g Make)) plain
 
       plain_given : (key : Key) → takes_value key ≡ true → ArePlain (as_list (given_of g key))
       plain_given Jobs valued = plain_list (given_of g Jobs) tests.0
       plain_given Searches valued = plain_list (given_of g Searches) tests.1
       plain_given Seed valued = plain_list (given_of g Seed) tests.2
       plain_given Roots valued = plain_list (given_of g Roots) tests.3
+      plain_given Path valued = plain_list (given_of g Path) tests.4
       plain_given Order valued = let both : false ≡ true = valued in cc
       plain_given Unreached valued = let both : false ≡ true = valued in cc
-      plain_given Make valued = plain_list (given_of g Make) tests.4
+      plain_given Effects valued = let both : false ≡ true = valued in cc
+      plain_given Loops valued = let both : false ≡ true = valued in cc
+      plain_given Make valued = plain_list (given_of g Make) tests.5
 
   -- where there is a reading, values and files are lawful
   module _ (given : Key → Option Text) (files : List Text) (r : IsReading words given files) where
@@ -343,7 +353,7 @@ module _ (words : List Text) (g : Given) (is : IsGiven (matches_of words_app wor
         list_plain (given_of g key) (subst ArePlain (held (matches_of words_app words) g is r.parts r.rest (reading_views words given files r) (reading_parts words given files r) (reading_once words given files r) key) (plain_values key valued r.parts r.lawful))
 
     pub reading_plain : has_plain_values g ≡ true
-    reading_plain = rw (held_plain Jobs refl, held_plain Searches refl, held_plain Seed refl, held_plain Roots refl, held_plain Make refl) refl
+    reading_plain = rw (held_plain Jobs refl, held_plain Searches refl, held_plain Seed refl, held_plain Roots refl, held_plain Path refl, held_plain Make refl) refl
 
     pub reading_files : list_all is_file (file_words g) ≡ true
     reading_files =

@@ -4,7 +4,7 @@ use Rattle.std.specs.Str.{bytes_eq}
 use Rattle.clap.specs.Walk.{Row, Text, all_of, idle}
 use Rattle.clap.specs.Simple.{matches_of}
 use Rattle.clap.specs.Faults.{fault_of}
-use Rattle.group_words.specs.Words.{Key, Part, Order, Unreached, key_name, part_files, part_words, rest_files, rest_words, takes_value, values}
+use Rattle.group_words.specs.Words.{Key, Part, key_name, part_files, part_words, rest_files, rest_words, takes_value, values}
 use Rattle.group_words.specs.ClapCommand.{words_app}
 use Rattle.group_words.proofs.WordRules.{called, file_id, keys, not_file, shape}
 use Rattle.group_words.proofs.WordClasses.{called_back}
@@ -12,7 +12,7 @@ use Rattle.group_words.proofs.WalkSteps.{at}
 use Rattle.group_words.proofs.WalkGoes.{AreClapParts, goes_as, idle_waits, total_rows, uses_fault, uses_of}
 use Rattle.group_words.proofs.WalkSpells.{HaveChars, spelled_by}
 use Rattle.group_words.proofs.WalkRows.{IsOnce, are_uses, given_values, once_used, plus, rows_hold, used_once}
-use Rattle.group_words.proofs.ClapWords.{fault_is, files_kept, matches_are, or_unset, order_kept, unreached_kept, valued_kept}
+use Rattle.group_words.proofs.ClapWords.{fault_is, files_kept, flag_kept, matches_are, or_unset, valued_kept}
 use Rattle.group_words.proofs.GivenValues.{count_uses, file_uses, flag_uses, other_uses, trues, valued_uses}
 
 -- the words that parts spell
@@ -22,8 +22,7 @@ words_of parts rest = flat_map part_words parts ++ rest_words rest
 -- what the matches have of each argument
 pub record Views (rows : List Row) (parts : List Part) (rest : Option (List Text)) : Type 0 where
   pub valued : (key : Key) → takes_value key ≡ true → all_of (key_name key) rows ≡ plus None (values key parts)
-  pub order : all_of (key_name Order) rows ≡ or_unset (plus None (trues (values Order parts)))
-  pub unreached : all_of (key_name Unreached) rows ≡ or_unset (plus None (trues (values Unreached parts)))
+  pub flags : (key : Key) → takes_value key ≡ false → all_of (key_name key) rows ≡ or_unset (plus None (trues (values key parts)))
   pub files : all_of file_id rows ≡ plus None (flat_map part_files parts ++ rest_files rest)
 
 -- each option comes once at most
@@ -61,10 +60,9 @@ module _ (parts : List Part) (rest : Option (List Text)) (are : AreClapParts par
       valued = λ key valued.
           ap (all_of (key_name key)) (matches_are (words_of parts rest))
           ∙ (valued_kept key valued rows ∙ (rows_are (key_name key) ∙ ap (plus None) (valued_uses key valued parts rest are)));
-      order = ap (all_of (key_name Order)) (matches_are (words_of parts rest))
-          ∙ (order_kept rows ∙ ap or_unset (rows_are (key_name Order) ∙ ap (plus None) (flag_uses Order refl parts rest are)));
-      unreached = ap (all_of (key_name Unreached)) (matches_are (words_of parts rest))
-          ∙ (unreached_kept rows ∙ ap or_unset (rows_are (key_name Unreached) ∙ ap (plus None) (flag_uses Unreached refl parts rest are)));
+      flags = λ key bare.
+          ap (all_of (key_name key)) (matches_are (words_of parts rest))
+          ∙ (flag_kept key bare rows ∙ ap or_unset (rows_are (key_name key) ∙ ap (plus None) (flag_uses key bare parts rest are)));
       files = ap (all_of file_id) (matches_are (words_of parts rest)) ∙ (files_kept rows ∙ (rows_are file_id ∙ ap (plus None) (file_uses parts rest)));
     }
 

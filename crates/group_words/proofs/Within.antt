@@ -5,9 +5,9 @@ use Rattle.std.specs.List.{AllByRecursion, IsDistinct}
 use Rattle.std.specs.Str.{bytes_eq}
 use Rattle.module_table.specs.FileName.{resolved}
 use Rattle.import_rules.specs.declared.names.PredName.{PredName}
-use Rattle.group_words.specs.Words.{Key, Jobs, Searches, Seed, Roots, Make}
+use Rattle.group_words.specs.Words.{Key, Jobs, Searches, Seed, Roots, Path, Make}
 use Rattle.group_words.specs.RootList.{all_there}
-use Rattle.group_words.specs.Settings.{AreLawful, AreSettings, AreWithin, FilesAre, JobsAre, MakeIs, RootsAre, SearchesAre, Settings, each_once}
+use Rattle.group_words.specs.Settings.{AreLawful, AreSettings, AreWithin, FilesAre, JobsAre, MakeIs, PathIs, RootsAre, SearchesAre, Settings, each_once}
 use Rattle.group_words.proofs.RootArities.{arities_fit}
 
 jobs_within : (given : Option (List ℕ)) (n : ℕ) → JobsAre given n → (1 ≤ n) × (n ≤ 64)
@@ -52,6 +52,11 @@ no_roots : (given : Option (List ℕ)) (roots : Option (List PredName)) → Root
 no_roots None None are none = refl
 no_roots None (Some roots) are none = absurd are
 no_roots (Some text) roots are none = let both : Some text ≡ None = none in cc
+
+no_path : (given : Option (List ℕ)) (path : Option (PredName × PredName)) → PathIs given path → given ≡ None → path ≡ None
+no_path None None are none = refl
+no_path None (Some both) are none = absurd are
+no_path (Some text) both are none = let both : Some text ≡ None = none in cc
 
 -- files
 
@@ -113,9 +118,12 @@ settings_within given files s sets = record {
   made = λ is.
       let none = sets.together.made (sym (make_given (given Make) s.make sets.make) ∙ is) in (
         no_roots (given Roots) s.roots sets.roots none.0,
-        sets.order ∙ ap is_some none.1,
-        sets.unreached ∙ ap is_some none.2,
-        no_files s.files (subst (λ words. FilesAre words s.files) none.3 sets.named),
+        no_path (given Path) s.path sets.path none.1,
+        sets.order ∙ ap is_some none.2,
+        sets.unreached ∙ ap is_some none.3,
+        sets.effects ∙ ap is_some none.4,
+        sets.loops ∙ ap is_some none.5,
+        no_files s.files (subst (λ words. FilesAre words s.files) none.6 sets.named),
       );
   read = λ none. some_files files s.files sets.named (sets.together.read (no_make (given Make) s.make sets.make none));
   once = subst (IsDistinct bytes_eq) (sym sets.named.each) (once_distinct sets.named.names);

@@ -9,7 +9,7 @@ use Rattle.clap.specs.declared.builder.value_parser.ValueParser.{ValueParser}
 use Rattle.clap.specs.declared.builder.value_parser.ValueParser.TheVariants as vp
 use Rattle.clap.specs.Walk.{Rule, Text, arg_by_id, arg_by_index, arg_by_long, arg_by_short, has_long, takes_values}
 use Rattle.clap.specs.Simple.{Shape, built}
-use Rattle.group_words.specs.Words.{Key, Jobs, Searches, Seed, Roots, Order, Unreached, Make, key_name, takes_value}
+use Rattle.group_words.specs.Words.{Key, Jobs, Searches, Seed, Roots, Path, Order, Unreached, Effects, Loops, Make, key_name, takes_value}
 use Rattle.group_words.specs.ClapCommand.{words_app}
 
 abbrev pub range_for : Bool → ValueRange
@@ -80,7 +80,7 @@ file_rule = record {
 }
 
 abbrev pub all_keys : List Key
-all_keys = Jobs ∷ Searches ∷ Seed ∷ Roots ∷ Order ∷ Unreached ∷ Make ∷ []
+all_keys = Jobs ∷ Searches ∷ Seed ∷ Roots ∷ Path ∷ Order ∷ Unreached ∷ Effects ∷ Loops ∷ Make ∷ []
 
 -- the option of a name
 abbrev pub called : Text → Option Key
@@ -131,8 +131,11 @@ keys = record {
     by_key Searches = refl
     by_key Seed = refl
     by_key Roots = refl
+    by_key Path = refl
     by_key Order = refl
     by_key Unreached = refl
+    by_key Effects = refl
+    by_key Loops = refl
     by_key Make = refl
 
 -- whether an option takes a value, as clap sees it
@@ -146,8 +149,11 @@ called_own Jobs = refl
 called_own Searches = refl
 called_own Seed = refl
 called_own Roots = refl
+called_own Path = refl
 called_own Order = refl
 called_own Unreached = refl
+called_own Effects = refl
+called_own Loops = refl
 called_own Make = refl
 
 -- no option is named as the words for files are
@@ -156,8 +162,11 @@ not_file Jobs = refl
 not_file Searches = refl
 not_file Seed = refl
 not_file Roots = refl
+not_file Path = refl
 not_file Order = refl
 not_file Unreached = refl
+not_file Effects = refl
+not_file Loops = refl
 not_file Make = refl
 
 pub file_not : (key : Key) → bytes_eq file_id (key_name key) ≡ false
@@ -165,6 +174,9 @@ file_not Jobs = refl
 file_not Searches = refl
 file_not Seed = refl
 file_not Roots = refl
+file_not Path = refl
 file_not Order = refl
 file_not Unreached = refl
+file_not Effects = refl
+file_not Loops = refl
 file_not Make = refl

@@ -5,7 +5,7 @@ use Rattle.clap.specs.Words.{App, Row, Rule, Text, all_of, first_of, new_app, ne
 use Rattle.clap.specs.Simple.{on_top}
 use Rattle.clap.specs.declared.builder.action.ArgAction.TheVariants.{Append, SetTrue}
 use Rattle.group_words.specs.declared.given.Given.{Given}
-use Rattle.group_words.specs.Words.{Key, Jobs, Searches, Seed, Roots, Order, Unreached, Make, is_plain}
+use Rattle.group_words.specs.Words.{Key, Jobs, Searches, Seed, Roots, Path, Order, Unreached, Effects, Loops, Make, is_plain}
 
 -- an option with a value, one without, and the words for files
 abbrev pub asked_valued : Text → Rule
@@ -29,8 +29,8 @@ with_flag app name = with_rule app (asked_flag name)
 
 abbrev pub words_app : App
 words_app =
-    let valued = with_valued (with_valued (with_valued (with_valued bare_app (codes "jobs")) (codes "searches")) (codes "seed")) (codes "roots") in
-    with_rule (with_valued (with_flag (with_flag valued (codes "order")) (codes "unreached")) (codes "make")) asked_files
+    let valued = with_valued (with_valued (with_valued (with_valued (with_valued bare_app (codes "jobs")) (codes "searches")) (codes "seed")) (codes "roots")) (codes "path") in
+    with_rule (with_valued (with_flag (with_flag (with_flag (with_flag valued (codes "order")) (codes "unreached")) (codes "effects")) (codes "loops")) (codes "make")) asked_files
 
 -- whether an option is given, as what it is given
 abbrev pub set_flag : Bool → Option (List ℕ)
@@ -42,8 +42,11 @@ given_of given Jobs = option_map (λ text. text.now) given.jobs
 given_of given Searches = option_map (λ text. text.now) given.searches
 given_of given Seed = option_map (λ text. text.now) given.seed
 given_of given Roots = option_map (λ text. text.now) given.roots
+given_of given Path = option_map (λ text. text.now) given.path
 given_of given Order = set_flag given.order
 given_of given Unreached = set_flag given.unreached
+given_of given Effects = set_flag given.effects
+given_of given Loops = set_flag given.loops
 given_of given Make = option_map (λ text. text.now) given.make
 
 -- the words for files
@@ -61,8 +64,11 @@ pub record IsGiven (rows : List Row) (given : Given) : Type 0 where
   pub searches : given_of given Searches ≡ first_of (codes "searches") rows
   pub seed : given_of given Seed ≡ first_of (codes "seed") rows
   pub roots : given_of given Roots ≡ first_of (codes "roots") rows
+  pub path : given_of given Path ≡ first_of (codes "path") rows
   pub order : given.order ≡ is_set (first_of (codes "order") rows)
   pub unreached : given.unreached ≡ is_set (first_of (codes "unreached") rows)
+  pub effects : given.effects ≡ is_set (first_of (codes "effects") rows)
+  pub loops : given.loops ≡ is_set (first_of (codes "loops") rows)
   pub make : given_of given Make ≡ first_of (codes "make") rows
   pub files : file_words given ≡ unwrap_or (all_of (codes "file") rows) []
 
@@ -74,4 +80,4 @@ is_plain_value (Some value) = is_plain value
 abbrev pub has_plain_values : Given → Bool
 has_plain_values given =
     is_plain_value (given_of given Jobs) && is_plain_value (given_of given Searches) && is_plain_value (given_of given Seed)
-    && is_plain_value (given_of given Roots) && is_plain_value (given_of given Make)
+    && is_plain_value (given_of given Roots) && is_plain_value (given_of given Path) && is_plain_value (given_of given Make)

@@ -8,7 +8,7 @@ use Rattle.std.specs.Str.{bytes_eq}
 use Rattle.module_table.specs.FileName.{resolved}
 use Rattle.import_rules.specs.declared.names.PredName.{PredName}
 use Rattle.group_words.specs.declared.options.Options.{Options}
-use Rattle.group_words.specs.Words.{Key, Jobs, Searches, Seed, Roots, Order, Unreached, Make, IsReading}
+use Rattle.group_words.specs.Words.{Key, Jobs, Searches, Seed, Roots, Path, Order, Unreached, Effects, Loops, Make, IsReading}
 use Rattle.group_words.specs.Numbers.{IsNumberIn}
 use Rattle.group_words.specs.RootList.{IsRootList, all_there}
 
@@ -19,6 +19,9 @@ pub record Settings : Type 0 where
   pub roots : Option (List PredName)
   pub order : Bool
   pub unreached : Bool
+  pub effects : Bool
+  pub loops : Bool
+  pub path : Option (PredName × PredName)
   pub make : Option ℕ
   pub files : List (List ℕ)
 
@@ -30,6 +33,9 @@ see_options options = record {
   roots = option_map (λ roots. roots.items) options.roots;
   order = options.order;
   unreached = options.unreached;
+  effects = options.effects;
+  loops = options.loops;
+  path = options.path;
   make = options.make;
   files = options.files.items;
 }
@@ -50,6 +56,12 @@ RootsAre None None = Unit {0}
 RootsAre (Some text) (Some roots) = IsRootList text roots
 RootsAre text roots = ⊥
 
+-- the list has just two
+abbrev pub PathIs : Option (List ℕ) → Option (PredName × PredName) → Type 0
+PathIs None None = Unit {0}
+PathIs (Some text) (Some both) = IsRootList text (both.0 ∷ both.1 ∷ [])
+PathIs text both = ⊥
+
 abbrev pub MakeIs : Option (List ℕ) → Option ℕ → Type 0
 MakeIs None None = Unit {0}
 MakeIs (Some text) (Some count) = IsNumberIn 1 100000 text count
@@ -69,7 +81,7 @@ pub record FilesAre (words named : List (List ℕ)) : Type 0 where
 -- what excludes what
 pub record GoTogether (given : Key → Option (List ℕ)) (files : List (List ℕ)) : Type 0 where
   pub one_way : is_some (given Searches) ≡ true → given Jobs ≡ None
-  pub made : is_some (given Make) ≡ true → (given Roots ≡ None) × (given Order ≡ None) × (given Unreached ≡ None) × (files ≡ [])
+  pub made : is_some (given Make) ≡ true → (given Roots ≡ None) × (given Path ≡ None) × (given Order ≡ None) × (given Unreached ≡ None) × (given Effects ≡ None) × (given Loops ≡ None) × (files ≡ [])
   pub read : given Make ≡ None → files ≢ []
 
 pub record AreSettings (given : Key → Option (List ℕ)) (files : List (List ℕ)) (s : Settings) : Type 0 where
@@ -79,6 +91,9 @@ pub record AreSettings (given : Key → Option (List ℕ)) (files : List (List �
   pub roots : RootsAre (given Roots) s.roots
   pub order : s.order ≡ is_some (given Order)
   pub unreached : s.unreached ≡ is_some (given Unreached)
+  pub effects : s.effects ≡ is_some (given Effects)
+  pub loops : s.loops ≡ is_some (given Loops)
+  pub path : PathIs (given Path) s.path
   pub make : MakeIs (given Make) s.make
   pub named : FilesAre files s.files
 
@@ -95,7 +110,7 @@ pub record AreWithin (s : Settings) : Type 0 where
   pub searches : IfSome s.searches (λ both. (1 ≤ both.0) × (both.0 ≤ 64) × (both.1 < 2 ^ 64) × (s.jobs ≡ 1))
   pub roots : IfSome s.roots (All (λ root. root.arity < 2 ^ 32))
   pub make : IfSome s.make (λ count. (1 ≤ count) × (count ≤ 100000))
-  pub made : is_some s.make ≡ true → (s.roots ≡ None) × (s.order ≡ false) × (s.unreached ≡ false) × (s.files ≡ [])
+  pub made : is_some s.make ≡ true → (s.roots ≡ None) × (s.path ≡ None) × (s.order ≡ false) × (s.unreached ≡ false) × (s.effects ≡ false) × (s.loops ≡ false) × (s.files ≡ [])
   pub read : s.make ≡ None → s.files ≢ []
   pub once : IsDistinct bytes_eq s.files
 

@@ -8,8 +8,11 @@ pub data Key : Type 0 where
   Searches : Key
   Seed : Key
   Roots : Key
+  Path : Key
   Order : Key
   Unreached : Key
+  Effects : Key
+  Loops : Key
   Make : Key
 
 abbrev pub key_name : Key → List ℕ
@@ -17,13 +20,18 @@ key_name Jobs = codes "jobs"
 key_name Searches = codes "searches"
 key_name Seed = codes "seed"
 key_name Roots = codes "roots"
+key_name Path = codes "path"
 key_name Order = codes "order"
 key_name Unreached = codes "unreached"
+key_name Effects = codes "effects"
+key_name Loops = codes "loops"
 key_name Make = codes "make"
 
 abbrev pub takes_value : Key → Bool
 takes_value Order = false
 takes_value Unreached = false
+takes_value Effects = false
+takes_value Loops = false
 takes_value _ = true
 
 abbrev pub same_key : Key → Key → Bool

@@ -47,8 +47,11 @@ fn command<'a>(alloc: Global) -> Result<Command<'a>, AllocError>
         .arg(valued(alloc, "searches"))?
         .arg(valued(alloc, "seed"))?
         .arg(valued(alloc, "roots"))?
+        .arg(valued(alloc, "path"))?
         .arg(flag(alloc, "order"))?
         .arg(flag(alloc, "unreached"))?
+        .arg(flag(alloc, "effects"))?
+        .arg(flag(alloc, "loops"))?
         .arg(valued(alloc, "make"))?
         .arg(files(alloc))
 }

@@ -17,8 +17,11 @@ pub struct Given<'a> {
     pub searches: Option<&'a str>,
     pub seed: Option<&'a str>,
     pub roots: Option<&'a str>,
+    pub path: Option<&'a str>,
     pub order: bool,
     pub unreached: bool,
+    pub effects: bool,
+    pub loops: bool,
     pub make: Option<&'a str>,
     pub files: Vec<&'a str>,
 }
@@ -51,8 +54,11 @@ fn given_by<'a>(alloc: Global, matches: &ArgMatches<'a>) -> Result<Given<'a>, Al
         searches: matches.get_str("searches"),
         seed: matches.get_str("seed"),
         roots: matches.get_str("roots"),
+        path: matches.get_str("path"),
         order: is_set(matches, "order"),
         unreached: is_set(matches, "unreached"),
+        effects: is_set(matches, "effects"),
+        loops: is_set(matches, "loops"),
         make: matches.get_str("make"),
         files,
     })
@@ -84,6 +90,7 @@ fn has_plain_values(given: &Given<'_>) -> bool
         && is_plain_value(given.searches)
         && is_plain_value(given.seed)
         && is_plain_value(given.roots)
+        && is_plain_value(given.path)
         && is_plain_value(given.make)
 }
 

@@ -16,6 +16,13 @@ pub struct Options {
     pub order: bool,
     /// Whether predicates that aren't reached are reported.
     pub unreached: bool,
+    /// Whether the effects that groups may reach are reported.
+    pub effects: bool,
+    /// Whether the circuits of groups are reported.
+    pub loops: bool,
+    /// The two predicates whose least path is reported: the one that it leaves, and the one that it
+    /// comes to.
+    pub path: Option<(PredName, PredName)>,
     /// How many predicates the made text has, 1 to 100,000, where no file is read.
     pub make: Option<u32>,
     /// The names of the files in the order of the words, each once.

@@ -1,8 +1,8 @@
-ghost use Rattle.std.specs.Prelude.{◌≡◌, ◌∷◌, ◌++◌, [], ◌↔◌, ◌≤◌, ◌<◌, ℕ, List, Option, option_map, map, IsTrue, IfOk, IfErr, OnOk};
+ghost use Rattle.std.specs.Prelude.{◌≡◌, ◌∷◌, ◌++◌, [], ◌↔◌, ◌≤◌, ◌<◌, ℕ, List, Option, option_map, map, IsTrue, IfOk, IfErr, OnOk, MatchOption};
 ghost use Rattle.import_rules.specs.declared.names.PredName.{PredName};
 ghost use Rattle.group_words.specs.Numbers.{IsNumberIn};
 ghost use Rattle.group_words.specs.ClapCommand.{given_of, file_words};
-ghost use Rattle.group_words.specs.Settings.{Settings, JobsAre, SearchesAre, RootsAre, MakeIs, FilesAre, GoTogether, AreSettings, IsKept, see_options};
+ghost use Rattle.group_words.specs.Settings.{Settings, JobsAre, SearchesAre, RootsAre, PathIs, MakeIs, FilesAre, GoTogether, AreSettings, IsKept, see_options};
 
 use crate::given::Given;
 use crate::numbers::read_number;
@@ -92,6 +92,37 @@ fn roots_of(alloc: Global, text: Option<&str>) -> Result<Option<Vec<PredName>>, 
     }
 }
 
+/// The two that are in the list, where these are all.
+fn just_two(roots: Vec<PredName>) -> Option<(PredName, PredName)>
+    ensures { MatchOption result
+        ((both : PredName × PredName) → roots.items ≡ both.0 ∷ both.1 ∷ [] → ⊥)
+        (λ both. roots.items ≡ both.0 ∷ both.1 ∷ []) }
+{
+    let mut left = roots;
+    let to = left.pop()?;
+    let from = left.pop()?;
+    if !left.is_empty() {
+        return None;
+    }
+    Some((from, to))
+}
+
+fn path_of(alloc: Global, text: Option<&str>) -> Result<Option<(PredName, PredName)>, WordFault>
+    ensures ok { IfOk result (λ path. PathIs (option_map (λ t. t.now) text.entry) path) }
+    ensures usage { IfErr result (λ fault. fault ≡ WordFault.Usage → (path : Option (PredName × PredName)) → PathIs (option_map (λ t. t.now) text.entry) path → ⊥) }
+{
+    let Some(list) = text else {
+        return Ok(None);
+    };
+    let Some(roots) = read_roots(alloc, list)? else {
+        return Err(WordFault::Usage);
+    };
+    match just_two(roots) {
+        Some(both) => Ok(Some(both)),
+        None => Err(WordFault::Usage),
+    }
+}
+
 /// Keeps the name, unless it is kept already.
 fn keep_name(
     alloc: Global,
@@ -133,7 +164,13 @@ fn go_together(given: &Given<'_>) -> bool
     if given.make.is_none() {
         return !given.files.is_empty();
     }
-    given.roots.is_none() && !given.order && !given.unreached && given.files.is_empty()
+    given.roots.is_none()
+        && given.path.is_none()
+        && !given.order
+        && !given.unreached
+        && !given.effects
+        && !given.loops
+        && given.files.is_empty()
 }
 
 /// The options that what the words give sets.
@@ -148,6 +185,7 @@ pub fn options_of(alloc: Global, given: &Given<'_>) -> Result<Options, WordFault
     let searches = searches_of(given.searches, given.seed)?;
     let make = make_of(given.make)?;
     let roots = roots_of(alloc, given.roots)?;
+    let path = path_of(alloc, given.path)?;
     let files = names_of(alloc, &given.files)?;
     Ok(Options {
         jobs,
@@ -155,6 +193,9 @@ pub fn options_of(alloc: Global, given: &Given<'_>) -> Result<Options, WordFault
         roots,
         order: given.order,
         unreached: given.unreached,
+        effects: given.effects,
+        loops: given.loops,
+        path,
         make,
         files,
     })

@@ -18,3 +18,5 @@ pub mod RingLemmas
 pub mod SpelledLemmas
 pub mod Texts
 pub mod UserAlone
+pub mod EffectLines
+pub mod OneEffects

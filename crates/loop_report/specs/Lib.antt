@@ -1,3 +1,4 @@
+pub mod Effects
 pub mod ImportLoops
 pub mod ModuleGraph
 pub mod Names
@@ -5,3 +6,4 @@ pub mod ReadBack
 pub mod Report
 pub mod Reportable
 pub mod Spelled
+pub mod Walks

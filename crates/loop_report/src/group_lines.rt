@@ -58,7 +58,7 @@ fn kind_name(recursive: bool) -> &'static str
     if recursive { " recursive" } else { " plain" }
 }
 
-fn push_members<'a>(
+pub(crate) fn push_members<'a>(
     text: &mut String,
     program: &'a Program,
     last: &mut LastModule<'a>,

@@ -16,6 +16,7 @@
 //! Names are spelled so that each reads back as itself.
 #![tactic(auto)]
 
+mod effects;
 mod group_lines;
 mod head;
 mod last_module;
@@ -28,11 +29,14 @@ mod names;
 mod rings;
 mod spelled;
 mod unreached;
+mod walks;
 mod written;
 
+pub use effects::effect_lines;
 pub use head::head_line;
 pub use laws::{names_differ, names_read_back, one_list_of_loops, one_report};
 pub use loops::import_loops;
 pub use names::predicate_name;
 pub use spelled::quote_atom;
+pub use walks::{circuit_lines, walk_line};
 pub use written::{order_report, report};

@@ -5,4 +5,4 @@ mod ModuleLists
 -- import loops as classes
 mod Rings
 -- import loops, lines and reports
-mod Reports
+pub mod Reports

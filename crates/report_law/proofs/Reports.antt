@@ -47,7 +47,7 @@ loops_of orders files =
 
 -- the order of lines
 
-line_order_of : (groups : List (List ℕ)) (levels : List Level) → LeastDiffer groups → (order : List ℕ) × IsLineOrder groups levels order
+pub line_order_of : (groups : List (List ℕ)) (levels : List Level) → LeastDiffer groups → (order : List ℕ) × IsLineOrder groups levels order
 line_order_of groups levels differ =
     let lines = map (line_at groups levels) (range_with_len 0 (length groups)) in
     let rising : HasSorted line_cmp line_cmp_total lines = has_sorted line_cmp line_cmp_total lines in

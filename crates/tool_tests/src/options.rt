@@ -4,7 +4,7 @@ use crate::runs::{FilesRun, expect_files, expect_make};
 use std::test::Fail;
 
 const USAGE: &str =
-    "usage: groups [--jobs N | --searches K --seed S] [--roots LIST] [--order] [--unreached] FILE... | groups --make N [--jobs N | --searches K --seed S]\n";
+    "usage: groups [--jobs N | --searches K --seed S] [--roots LIST] [--order] [--unreached] [--effects] [--loops] [--path LIST] FILE... | groups --make N [--jobs N | --searches K --seed S]\n";
 
 /// A chain of three predicates, of which there is one legal order.
 const CHAIN: &[(&str, &[u8])] = &[("f.pl", b":- module(a, [p/0]).\np :- q, r.\nq :- r.\nr.\n")];

@@ -22,8 +22,8 @@ use Rattle.clause_text.proofs.OneReading.{opening_ops_are}
 use Rattle.module_table.specs.FileName.{resolved}
 use Rattle.import_rules.specs.declared.names.PredName.{PredName}
 use Rattle.group_words.specs.RootList.{IsList, IsRootList, all_there, list_text, named_predicate}
-use Rattle.group_words.specs.Settings.{FilesAre, RootsAre, each_once}
-use Rattle.group_words.proofs.RootLists.{not_all_there}
+use Rattle.group_words.specs.Settings.{FilesAre, PathIs, RootsAre, each_once}
+use Rattle.group_words.proofs.RootLists.{not_all_there, one_root_list}
 use Rattle.word_law.proofs.Known.{IsFound}
 
 -- each text in UTF-8 is tokens or has a fault
@@ -97,6 +97,32 @@ roots_found tokens clauses (Some text) utf8 = go (root_list_found tokens clauses
 
     go : IsFound (IsRootList text) → IsFound (RootsAre (Some text))
     go (inl found) = inl (Some found.0, found.1)
+    go (inr never) = inr (none never)
+
+-- the two of a list that has just two
+two_of : (text : List ℕ) (roots : List PredName) → IsRootList text roots → IsFound (PathIs (Some text))
+two_of text roots are = go roots are
+  where
+    other : (found : List PredName) → IsRootList text found → ((m n : PredName) → found ≡ m ∷ n ∷ [] → ⊥) → (both : Option (PredName × PredName)) → PathIs (Some text) both → ⊥
+    other found is never None are = are
+    other found is never (Some both) are = never both.0 both.1 (one_root_list text found (both.0 ∷ both.1 ∷ []) is are)
+
+    go : (found : List PredName) → IsRootList text found → IsFound (PathIs (Some text))
+    go [] is = inr (other [] is (λ m n e. let both : [] ≡ m ∷ n ∷ [] = e in cc))
+    go (x ∷ []) is = inr (other (x ∷ []) is (λ m n e. let both : x ∷ [] ≡ m ∷ n ∷ [] = e in cc))
+    go (x ∷ y ∷ []) is = inl (Some (x, y), is)
+    go (x ∷ y ∷ z ∷ zs) is = inr (other (x ∷ y ∷ z ∷ zs) is (λ m n e. let both : x ∷ y ∷ z ∷ zs ≡ m ∷ n ∷ [] = e in cc))
+
+pub path_found : AreTokens → AreClauses → (given : Option (List ℕ)) → ((text : List ℕ) → given ≡ Some text → IsUtf8 text) → IsFound (PathIs given)
+path_found tokens clauses None utf8 = inl (None, tt)
+path_found tokens clauses (Some text) utf8 = go (root_list_found tokens clauses text (utf8 text refl))
+  where
+    none : ((roots : List PredName) → IsRootList text roots → ⊥) → (both : Option (PredName × PredName)) → PathIs (Some text) both → ⊥
+    none never None are = are
+    none never (Some both) are = never (both.0 ∷ both.1 ∷ []) are
+
+    go : IsFound (IsRootList text) → IsFound (PathIs (Some text))
+    go (inl found) = two_of text found.0 found.1
     go (inr never) = inr (none never)
 
 pub files_found : (words : List (List ℕ)) → IsFound (FilesAre words)

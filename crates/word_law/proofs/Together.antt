@@ -1,23 +1,27 @@
 -- Whether what is given may stand together.
 use Rattle.std.proofs.Common.{◌≡◌, inl, inr, ℕ, true, List, [], Option, None, is_some}
-use Rattle.group_words.specs.Words.{Key, Jobs, Searches, Roots, Order, Unreached, Make}
+use Rattle.group_words.specs.Words.{Key, Jobs, Searches, Roots, Path, Order, Unreached, Effects, Loops, Make}
 use Rattle.group_words.specs.Settings.{GoTogether}
 use Rattle.word_law.proofs.Known.{IsKnown, known_bool, known_empty, known_if, known_none, known_not}
 
 module _ (given : Key → Option (List ℕ)) (files : List (List ℕ)) where
   -- what a made program excludes
   abbrev StandsAlone : Type 0
-  StandsAlone = (given Roots ≡ None) × (given Order ≡ None) × (given Unreached ≡ None) × (files ≡ [])
+  StandsAlone = (given Roots ≡ None) × (given Path ≡ None) × (given Order ≡ None) × (given Unreached ≡ None) × (given Effects ≡ None) × (given Loops ≡ None) × (files ≡ [])
 
   stands_alone : IsKnown StandsAlone
-  stands_alone = go (known_none (given Roots)) (known_none (given Order)) (known_none (given Unreached)) (known_empty files)
+  stands_alone =
+      go (known_none (given Roots)) (known_none (given Path)) (known_none (given Order)) (known_none (given Unreached)) (known_none (given Effects)) (known_none (given Loops)) (known_empty files)
     where
-      go : IsKnown (given Roots ≡ None) → IsKnown (given Order ≡ None) → IsKnown (given Unreached ≡ None) → IsKnown (files ≡ []) → IsKnown StandsAlone
-      go (inr never) order unreached empty = inr (λ all. never all.0)
-      go (inl roots) (inr never) unreached empty = inr (λ all. never all.1)
-      go (inl roots) (inl order) (inr never) empty = inr (λ all. never all.2)
-      go (inl roots) (inl order) (inl unreached) (inr never) = inr (λ all. never all.3)
-      go (inl roots) (inl order) (inl unreached) (inl empty) = inl (roots, order, unreached, empty)
+      go : IsKnown (given Roots ≡ None) → IsKnown (given Path ≡ None) → IsKnown (given Order ≡ None) → IsKnown (given Unreached ≡ None) → IsKnown (given Effects ≡ None) → IsKnown (given Loops ≡ None) → IsKnown (files ≡ []) → IsKnown StandsAlone
+      go (inr never) path order unreached effects loops empty = inr (λ all. never all.0)
+      go (inl roots) (inr never) order unreached effects loops empty = inr (λ all. never all.1)
+      go (inl roots) (inl path) (inr never) unreached effects loops empty = inr (λ all. never all.2)
+      go (inl roots) (inl path) (inl order) (inr never) effects loops empty = inr (λ all. never all.3)
+      go (inl roots) (inl path) (inl order) (inl unreached) (inr never) loops empty = inr (λ all. never all.4)
+      go (inl roots) (inl path) (inl order) (inl unreached) (inl effects) (inr never) empty = inr (λ all. never all.5)
+      go (inl roots) (inl path) (inl order) (inl unreached) (inl effects) (inl loops) (inr never) = inr (λ all. never all.6)
+      go (inl roots) (inl path) (inl order) (inl unreached) (inl effects) (inl loops) (inl empty) = inl (roots, path, order, unreached, effects, loops, empty)
 
   pub known_together : IsKnown (GoTogether given files)
   known_together =

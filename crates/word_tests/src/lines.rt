@@ -124,15 +124,38 @@ f.pl|x/..|=> usage
 --roots=[a/0]|f.pl|=> usage
 --roots=a/0%|f.pl|=> usage
 --roots='a|f.pl|=> usage
+--effects|f.pl|=> jobs 1 effects files f.pl
+--effects|f.pl|--effects|=> usage
+--effects=1|f.pl|=> usage
+--make=5|--effects|=> usage
+--loops|f.pl|=> jobs 1 loops files f.pl
+--loops|f.pl|--loops|=> usage
+--loops=1|f.pl|=> usage
+--make=5|--loops|=> usage
+--path=a:p/0,a:r/0|f.pl|=> jobs 1 path a:p/0 a:r/0 files f.pl
+--path|p/0,p/0|f.pl|=> jobs 1 path user:p/0 user:p/0 files f.pl
+--path=a:p/0|f.pl|=> usage
+--path=a/0,b/0,c/0|f.pl|=> usage
+--path=a:p|f.pl|=> usage
+--path=|f.pl|=> usage
+--path|-x|f.pl|=> usage
+f.pl|--path|=> usage
+--path=a/0,b/0|--path=a/0,b/0|f.pl|=> usage
+--make=5|--path=a/0,b/0|=> usage
 ";
+
+fn push_name(alloc: Global, out: &mut String, root: &PredName) -> Result<(), AllocError> {
+    let (owner, name) = (root.module.as_str(), root.name.as_str());
+    let arity = root.arity;
+    let text = format!(in alloc; " {owner}:{name}/{arity}")?;
+    out.push_str(&text)?;
+    Ok(())
+}
 
 fn push_roots(alloc: Global, out: &mut String, roots: &[PredName]) -> Result<(), AllocError> {
     out.push_str(" roots")?;
     for root in roots {
-        let (owner, name) = (root.module.as_str(), root.name.as_str());
-        let arity = root.arity;
-        let text = format!(in alloc; " {owner}:{name}/{arity}")?;
-        out.push_str(&text)?;
+        push_name(alloc, out, root)?;
     }
     Ok(())
 }
@@ -165,6 +188,17 @@ fn shown(alloc: Global, options: &Options) -> Result<String, AllocError> {
     }
     if options.unreached {
         out.push_str(" unreached")?;
+    }
+    if options.effects {
+        out.push_str(" effects")?;
+    }
+    if options.loops {
+        out.push_str(" loops")?;
+    }
+    if let Some(both) = &options.path {
+        out.push_str(" path")?;
+        push_name(alloc, &mut out, &both.0)?;
+        push_name(alloc, &mut out, &both.1)?;
     }
     if let Some(count) = options.make {
         let text = format!(in alloc; " make {count}")?;

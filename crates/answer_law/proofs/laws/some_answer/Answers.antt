@@ -1,3 +1,5 @@
+use Rattle.report_law.proofs.Reports.{line_order_of}
+use Rattle.answer_law.proofs.PartBytes.{PartLaws}
 use Rattle.answer_law.proofs.ReportBytes.{GraphLaws}
 use Rattle.answer_law.proofs.LoadedEnds.{LoadedLaws}
 use Rattle.answer_law.proofs.Answers as of_words
@@ -13,10 +15,17 @@ returns c =
       ordered = c.order_exists.ensures;
       leveled = c.levels_exist.ensures;
     } in
+    let parted : PartLaws = record {
+      shortest = c.some_shortest.ensures.path;
+      circuits = c.some_shortest.ensures.circuits;
+      ordered = c.order_exists.ensures;
+      rows = line_order_of;
+    } in
     let laws : LoadedLaws = record {
       graphs = graphs;
       reported = c.reports_exist.ensures.lines;
       in_order = c.reports_exist.ensures.order;
+      parted = parted;
       programs = c.program_or_faults.ensures;
       goals = c.goal_faults_exist.ensures;
       roots = c.roots_exist.ensures;

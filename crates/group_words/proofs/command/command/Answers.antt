@@ -12,7 +12,10 @@ returns c =
     let three : app_of c.in_ok-arg-3.field-0 ≡ with_valued (with_valued (with_valued bare_app (codes "jobs")) (codes "searches")) (codes "seed") =
     c.in_ok-arg-3.ensures.shape c.valued-3.ensures.own ∙ ap₂ with_rule two c.valued-3.ensures.rule in
     let four = c.in_ok-arg-4.ensures.shape c.valued-4.ensures.own ∙ ap₂ with_rule three c.valued-4.ensures.rule in
-    let five = c.in_ok-arg-5.ensures.shape c.flag.ensures.own ∙ ap₂ with_rule four c.flag.ensures.rule in
-    let six = c.in_ok-arg-6.ensures.shape c.flag-2.ensures.own ∙ ap₂ with_rule five c.flag-2.ensures.rule in
-    let seven = c.in_ok-arg-7.ensures.shape c.valued-5.ensures.own ∙ ap₂ with_rule six c.valued-5.ensures.rule in
-    IfOk-weaker c.arg-8.result _ _ (λ r added. added.shape c.files.ensures.own ∙ ap₂ with_rule seven c.files.ensures.rule) c.arg-8.ensures
+    let five = c.in_ok-arg-5.ensures.shape c.valued-5.ensures.own ∙ ap₂ with_rule four c.valued-5.ensures.rule in
+    let six = c.in_ok-arg-6.ensures.shape c.flag.ensures.own ∙ ap₂ with_rule five c.flag.ensures.rule in
+    let seven = c.in_ok-arg-7.ensures.shape c.flag-2.ensures.own ∙ ap₂ with_rule six c.flag-2.ensures.rule in
+    let eight = c.in_ok-arg-8.ensures.shape c.flag-3.ensures.own ∙ ap₂ with_rule seven c.flag-3.ensures.rule in
+    let nine = c.in_ok-arg-9.ensures.shape c.flag-4.ensures.own ∙ ap₂ with_rule eight c.flag-4.ensures.rule in
+    let ten = c.in_ok-arg-10.ensures.shape c.valued-6.ensures.own ∙ ap₂ with_rule nine c.valued-6.ensures.rule in
+    IfOk-weaker c.arg-11.result _ _ (λ r added. added.shape c.files.ensures.own ∙ ap₂ with_rule ten c.files.ensures.rule) c.arg-11.ensures

@@ -9,8 +9,11 @@ returns c = let found = found_of c.args.matches.now in record {
   searches = c.get_str-2.ensures ∙ first_value-rows found (codes "searches");
   seed = c.get_str-3.ensures ∙ first_value-rows found (codes "seed");
   roots = c.get_str-4.ensures ∙ first_value-rows found (codes "roots");
+  path = c.get_str-5.ensures ∙ first_value-rows found (codes "path");
   order = c.is_set.ensures;
   unreached = c.is_set-2.ensures;
-  make = c.get_str-5.ensures ∙ first_value-rows found (codes "make");
+  effects = c.is_set-3.ensures;
+  loops = c.is_set-4.ensures;
+  make = c.get_str-6.ensures ∙ first_value-rows found (codes "make");
   files = c.in_ok-files.ensures;
 }

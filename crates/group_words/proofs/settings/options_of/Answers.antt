@@ -30,6 +30,11 @@ returns-in_err-roots-clause-usage c =
     on_err c.from_residual-in_err-roots.result _ _ c.from_residual-in_err-roots.ensures.1
     (λ fault same is settings sets. c.in_err-roots.ensures.usage (sym same ∙ is) settings.roots sets.roots)
 
+pub returns-in_err-path-clause-usage : goal.returns-in_err-path-clause-usage
+returns-in_err-path-clause-usage c =
+    on_err c.from_residual-in_err-path.result _ _ c.from_residual-in_err-path.ensures.1
+    (λ fault same is settings sets. c.in_err-path.ensures.usage (sym same ∙ is) settings.path sets.path)
+
 pub returns-in_err-files-clause-usage : goal.returns-in_err-files-clause-usage
 returns-in_err-files-clause-usage c =
     on_err c.from_residual-in_err-files.result _ _ c.from_residual-in_err-files.ensures.1
@@ -45,6 +50,9 @@ returns-clause-ok c = record {
   roots = c.in_ok-roots.ensures.ok;
   order = flag_there c.args.given.now.order;
   unreached = flag_there c.args.given.now.unreached;
+  effects = flag_there c.args.given.now.effects;
+  loops = flag_there c.args.given.now.loops;
+  path = c.in_ok-path.ensures.ok;
   make = c.in_ok-make.ensures.ok;
   named = subst (λ files. FilesAre (map (λ (word : Bor (List ℕ)). word.now) files) c.in_ok-files.files.items) c.deref.ensures.value c.in_ok-files.ensures.ok;
 }

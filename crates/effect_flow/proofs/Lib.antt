@@ -1,0 +1,10 @@
+pub mod LeastOnes
+pub mod Carried
+mod Found
+mod OneNode
+mod Places
+mod ByHeight
+mod Pieces
+mod Stretches
+pub mod Known
+pub mod Moved

@@ -1,0 +1,98 @@
+-- The kinds of effects, by the predicates that have them.
+use Rattle.std.specs.Prelude.{ℕ, ◌&&◌, nat_eq, Bool, List, [], ◌∷◌, if◌then◌else◌, codes}
+use Rattle.std.specs.List.{list_any}
+use Rattle.std.specs.Str.{bytes_eq}
+
+-- a name and an arity
+pub record Indicator : Type 0 where
+  pub name : List ℕ
+  pub arity : ℕ
+
+abbrev pub indicator : List ℕ → ℕ → Indicator
+indicator name arity = record { name = name; arity = arity }
+
+abbrev pub output_row : List Indicator
+output_row =
+    indicator (codes "write") 1 ∷ indicator (codes "write") 2 ∷ indicator (codes "writeq") 1 ∷ indicator (codes "writeq") 2
+    ∷ indicator (codes "print") 1 ∷ indicator (codes "write_canonical") 1 ∷ indicator (codes "write_canonical") 2
+    ∷ indicator (codes "write_term") 2 ∷ indicator (codes "write_term") 3 ∷ indicator (codes "nl") 0 ∷ indicator (codes "nl") 1
+    ∷ indicator (codes "put_char") 1 ∷ indicator (codes "put_char") 2 ∷ indicator (codes "format") 1 ∷ indicator (codes "format") 2
+    ∷ indicator (codes "format") 3 ∷ []
+
+abbrev pub input_row : List Indicator
+input_row =
+    indicator (codes "read") 1 ∷ indicator (codes "read") 2 ∷ indicator (codes "read_term") 2 ∷ indicator (codes "read_term") 3
+    ∷ indicator (codes "get_char") 1 ∷ indicator (codes "get_char") 2 ∷ indicator (codes "peek_char") 1 ∷ indicator (codes "peek_char") 2 ∷ []
+
+abbrev pub database_row : List Indicator
+database_row =
+    indicator (codes "assert") 1 ∷ indicator (codes "asserta") 1 ∷ indicator (codes "assertz") 1 ∷ indicator (codes "retract") 1
+    ∷ indicator (codes "retractall") 1 ∷ indicator (codes "abolish") 1 ∷ []
+
+abbrev pub streams_row : List Indicator
+streams_row =
+    indicator (codes "open") 3 ∷ indicator (codes "open") 4 ∷ indicator (codes "close") 1 ∷ indicator (codes "close") 2
+    ∷ indicator (codes "set_input") 1 ∷ indicator (codes "set_output") 1 ∷ []
+
+abbrev pub throw_row : List Indicator
+throw_row = indicator (codes "throw") 1 ∷ []
+
+abbrev pub halt_row : List Indicator
+halt_row = indicator (codes "halt") 0 ∷ indicator (codes "halt") 1 ∷ []
+
+abbrev pub flags_row : List Indicator
+flags_row = indicator (codes "set_prolog_flag") 2 ∷ indicator (codes "op") 3 ∷ []
+
+-- the name and the arity stand in the row
+abbrev pub is_in_row : List Indicator → List ℕ → ℕ → Bool
+is_in_row row name arity = list_any (λ (one : Indicator). nat_eq one.arity arity && bytes_eq one.name name) row
+
+-- the bit of the kind in whose row they stand, or 0
+abbrev pub kinds : List ℕ → ℕ → ℕ
+kinds name arity =
+    if is_in_row output_row name arity then 1
+    else if is_in_row input_row name arity then 2
+    else if is_in_row database_row name arity then 4
+    else if is_in_row streams_row name arity then 8
+    else if is_in_row throw_row name arity then 16
+    else if is_in_row halt_row name arity then 32
+    else if is_in_row flags_row name arity then 64
+    else 0
+
+-- the name is one of the words
+abbrev pub is_word : List (List ℕ) → List ℕ → Bool
+is_word words name = list_any (λ word. bytes_eq word name) words
+
+-- the same by arity
+
+abbrev pub kinds_0 : List ℕ → ℕ
+kinds_0 name = if is_word (codes "nl" ∷ []) name then 1 else if is_word (codes "halt" ∷ []) name then 32 else 0
+
+abbrev pub kinds_1 : List ℕ → ℕ
+kinds_1 name =
+    if is_word (codes "write" ∷ codes "writeq" ∷ codes "print" ∷ codes "write_canonical" ∷ codes "nl" ∷ codes "put_char" ∷ codes "format" ∷ []) name then 1
+    else if is_word (codes "read" ∷ codes "get_char" ∷ codes "peek_char" ∷ []) name then 2
+    else if is_word (codes "assert" ∷ codes "asserta" ∷ codes "assertz" ∷ codes "retract" ∷ codes "retractall" ∷ codes "abolish" ∷ []) name then 4
+    else if is_word (codes "close" ∷ codes "set_input" ∷ codes "set_output" ∷ []) name then 8
+    else if is_word (codes "throw" ∷ []) name then 16
+    else if is_word (codes "halt" ∷ []) name then 32
+    else 0
+
+abbrev pub kinds_2 : List ℕ → ℕ
+kinds_2 name =
+    if is_word (codes "write" ∷ codes "writeq" ∷ codes "write_canonical" ∷ codes "write_term" ∷ codes "put_char" ∷ codes "format" ∷ []) name then 1
+    else if is_word (codes "read" ∷ codes "read_term" ∷ codes "get_char" ∷ codes "peek_char" ∷ []) name then 2
+    else if is_word (codes "close" ∷ []) name then 8
+    else if is_word (codes "set_prolog_flag" ∷ []) name then 64
+    else 0
+
+abbrev pub kinds_3 : List ℕ → ℕ
+kinds_3 name =
+    if is_word (codes "write_term" ∷ codes "format" ∷ []) name then 1
+    else if is_word (codes "read_term" ∷ []) name then 2
+    else if is_word (codes "open" ∷ []) name then 8
+    else if is_word (codes "op" ∷ []) name then 64
+    else 0
+
+abbrev pub kinds_4 : List ℕ → ℕ
+kinds_4 name = if is_word (codes "open" ∷ []) name then 8 else 0

@@ -1,0 +1,94 @@
+ghost use Rattle.std.specs.Prelude.{◌≡◌, ℕ, ◌<◌, ◌⊎◌, Some, [], length, slice_index, All, Contains, IfOk, OnOk};
+ghost use Rattle.graph_law.specs.Classes.{group_at};
+ghost use Rattle.graph_law.specs.Graph.{Calls, lists_of};
+ghost use Rattle.effect_flow.specs.Carriers.{IsFirst, IsFlow, first_at, flow_at};
+ghost use Rattle.effect_flow.specs.Seen.{see_flow, see_flows};
+ghost use Rattle.effect_flow.specs.Flows.{AreFound, AreReady, IsNext, IsOfCallee};
+
+use crate::firsts::Flow;
+use graph_law::Opener;
+use std::alloc::{AllocError, Global};
+
+/// The flow at a place.
+pub fn flow_there(flows: &[Flow], place: usize) -> Flow
+    requires { place < length flows.now }
+    ensures { see_flow result ≡ flow_at (see_flows flows.now) place }
+{
+    flows[place]
+}
+
+/// The flow, where the carriers of the callees' groups count too, but for those of the group at
+/// `place` itself.
+fn with_callees(
+    start: Flow,
+    callees: &[u32],
+    place: usize,
+    places: &[usize],
+    flows: &[Flow],
+) -> Flow
+    requires nodes { All (λ callee. callee < length places.now) callees.now }
+    requires known { All (λ callee. slice_index places.now callee < length flows.now) callees.now }
+    ensures { (kind : ℕ) → kind < 7
+        → IsFirst (λ q. (first_at (see_flow start) kind ≡ Some q) ⊎ IsOfCallee places.now place (see_flows flows.now) kind callees.now q) (first_at (see_flow result) kind) }
+{
+    let mut flow = start;
+    for &callee in callees {
+        let other = places[callee as usize];
+        if other == place {
+            continue;
+        }
+        let carried = flow_there(flows, other);
+        flow = flow.lesser(&carried);
+    }
+    flow
+}
+
+/// The flow of the group at `place`, where those of the groups that it calls are known. `callees` is
+/// room for the successors of one node at a time.
+pub fn flow_of<O: Opener>(
+    opener: &O,
+    groups: &[Vec<u32>],
+    own: &[u64],
+    places: &[usize],
+    flows: &[Flow],
+    place: usize,
+    callees: &mut Vec<u32>,
+) -> Result<Flow, AllocError>
+    requires ready { AreReady (O.lists opener.now) own.now (lists_of groups.now) places.now }
+    requires next { IsNext (O.lists opener.now) own.now (lists_of groups.now) (see_flows flows.now) place }
+    ensures { IfOk result (λ flow. IsFlow (Calls (O.lists opener.now)) own.now (group_at (lists_of groups.now) place) (see_flow flow)) }
+{
+    let mut flow = Flow::none();
+    for &member in &groups[place] {
+        callees.clear();
+        opener.expand(member, callees)?;
+        let itself = Flow::of(member, own[member as usize]);
+        let both = flow.lesser(&itself);
+        flow = with_callees(both, callees, place, places, flows);
+    }
+    Ok(flow)
+}
+
+/// The flows of the groups at these places, where those of the groups that they call are known, are put
+/// into `found`, which is empty.
+pub fn push_flows<O: Opener>(
+    opener: &O,
+    groups: &[Vec<u32>],
+    own: &[u64],
+    places: &[usize],
+    flows: &[Flow],
+    stretch: &[usize],
+    callees: &mut Vec<u32>,
+    found: &mut Vec<Flow>,
+) -> Result<(), AllocError>
+    requires ready { AreReady (O.lists opener.now) own.now (lists_of groups.now) places.now }
+    requires next { All (IsNext (O.lists opener.now) own.now (lists_of groups.now) (see_flows flows.now)) stretch.now }
+    requires empty { found.old.items ≡ [] }
+    ensures { OnOk result (AreFound (O.lists opener.now) own.now (lists_of groups.now) stretch.now (see_flows found.new.items)) }
+{
+    for &place in stretch {
+        let flow = flow_of(opener, groups, own, places, flows, place, callees)?;
+        found.push(flow)?;
+    }
+    Ok(())
+}

@@ -1,0 +1,65 @@
+ghost use Rattle.std.specs.Prelude.{◌≡◌, ℕ, ◌<◌, ◌⊎◌, None, Some, IsBitSet};
+ghost use Rattle.effect_flow.specs.Carriers.{IsFirst, first_at};
+ghost use Rattle.effect_flow.specs.Seen.{see_flow};
+
+/// How many kinds of effects there are.
+const KINDS: usize = 7;
+
+/// Stands where there is no node. It is no node's number.
+const NO_NODE: u32 = u32::MAX;
+
+/// For each kind of effect the carrier of a group, where it has one.
+#[derive(Clone, Copy, Debug, PartialEq, Eq)]
+pub struct Flow {
+    firsts: [u32; KINDS],
+}
+
+impl Flow {
+    /// No carrier of any kind.
+    pub(crate) fn none() -> Flow
+        ensures { (kind : ℕ) → kind < 7 → first_at (see_flow result) kind ≡ None }
+    {
+        Flow {
+            firsts: [NO_NODE; KINDS],
+        }
+    }
+
+    /// The node as the carrier of each of the kinds.
+    pub(crate) fn of(node: u32, kinds: u64) -> Flow
+        requires { node < 4294967295 }
+        ensures { (kind : ℕ) → kind < 7 → IsFirst (λ q. (q ≡ node) × IsBitSet kinds kind) (first_at (see_flow result) kind) }
+    {
+        let mut firsts = [NO_NODE; KINDS];
+        for kind in 0..KINDS {
+            if kinds >> kind & 1 != 1 {
+                continue;
+            }
+            firsts[kind] = node;
+        }
+        Flow { firsts }
+    }
+
+    /// The lesser of both carriers of each kind.
+    pub(crate) fn lesser(&self, other: &Flow) -> Flow
+        ensures { (kind : ℕ) → kind < 7
+            → IsFirst (λ q. (first_at (see_flow self.now) kind ≡ Some q) ⊎ (first_at (see_flow other.now) kind ≡ Some q)) (first_at (see_flow result) kind) }
+    {
+        let mut firsts = self.firsts;
+        for kind in 0..KINDS {
+            firsts[kind] = firsts[kind].min(other.firsts[kind]);
+        }
+        Flow { firsts }
+    }
+
+    /// The carrier of that kind.
+    pub fn first(&self, kind: u32) -> Option<u32>
+        requires { kind < 7 }
+        ensures { result ≡ first_at (see_flow self.now) kind }
+    {
+        let node = self.firsts[kind as usize];
+        if node == NO_NODE {
+            return None;
+        }
+        Some(node)
+    }
+}

@@ -1,0 +1,232 @@
+//! Heights one after another, and the groups of one height side by side.
+
+ghost use Rattle.std.specs.Prelude.{◌≡◌, [], ℕ, ◌<◌, ◌*◌, ◌↔◌, length, All, IfOk, OnOk};
+ghost use Rattle.graph_law.specs.Classes.{HasMember};
+ghost use Rattle.graph_law.specs.Graph.{Calls, lists_of};
+ghost use Rattle.graph_law.specs.LegalOrder.{IsLegalOrder};
+ghost use Rattle.group_release.specs.Level.{AreLevels};
+ghost use Rattle.effect_flow.specs.Carriers.{AreFlows};
+ghost use Rattle.effect_flow.specs.Flows.{AreAdded, AreFound, ArePieces, AreReady, IsAsked, IsNext, IsPut, piece_of};
+ghost use Rattle.effect_flow.specs.Seen.{see_flows};
+
+use crate::carriers::{flow_there, push_flows};
+use crate::firsts::Flow;
+use crate::height_order::{height_end, height_order};
+use crate::node_places::node_places;
+use graph_law::Opener;
+use group_release::Level;
+use rayon::prelude::*;
+use std::alloc::{AllocError, Global};
+use std::thread::Threads;
+
+/// How many groups are worked out one after another. Only the last piece of a height has fewer.
+const SIZE: usize = 512;
+
+/// How few pieces are worth a thread of their own.
+const FEWEST: usize = 2;
+
+/// How many pieces so many groups make.
+fn piece_count(count: usize) -> usize
+    ensures { (number : ℕ) → number < result ↔ number * 512 < count }
+{
+    if count % SIZE == 0 {
+        return count / SIZE;
+    }
+    count / SIZE + 1
+}
+
+/// The flows of the groups of a piece.
+fn piece<O: Opener>(
+    alloc: Global,
+    opener: &O,
+    groups: &[Vec<u32>],
+    own: &[u64],
+    places: &[usize],
+    flows: &[Flow],
+    stretch: &[usize],
+    number: usize,
+) -> Result<Vec<Flow>, AllocError>
+    requires ready { AreReady (O.lists opener.now) own.now (lists_of groups.now) places.now }
+    requires next { All (IsNext (O.lists opener.now) own.now (lists_of groups.now) (see_flows flows.now)) stretch.now }
+    requires within { number * 512 < length stretch.now }
+    ensures { IfOk result (λ found.
+        AreFound (O.lists opener.now) own.now (lists_of groups.now) (piece_of stretch.now number) (see_flows found.items)) }
+{
+    let from = number * SIZE;
+    let to = from + (stretch.len() - from).min(SIZE);
+    let mut callees = Vec::new(alloc);
+    let mut found = Vec::new(alloc);
+    push_flows(
+        opener,
+        groups,
+        own,
+        places,
+        flows,
+        &stretch[from..to],
+        &mut callees,
+        &mut found,
+    )?;
+    Ok(found)
+}
+
+/// The flows of the groups of each piece, in the order of their numbers. They are worked out side by
+/// side.
+fn each_piece<R: Threads + Sync, O: Opener>(
+    rt: &R,
+    alloc: Global,
+    opener: &O,
+    groups: &[Vec<u32>],
+    own: &[u64],
+    places: &[usize],
+    flows: &[Flow],
+    stretch: &[usize],
+) -> Result<Vec<Result<Vec<Flow>, AllocError>>, AllocError>
+    requires ready { AreReady (O.lists opener.now) own.now (lists_of groups.now) places.now }
+    requires next { All (IsNext (O.lists opener.now) own.now (lists_of groups.now) (see_flows flows.now)) stretch.now }
+    ensures { IfOk result (λ each. ArePieces (O.lists opener.now) own.now (lists_of groups.now) stretch.now each.items) }
+{
+    (0..piece_count(stretch.len()))
+        .into_par_iter()
+        .with_min_len(FEWEST)
+        .map(
+            |number: usize| -> Result<Vec<Flow>, AllocError>
+                requires { IsAsked (O.lists opener.now) own.now (lists_of groups.now) places.now (see_flows flows.now) stretch.now number }
+                ensures { IfOk result (λ found.
+                    AreFound (O.lists opener.entry.now) own.entry.now (lists_of groups.entry.now) (piece_of stretch.entry.now number) (see_flows found.items)) }
+            { piece(alloc, opener, groups, own, places, flows, stretch, number) },
+        )
+        .collect(rt, alloc)
+}
+
+/// The flows of all pieces, one behind the other, are put into `found`, which is empty.
+fn push_pieces<R: Threads + Sync, O: Opener>(
+    rt: &R,
+    alloc: Global,
+    opener: &O,
+    groups: &[Vec<u32>],
+    own: &[u64],
+    places: &[usize],
+    flows: &[Flow],
+    stretch: &[usize],
+    found: &mut Vec<Flow>,
+) -> Result<(), AllocError>
+    requires ready { AreReady (O.lists opener.now) own.now (lists_of groups.now) places.now }
+    requires next { All (IsNext (O.lists opener.now) own.now (lists_of groups.now) (see_flows flows.now)) stretch.now }
+    requires empty { found.old.items ≡ [] }
+    ensures { OnOk result (AreFound (O.lists opener.now) own.now (lists_of groups.now) stretch.now (see_flows found.new.items)) }
+{
+    let each = each_piece(rt, alloc, opener, groups, own, places, flows, stretch)?;
+    for one in &each {
+        match one {
+            Ok(piece) => found.extend_from_slice(piece)?,
+            Err(_) => return Err(AllocError),
+        }
+    }
+    Ok(())
+}
+
+/// The flows of the groups at these places are put into `found`, which is empty: one after another
+/// where they are one piece, else side by side.
+fn find<R: Threads + Sync, O: Opener>(
+    rt: &R,
+    alloc: Global,
+    opener: &O,
+    groups: &[Vec<u32>],
+    own: &[u64],
+    places: &[usize],
+    flows: &[Flow],
+    stretch: &[usize],
+    callees: &mut Vec<u32>,
+    found: &mut Vec<Flow>,
+) -> Result<(), AllocError>
+    requires ready { AreReady (O.lists opener.now) own.now (lists_of groups.now) places.now }
+    requires next { All (IsNext (O.lists opener.now) own.now (lists_of groups.now) (see_flows flows.now)) stretch.now }
+    requires empty { found.old.items ≡ [] }
+    ensures { OnOk result (AreFound (O.lists opener.now) own.now (lists_of groups.now) stretch.now (see_flows found.new.items)) }
+{
+    if stretch.len() > SIZE {
+        return push_pieces(
+            rt, alloc, opener, groups, own, places, flows, stretch, found,
+        );
+    }
+    push_flows(opener, groups, own, places, flows, stretch, callees, found)
+}
+
+/// Puts each of the flows that were found at its group's place.
+fn put(flows: &mut [Flow], stretch: &[usize], found: &[Flow])
+    requires within { All (λ place. place < length flows.old) stretch.now }
+    requires each { length found.now ≡ length stretch.now }
+    ensures { IsPut stretch.now (see_flows found.now) (see_flows flows.old) (see_flows flows.new) }
+{
+    for k in 0..stretch.len() {
+        let flow = flow_there(found, k);
+        flows[stretch[k]] = flow;
+    }
+}
+
+/// Finds the flows of the groups at these places, and puts them there. `callees` and `found` are room.
+fn add_flows<R: Threads + Sync, O: Opener>(
+    rt: &R,
+    alloc: Global,
+    opener: &O,
+    groups: &[Vec<u32>],
+    own: &[u64],
+    places: &[usize],
+    stretch: &[usize],
+    flows: &mut [Flow],
+    callees: &mut Vec<u32>,
+    found: &mut Vec<Flow>,
+) -> Result<(), AllocError>
+    requires ready { AreReady (O.lists opener.now) own.now (lists_of groups.now) places.now }
+    requires next { All (IsNext (O.lists opener.now) own.now (lists_of groups.now) (see_flows flows.old)) stretch.now }
+    ensures { OnOk result (AreAdded (O.lists opener.now) own.now (lists_of groups.now) stretch.now (see_flows flows.old) (see_flows flows.new)) }
+{
+    found.clear();
+    find(
+        rt, alloc, opener, groups, own, places, flows, stretch, callees, found,
+    )?;
+    put(flows, stretch, found);
+    Ok(())
+}
+
+/// For each group and each kind of effect the carrier: the least node that a member reaches and that
+/// has the kind itself, by the bits of its number in `own`. The groups are in a legal order, and the
+/// levels are theirs. Each node of them is opened once. Only memory can be wanting.
+pub fn flow<R: Threads + Sync, O: Opener>(
+    rt: &R,
+    alloc: Global,
+    opener: &O,
+    groups: &[Vec<u32>],
+    levels: &[Level],
+    own: &[u64],
+) -> Result<Vec<Flow>, AllocError>
+    requires legal { IsLegalOrder (Calls (O.lists opener.now)) (lists_of groups.now) }
+    requires nodes { (p : ℕ) → HasMember (lists_of groups.now) p → p < length (O.lists opener.now) }
+    requires leveled { AreLevels (Calls (O.lists opener.now)) (lists_of groups.now) levels.now }
+    requires own { length own.now ≡ length (O.lists opener.now) }
+    ensures { IfOk result (λ flows. AreFlows (Calls (O.lists opener.now)) own.now (lists_of groups.now) (see_flows flows.items)) }
+{
+    let places = node_places(alloc, opener.count() as usize, groups)?;
+    let order = height_order(alloc, levels)?;
+    let mut flows = vec![in alloc; Flow::none(); groups.len()]?;
+    let mut callees = Vec::new(alloc);
+    let mut found = Vec::new(alloc);
+    let mut from = 0;
+    while from < order.len() {
+        let to = height_end(levels, &order, from);
+        add_flows(
+            rt,
+            alloc,
+            opener,
+            groups,
+            own,
+            &places,
+            &order[from..to],
+            &mut flows,
+            &mut callees,
+            &mut found,
+        )?;
+        from = to;
+    }
+    Ok(flows)
+}

@@ -1,0 +1,154 @@
+//! The kinds of effects: output, input, changes of the database, streams, throw, halt and flags.
+
+ghost use Rattle.std.specs.Prelude.{◌≡◌};
+ghost use Rattle.std.specs.List.{list_any};
+ghost use Rattle.std.specs.Str.{bytes_eq};
+ghost use Rattle.effect_flow.specs.Kinds.{kinds, kinds_0, kinds_1, kinds_2, kinds_3, kinds_4};
+
+const OUTPUT: u64 = 1;
+
+const INPUT: u64 = 2;
+
+const DATABASE: u64 = 4;
+
+const STREAMS: u64 = 8;
+
+const THROW: u64 = 16;
+
+const HALT: u64 = 32;
+
+const FLAGS: u64 = 64;
+
+/// Whether the name is one of the words.
+fn is_one_of(words: &[&str], name: &str) -> bool
+    ensures { result ≡ list_any (λ word. bytes_eq word.now name.now) words.now }
+{
+    words.iter().any(|word| *word == name)
+}
+
+fn kinds_0(name: &str) -> u64
+    ensures { result ≡ kinds_0 name.now }
+{
+    if is_one_of(&["nl"], name) {
+        return OUTPUT;
+    }
+    if is_one_of(&["halt"], name) {
+        return HALT;
+    }
+    0
+}
+
+fn kinds_1(name: &str) -> u64
+    ensures { result ≡ kinds_1 name.now }
+{
+    if is_one_of(
+        &[
+            "write",
+            "writeq",
+            "print",
+            "write_canonical",
+            "nl",
+            "put_char",
+            "format",
+        ],
+        name,
+    ) {
+        return OUTPUT;
+    }
+    if is_one_of(&["read", "get_char", "peek_char"], name) {
+        return INPUT;
+    }
+    if is_one_of(
+        &[
+            "assert",
+            "asserta",
+            "assertz",
+            "retract",
+            "retractall",
+            "abolish",
+        ],
+        name,
+    ) {
+        return DATABASE;
+    }
+    if is_one_of(&["close", "set_input", "set_output"], name) {
+        return STREAMS;
+    }
+    if is_one_of(&["throw"], name) {
+        return THROW;
+    }
+    if is_one_of(&["halt"], name) {
+        return HALT;
+    }
+    0
+}
+
+fn kinds_2(name: &str) -> u64
+    ensures { result ≡ kinds_2 name.now }
+{
+    if is_one_of(
+        &[
+            "write",
+            "writeq",
+            "write_canonical",
+            "write_term",
+            "put_char",
+            "format",
+        ],
+        name,
+    ) {
+        return OUTPUT;
+    }
+    if is_one_of(&["read", "read_term", "get_char", "peek_char"], name) {
+        return INPUT;
+    }
+    if is_one_of(&["close"], name) {
+        return STREAMS;
+    }
+    if is_one_of(&["set_prolog_flag"], name) {
+        return FLAGS;
+    }
+    0
+}
+
+fn kinds_3(name: &str) -> u64
+    ensures { result ≡ kinds_3 name.now }
+{
+    if is_one_of(&["write_term", "format"], name) {
+        return OUTPUT;
+    }
+    if is_one_of(&["read_term"], name) {
+        return INPUT;
+    }
+    if is_one_of(&["open"], name) {
+        return STREAMS;
+    }
+    if is_one_of(&["op"], name) {
+        return FLAGS;
+    }
+    0
+}
+
+fn kinds_4(name: &str) -> u64
+    ensures { result ≡ kinds_4 name.now }
+{
+    if is_one_of(&["open"], name) {
+        return STREAMS;
+    }
+    0
+}
+
+/// The bit of the kind of effect that a predicate of this name and arity has, or 0. It takes no
+/// memory.
+pub fn kinds_of(name: &str, arity: u32) -> u64
+    ensures { result ≡ kinds name.now arity }
+{
+    match arity {
+        0 => kinds_0(name),
+        1 => kinds_1(name),
+        2 => kinds_2(name),
+        3 => kinds_3(name),
+        4 => kinds_4(name),
+        _ => 0,
+    }
+}

@@ -1,0 +1,119 @@
+-- What the parts behind the report are made of.
+use Rattle.std.proofs.Common.{◌≡◌, ◌<◌, ◌++◌, ◌∷◌, [], ℕ, List, Option, Some, None, All, Vec, length, get_or, map, refl, sym, subst, ap, ◌∙◌, arith}
+use Rattle.std.proofs.lemmas.List.{get_or_default, length-map}
+use Rattle.std.proofs.lemmas.List.Elements.{All-cons, All-head, All-nil, All-tail}
+use Rattle.std.proofs.lemmas.Option.{slice_get_within}
+use Rattle.graph_law.specs.Classes.{HasMember, IsClass, group_at, least_member}
+use Rattle.graph_law.specs.Graph.{Calls, IsClosed, lists_of}
+use Rattle.graph_law.specs.LegalOrder.{IsLegalOrder}
+use Rattle.graph_law.specs.Reach.{IsWalk}
+use Rattle.graph_law.proofs.ClassLaws.{least_is_member}
+use Rattle.group_release.specs.declared.level.Level.{Level}
+use Rattle.effect_flow.specs.Carriers.{AreFlows, first_at, flow_at}
+use Rattle.effect_flow.proofs.Moved.{AreFlows-agree, carriers_below}
+use Rattle.loop_paths.specs.Circuits.{AreCircuits, IsCircuit, IsShortest}
+use Rattle.loop_paths.specs.Paths.{IsPath}
+use Rattle.loop_paths.proofs.Transport.{circuits_along, shortest_along}
+use Rattle.import_rules.specs.declared.names.PredName.{PredName}
+use Rattle.import_rules.specs.Program.{Seen}
+use Rattle.call_edges.specs.Calls.{NodeCalls}
+use Rattle.call_edges.specs.Successors.{successor_lists}
+use Rattle.call_edges.proofs.SuccessorLemmas.{lists_closed, lists_count}
+use Rattle.loop_report.specs.Effects.{AreEffectLines}
+use Rattle.loop_report.specs.Reportable.{AreLeveled}
+use Rattle.loop_report.specs.Walks.{AreCircuitLines, IsCircuitWithin}
+use Rattle.group_tool.specs.Parts.{AreOwnKinds, IsPathPart, TellEffects, TellLoops, path_line}
+use Rattle.group_tool.specs.Roots.{AreEnds, IsNamed}
+use Rattle.group_tool.proofs.GroupLemmas.{lists_agree, members_listed}
+
+-- the nodes of a path are nodes of the graph
+
+walk_below : (lists : List (List ℕ)) → IsClosed lists → (p : ℕ) (path : List ℕ) (q : ℕ) → IsWalk (Calls lists) p path q → All (λ n. n < length lists) path
+walk_below lists closed p [] q walk = All-nil (λ n. n < length lists)
+walk_below lists closed p (n ∷ path) q walk = All-cons (λ n. n < length lists) n path (closed p n walk.0) (walk_below lists closed n path q walk.1)
+
+path_below : (lists : List (List ℕ)) → IsClosed lists → (p q : ℕ) → p < length lists → (path : List ℕ) → IsPath (Calls lists) p q path → All (λ n. n < length lists) path
+path_below lists closed p q low [] is = absurd is
+path_below lists closed p q low (n ∷ rest) is =
+    All-cons (λ n. n < length lists) n rest (subst (λ k. k < length lists) (sym is.0) low) (walk_below lists closed n rest q is.1)
+
+front_all : (P : ℕ → Type 0) (xs ys : List ℕ) → All P (xs ++ ys) → All P xs
+front_all P [] ys all = All-nil P
+front_all P (x ∷ xs) ys all = All-cons P x xs (All-head P x (xs ++ ys) all) (front_all P xs ys (All-tail P x (xs ++ ys) all))
+
+circuit_within : (lists : List (List ℕ)) → IsClosed lists → (p : ℕ) → p < length lists → (found : Option (List ℕ)) → IsCircuit (Calls lists) p found
+    → IsCircuitWithin (length lists) found
+circuit_within lists closed p low None is = tt
+circuit_within lists closed p low (Some circuit) is =
+    front_all (λ n. n < length lists) circuit (p ∷ []) (path_below lists closed p p low (circuit ++ p ∷ []) is.is.0)
+
+-- the nodes of circuits are predicates
+pub circuits_within : (seen : Seen) (roots : List ℕ) (groups : List (List ℕ)) (levels : List Level) (circuits : List (Option (List ℕ))) → All (λ q. q < length seen.predicates) roots
+    → AreLeveled (Calls (successor_lists seen)) roots groups levels → AreCircuits (Calls (successor_lists seen)) groups circuits
+    → All (IsCircuitWithin (length seen.predicates)) circuits
+circuits_within seen roots groups levels circuits below leveled are = λ k d lt.
+    let lists = successor_lists seen in
+    let each = are.each in
+    let inside : k < length groups = omega (arith, lt, each) in
+    let class : IsClass (Calls lists) (group_at groups k) = leveled.are.legal.each k [] inside in
+    let node : least_member (group_at groups k) < length lists =
+    members_listed seen roots groups below leveled.are (least_member (group_at groups k)) (record { place = k; within = inside; member = least_is_member class }) in
+    let within : IsCircuitWithin (length lists) (get_or circuits k None) =
+    circuit_within lists (lists_closed seen) (least_member (group_at groups k)) node (get_or circuits k None) (are.at k inside) in
+    subst (λ n. IsCircuitWithin n (get_or circuits k d)) (lists_count seen) (subst (IsCircuitWithin (length lists)) (get_or_default circuits k None d lt) within)
+
+-- and so are those of a path
+pub path_within : (seen : Seen) (p q : ℕ) (path : List ℕ) → p < length seen.predicates → IsPath (Calls (successor_lists seen)) p q path
+    → All (λ n. n < length seen.predicates) path
+path_within seen p q path low is =
+    subst (λ count. All (λ n. n < count) path) (lists_count seen) (path_below (successor_lists seen) (lists_closed seen) p q (subst (λ count. p < count) (sym (lists_count seen)) low) path is)
+
+-- and carriers
+pub carriers_within : (seen : Seen) (roots : List ℕ) (groups : List (List ℕ)) (levels : List Level) (own : List ℕ) (flows : List (List (Option ℕ)))
+    → All (λ q. q < length seen.predicates) roots → AreLeveled (Calls (successor_lists seen)) roots groups levels
+    → AreFlows (Calls (successor_lists seen)) own groups flows
+    → (place kind q : ℕ) → place < length groups → kind < 7 → first_at (flow_at flows place) kind ≡ Some q → q < length seen.predicates
+carriers_within seen roots groups levels own flows below leveled are place kind q lt low at =
+    let there = carriers_below (successor_lists seen) (lists_closed seen) (members_listed seen roots groups below leveled.are) are place kind q lt low at in
+    omega (arith, there, lists_count seen)
+
+-- what is found over the lists of successors is told of what the predicates call
+
+pub told_effects : (seen : Seen) (groups : List (List ℕ)) (levels : List Level) (own : List ℕ) (flows : List (List (Option ℕ))) (bytes : List ℕ) → AreOwnKinds seen own
+    → AreFlows (Calls (successor_lists seen)) own groups flows → AreEffectLines seen.predicates groups levels flows bytes → TellEffects seen groups levels bytes
+told_effects seen groups levels own flows bytes kinds are lines = record {
+  own = own;
+  own_kinds = kinds;
+  flows = flows;
+  are_flows = AreFlows-agree (lists_agree seen) are;
+  lines = lines;
+}
+
+pub told_loops : (seen : Seen) (groups : List (List ℕ)) (levels : List Level) (circuits : List (Option (List ℕ))) (bytes : List ℕ)
+    → AreCircuits (Calls (successor_lists seen)) groups circuits → AreCircuitLines seen.predicates groups levels circuits bytes → TellLoops seen groups levels bytes
+told_loops seen groups levels circuits bytes are lines = record {
+  circuits = circuits;
+  are_circuits = circuits_along (Calls (successor_lists seen)) (NodeCalls seen) (lists_agree seen) groups circuits are;
+  lines = lines;
+}
+
+pub no_ends : (path : Option (PredName × PredName)) (seen : Seen) → AreEnds path seen None → IsPathPart path seen []
+no_ends None seen are = refl
+no_ends (Some both) seen are = absurd are
+
+pub told_path : (path : Option (PredName × PredName)) (seen : Seen) (from to : ℕ) (found : Option (List ℕ)) (bytes : List ℕ) → AreEnds path seen (Some (from, to))
+    → IsShortest (Calls (successor_lists seen)) from to found → bytes ≡ path_line seen.predicates from to found → IsPathPart path seen bytes
+told_path None seen from to found bytes are shortest is = absurd are
+told_path (Some both) seen from to found bytes are shortest is = record {
+  from = from;
+  to = to;
+  from_is = are.0;
+  to_is = are.1;
+  found = found;
+  shortest = shortest_along (Calls (successor_lists seen)) (NodeCalls seen) (lists_agree seen) from to found shortest;
+  is = is;
+}
+
+pub ends_below : (path : Option (PredName × PredName)) (seen : Seen) (from to : ℕ) → AreEnds path seen (Some (from, to)) → (from < length seen.predicates) × (to < length seen.predicates)
+ends_below None seen from to are = absurd are
+ends_below (Some both) seen from to are = (slice_get_within seen.predicates from both.0 are.0, slice_get_within seen.predicates to both.1 are.1)

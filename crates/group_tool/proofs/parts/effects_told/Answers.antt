@@ -1,0 +1,45 @@
+use Rattle.std.proofs.Common.{◌≡◌, ◌<◌, ◌∙◌, length, sym, subst, ap, arith}
+use Rattle.graph_law.specs.Graph.{Calls, lists_of}
+use Rattle.graph_law.proofs.GraphLaws.{length-lists_of}
+use Rattle.effect_flow.specs.Carriers.{AreFlows}
+use Rattle.effect_flow.specs.Seen.{see_flows}
+use Rattle.import_rules.specs.Program.{Seen, see_program}
+use Rattle.call_edges.specs.Successors.{successor_lists}
+use Rattle.call_edges.proofs.SuccessorLemmas.{lists_count}
+use Rattle.group_tool.proofs.GroupLemmas.{members_listed, reportable}
+use Rattle.group_tool.proofs.PartLemmas.{carriers_within, told_effects}
+use Rattle.group_tool.proofs.parts.effects_told.Goals as goal
+
+pub flow-requires-clause-nodes : goal.flow-requires-clause-nodes
+flow-requires-clause-nodes g c κs within p has =
+    subst (λ (s : Seen). p < length (successor_lists s)) (sym c.requires.calls)
+    (members_listed (see_program c.args.program.now) c.args.roots.now (lists_of c.args.groups.now) c.requires.below c.requires.leveled.are p has)
+
+pub flow-requires-clause-own : goal.flow-requires-clause-own
+flow-requires-clause-own g c κs within =
+    rw (c.deref.ensures.value)
+    (c.in_ok-own.ensures.each ∙ (sym (lists_count (see_program c.args.program.now)) ∙ ap (λ (s : Seen). length (successor_lists s)) (sym c.requires.calls)))
+
+pub effect_lines-requires-clause-groups : goal.effect_lines-requires-clause-groups
+effect_lines-requires-clause-groups g c =
+    reportable (see_program c.args.program.now) c.args.roots.now (lists_of c.args.groups.now) c.args.levels.now c.requires.below c.requires.leveled
+
+pub effect_lines-requires-clause-carriers : goal.effect_lines-requires-clause-carriers
+effect_lines-requires-clause-carriers g c =
+    let groups = lists_of c.args.groups.now in
+    let own = c.in_ok-own.own.items in
+    let flows = see_flows c.in_ok-flows.flows.items in
+    let are = subst (λ (s : Seen). AreFlows (Calls (successor_lists s)) own groups flows) c.requires.calls (rw (c.deref.ensures.value) at c.in_ok-flows.ensures) in
+    rw (c.deref-2.ensures.value)
+    (λ place kind q lt low at.
+    carriers_within (see_program c.args.program.now) c.args.roots.now groups c.args.levels.now own flows c.requires.below c.requires.leveled are place kind q
+    (omega (arith, lt, length-lists_of c.args.groups.now)) low at)
+
+pub returns : goal.returns
+returns g c =
+    let groups = lists_of c.args.groups.now in
+    let own = c.in_ok-own.own.items in
+    let flows = see_flows c.in_ok-flows.flows.items in
+    let are = subst (λ (s : Seen). AreFlows (Calls (successor_lists s)) own groups flows) c.requires.calls (rw (c.deref.ensures.value) at c.in_ok-flows.ensures) in
+    told_effects (see_program c.args.program.now) groups c.args.levels.now own flows c.in_ok-bytes.bytes.items c.in_ok-own.ensures are
+    (rw (c.deref-2.ensures.value) at c.in_ok-bytes.ensures)

@@ -1,0 +1,64 @@
+ghost use Rattle.std.specs.Prelude.{◌≡◌, OnOk, OnErr, [], slice_index};
+ghost use Rattle.loop_paths.specs.Inner.{inner_nodes};
+
+use graph_law::Opener;
+use std::alloc::AllocError;
+
+/// The calls of a graph that stay inside groups.
+#[derive(Drop)]
+pub(crate) struct Inner<'a, O> {
+    pub(crate) opener: &'a O,
+    pub(crate) places: &'a [usize],
+}
+
+/// The place of a node's group.
+fn place_of(places: &[usize], node: u32) -> usize
+    ensures { result ≡ slice_index places.now node }
+{
+    match places.get(node as usize) {
+        Some(place) => *place,
+        None => 0,
+    }
+}
+
+/// Puts those of the callees that are in the group of the node into `out`, which is empty.
+fn push_inner(
+    places: &[usize],
+    node: u32,
+    callees: &[u32],
+    out: &mut Vec<u32>,
+) -> Result<(), AllocError>
+    requires { out.old.items ≡ [] }
+    ensures { OnOk result (out.new.items ≡ inner_nodes places.now node callees.now) }
+{
+    let own = place_of(places, node);
+    for &callee in callees {
+        if place_of(places, callee) != own {
+            continue;
+        }
+        out.push(callee)?;
+    }
+    Ok(())
+}
+
+impl<'a, O: Opener> Opener for Inner<'a, O> {
+    ghost use Rattle.loop_paths.specs.Inner.{inner_lists};
+
+    ghost lists = { λ inner. inner_lists (O.lists inner.opener.now) inner.places.now };
+
+    fn count(&self) -> u32 {
+        self.opener.count()
+    }
+
+    fn expand(&self, node: u32, out: &mut Vec<u32>) -> Result<(), AllocError> {
+        let mut callees = Vec::new(*out.allocator());
+        self.opener.expand(node, &mut callees)?;
+        match push_inner(self.places, node, &callees, out) {
+            Ok(()) => Ok(()),
+            Err(error) => {
+                out.clear();
+                Err(error)
+            }
+        }
+    }
+}

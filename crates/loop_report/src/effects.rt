@@ -1,0 +1,127 @@
+//! The effects that groups may reach.
+
+ghost use Rattle.std.specs.Prelude.{◌≡◌, ℕ, ◌<◌, ◌++◌, Some, IfOk, OnOk, length};
+ghost use Rattle.std.specs.String.{string_bytes};
+ghost use Rattle.graph_law.specs.Classes.{group_at};
+ghost use Rattle.graph_law.specs.Graph.{lists_of};
+ghost use Rattle.effect_flow.specs.Carriers.{first_at, flow_at};
+ghost use Rattle.effect_flow.specs.Seen.{see_flow, see_flows};
+ghost use Rattle.import_rules.specs.Program.{see_program};
+ghost use Rattle.loop_report.specs.Effects.{AreEffectLines, effect_line, group_effects, kind_word};
+ghost use Rattle.loop_report.specs.Report.{least_at};
+ghost use Rattle.loop_report.specs.Reportable.{AreReportable};
+
+use crate::last_module::LastModule;
+use crate::line_order::line_order;
+use crate::names::push_member;
+use effect_flow::Flow;
+use group_release::Level;
+use import_rules::Program;
+use std::alloc::{AllocError, Global};
+
+/// How many kinds of effects there are.
+const KINDS: u32 = 7;
+
+/// The word of a kind.
+fn kind_word(kind: u32) -> &'static str
+    requires { kind < 7 }
+    ensures { result.now ≡ kind_word kind }
+{
+    match kind {
+        0 => "output",
+        1 => "input",
+        2 => "database",
+        3 => "streams",
+        4 => "throw",
+        5 => "halt",
+        _ => "flags",
+    }
+}
+
+/// Adds the line of a kind of effect.
+fn push_effect<'a>(
+    text: &mut String,
+    program: &'a Program,
+    last: &mut LastModule<'a>,
+    least: u32,
+    kind: u32,
+    carrier: u32,
+) -> Result<(), AllocError>
+    requires kind { kind < 7 }
+    requires least { least < length (see_program program.now).predicates }
+    requires carrier { carrier < length (see_program program.now).predicates }
+    ensures { OnOk result (string_bytes text.new
+        ≡ string_bytes text.old ++ effect_line (see_program program.now).predicates least (kind_word kind) (Some carrier)) }
+{
+    text.push_str("effect")?;
+    push_member(text, program, last, least)?;
+    text.push_str(" ")?;
+    text.push_str(kind_word(kind))?;
+    push_member(text, program, last, carrier)?;
+    text.push_str("\n")
+}
+
+/// Adds the lines of a group, kind by kind.
+fn push_effects<'a>(
+    text: &mut String,
+    program: &'a Program,
+    last: &mut LastModule<'a>,
+    least: u32,
+    flow: Flow,
+) -> Result<(), AllocError>
+    requires least { least < length (see_program program.now).predicates }
+    requires carriers { (kind q : ℕ) → kind < 7 → first_at (see_flow flow) kind ≡ Some q → q < length (see_program program.now).predicates }
+    ensures { OnOk result (string_bytes text.new
+        ≡ string_bytes text.old ++ group_effects (see_program program.now).predicates least (see_flow flow)) }
+{
+    for kind in 0..KINDS {
+        let Some(carrier) = flow.first(kind) else {
+            continue;
+        };
+        push_effect(text, program, last, least, kind, carrier)?;
+    }
+    Ok(())
+}
+
+fn flow_there(flows: &[Flow], place: usize) -> Flow
+    requires { place < length flows.now }
+    ensures { see_flow result ≡ flow_at (see_flows flows.now) place }
+{
+    flows[place]
+}
+
+/// The least member of the group at a place.
+fn least_there(groups: &[Vec<u32>], place: usize) -> u32
+    requires within { place < length groups.now }
+    requires some { 0 < length (group_at (lists_of groups.now) place) }
+    ensures { result ≡ least_at (lists_of groups.now) place }
+{
+    groups[place][0]
+}
+
+/// A line for each group and each kind of effect that it has a carrier for, in order of height, least
+/// member and kind: the name of the least member, the word of the kind and the carrier. The groups are
+/// in a legal order of some graph of the predicates, the levels are theirs there, and there is a flow
+/// for each.
+pub fn effect_lines(
+    alloc: Global,
+    program: &Program,
+    groups: &[Vec<u32>],
+    levels: &[Level],
+    flows: &[Flow],
+) -> Result<Vec<u8>, AllocError>
+    requires groups { AreReportable (length (see_program program.now).predicates) (lists_of groups.now) levels.now }
+    requires each { length flows.now ≡ length groups.now }
+    requires carriers { (place kind q : ℕ) → place < length groups.now → kind < 7 → first_at (flow_at (see_flows flows.now) place) kind ≡ Some q → q < length (see_program program.now).predicates }
+    ensures { IfOk result (λ bytes. AreEffectLines (see_program program.now).predicates (lists_of groups.now) levels.now (see_flows flows.now) bytes.items) }
+{
+    let order = line_order(alloc, groups, levels)?;
+    let mut text = String::new(alloc);
+    let mut last = LastModule::none(alloc);
+    for &place in &order {
+        let least = least_there(groups, place);
+        let flow = flow_there(flows, place);
+        push_effects(&mut text, program, &mut last, least, flow)?;
+    }
+    Ok(text.into_bytes())
+}

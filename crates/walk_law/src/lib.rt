@@ -1,0 +1,6 @@
+//! Trial.
+#![tactic(auto)]
+
+mod laws;
+
+pub use laws::one_list_of_lines;
