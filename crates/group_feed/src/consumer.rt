@@ -1,4 +1,4 @@
-ghost use Rattle.std.specs.Prelude.{◌≡◌, true, [], OnOk};
+ghost use Rattle.std.specs.Prelude.{◌≡◌, true, false, [], OnOk};
 ghost use Rattle.crossbeam_queue.specs.Passes.{view, IsPassOf};
 ghost use Rattle.group_feed.specs.Driving.{HasTaken, HasTakenAll};
 
@@ -8,8 +8,8 @@ use crate::taker::Taker;
 use std::alloc::AllocError;
 use std::sync::Wait;
 
-/// Gives the groups of the line to the taker, up to the end mark. The promise holds
-/// if the call returns.
+/// Gives the groups of the line to the taker, up to the end mark. Where the taker finds no memory, what
+/// comes behind stays on the line. The promise holds if the call returns.
 pub(crate) fn consume<N: Graph, R: Wait, T: Taker>(
     rt: &R,
     line: &Line<N>,
@@ -18,6 +18,7 @@ pub(crate) fn consume<N: Graph, R: Wait, T: Taker>(
 ) -> Result<(), AllocError>
     requires queue { IsPassOf line.now pass.old }
     requires takes { (view pass.old).takes ≡ true }
+    requires open_yet { (view pass.old).through ≡ false }
     requires none { (view pass.old).taken ≡ [] }
     requires lists { T.lists taker.old ≡ N.lists }
     requires fresh { T.taken taker.old ≡ [] }

@@ -32,8 +32,9 @@ pub(crate) fn copy_new(alloc: Global, book: &Book, copies: &mut Released) -> Res
     Ok(())
 }
 
-// The place up to which all groups are copied. The copies are as many as the groups before them: where
-// no group behind is a copy, each of those before is one. Else it's the very first place.
+// A place before which all groups are copied. There are as many copies as groups before it: where no
+// later group is a copy, each of those is one. No clause says that a later one is never a copy, so that
+// is looked up, and the very first place is the answer else.
 fn first_new(book: &Book, copies: &Released) -> usize
     requires ordered { AreOrdered book.now.lists copies.now.groups }
     requires within { AreWithin copies.now.groups book.now.groups }

@@ -36,10 +36,11 @@ pub(crate) struct Parts {
     pub(crate) copies: Released,
 }
 
-/// The groups of all that the roots reach, in a legal order, found by `jobs` workers. The taker gets
-/// each of them while the search goes on, in this order. Where no thread can be made, the workers, the
-/// feeder and the taker run one after another. The promise holds if the call returns.
-pub fn drive_feed<R: Threads + Wait + Sync, O: Opener, G: Gate, T: Taker + Send>(
+/// The groups of all that the roots reach, in a legal order, found by `jobs` workers, 1 to 64. The taker
+/// gets each of them while the search goes on, in this order. Where memory is wanting, what it has taken
+/// is in a legal order. Where no thread can be made, the workers, the feeder and the taker run one after
+/// another. The promise holds if the call returns.
+pub fn drive_feed<R: Threads + Wait + Sync, O: Opener, G: Gate, T: Taker>(
     rt: &R,
     alloc: Global,
     opener: &O,
@@ -64,7 +65,7 @@ pub fn drive_feed<R: Threads + Wait + Sync, O: Opener, G: Gate, T: Taker + Send>
 }
 
 // The same, where `N` names the graph.
-fn drive_named<N: Graph + Sync, R: Threads + Wait + Sync, O: Opener, G: Gate, T: Taker + Send>(
+fn drive_named<N: Graph + Sync, R: Threads + Wait + Sync, O: Opener, G: Gate, T: Taker>(
     rt: &R,
     alloc: Global,
     opener: &O,
@@ -108,7 +109,7 @@ fn drive_named<N: Graph + Sync, R: Threads + Wait + Sync, O: Opener, G: Gate, T:
 
 // The taker in a thread of its own, and here the search and the feeder. Where no thread can be made,
 // `join_mut` runs what comes second first, which needs nothing of the taker.
-fn run_three<N: Graph + Sync, R: Threads + Wait + Sync, O: Opener, G: Gate, T: Taker + Send>(
+fn run_three<N: Graph + Sync, R: Threads + Wait + Sync, O: Opener, G: Gate, T: Taker>(
     rt: &R,
     alloc: Global,
     claims: &Claims,

@@ -21,8 +21,9 @@ use std::alloc::{AllocError, Global};
 use std::sync::Wait;
 
 /// Puts the released groups on the line as they come, and then the end mark: once each root is in one
-/// of them, or once the book has failed. It answers them where each root is in one. Where memory is
-/// wanting here, it marks the book as failed. The promise holds if the call returns.
+/// of them, which are the answer then, or once the book has failed. Where memory is wanting here, it
+/// marks the book as failed. Between two turns it sleeps longer and longer, so that workers seldom find
+/// the turn taken by it. The promise holds if the call returns.
 pub(crate) fn feed<N: Graph, R: Wait>(
     rt: &R,
     alloc: Global,
@@ -119,7 +120,7 @@ fn copy_or_fail(alloc: Global, book: &mut Book, copies: &mut Released) -> bool
     true
 }
 
-/// Marks the book as failed, so that the others end too.
+/// Marks the book as failed under a turn, so that the others end too.
 pub(crate) fn fail_book(rt: &impl Wait, alloc: Global, claims: &Claims, pass: Pass)
     requires { IsIdle claims.now pass }
 {

@@ -9,10 +9,11 @@ use std::sync::atomic::AtomicU64;
 use std::thread;
 use std::time::Duration;
 
-// How often a taker that finds nothing lets other threads go on before it sleeps.
+// How often one who finds nothing lets other threads go on before it sleeps.
 const TRIES: u32 = 16;
 
-/// An empty line with room for each group of the graph and the end mark, and its two passes.
+/// An empty line with room for a group for each node and for the end mark, the pass that may push, and
+/// the one that may take.
 pub(crate) fn open_line<N: Graph>(
     alloc: Global,
     count: u32,
@@ -48,7 +49,7 @@ pub(crate) fn push<N: Graph, R: Wait>(
     }
 }
 
-/// Waits for the next parcel. The promise holds if the call returns.
+/// Waits for the next parcel, where the end mark wasn't taken yet. The promise holds if the call returns.
 pub(crate) fn next<N: Graph, R: Wait>(
     rt: &R,
     line: &Line<N>,
@@ -56,6 +57,7 @@ pub(crate) fn next<N: Graph, R: Wait>(
 ) -> Option<Parcel>
     requires queue { IsPassOf line.now pass.old }
     requires takes { (view pass.old).takes ≡ true }
+    requires open_yet { (view pass.old).through ≡ false }
     ensures queue { IsPassOf line.now pass.new }
     ensures took { Takes N.lists (view pass.old) result (view pass.new) }
 {
@@ -70,7 +72,7 @@ pub(crate) fn next<N: Graph, R: Wait>(
     unreachable!()
 }
 
-/// One pass that knows what both did.
+/// Puts the two passes together: what one pushed is what the other took.
 pub(crate) fn meet<N: Graph>(line: &Line<N>, mut feeder: LinePass, taker: LinePass)
     requires feeder { IsPassOf line.now feeder }
     requires taker { IsPassOf line.now taker }
@@ -83,8 +85,8 @@ pub(crate) fn meet<N: Graph>(line: &Line<N>, mut feeder: LinePass, taker: LinePa
     line.learn_as::<Total>(&mut feeder);
 }
 
-// Lets other threads go on, or sleeps where that was done often enough: longer each time, for at most
-// a millisecond.
+/// Lets other threads go on, or sleeps where that was done often enough: longer each time, for at most
+/// a millisecond.
 pub(crate) fn pause(rt: &impl Wait, waits: u32) {
     if waits < TRIES {
         thread::yield_now();

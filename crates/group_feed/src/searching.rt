@@ -11,8 +11,8 @@ use std::sync::Wait;
 use std::thread;
 use std::thread::Threads;
 
-/// Searches with a worker for each pass. Where no memory is there to start them, it marks the book as
-/// failed by the spare pass, so that the feeder ends too.
+/// Searches with a worker for each pass. Where there is no memory to start them, no worker marks the book
+/// as failed: the spare pass does, so that the feeder ends too.
 pub(crate) fn search<R: Threads + Wait + Sync, O: Opener, G: Gate>(
     rt: &R,
     alloc: Global,

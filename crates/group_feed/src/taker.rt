@@ -4,8 +4,9 @@ ghost use Rattle.group_feed.specs.Ordered.{AreOrdered};
 use std::alloc::AllocError;
 
 /// What takes released groups one after another. It means a graph, which doesn't change, and the list
-/// of groups that it has taken.
-pub trait Taker {
+/// of groups that it has taken: these are in a legal order of the graph, so each group is whole, comes
+/// once, and comes behind the groups that its members call.
+pub trait Taker: Send {
     ghost lists: { Self → List (List ℕ) };
 
     ghost taken: { Self → List (List ℕ) };

@@ -1,7 +1,8 @@
-use Rattle.std.proofs.Common.{◌≡◌, ℕ, List, [], None, sym, ap, ◌∙◌, subst}
+use Rattle.std.proofs.Common.{◌≡◌, ℕ, List, [], ◌++◌, None, sym, ap, ◌∙◌, subst}
 use Rattle.graph_law.specs.Graph.{Calls}
 use Rattle.graph_law.specs.Reach.{IsReached}
 use Rattle.search_stack.specs.Search.{SearchValue}
+use Rattle.node_counts.specs.Counts.{flat}
 use Rattle.group_release.specs.Book.{BookValue}
 use Rattle.node_claims.specs.Claims.{nodes_with}
 use Rattle.node_claims.specs.Steps.{MayGive}
@@ -35,7 +36,8 @@ returns-clause-seen g c =
     let copies : List (List ℕ) = c.copy_or_fail-goes_on.new.copies.groups in
     let within : AreWithin copies now.groups =
     subst (AreWithin copies) (sym (ap (λ (b : BookValue). b.groups) c.copy_or_fail-goes_on.ensures.book)) c.copy_or_fail-goes_on.ensures.within in
-    subst (λ (v : View). AreSeen copies v.seen) (sym c.give-2.ensures.view) (within_seen copies now.groups c.turn-turn.result.view.seen within)
+    let seen : c.give-2.result.view.seen ≡ c.turn-turn.result.view.seen ++ flat now.groups = ap (λ (v : View). v.seen) c.give-2.ensures.view in
+    subst (AreSeen copies) (sym seen) (within_seen copies now.groups c.turn-turn.result.view.seen within)
 
 pub returns-clause-are : goal.returns-clause-are
 returns-clause-are g c =
