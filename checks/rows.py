@@ -6,7 +6,9 @@ A line that begins with one of these marks says what the lines up to the next on
 == TITLE        a case, which begins without files; lines below it say why, and are read by nobody
 > NAME          a file of these lines
 >> NAME         a file of these lines joined, with no newline but those that are written `\\n`; `\\xHH` is a byte
-$ WORD ..       a run with these words, as a shell reads them; the lines are those of standard output, and behind a `!` and a blank of standard error
+>* NAME         a file of these lines joined as well, each behind a number that says how often it stands
+$ WORD ..       a run with these words, as a shell reads them; the lines are those of standard output, and behind a `!` and a blank of standard error, where
+                USAGE is the usage line that docs/report.md has
 ? STATUS        the status of the run above, where it isn't 0
 
 Ends with status 1 where an answer is another one."""
@@ -21,14 +23,15 @@ import tempfile
 import program
 
 ROWS = pathlib.Path(__file__).resolve().parent / "rows"
-MARKS = ("==", ">", ">>", "$", "?")
+USAGE = (program.ROOT / "docs" / "report.md").read_text().partition("```\n")[2].partition("\n")[0]
+MARKS = ("==", ">", ">>", ">*", "$", "?")
 
 
 class Run:
     def __init__(self, words, lines):
         self.words, self.status = shlex.split(words), 0
         self.out = "".join(f"{it}\n" for it in lines if not it.startswith("! "))
-        self.err = "".join(f"{it[2:]}\n" for it in lines if it.startswith("! "))
+        self.err = "".join(f"{USAGE if it == '! USAGE' else it[2:]}\n" for it in lines if it.startswith("! "))
 
 
 def steps(text):
@@ -43,6 +46,10 @@ def steps(text):
     return found
 
 
+def unescaped(text):
+    return text.encode().decode("unicode_escape").encode("latin-1")
+
+
 def cases(path):
     """Each case with its title, files and runs."""
     found = []
@@ -54,7 +61,10 @@ def cases(path):
         elif mark == ">":
             found[-1][1][rest] = "".join(f"{it}\n" for it in lines).encode()
         elif mark == ">>":
-            found[-1][1][rest] = "".join(lines).encode().decode("unicode_escape").encode("latin-1")
+            found[-1][1][rest] = b"".join(map(unescaped, lines))
+        elif mark == ">*":
+            parts = [it.partition(" ") for it in lines if it]
+            found[-1][1][rest] = b"".join(unescaped(text) * int(often) for often, _, text in parts)
         elif mark == "$":
             found[-1][2].append(Run(rest, lines))
         elif lines:
