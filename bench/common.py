@@ -2,7 +2,10 @@
 
 import argparse
 import contextlib
+import hashlib
+import os
 import pathlib
+import shutil
 import subprocess
 import sys
 import tempfile
@@ -22,11 +25,38 @@ def filled(part):
     return "".join(parts)
 
 
+def laid_out():
+    """A copy of the crates beside the benchmark program's, in which it is proved and built; one for each state of them.
+
+    The program isn't one of the repository's crates, so the gate doesn't prove it each time. Its sources stand in `bench/crate`,
+    with `.txt` behind the names of those that `rt` reads.
+    """
+    lines = (ROOT / "crates.txt").read_text() + (ROOT / "bench" / "crate" / "crates.txt").read_text()
+    state = hashlib.sha256(lines.encode())
+    sources = [path for top in ("crates", "bench/crate") for path in sorted((ROOT / top).rglob("*"))
+               if path.is_file() and "out" not in path.parts and path.name != "crates.txt"]
+    for path in sources:
+        state.update(str(path.relative_to(ROOT)).encode() + b"\0" + path.read_bytes())
+    cache = pathlib.Path(os.environ.get("XDG_CACHE_HOME") or pathlib.Path.home() / ".cache")
+    copy = cache / "groups-bench" / state.hexdigest()[:16]
+    if not copy.exists():
+        for path in sources:
+            place = copy / path.relative_to(ROOT)
+            if path.is_relative_to(ROOT / "bench" / "crate"):
+                place = copy / "crates" / "bench" / str(path.relative_to(ROOT / "bench" / "crate")).removesuffix(".txt")
+            place.parent.mkdir(parents=True, exist_ok=True)
+            shutil.copy(path, place)
+        (copy / "crates.txt").write_text(lines)
+        shutil.copy(ROOT / "HANDLES", copy)
+    return copy
+
+
 def built(*words):
     """The benchmark program, which is proved and built first where it isn't there; the words are a lawful run."""
-    program = ROOT / "crates" / "bench" / "out" / "bench"
+    crate = laid_out() / "crates" / "bench"
+    program = crate / "out" / "bench"
     if not program.exists():
-        subprocess.run(["rt", "run", "--", *words], cwd=program.parent.parent, check=True, stdout=sys.stderr)
+        subprocess.run(["rt", "run", "--", *words], cwd=crate, check=True, stdout=sys.stderr)
     return program
 
 
