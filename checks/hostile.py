@@ -9,7 +9,8 @@
   standard error, or with no line where the words were not read yet, or the answer of a run in which
   none fails. This needs a C compiler, `cc`.
 
-Ends with status 1 where an answer is wrong. The whole takes about two minutes.
+Ends with status 1 where an answer is wrong. The whole takes about two minutes; with --quick each seventh prefix and each seventh
+allocation is tried.
 """
 
 import argparse
@@ -20,23 +21,32 @@ import sys
 import tempfile
 import time
 
+import program
+
 ROOT = pathlib.Path(__file__).resolve().parent.parent
-GROUPS = ROOT / "groups"
-PROGRAM = ROOT / "crates" / "groups" / "out" / "groups"
 EXAMPLES = ROOT / "examples"
 EXAMPLE = EXAMPLES / "module.pl"
 SIZE = 1_048_576
 TOO_LARGE = 8_388_609
 MOST_SECONDS = 20.0
 
+# The program, and whether but a part is tried.
+chosen = []
 wrong = []
+
+
+def some(numbers):
+    return numbers[::7] if chosen[1] else numbers
 
 
 def run(folder, data):
     """The status, the outputs and the seconds of a run on a file with these bytes."""
     (folder / "f.pl").write_bytes(data)
     begun = time.monotonic()
-    done = subprocess.run([GROUPS, "f.pl"], cwd=folder, capture_output=True, timeout=60)
+    try:
+        done = subprocess.run([chosen[0], "f.pl"], cwd=folder, capture_output=True, timeout=3 * MOST_SECONDS)
+    except subprocess.TimeoutExpired:
+        return None, b"", b"", time.monotonic() - begun
     return done.returncode, done.stdout, done.stderr, time.monotonic() - begun
 
 
@@ -52,7 +62,7 @@ def check(folder, name, data):
 
 def prefixes(folder):
     text = EXAMPLE.read_bytes()
-    seen = [check(folder, f"prefix of {size} bytes", text[:size])[0] for size in range(len(text) + 1)]
+    seen = [check(folder, f"prefix of {size} bytes", text[:size])[0] for size in some(range(len(text) + 1))]
     print(f"{len(seen)} prefixes: {seen.count(0)} reports, {seen.count(3)} refused")
 
 
@@ -99,14 +109,14 @@ def memory(folder, *options):
 
     def answer(number):
         env = {"LD_PRELOAD": str(shim), "FAIL_AT": str(number), "COUNT_TO": str(count)}
-        done = subprocess.run([PROGRAM, *options, "calculator.pl", "module.pl"], cwd=folder, capture_output=True, env=env, timeout=60)
+        done = subprocess.run([chosen[0], *options, "calculator.pl", "module.pl"], cwd=folder, capture_output=True, env=env, timeout=60)
         return done.returncode, done.stdout, done.stderr
 
     whole = answer(0)
     total = int(count.read_text())
     silent, wanting = (7, b"", b""), (7, b"", b"groups: out of memory\n")
     seen = []
-    for number in range(1, total + 1):
+    for number in some(range(1, total + 1)):
         seen.append(answer(number))
         if seen[-1] not in (silent, wanting, whole):
             wrong.append(f"allocation {number} {options}: status {seen[-1][0]}, {len(seen[-1][1])} bytes on out")
@@ -118,7 +128,10 @@ def memory(folder, *options):
 
 def main():
     parser = argparse.ArgumentParser(description=__doc__.splitlines()[0])
-    parser.parse_args()
+    parser.add_argument("--quick", action="store_true", help="try a seventh of the prefixes and of the allocations")
+    program.add_option(parser)
+    options = parser.parse_args()
+    chosen[:] = [program.of(options), options.quick]
     with tempfile.TemporaryDirectory() as name:
         folder = pathlib.Path(name)
         prefixes(folder)

@@ -6,6 +6,7 @@ how many files were grouped and how many refused, and the slowest; then which ca
 installed it says so and does nothing. Ends with status 1 where an answer is wrong. Needs Debian's `dpkg`.
 """
 
+import argparse
 import collections
 import pathlib
 import shutil
@@ -13,11 +14,12 @@ import subprocess
 import sys
 import time
 
-ROOT = pathlib.Path(__file__).resolve().parent.parent
-GROUPS = ROOT / "groups"
+import program
+
 MOST_SECONDS = 2.0
 PATTERNS = ("*prolog*", "*logtalk*", "yap*", "ciao*", "pl-*")
 
+chosen = []
 wrong = []
 causes = collections.Counter()
 
@@ -37,7 +39,7 @@ def sources(package):
 def run(path, *words):
     begun = time.monotonic()
     try:
-        done = subprocess.run([GROUPS, *words, path.name], cwd=path.parent, capture_output=True, timeout=60)
+        done = subprocess.run([chosen[0], *words, path.name], cwd=path.parent, capture_output=True, timeout=60)
     except subprocess.TimeoutExpired:
         wrong.append(f"{path}: no end within 60 s")
         return None, b"", b"", 60.0
@@ -60,10 +62,13 @@ def check(path):
 
 
 def main():
+    parser = argparse.ArgumentParser(description=__doc__.splitlines()[0])
+    program.add_option(parser)
+    options = parser.parse_args()
     if shutil.which("dpkg-query") is None or not packages():
         print("no Prolog package is installed: nothing to try")
         return 0
-    subprocess.run([GROUPS], capture_output=True)
+    chosen[:] = [program.of(options)]
     for package in packages():
         seen = [(*check(path), path) for path in sources(package)]
         if seen:

@@ -19,8 +19,8 @@ import sys
 import tempfile
 import time
 
-ROOT = pathlib.Path(__file__).resolve().parent.parent
-GROUPS = ROOT / "groups"
+import program
+
 GRAPHS = 10_000
 GRAPHS_IN_A_FILE = 20
 RUNS = 1_000
@@ -28,12 +28,13 @@ JOBS = (1, 2, 3, 8)
 MOST_JOBS = 64
 MOST_SECONDS = 30.0
 
+chosen = []
 wrong = []
 
 
 def run(folder, jobs):
     """The report on the file with so many workers, or None where the run ends wrong or too late."""
-    words = [GROUPS, "--jobs", str(jobs), "f.pl"]
+    words = [chosen[0], "--jobs", str(jobs), "f.pl"]
     try:
         done = subprocess.run(words, cwd=folder, capture_output=True, timeout=MOST_SECONDS)
     except subprocess.TimeoutExpired:
@@ -146,7 +147,9 @@ def main():
     parser = argparse.ArgumentParser(description=__doc__.split("\n", 1)[0])
     parser.add_argument("--graphs", type=int, default=GRAPHS)
     parser.add_argument("--runs", type=int, default=RUNS)
+    program.add_option(parser)
     options = parser.parse_args()
+    chosen[:] = [program.of(options)]
     with tempfile.TemporaryDirectory() as name:
         folder = pathlib.Path(name)
         begun = time.monotonic()

@@ -1,0 +1,21 @@
+"""Which program a check runs: the one that `--program` names, or what the gate or ./prove built here, or else the kept one."""
+
+import pathlib
+import sys
+
+ROOT = pathlib.Path(__file__).resolve().parent.parent
+BUILT = ROOT / "crates" / "groups" / "out" / "groups"
+KEPT = ROOT / "release" / "groups"
+
+
+def add_option(parser):
+    parser.add_argument("--program", type=pathlib.Path, help="the program to try; else the one that was built here, or the kept one")
+
+
+def of(options):
+    """The program to run, as a whole path; says so and ends with status 1 where there is none."""
+    found = next((it for it in [options.program] if it), None) or next((it for it in (BUILT, KEPT) if it.is_file()), None)
+    if found is None or not found.is_file():
+        print(f"{found or 'no program'} isn't there: ./prove builds one", file=sys.stderr)
+        sys.exit(1)
+    return found.resolve()
