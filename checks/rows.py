@@ -24,6 +24,7 @@ import program
 
 ROWS = pathlib.Path(__file__).resolve().parent / "rows"
 USAGE = (program.ROOT / "docs" / "report.md").read_text().partition("```\n")[2].partition("\n")[0]
+MOST_SECONDS = 120
 MARKS = ("==", ">", ">>", ">*", "$", "?")
 
 
@@ -81,7 +82,11 @@ def tried(chosen, name, title, files, run):
             path = pathlib.Path(room, it)
             path.parent.mkdir(parents=True, exist_ok=True)
             path.write_bytes(data)
-        done = subprocess.run([chosen, *run.words], cwd=room, stdin=subprocess.DEVNULL, capture_output=True, timeout=120)
+        try:
+            done = subprocess.run([chosen, *run.words], cwd=room, stdin=subprocess.DEVNULL, capture_output=True, timeout=MOST_SECONDS)
+        except subprocess.TimeoutExpired:
+            print(f"{name}: {title}: {shlex.join(run.words)}\n  no answer in {MOST_SECONDS} s")
+            return False
     answer = done.returncode, done.stdout.decode(errors="backslashreplace"), done.stderr.decode(errors="backslashreplace")
     if answer != (run.status, run.out, run.err):
         print(f"{name}: {title}: {shlex.join(run.words)}\n  expected {run.status} {run.out!r} {run.err!r}\n  answered {answer[0]} {answer[1]!r} {answer[2]!r}")
