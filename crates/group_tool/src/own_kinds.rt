@@ -9,14 +9,14 @@ use effect_flow::kinds_of;
 use import_rules::{PredName, Program};
 use std::alloc::{AllocError, Global};
 
-/// The kinds that some of the names have.
+/// All kinds that one of the names or another has.
 fn kinds_in(names: &[PredName]) -> u64
     ensures { (kind : ℕ) → IsBitSet result kind ↔ IsOfSome names.now kind }
 {
     let mut all = 0;
     for name in names {
         let own = kinds_of(name.name.as_str(), name.arity);
-        all = all | own;
+        all |= own;
     }
     all
 }
