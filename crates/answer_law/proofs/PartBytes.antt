@@ -35,7 +35,7 @@ use Rattle.loop_report.specs.Report.{IsLineOrder}
 use Rattle.loop_report.specs.Reportable.{AreLeveled, LeastDiffer}
 use Rattle.loop_report.specs.Walks.{circuit_line_at}
 use Rattle.loop_report.proofs.Printable.{least_differ}
-use Rattle.group_tool.specs.Parts.{AreOwnKinds, AreParts, HasEffect, IsOfSome, IsPart, IsPathPart, TellEffects, TellLoops, path_line}
+use Rattle.group_tool.specs.Parts.{AreOwnKinds, AreParts, HasEffect, SomeHasKind, IsPart, IsPathPart, TellEffects, TellLoops, path_line}
 use Rattle.group_tool.specs.Roots.{AreEnds, HasRoots, asked_names}
 use Rattle.group_tool.proofs.GroupLemmas.{members_listed}
 use Rattle.group_tool.proofs.KindLemmas.{AreKinds, kinds_more, kinds_none}

@@ -2,7 +2,7 @@
 
 ghost use Rattle.std.specs.Prelude.{◌<◌, ◌↔◌, ℕ, length, IfOk, IsBitSet};
 ghost use Rattle.import_rules.specs.Program.{see_program};
-ghost use Rattle.group_tool.specs.Parts.{AreOwnKinds, HasEffect, IsOfSome};
+ghost use Rattle.group_tool.specs.Parts.{AreOwnKinds, HasEffect, SomeHasKind};
 
 use call_edges::unresolved_of;
 use effect_flow::kinds_of;
@@ -11,7 +11,7 @@ use std::alloc::{AllocError, Global};
 
 /// All kinds that one of the names or another has.
 fn kinds_in(names: &[PredName]) -> u64
-    ensures { (kind : ℕ) → IsBitSet result kind ↔ IsOfSome names.now kind }
+    ensures { (kind : ℕ) → IsBitSet result kind ↔ SomeHasKind names.now kind }
 {
     let mut all = 0;
     for name in names {
