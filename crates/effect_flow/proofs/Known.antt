@@ -1,13 +1,12 @@
 -- Each group has carriers, and they are one.
-use Rattle.std.proofs.Common.{◌≡◌, ◌⊎◌, inl, inr, ℕ, zero, suc, ◌<◌, ◌≤◌, bit_and, ◌^◌, List, [], length, map, get_or, Option, Some, None, refl, ap, subst, sym, ◌∙◌, arith}
-use Rattle.std.specs.Prelude.{All, Contains}
+use Rattle.std.proofs.Common.{◌≡◌, ◌⊎◌, inl, inr, ℕ, zero, suc, ◌<◌, bit_and, ◌^◌, List, [], length, map, get_or, Option, Some, None, refl, ap, subst, sym, ◌∙◌, arith}
 use Rattle.std.specs.List.{range_with_len}
 use Rattle.std.proofs.lemmas.Bool.{cases_eq, cases_lt}
 use Rattle.std.proofs.lemmas.List.FromFn.{get_or-map-range_with_len, length-map-range_with_len}
 use Rattle.graph_law.specs.Classes.{group_at}
 use Rattle.graph_law.specs.Reach.{IsReached}
-use Rattle.effect_flow.specs.Carriers.{AreFlows, HasKind, IsCarried, IsCarrier, IsFirst, IsFlow, IsUpTo, first_at, flow_at}
-use Rattle.effect_flow.proofs.LeastOnes.{first_none, first_same, no_some, upto_some}
+use Rattle.effect_flow.specs.Carriers.{AreFlows, HasKind, IsCarried, IsCarrier, IsFirst, IsFlow}
+use Rattle.effect_flow.proofs.LeastOnes.{first_none, first_same, upto_some}
 
 -- there is one least node
 

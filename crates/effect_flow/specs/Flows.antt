@@ -42,13 +42,15 @@ abbrev pub piece_of : List ℕ → ℕ → List ℕ
 piece_of places number = take 512 (drop (number * 512) places)
 
 -- what the flows of a piece are found by
-pub record IsAsked (lists : List (List ℕ)) (own : List ℕ) (groups : List (List ℕ)) (places : List ℕ) (flows : List (List (Option ℕ))) (stretch : List ℕ) (number : ℕ) : Type 0 where
+pub record IsAsked (lists : List (List ℕ)) (own : List ℕ) (groups : List (List ℕ)) (places : List ℕ) (flows : List (List (Option ℕ)))
+    (stretch : List ℕ) (number : ℕ) : Type 0 where
   pub ready : AreReady lists own groups places
   pub next : All (IsNext lists own groups flows) stretch
   pub within : number * 512 < length stretch
 
 -- the flows of each piece, in the order of their numbers: so many that no place is left out
-pub record ArePieces {A : Type 0} (lists : List (List ℕ)) (own : List ℕ) (groups : List (List ℕ)) (places : List ℕ) (each : List (Result (Vec Flow A) AllocError)) : Type 0 where
+pub record ArePieces {A : Type 0} (lists : List (List ℕ)) (own : List ℕ) (groups : List (List ℕ)) (places : List ℕ)
+    (each : List (Result (Vec Flow A) AllocError)) : Type 0 where
   pub as_many : (number : ℕ) → number * 512 < length places → number < length each
   pub pieces : AllZip (λ number one. IfOk one (λ found. AreFound lists own groups (piece_of places number) (see_flows found.items)))
       (range_with_len 0 (length each)) each
@@ -64,4 +66,5 @@ pub record IsPut (places : List ℕ) (found old new : List (List (Option ℕ))) 
 pub record AreAdded (lists : List (List ℕ)) (own : List ℕ) (groups : List (List ℕ)) (places : List ℕ) (old new : List (List (Option ℕ))) : Type 0 where
   pub each : length new ≡ length old
   pub right : (place : ℕ) → Contains places place → IsFlow (Calls lists) own (group_at groups place) (flow_at new place)
-  pub kept : (place : ℕ) → IsFlow (Calls lists) own (group_at groups place) (flow_at old place) → IsFlow (Calls lists) own (group_at groups place) (flow_at new place)
+  pub kept : (place : ℕ) → IsFlow (Calls lists) own (group_at groups place) (flow_at old place)
+      → IsFlow (Calls lists) own (group_at groups place) (flow_at new place)

@@ -6,6 +6,7 @@ ghost use Rattle.effect_flow.specs.Seen.{see_flow, see_flows};
 ghost use Rattle.effect_flow.specs.Flows.{AreFound, AreReady, IsNext, IsOfCallee};
 
 use crate::firsts::Flow;
+use crate::grouped::Grouped;
 use graph_law::Opener;
 use std::alloc::{AllocError, Global};
 
@@ -29,7 +30,8 @@ fn with_callees(
     requires nodes { All (λ callee. callee < length places.now) callees.now }
     requires known { All (λ callee. slice_index places.now callee < length flows.now) callees.now }
     ensures { (kind : ℕ) → kind < 7
-        → IsFirst (λ q. (first_at (see_flow start) kind ≡ Some q) ⊎ IsOfCallee places.now place (see_flows flows.now) kind callees.now q) (first_at (see_flow result) kind) }
+        → IsFirst (λ q. (first_at (see_flow start) kind ≡ Some q) ⊎ IsOfCallee places.now place (see_flows flows.now) kind callees.now q)
+        (first_at (see_flow result) kind) }
 {
     let mut flow = start;
     for &callee in callees {
@@ -46,25 +48,23 @@ fn with_callees(
 /// The flow of the group at `place`, where those of the groups that it calls are known. `callees` is
 /// room for the successors of one node at a time.
 pub fn flow_of<O: Opener>(
-    opener: &O,
-    groups: &[Vec<u32>],
-    own: &[u64],
-    places: &[usize],
+    grouped: &Grouped<'_, O>,
     flows: &[Flow],
     place: usize,
     callees: &mut Vec<u32>,
 ) -> Result<Flow, AllocError>
-    requires ready { AreReady (O.lists opener.now) own.now (lists_of groups.now) places.now }
-    requires next { IsNext (O.lists opener.now) own.now (lists_of groups.now) (see_flows flows.now) place }
-    ensures { IfOk result (λ flow. IsFlow (Calls (O.lists opener.now)) own.now (group_at (lists_of groups.now) place) (see_flow flow)) }
+    requires ready { AreReady (O.lists grouped.now.opener.now) grouped.now.own.now (lists_of grouped.now.groups.now) grouped.now.places.now }
+    requires next { IsNext (O.lists grouped.now.opener.now) grouped.now.own.now (lists_of grouped.now.groups.now) (see_flows flows.now) place }
+    ensures { IfOk result (λ flow. IsFlow (Calls (O.lists grouped.now.opener.now)) grouped.now.own.now
+        (group_at (lists_of grouped.now.groups.now) place) (see_flow flow)) }
 {
     let mut flow = Flow::none();
-    for &member in &groups[place] {
+    for &member in &grouped.groups[place] {
         callees.clear();
-        opener.expand(member, callees)?;
-        let itself = Flow::of(member, own[member as usize]);
+        grouped.opener.expand(member, callees)?;
+        let itself = Flow::of(member, grouped.own[member as usize]);
         let both = flow.lesser(&itself);
-        flow = with_callees(both, callees, place, places, flows);
+        flow = with_callees(both, callees, place, grouped.places, flows);
     }
     Ok(flow)
 }
@@ -72,22 +72,20 @@ pub fn flow_of<O: Opener>(
 /// The flows of the groups at these places, where those of the groups that they call are known, are put
 /// into `found`, which is empty.
 pub fn push_flows<O: Opener>(
-    opener: &O,
-    groups: &[Vec<u32>],
-    own: &[u64],
-    places: &[usize],
+    grouped: &Grouped<'_, O>,
     flows: &[Flow],
     stretch: &[usize],
     callees: &mut Vec<u32>,
     found: &mut Vec<Flow>,
 ) -> Result<(), AllocError>
-    requires ready { AreReady (O.lists opener.now) own.now (lists_of groups.now) places.now }
-    requires next { All (IsNext (O.lists opener.now) own.now (lists_of groups.now) (see_flows flows.now)) stretch.now }
+    requires ready { AreReady (O.lists grouped.now.opener.now) grouped.now.own.now (lists_of grouped.now.groups.now) grouped.now.places.now }
+    requires next { All (IsNext (O.lists grouped.now.opener.now) grouped.now.own.now (lists_of grouped.now.groups.now) (see_flows flows.now)) stretch.now }
     requires empty { found.old.items ≡ [] }
-    ensures { OnOk result (AreFound (O.lists opener.now) own.now (lists_of groups.now) stretch.now (see_flows found.new.items)) }
+    ensures { OnOk result
+        (AreFound (O.lists grouped.now.opener.now) grouped.now.own.now (lists_of grouped.now.groups.now) stretch.now (see_flows found.new.items)) }
 {
     for &place in stretch {
-        let flow = flow_of(opener, groups, own, places, flows, place, callees)?;
+        let flow = flow_of(grouped, flows, place, callees)?;
         found.push(flow)?;
     }
     Ok(())

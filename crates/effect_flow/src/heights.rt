@@ -11,6 +11,7 @@ ghost use Rattle.effect_flow.specs.Seen.{see_flows};
 
 use crate::carriers::{flow_there, push_flows};
 use crate::firsts::Flow;
+use crate::grouped::Grouped;
 use crate::height_order::{height_end, height_order};
 use crate::node_places::node_places;
 use graph_law::Opener;
@@ -38,34 +39,22 @@ fn piece_count(count: usize) -> usize
 /// The flows of the groups of a piece.
 fn piece<O: Opener>(
     alloc: Global,
-    opener: &O,
-    groups: &[Vec<u32>],
-    own: &[u64],
-    places: &[usize],
+    grouped: &Grouped<'_, O>,
     flows: &[Flow],
     stretch: &[usize],
     number: usize,
 ) -> Result<Vec<Flow>, AllocError>
-    requires ready { AreReady (O.lists opener.now) own.now (lists_of groups.now) places.now }
-    requires next { All (IsNext (O.lists opener.now) own.now (lists_of groups.now) (see_flows flows.now)) stretch.now }
+    requires ready { AreReady (O.lists grouped.now.opener.now) grouped.now.own.now (lists_of grouped.now.groups.now) grouped.now.places.now }
+    requires next { All (IsNext (O.lists grouped.now.opener.now) grouped.now.own.now (lists_of grouped.now.groups.now) (see_flows flows.now)) stretch.now }
     requires within { number * 512 < length stretch.now }
     ensures { IfOk result (λ found.
-        AreFound (O.lists opener.now) own.now (lists_of groups.now) (piece_of stretch.now number) (see_flows found.items)) }
+        AreFound (O.lists grouped.now.opener.now) grouped.now.own.now (lists_of grouped.now.groups.now) (piece_of stretch.now number) (see_flows found.items)) }
 {
     let from = number * SIZE;
     let to = from + (stretch.len() - from).min(SIZE);
     let mut callees = Vec::new(alloc);
     let mut found = Vec::new(alloc);
-    push_flows(
-        opener,
-        groups,
-        own,
-        places,
-        flows,
-        &stretch[from..to],
-        &mut callees,
-        &mut found,
-    )?;
+    push_flows(grouped, flows, &stretch[from..to], &mut callees, &mut found)?;
     Ok(found)
 }
 
@@ -74,26 +63,25 @@ fn piece<O: Opener>(
 fn each_piece<R: Threads + Sync, O: Opener>(
     rt: &R,
     alloc: Global,
-    opener: &O,
-    groups: &[Vec<u32>],
-    own: &[u64],
-    places: &[usize],
+    grouped: &Grouped<'_, O>,
     flows: &[Flow],
     stretch: &[usize],
 ) -> Result<Vec<Result<Vec<Flow>, AllocError>>, AllocError>
-    requires ready { AreReady (O.lists opener.now) own.now (lists_of groups.now) places.now }
-    requires next { All (IsNext (O.lists opener.now) own.now (lists_of groups.now) (see_flows flows.now)) stretch.now }
-    ensures { IfOk result (λ each. ArePieces (O.lists opener.now) own.now (lists_of groups.now) stretch.now each.items) }
+    requires ready { AreReady (O.lists grouped.now.opener.now) grouped.now.own.now (lists_of grouped.now.groups.now) grouped.now.places.now }
+    requires next { All (IsNext (O.lists grouped.now.opener.now) grouped.now.own.now (lists_of grouped.now.groups.now) (see_flows flows.now)) stretch.now }
+    ensures { IfOk result (λ each. ArePieces (O.lists grouped.now.opener.now) grouped.now.own.now (lists_of grouped.now.groups.now) stretch.now each.items) }
 {
     (0..piece_count(stretch.len()))
         .into_par_iter()
         .with_min_len(FEWEST)
         .map(
             |number: usize| -> Result<Vec<Flow>, AllocError>
-                requires { IsAsked (O.lists opener.now) own.now (lists_of groups.now) places.now (see_flows flows.now) stretch.now number }
+                requires { IsAsked (O.lists grouped.now.opener.now) grouped.now.own.now (lists_of grouped.now.groups.now) grouped.now.places.now
+                    (see_flows flows.now) stretch.now number }
                 ensures { IfOk result (λ found.
-                    AreFound (O.lists opener.entry.now) own.entry.now (lists_of groups.entry.now) (piece_of stretch.entry.now number) (see_flows found.items)) }
-            { piece(alloc, opener, groups, own, places, flows, stretch, number) },
+                    AreFound (O.lists grouped.entry.now.opener.now) grouped.entry.now.own.now (lists_of grouped.entry.now.groups.now)
+                    (piece_of stretch.entry.now number) (see_flows found.items)) }
+            { piece(alloc, grouped, flows, stretch, number) },
         )
         .collect(rt, alloc)
 }
@@ -102,20 +90,18 @@ fn each_piece<R: Threads + Sync, O: Opener>(
 fn push_pieces<R: Threads + Sync, O: Opener>(
     rt: &R,
     alloc: Global,
-    opener: &O,
-    groups: &[Vec<u32>],
-    own: &[u64],
-    places: &[usize],
+    grouped: &Grouped<'_, O>,
     flows: &[Flow],
     stretch: &[usize],
     found: &mut Vec<Flow>,
 ) -> Result<(), AllocError>
-    requires ready { AreReady (O.lists opener.now) own.now (lists_of groups.now) places.now }
-    requires next { All (IsNext (O.lists opener.now) own.now (lists_of groups.now) (see_flows flows.now)) stretch.now }
+    requires ready { AreReady (O.lists grouped.now.opener.now) grouped.now.own.now (lists_of grouped.now.groups.now) grouped.now.places.now }
+    requires next { All (IsNext (O.lists grouped.now.opener.now) grouped.now.own.now (lists_of grouped.now.groups.now) (see_flows flows.now)) stretch.now }
     requires empty { found.old.items ≡ [] }
-    ensures { OnOk result (AreFound (O.lists opener.now) own.now (lists_of groups.now) stretch.now (see_flows found.new.items)) }
+    ensures { OnOk result
+        (AreFound (O.lists grouped.now.opener.now) grouped.now.own.now (lists_of grouped.now.groups.now) stretch.now (see_flows found.new.items)) }
 {
-    let each = each_piece(rt, alloc, opener, groups, own, places, flows, stretch)?;
+    let each = each_piece(rt, alloc, grouped, flows, stretch)?;
     for one in &each {
         match one {
             Ok(piece) => found.extend_from_slice(piece)?,
@@ -130,26 +116,22 @@ fn push_pieces<R: Threads + Sync, O: Opener>(
 fn find<R: Threads + Sync, O: Opener>(
     rt: &R,
     alloc: Global,
-    opener: &O,
-    groups: &[Vec<u32>],
-    own: &[u64],
-    places: &[usize],
+    grouped: &Grouped<'_, O>,
     flows: &[Flow],
     stretch: &[usize],
     callees: &mut Vec<u32>,
     found: &mut Vec<Flow>,
 ) -> Result<(), AllocError>
-    requires ready { AreReady (O.lists opener.now) own.now (lists_of groups.now) places.now }
-    requires next { All (IsNext (O.lists opener.now) own.now (lists_of groups.now) (see_flows flows.now)) stretch.now }
+    requires ready { AreReady (O.lists grouped.now.opener.now) grouped.now.own.now (lists_of grouped.now.groups.now) grouped.now.places.now }
+    requires next { All (IsNext (O.lists grouped.now.opener.now) grouped.now.own.now (lists_of grouped.now.groups.now) (see_flows flows.now)) stretch.now }
     requires empty { found.old.items ≡ [] }
-    ensures { OnOk result (AreFound (O.lists opener.now) own.now (lists_of groups.now) stretch.now (see_flows found.new.items)) }
+    ensures { OnOk result
+        (AreFound (O.lists grouped.now.opener.now) grouped.now.own.now (lists_of grouped.now.groups.now) stretch.now (see_flows found.new.items)) }
 {
     if stretch.len() > SIZE {
-        return push_pieces(
-            rt, alloc, opener, groups, own, places, flows, stretch, found,
-        );
+        return push_pieces(rt, alloc, grouped, flows, stretch, found);
     }
-    push_flows(opener, groups, own, places, flows, stretch, callees, found)
+    push_flows(grouped, flows, stretch, callees, found)
 }
 
 /// Puts each of the flows that were found at its group's place.
@@ -168,23 +150,19 @@ fn put(flows: &mut [Flow], stretch: &[usize], found: &[Flow])
 fn add_flows<R: Threads + Sync, O: Opener>(
     rt: &R,
     alloc: Global,
-    opener: &O,
-    groups: &[Vec<u32>],
-    own: &[u64],
-    places: &[usize],
+    grouped: &Grouped<'_, O>,
     stretch: &[usize],
     flows: &mut [Flow],
     callees: &mut Vec<u32>,
     found: &mut Vec<Flow>,
 ) -> Result<(), AllocError>
-    requires ready { AreReady (O.lists opener.now) own.now (lists_of groups.now) places.now }
-    requires next { All (IsNext (O.lists opener.now) own.now (lists_of groups.now) (see_flows flows.old)) stretch.now }
-    ensures { OnOk result (AreAdded (O.lists opener.now) own.now (lists_of groups.now) stretch.now (see_flows flows.old) (see_flows flows.new)) }
+    requires ready { AreReady (O.lists grouped.now.opener.now) grouped.now.own.now (lists_of grouped.now.groups.now) grouped.now.places.now }
+    requires next { All (IsNext (O.lists grouped.now.opener.now) grouped.now.own.now (lists_of grouped.now.groups.now) (see_flows flows.old)) stretch.now }
+    ensures { OnOk result (AreAdded (O.lists grouped.now.opener.now) grouped.now.own.now (lists_of grouped.now.groups.now) stretch.now
+        (see_flows flows.old) (see_flows flows.new)) }
 {
     found.clear();
-    find(
-        rt, alloc, opener, groups, own, places, flows, stretch, callees, found,
-    )?;
+    find(rt, alloc, grouped, flows, stretch, callees, found)?;
     put(flows, stretch, found);
     Ok(())
 }
@@ -207,6 +185,12 @@ pub fn flow<R: Threads + Sync, O: Opener>(
     ensures { IfOk result (λ flows. AreFlows (Calls (O.lists opener.now)) own.now (lists_of groups.now) (see_flows flows.items)) }
 {
     let places = node_places(alloc, opener.count() as usize, groups)?;
+    let grouped = Grouped {
+        opener,
+        groups,
+        own,
+        places: &places,
+    };
     let order = height_order(alloc, levels)?;
     let mut flows = vec![in alloc; Flow::none(); groups.len()]?;
     let mut callees = Vec::new(alloc);
@@ -217,10 +201,7 @@ pub fn flow<R: Threads + Sync, O: Opener>(
         add_flows(
             rt,
             alloc,
-            opener,
-            groups,
-            own,
-            &places,
+            &grouped,
             &order[from..to],
             &mut flows,
             &mut callees,

@@ -3,7 +3,7 @@
 ghost use Rattle.std.specs.Prelude.{◌≡◌};
 ghost use Rattle.std.specs.List.{list_any};
 ghost use Rattle.std.specs.Str.{bytes_eq};
-ghost use Rattle.effect_flow.specs.Kinds.{kinds, kinds_0, kinds_1, kinds_2, kinds_3, kinds_4};
+ghost use Rattle.effect_flow.specs.Kinds.{kinds};
 
 const OUTPUT: u64 = 1;
 
@@ -26,8 +26,9 @@ fn is_one_of(words: &[&str], name: &str) -> bool
     words.iter().any(|word| *word == name)
 }
 
+/// The bit of the kind of a predicate without arguments, or 0.
 fn kinds_0(name: &str) -> u64
-    ensures { result ≡ kinds_0 name.now }
+    ensures { result ≡ kinds name.now 0 }
 {
     if is_one_of(&["nl"], name) {
         return OUTPUT;
@@ -38,8 +39,9 @@ fn kinds_0(name: &str) -> u64
     0
 }
 
+/// The bit of the kind of a predicate of one argument, or 0.
 fn kinds_1(name: &str) -> u64
-    ensures { result ≡ kinds_1 name.now }
+    ensures { result ≡ kinds name.now 1 }
 {
     if is_one_of(
         &[
@@ -83,8 +85,9 @@ fn kinds_1(name: &str) -> u64
     0
 }
 
+/// The bit of the kind of a predicate of two arguments, or 0.
 fn kinds_2(name: &str) -> u64
-    ensures { result ≡ kinds_2 name.now }
+    ensures { result ≡ kinds name.now 2 }
 {
     if is_one_of(
         &[
@@ -111,8 +114,9 @@ fn kinds_2(name: &str) -> u64
     0
 }
 
+/// The bit of the kind of a predicate of three arguments, or 0.
 fn kinds_3(name: &str) -> u64
-    ensures { result ≡ kinds_3 name.now }
+    ensures { result ≡ kinds name.now 3 }
 {
     if is_one_of(&["write_term", "format"], name) {
         return OUTPUT;
@@ -129,8 +133,9 @@ fn kinds_3(name: &str) -> u64
     0
 }
 
+/// The bit of the kind of a predicate of four arguments, or 0.
 fn kinds_4(name: &str) -> u64
-    ensures { result ≡ kinds_4 name.now }
+    ensures { result ≡ kinds name.now 4 }
 {
     if is_one_of(&["open"], name) {
         return STREAMS;

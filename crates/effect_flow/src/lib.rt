@@ -11,6 +11,7 @@
 
 mod carriers;
 mod firsts;
+mod grouped;
 mod height_order;
 mod heights;
 mod kinds;

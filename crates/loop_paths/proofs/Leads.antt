@@ -1,5 +1,6 @@
 -- What is found is the least.
-use Rattle.std.proofs.Common.{◌≡◌, ◌⊎◌, inl, inr, ℕ, ◌<◌, ◌≤◌, ◌+◌, Bool, List, [], ◌∷◌, ◌++◌, length, get_or, sym, ap, ◌∙◌, arith, subst}
+use Rattle.std.proofs.Common.{◌≡◌, ◌⊎◌, inl, inr, ℕ, ◌<◌, ◌≤◌, ◌+◌, Bool, List, [], ◌∷◌, ◌++◌, Option, None, Some, Vec, length, get_or, sym, ap, ◌∙◌, arith, subst}
+use Rattle.std.specs.Prelude.{MatchOption}
 use Rattle.std.proofs.lemmas.Bool.{cases_eq, cases_lt}
 use Rattle.std.proofs.lemmas.List.{append_assoc, append-nil, length_push}
 use Rattle.graph_law.specs.Reach.{IsWalk}
@@ -162,3 +163,10 @@ circuit_least calls p lead least =
 pub circuit_none : (calls : ℕ → ℕ → Type 0) (p : ℕ) → ((lead : List ℕ) → IsLead calls p p lead → ⊥)
     → (walk : List ℕ) → IsClosedWalk calls p walk → ⊥
 circuit_none calls p none walk is = let split = path_split calls p p walk is.0 is.1 in none split.0 split.2
+
+-- as it is said of a vector that may be there
+pub circuit_from_lead : {A : Type 0} (calls : ℕ → ℕ → Type 0) (p : ℕ) (found : Option (Vec ℕ A))
+    → MatchOption found ((path : List ℕ) → IsLead calls p p path → ⊥) (λ path. IsLeast (IsLead calls p p) path.items)
+    → MatchOption found ((walk : List ℕ) → IsClosedWalk calls p walk → ⊥) (λ circuit. IsLeast (λ walk. IsClosedWalk calls p walk) (circuit.items ++ p ∷ []))
+circuit_from_lead calls p None none = circuit_none calls p none
+circuit_from_lead calls p (Some path) least = circuit_least calls p path.items least

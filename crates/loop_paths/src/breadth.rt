@@ -1,4 +1,5 @@
-ghost use Rattle.std.specs.Prelude.{IsTrue, ◌≡◌, ◌<◌, ◌+◌, ◌↔◌, ℕ, List, not, true, false, length, slice_index, slice_index_or, count_by, All, Contains, MatchOption, IfOk, OnOk};
+ghost use Rattle.std.specs.Prelude.{IsTrue, ◌≡◌, ◌<◌, ◌+◌, ◌↔◌, ℕ, List, not, true, false, length, slice_index, slice_index_or, count_by};
+ghost use Rattle.std.specs.Prelude.{All, Contains, MatchOption, IfOk, OnOk};
 ghost use Rattle.std.specs.List.Sorted.{IsStrictlyIncreasing};
 ghost use Rattle.graph_law.specs.Graph.{Calls};
 ghost use Rattle.loop_paths.specs.Found.{IsFound};
@@ -10,19 +11,20 @@ use crate::tree::Tree;
 use graph_law::{Opener, stamp};
 use std::alloc::{AllocError, Global};
 
-/// The nodes that `node` calls, ascending and each once.
-fn callees<O: Opener>(alloc: Global, opener: &O, node: u32) -> Result<Vec<u32>, AllocError>
+/// Puts the nodes that `node` calls into `callees`, ascending and each once.
+fn open<O: Opener>(opener: &O, node: u32, callees: &mut Vec<u32>) -> Result<(), AllocError>
     requires { node < length (O.lists opener.now) }
-    ensures ascending { IfOk result (λ nodes. IsStrictlyIncreasing nodes.items) }
-    ensures calls { IfOk result (λ nodes. (q : ℕ) → Contains nodes.items q ↔ Calls (O.lists opener.now) node q) }
+    ensures ascending { OnOk result (IsStrictlyIncreasing callees.new.items) }
+    ensures calls { OnOk result ((q : ℕ) → Contains callees.new.items q ↔ Calls (O.lists opener.now) node q) }
 {
-    let mut callees = Vec::new(alloc);
-    opener.expand(node, &mut callees)?;
+    callees.clear();
+    opener.expand(node, callees)?;
     callees.sort_unstable();
     callees.dedup();
-    Ok(callees)
+    Ok(())
 }
 
+/// Whether the node is one of these.
 fn has(nodes: &[u32], node: u32) -> bool
     ensures { IsTrue result ↔ Contains nodes.now node }
 {
@@ -34,7 +36,8 @@ fn meet(tree: &mut Tree, seen: &mut [bool], place: usize, callees: &[u32]) -> Re
     requires ascending { IsStrictlyIncreasing callees.now }
     requires below { All (λ callee. callee < length seen.old) callees.now }
     ensures each { OnOk result (length seen.new ≡ length seen.old) }
-    ensures balance { OnOk result (count_by (λ mark. not mark) seen.new + length tree.new.nodes.items ≡ count_by (λ mark. not mark) seen.old + length tree.old.nodes.items) }
+    ensures balance { OnOk result (count_by (λ mark. not mark) seen.new + length tree.new.nodes.items
+        ≡ count_by (λ mark. not mark) seen.old + length tree.old.nodes.items) }
     ensures grown { OnOk result ((lists : List (List ℕ)) (from to : ℕ)
         → IsGrown (Calls lists) from to tree.old.nodes.items tree.old.callers.items seen.old place
         → place < length tree.old.nodes.items
@@ -67,10 +70,12 @@ fn grow<O: Opener>(
         → IsGrown (Calls (O.lists opener.now)) from to tree.old.nodes.items tree.old.callers.items seen.old 0
         → IsFound (O.lists opener.now) from to tree.new.nodes.items tree.new.callers.items seen.new found) }
 {
+    // That successors are nodes is promised by `count`.
     let _count = opener.count();
+    let mut callees = Vec::new(alloc);
     let mut place = 0;
     while place < tree.nodes.len() {
-        let callees = callees(alloc, opener, tree.nodes[place])?;
+        open(opener, tree.nodes[place], &mut callees)?;
         if has(&callees, to) {
             return Ok(Some(place));
         }

@@ -1,4 +1,4 @@
-ghost use Rattle.std.specs.Prelude.{◌≡◌, OnOk, OnErr, [], slice_index};
+ghost use Rattle.std.specs.Prelude.{◌≡◌, ◌==◌, slice_index};
 ghost use Rattle.loop_paths.specs.Inner.{inner_nodes};
 
 use graph_law::Opener;
@@ -21,24 +21,16 @@ fn place_of(places: &[usize], node: u32) -> usize
     }
 }
 
-/// Puts those of the callees that are in the group of the node into `out`, which is empty.
-fn push_inner(
-    places: &[usize],
-    node: u32,
-    callees: &[u32],
-    out: &mut Vec<u32>,
-) -> Result<(), AllocError>
-    requires { out.old.items ≡ [] }
-    ensures { OnOk result (out.new.items ≡ inner_nodes places.now node callees.now) }
+/// Leaves those of the callees that are in the group of the node.
+fn keep_inner(places: &[usize], node: u32, callees: &mut Vec<u32>)
+    ensures { callees.new.items ≡ inner_nodes places.now node callees.old.items }
 {
     let own = place_of(places, node);
-    for &callee in callees {
-        if place_of(places, callee) != own {
-            continue;
-        }
-        out.push(callee)?;
-    }
-    Ok(())
+    callees.retain(
+        |callee: &u32| -> bool
+            ensures { result ≡ (slice_index places.entry.now callee.now == own) }
+        { place_of(places, *callee) == own },
+    );
 }
 
 impl<'a, O: Opener> Opener for Inner<'a, O> {
@@ -51,14 +43,8 @@ impl<'a, O: Opener> Opener for Inner<'a, O> {
     }
 
     fn expand(&self, node: u32, out: &mut Vec<u32>) -> Result<(), AllocError> {
-        let mut callees = Vec::new(*out.allocator());
-        self.opener.expand(node, &mut callees)?;
-        match push_inner(self.places, node, &callees, out) {
-            Ok(()) => Ok(()),
-            Err(error) => {
-                out.clear();
-                Err(error)
-            }
-        }
+        self.opener.expand(node, out)?;
+        keep_inner(self.places, node, out);
+        Ok(())
     }
 }

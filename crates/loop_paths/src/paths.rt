@@ -45,8 +45,6 @@ pub fn circuit<O: Opener>(
         (λ circuit. IsLeast (λ walk. IsClosedWalk (Calls (O.lists opener.now)) node walk) (circuit.items ++ node ∷ []))) }
 {
     let mut seen = vec![in alloc; false; opener.count() as usize]?;
-    let Some(circuit) = lead(alloc, opener, node, node, &mut seen)? else {
-        return Ok(None);
-    };
-    Ok(Some(circuit))
+    let found = lead(alloc, opener, node, node, &mut seen)?;
+    Ok(found)
 }

@@ -37,9 +37,11 @@ impl Tree {
 
     /// The path to the node at that place.
     pub(crate) fn path(&self, alloc: Global, place: usize) -> Result<Vec<u32>, AllocError>
-        requires tree { (lists : List (List ℕ)) × (from : ℕ) × (paths : List (List ℕ)) × IsTree (Calls lists) from self.now.nodes.items self.now.callers.items paths }
+        requires tree { (lists : List (List ℕ)) × (from : ℕ) × (paths : List (List ℕ))
+            × IsTree (Calls lists) from self.now.nodes.items self.now.callers.items paths }
         requires within { place < length self.now.nodes.items }
-        ensures { (lists : List (List ℕ)) (from : ℕ) (paths : List (List ℕ)) → IsTree (Calls lists) from self.now.nodes.items self.now.callers.items paths
+        ensures { (lists : List (List ℕ)) (from : ℕ) (paths : List (List ℕ))
+            → IsTree (Calls lists) from self.now.nodes.items self.now.callers.items paths
             → IfOk result (λ path. path.items ≡ path_at paths place) }
     {
         let mut path = Vec::new(alloc);

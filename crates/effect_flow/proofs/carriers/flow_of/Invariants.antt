@@ -8,5 +8,5 @@ use Rattle.effect_flow.proofs.carriers.flow_of.Given as goal
 abbrev pub invariant-loop-member : goal.invariant-loop-member
 invariant-loop-member g l =
     (kind : ℕ) → kind < 7
-    → IsFirst (IsOfMember (g.O.Opener.lists l.opener) l.own l.places l.place (see_flows l.flows) kind (take l.member-index l.member-items))
+    → IsFirst (IsOfMember (g.O.Opener.lists l.grouped.opener.now) l.grouped.own.now l.grouped.places.now l.place (see_flows l.flows) kind (take l.member-index l.member-items))
     (first_at (see_flow l.flow) kind)

@@ -14,15 +14,15 @@ pub add_flows-requires-clause-next : goal.add_flows-requires-clause-next
 add_flows-requires-clause-next g c κs within =
     let order : List ℕ = c.in_ok-order.order.items in
     let long : length order ≡ c.len.result = (let len = c.len.ensures in let ok = c.in_ok-order.order.ok.0 in omega (arith, len, ok)) in
-    let most : c.height_end-to.result ≤ length order = (let le = c.height_end-to.ensures.most in let is = ap length c.deref.ensures.value in omega (arith, le, is)) in
-    let level = rw c.deref.ensures.value at c.height_end-to.ensures.level in
+    let most : c.height_end-to.result ≤ length order = (let le = c.height_end-to.ensures.most in let is = ap length c.deref-in-loop-from.ensures.value in omega (arith, le, is)) in
+    let level = rw c.deref-in-loop-from.ensures.value at c.height_end-to.ensures.level in
     rw (c.deref_mut.ensures.value, c.deref-in-loop-from-2.ensures.value)
     (all_next c.requires.leveled c.in_ok-order.ensures c.loop-from.invariant (omega (arith, c.loop-from-test.true, long)) most level)
 
 pub loop-from-preserved : goal.loop-from-preserved
 loop-from-preserved g c =
     let order : List ℕ = c.in_ok-order.order.items in
-    let most : c.height_end-to.result ≤ length order = (let le = c.height_end-to.ensures.most in let is = ap length c.deref.ensures.value in omega (arith, le, is)) in
+    let most : c.height_end-to.result ≤ length order = (let le = c.height_end-to.ensures.most in let is = ap length c.deref-in-loop-from.ensures.value in omega (arith, le, is)) in
     let new = c.add_flows.new.flows in
     let old = c.loop-from.flows.items in
     let is = rw (c.deref_mut.ensures.value, c.deref-in-loop-from-2.ensures.value) at c.in_ok-add_flows.ensures in

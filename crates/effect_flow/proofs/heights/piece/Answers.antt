@@ -7,5 +7,5 @@ use Rattle.effect_flow.proofs.heights.piece.Goals as goal
 
 pub returns : goal.returns
 returns g c =
-    subst (λ places. AreFound (g.O.Opener.lists c.args.opener.now) c.args.own.now (lists_of c.args.groups.now) places (see_flows c.push_flows.new.found.items))
+    subst (λ places. AreFound (g.O.Opener.lists c.args.grouped.now.opener.now) c.args.grouped.now.own.now (lists_of c.args.grouped.now.groups.now) places (see_flows c.push_flows.new.found.items))
     (piece_same c.args.stretch.now c.args.number c.min.result c.min.ensures) c.in_ok-push_flows.ensures

@@ -6,4 +6,4 @@ use Rattle.effect_flow.proofs.heights.push_pieces.Given as goal
 
 -- the flows of the pieces so far
 abbrev pub invariant-loop-one : goal.invariant-loop-one
-invariant-loop-one g l = AreFound (g.O.Opener.lists l.opener) l.own (lists_of l.groups) (take (l.one-index * 512) l.stretch) (see_flows l.found.items)
+invariant-loop-one g l = AreFound (g.O.Opener.lists l.grouped.opener.now) l.grouped.own.now (lists_of l.grouped.groups.now) (take (l.one-index * 512) l.stretch) (see_flows l.found.items)

@@ -5,8 +5,8 @@ use Rattle.loop_paths.proofs.Climbing.{read_is}
 use Rattle.loop_paths.proofs.Searching.{node_within, callees_within, as_read}
 use Rattle.loop_paths.proofs.breadth.grow.Goals as goal
 
-pub callees-requires-after_bounds : goal.callees-requires-after_bounds
-callees-requires-after_bounds g c κs within =
+pub open-requires-after_bounds : goal.open-requires-after_bounds
+open-requires-after_bounds g c κs within =
     let nodes = c.loop-place.tree.nodes.items in
     let lt : c.loop-place.place < length nodes = omega (arith, c.loop-place-test.true, c.len.ensures) in
     let is = read_is nodes c.loop-place.place c.index.result.now lt c.index.ensures in
@@ -20,15 +20,15 @@ returns-then-has-clause-found g c = λ from begun.
     let lists = g.O.Opener.lists c.args.opener.now in
     let lt : c.loop-place.place < length nodes = omega (arith, c.loop-place-test.true, c.len.ensures) in
     let is = read_is nodes c.loop-place.place c.index.result.now lt c.index.ensures in
-    let are = as_read lists nodes c.in_ok-callees.callees.items c.deref.result.now c.loop-place.place c.index.result.now is c.deref.ensures.value c.in_ok-callees.ensures.calls in
+    let are = as_read lists nodes c.open.new.callees.items c.deref.result.now c.loop-place.place c.index.result.now is c.deref.ensures.value c.in_ok-open.ensures.calls in
     (c.loop-place.invariant.grown from begun, lt, (are c.args.to).0 (c.if-has.ensures.0 refl))
 
 pub meet-requires-clause-below : goal.meet-requires-clause-below
 meet-requires-clause-below g c =
     let lists = g.O.Opener.lists c.args.opener.now in
     rw c.deref-in-loop-place.ensures.value
-    (callees_within lists c.index.result.now (length c.loop-place.seen) c.in_ok-callees.callees.items c.count-count.ensures.closed
-    (sym (c.loop-place.invariant.each ∙ c.requires.each)) c.in_ok-callees.ensures.calls)
+    (callees_within lists c.index.result.now (length c.loop-place.seen) c.open.new.callees.items c.count-count.ensures.closed
+    (sym (c.loop-place.invariant.each ∙ c.requires.each)) c.in_ok-open.ensures.calls)
 
 pub loop-place-preserved : goal.loop-place-preserved
 loop-place-preserved g c =
@@ -36,7 +36,7 @@ loop-place-preserved g c =
     let lists = g.O.Opener.lists c.args.opener.now in
     let lt : c.loop-place.place < length nodes = omega (arith, c.loop-place-test.true, c.len.ensures) in
     let is = read_is nodes c.loop-place.place c.index.result.now lt c.index.ensures in
-    let are = as_read lists nodes c.in_ok-callees.callees.items c.deref-in-loop-place.result.now c.loop-place.place c.index.result.now is c.deref-in-loop-place.ensures.value c.in_ok-callees.ensures.calls in
+    let are = as_read lists nodes c.open.new.callees.items c.deref-in-loop-place.result.now c.loop-place.place c.index.result.now is c.deref-in-loop-place.ensures.value c.in_ok-open.ensures.calls in
     let none : Contains c.deref-in-loop-place.result.now c.args.to → ⊥ =
     λ has. false≢true (c.if-has.ensures.1 (rw (c.deref.ensures.value ∙ sym c.deref-in-loop-place.ensures.value) has)) in
     record {

@@ -8,11 +8,10 @@ expand-requires-clause-below g c =
     let long = length-inner_lists (g.O.Opener.lists c.args.self.now.opener.now) c.args.self.now.places.now in
     omega (arith, long, c.requires.below)
 
-pub returns-in-Ok-clause-ok : goal.returns-in-Ok-clause-ok
-returns-in-Ok-clause-ok g c =
+pub returns-clause-ok : goal.returns-clause-ok
+returns-clause-ok g c =
     let lists = g.O.Opener.lists c.args.self.now.opener.now in
     let places = c.args.self.now.places.now in
     let long = length-inner_lists lists places in
     let below : c.args.node < length lists = omega (arith, long, c.requires.below) in
-    c.in-Ok.ensures ∙ (ap (inner_nodes places c.args.node) (c.deref.ensures.value ∙ c.in_ok-expand.ensures.ok)
-    ∙ sym (inner_list_at lists places c.args.node below))
+    c.keep_inner.ensures ∙ (ap (inner_nodes places c.args.node) c.in_ok-expand.ensures.ok ∙ sym (inner_list_at lists places c.args.node below))

@@ -1,5 +1,5 @@
 use Rattle.loop_paths.proofs.Sorted.{sorted_rises, sorted_has, as_calls}
-use Rattle.loop_paths.proofs.breadth.callees.Goals as goal
+use Rattle.loop_paths.proofs.breadth.open.Goals as goal
 
 pub returns-clause-ascending : goal.returns-clause-ascending
 returns-clause-ascending g c =
