@@ -14,5 +14,6 @@ pub mod RootLemmas
 pub mod KindLemmas
 pub mod PartLemmas
 pub mod GroupLemmas
+mod SharedCalls
 pub mod RunLemmas
 pub mod AskedNames
