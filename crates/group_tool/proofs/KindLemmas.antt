@@ -13,7 +13,7 @@ use Rattle.effect_flow.specs.Kinds.{kinds}
 use Rattle.import_rules.specs.declared.names.PredName.{PredName}
 use Rattle.import_rules.specs.Program.{Seen}
 use Rattle.call_edges.specs.Unresolved.{AreUnresolved, IsUnresolved}
-use Rattle.group_tool.specs.Parts.{AreOwnKinds, HasEffect, IsOfSome}
+use Rattle.group_tool.specs.Parts.{AreOwnKinds, HasEffect, SomeHasKind}
 
 -- a bit that is set is 1
 set_one : (n k : ℕ) → IsBitSet n k → bit_at n k ≡ 1
@@ -52,7 +52,7 @@ or_cases a b k set = elim (cases_eq (bit_at a k) 1) [
 
 -- the number has the kinds of the names
 abbrev pub AreKinds : List PredName → ℕ → Type 0
-AreKinds names all = (kind : ℕ) → IsBitSet all kind ↔ IsOfSome names kind
+AreKinds names all = (kind : ℕ) → IsBitSet all kind ↔ SomeHasKind names kind
 
 pub kinds_none : AreKinds [] 0
 kinds_none kind = (
