@@ -2,10 +2,9 @@ use crate::graphs::graph_of;
 use crate::keeper::Keeper;
 use group_feed::drive_feed;
 use search_pool::Gate;
-use std::hint;
 use std::sync::atomic::{AtomicBool, AtomicU64, Ordering};
 use std::test::Fail;
-use std::thread;
+use std::{hint, thread};
 
 /// How often the gate looks whether a group was taken.
 const TURNS: u32 = 50_000_000;

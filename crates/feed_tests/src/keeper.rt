@@ -21,7 +21,13 @@ impl<'a> Keeper<'a> {
     ghost use Rattle.graph_law.specs.Graph.{lists_of};
 
     /// It has taken nothing.
-    pub(crate) fn new(alloc: Global, graph: &'a Graph, taken: &'a AtomicU64, room: usize, loops: u32) -> Keeper<'a>
+    pub(crate) fn new(
+        alloc: Global,
+        graph: &'a Graph,
+        taken: &'a AtomicU64,
+        room: usize,
+        loops: u32,
+    ) -> Keeper<'a>
         ensures graph { result.graph.now ≡ graph.now }
         ensures groups { lists_of result.groups.items ≡ [] }
     {

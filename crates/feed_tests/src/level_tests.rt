@@ -9,7 +9,10 @@ fn levels_come_with_the_groups(rt: HostRuntime) -> Result<(), Fail> {
     let graph = graph_of(alloc, &[&[1], &[0, 2], &[3], &[3]], &[0])?;
     let mut taker = LevelTaker::new(alloc, &graph)?;
     let groups = drive_feed(&rt, alloc, &graph, graph.roots(), 2, &OpenGate, &mut taker)?;
-    assert_eq!(rt; format!(in alloc; "{groups:?}")?.as_str(), "[[3], [2], [0, 1]]");
+    assert_eq!(rt;
+        format!(in alloc; "{groups:?}")?.as_str(),
+        "[[3], [2], [0, 1]]"
+    );
     let levels = taker.levels();
     assert_eq!(rt;
         format!(in alloc; "{levels:?}")?.as_str(),

@@ -34,7 +34,15 @@ fn ends_where_one_node_cannot_be_opened(rt: HostRuntime) -> Result<(), Fail> {
             node,
         };
         let mut keeper = Keeper::new(alloc, &graph, &taken, 9, 0);
-        let answer = drive_feed(&rt, alloc, &starved, graph.roots(), 2, &OpenGate, &mut keeper);
+        let answer = drive_feed(
+            &rt,
+            alloc,
+            &starved,
+            graph.roots(),
+            2,
+            &OpenGate,
+            &mut keeper,
+        );
         assert!(rt; answer.is_err());
     }
     Ok(())

@@ -11,7 +11,15 @@ fn many_workers_wait_for_no_slow_taker(rt: HostRuntime) -> Result<(), Fail> {
     let graph = graph_of(alloc, &[&[1], &[0], &[], &[2], &[3, 1], &[4]], &[5, 0])?;
     let taken = AtomicU64::new(0);
     let mut keeper = Keeper::new(alloc, &graph, &taken, 5, 1_000_000);
-    let groups = drive_feed(&rt, alloc, &graph, graph.roots(), 64, &OpenGate, &mut keeper)?;
+    let groups = drive_feed(
+        &rt,
+        alloc,
+        &graph,
+        graph.roots(),
+        64,
+        &OpenGate,
+        &mut keeper,
+    )?;
     assert_eq!(rt; groups.len(), 5);
     assert!(rt; groups == keeper.groups);
     Ok(())

@@ -1,5 +1,6 @@
 -- The copies are as many as the groups before them: where no later group is a copy, each earlier one is.
-use Rattle.std.proofs.Common.{◌≡◌, inl, inr, ℕ, zero, suc, ◌<◌, ◌≤◌, ◌+◌, List, [], ◌∷◌, ◌++◌, length, get_or, eqb, false, true≢false, subst, sym, refl, ◌∙◌, arith}
+use Rattle.std.proofs.Common.{◌≡◌, inl, inr, ℕ, zero, suc, ◌<◌, ◌≤◌, ◌+◌, List, []}
+use Rattle.std.proofs.Common.{◌∷◌, ◌++◌, length, get_or, eqb, false, true≢false, subst, sym, refl, ◌∙◌, arith}
 use Rattle.std.proofs.lemmas.Bool.{cases_Bool, cases_lt, ne_eqb}
 use Rattle.std.proofs.lemmas.List.{get_or_append_left, get_or_default, get_or_push, length_push}
 use Rattle.std.proofs.lemmas.List.Elements.{Contains-get_or}
@@ -40,13 +41,16 @@ record AreCopyPlaces (copies groups : List (List ℕ)) (n : ℕ) (places : List 
   pub within : (j : ℕ) → j < n → get_or places j 0 < length groups
   pub at : (j : ℕ) → j < n → Contains (group_at groups (get_or places j 0)) (least_member (group_at copies j))
 
-module _ (lists copies groups : List (List ℕ)) (ordered : AreOrdered lists copies) (legal : IsLegalOrder (Calls lists) groups) (within : AreWithin copies groups)
+module _ (lists copies groups : List (List ℕ)) (ordered : AreOrdered lists copies) (legal : IsLegalOrder (Calls lists) groups)
+    (within : AreWithin copies groups)
     (later : AreNew (length copies) (length groups) groups copies) where
   least_there : (k : ℕ) → k < length copies → HasMember copies (least_member (group_at copies k))
   least_there k lt = record { place = k; within = lt; member = least_is_member (class_at k ordered.legal lt) }
 
   places_of : (k : ℕ) → k ≤ length copies → (places : List ℕ) × AreCopyPlaces copies groups k places
-  places_of zero le = ([], record { each = refl; low = λ j lt. absurd (omega (arith, lt)); within = λ j lt. absurd (omega (arith, lt)); at = λ j lt. absurd (omega (arith, lt)) })
+  places_of zero le =
+      let none : (j : ℕ) → j < 0 → ⊥ = λ j lt. omega (arith, lt) in
+      ([], record { each = refl; low = λ j lt. absurd (none j lt); within = λ j lt. absurd (none j lt); at = λ j lt. absurd (none j lt) })
   places_of (suc k) le =
       let before = places_of k (omega (arith, le)) in
       let places : List ℕ = before.0 in
@@ -62,8 +66,7 @@ module _ (lists copies groups : List (List ℕ)) (ordered : AreOrdered lists cop
       let old : (j : ℕ) → j < k → get_or (places ++ place ∷ []) j 0 ≡ get_or places j 0 =
       λ j lt. get_or_append_left places (place ∷ []) 0 j (omega (arith, lt, each)) in
       let new : (j : ℕ) → k ≤ j → j < suc k → get_or (places ++ place ∷ []) j 0 ≡ place =
-      λ j from lt. get_or_push places place 0 j (omega (arith, from, lt, each)) in
-      (
+      λ j from lt. get_or_push places place 0 j (omega (arith, from, lt, each)) in (
         places ++ place ∷ [],
         record {
           each = omega (arith, long, each);

@@ -45,7 +45,8 @@ ordered_more lists fed groups i ordered legal nodes lt before away =
     let all : List (List ℕ) = fed ++ group ∷ [] in
     let long : length all ≡ length fed + 1 = length_push fed group in
     let old : (k : ℕ) → k < length fed → group_at all k ≡ group_at fed k = λ k k_lt. get_or_append_left fed (group ∷ []) [] k k_lt in
-    let new : (k : ℕ) → length fed ≤ k → k < length all → group_at all k ≡ group = λ k from k_lt. get_or_push fed group [] k (omega (arith, from, k_lt, long)) in
+    let new : (k : ℕ) → length fed ≤ k → k < length all → group_at all k ≡ group =
+    λ k from k_lt. get_or_push fed group [] k (omega (arith, from, k_lt, long)) in
     let there : (k p : ℕ) → k < length fed → Contains (group_at all k) p → HasMember fed p =
     λ k p k_lt has. record { place = k; within = k_lt; member = subst (λ g. Contains g p) (old k k_lt) has } in
     let here : (k p : ℕ) → length fed ≤ k → k < length all → Contains (group_at all k) p → Contains group p =
@@ -63,7 +64,8 @@ ordered_more lists fed groups i ordered legal nodes lt before away =
               | inl j_first ↦
                   elim (cases_lt k (length fed)) [
                     | inl k_first ↦
-                        ordered.legal.once j k p j_first k_first (subst (λ g. Contains g p) (old j j_first) in_j) (subst (λ g. Contains g p) (old k k_first) in_k)
+                        ordered.legal.once j k p j_first k_first (subst (λ g. Contains g p) (old j j_first) in_j)
+                        (subst (λ g. Contains g p) (old k k_first) in_k)
                     | inr k_from ↦ absurd (away p (here k p k_from k_lt in_k) (there j p j_first in_j))
                   ]
               | inr j_from ↦
@@ -77,7 +79,11 @@ ordered_more lists fed groups i ordered legal nodes lt before away =
               | inl first ↦
                   let stands : StandsUpTo fed k q = ordered.legal.callees_first k p q first (subst (λ g. Contains g p) (old k first) in_k) call in
                   let upto = stands.upto in
-                  record { place = stands.place; upto = upto; member = subst (λ g. Contains g q) (sym (old stands.place (omega (arith, upto, first)))) stands.member }
+                  record {
+                    place = stands.place;
+                    upto = upto;
+                    member = subst (λ g. Contains g q) (sym (old stands.place (omega (arith, upto, first)))) stands.member;
+                  }
               | inr from ↦
                   let stands : StandsUpTo groups i q = legal.callees_first i p q lt (here k p from k_lt in_k) call in
                   let upto = stands.upto in
@@ -85,7 +91,11 @@ ordered_more lists fed groups i ordered legal nodes lt before away =
                     | inl earlier ↦
                         let has = before stands.place q earlier stands.member in
                         let has_lt = has.within in
-                        record { place = has.place; upto = omega (arith, has_lt, from); member = subst (λ g. Contains g q) (sym (old has.place has_lt)) has.member }
+                        record {
+                          place = has.place;
+                          upto = omega (arith, has_lt, from);
+                          member = subst (λ g. Contains g q) (sym (old has.place has_lt)) has.member;
+                        }
                     | inr same ↦
                         let is : stands.place ≡ i = omega (arith, upto, same) in
                         record {
@@ -106,7 +116,8 @@ ordered_more lists fed groups i ordered legal nodes lt before away =
 -- before the first group that isn't copied yet
 pub copied_so_far : (lists groups old : List (List ℕ)) (n : ℕ) → AreOrdered lists old → AreWithin old groups → AreCopiedUpTo n groups old
     → IsCopied lists groups old old n
-copied_so_far lists groups old n ordered within upto = record { ordered = ordered; longer = record { more = []; is = sym (append-nil old) }; within = within; upto = upto }
+copied_so_far lists groups old n ordered within upto =
+    record { ordered = ordered; longer = record { more = []; is = sym (append-nil old) }; within = within; upto = upto }
 
 -- a group that is copied
 pub copied_more : (lists groups old new : List (List ℕ)) (n : ℕ) → IsLegalOrder (Calls lists) groups → ((p : ℕ) → HasMember groups p → p < length lists)

@@ -1,5 +1,6 @@
 -- Each step keeps the rule of the line.
-use Rattle.std.proofs.Common.{◌≡◌, ◌≢◌, ℕ, zero, suc, ◌<◌, ◌≤◌, ◌+◌, Bool, true, false, true≢false, List, [], ◌∷◌, ◌++◌, length, set, Option, Some, None, sym, refl, ap, ap₂, ◌∙◌, subst, ⊎_elim, append_assoc, arith}
+use Rattle.std.proofs.Common.{◌≡◌, ◌≢◌, ℕ, zero, suc, ◌<◌, ◌≤◌, ◌+◌, Bool, true, false, true≢false, List, [], ◌∷◌}
+use Rattle.std.proofs.Common.{◌++◌, length, set, Option, Some, None, sym, refl, ap, ap₂, ◌∙◌, subst, ⊎_elim, append_assoc, arith}
 use Rattle.std.specs.Prelude.{Contains}
 use Rattle.std.proofs.lemmas.List.{length-append, get_or_append_left}
 use mathlib.Core.Option.{some, some-ne-none}
@@ -66,7 +67,8 @@ abbrev Behind : List (List ℕ) → Bool → List (List ℕ) → Bool → List (
 Behind pushed ended taken true items = (pushed ≡ taken) × (ended ≡ true) × (items ≡ [])
 Behind pushed ended taken false items = (left : List (List ℕ)) × (pushed ≡ taken ++ left) × (items ≡ parcels left ended)
 
-behind_more : (g h : List ℕ) (pushed taken : List (List ℕ)) (ended through : Bool) (items : List (Option (List ℕ))) → g ≡ h → Behind pushed ended taken through items
+behind_more : (g h : List ℕ) (pushed taken : List (List ℕ)) (ended through : Bool) (items : List (Option (List ℕ))) → g ≡ h
+    → Behind pushed ended taken through items
     → Behind (g ∷ pushed) ended (h ∷ taken) through items
 behind_more g h pushed taken ended true items same b = (ap₂ (λ x xs. x ∷ xs) same b.0, b.1, b.2)
 behind_more g h pushed taken ended false items same b = (b.0, ap₂ (λ x xs. x ∷ xs) same b.1, b.2)
@@ -104,7 +106,8 @@ first_ordered lists taken left all =
       legal = record {
         each = λ k d lt. subst (IsClass (Calls lists)) (get_or_append_left taken left d k lt) (all.legal.each k d (within k lt));
         once = λ i j p i_lt j_lt in_i in_j.
-            all.legal.once i j p (within i i_lt) (within j j_lt) (subst (λ g. Contains g p) (sym (same i i_lt)) in_i) (subst (λ g. Contains g p) (sym (same j j_lt)) in_j);
+            all.legal.once i j p (within i i_lt) (within j j_lt) (subst (λ g. Contains g p) (sym (same i i_lt)) in_i)
+            (subst (λ g. Contains g p) (sym (same j j_lt)) in_j);
         callees_first = λ i p q i_lt in_i call.
             let stands = all.legal.callees_first i p q (within i i_lt) (subst (λ g. Contains g p) (sym (same i i_lt)) in_i) call in
             let upto = stands.upto in
@@ -115,7 +118,12 @@ first_ordered lists taken left all =
             };
       };
       nodes = λ p has.
-          all.nodes p (record { place = has.place; within = within has.place has.within; member = subst (λ g. Contains g p) (sym (same has.place has.within)) has.member });
+          all.nodes p
+          (record {
+            place = has.place;
+            within = within has.place has.within;
+            member = subst (λ g. Contains g p) (sym (same has.place has.within)) has.member;
+          });
     }
 
 -- the groups that were taken are in a legal order
@@ -134,7 +142,8 @@ parcels_push v (Some group) open_yet =
     ap (parcels (v.pushed ++ group ∷ [])) open_yet ∙ parcels_more v.pushed group ∙ ap (λ e. parcels v.pushed e ++ Some group ∷ []) (sym open_yet)
 parcels_push v None open_yet = parcels_end v.pushed ∙ ap (λ e. parcels v.pushed e ++ None ∷ []) (sym open_yet)
 
-push_ordered : (lists : List (List ℕ)) (v : Hand) (x : Option (List ℕ)) → AreOrdered lists v.pushed → MayPush lists v x → AreOrdered lists (after_push v x).pushed
+push_ordered : (lists : List (List ℕ)) (v : Hand) (x : Option (List ℕ)) → AreOrdered lists v.pushed → MayPush lists v x
+    → AreOrdered lists (after_push v x).pushed
 push_ordered lists v (Some group) ordered may = may
 push_ordered lists v None ordered may = ordered
 
@@ -151,8 +160,7 @@ pushes lists n port v x feeds open_yet may items views _ h at =
     let keeps = push_keeps v x in
     let known : Hand = record h.known { pushed = w.pushed; ended = w.ended } in
     let ordered : AreOrdered lists v.pushed = subst (AreOrdered lists) (sym (mine.pushed feeds)) h.ordered in
-    let was : parcels v.pushed v.ended ≡ parcels h.known.taken h.known.through ++ items = ap₂ parcels (mine.pushed feeds) (mine.ended feeds) ∙ h.held in
-    (
+    let was : parcels v.pushed v.ended ≡ parcels h.known.taken h.known.through ++ items = ap₂ parcels (mine.pushed feeds) (mine.ended feeds) ∙ h.held in (
       w,
       record {
         feeder = h.feeder;
@@ -212,8 +220,7 @@ pops lists port v takes x items views h at =
     let open_yet : v.through ≡ false =
     not_through h.known.pushed v.taken h.known.ended v.through x items (behind h.known.pushed h.known.ended v.taken v.through (x ∷ items) was) in
     let held : parcels h.known.pushed h.known.ended ≡ parcels w.taken w.through ++ items =
-    was ∙ sym (append_assoc (parcels v.taken v.through) (x ∷ []) items) ∙ ap (λ l. l ++ items) (sym (parcels_pop v x open_yet)) in
-    (
+    was ∙ sym (append_assoc (parcels v.taken v.through) (x ∷ []) items) ∙ ap (λ l. l ++ items) (sym (parcels_pop v x open_yet)) in (
       w,
       record {
         feeder = h.feeder;
@@ -252,26 +259,30 @@ forks lists port v feeds takes items views h at =
     let mine = h.each port v at in
     let vs : List Hand = set views port l in
     let old : Each (λ j u. (u.takes ≢ true) × Fits h.feeder (length vs) h.known j u) vs =
-    each_set (λ j u. (u.takes ≢ true) × Fits h.feeder (length vs) h.known j u) views port l
-    ((λ t. true≢false (sym t)), record {
-      feeder_is = λ _. mine.feeder_is feeds;
-      pushed = λ _. mine.pushed feeds;
-      ended = λ _. mine.ended feeds;
-      taker_is = λ t. absurd (true≢false (sym t));
-      taken = λ t. absurd (true≢false (sym t));
-      through = λ t. absurd (true≢false (sym t));
-    })
+    each_set (λ j u. (u.takes ≢ true) × Fits h.feeder (length vs) h.known j u) views port l (
+      (λ t. true≢false (sym t)),
+      record {
+        feeder_is = λ _. mine.feeder_is feeds;
+        pushed = λ _. mine.pushed feeds;
+        ended = λ _. mine.ended feeds;
+        taker_is = λ t. absurd (true≢false (sym t));
+        taken = λ t. absurd (true≢false (sym t));
+        through = λ t. absurd (true≢false (sym t));
+      },
+    )
     (λ j u other e.
     let theirs = h.each j u e in
-    let no_taker : u.takes ≢ true = λ t. other (theirs.taker_is t ∙ sym (mine.taker_is takes)) in
-    (no_taker, record {
-      feeder_is = theirs.feeder_is;
-      pushed = theirs.pushed;
-      ended = theirs.ended;
-      taker_is = λ t. absurd (no_taker t);
-      taken = λ t. absurd (no_taker t);
-      through = λ t. absurd (no_taker t);
-    })) in
+    let no_taker : u.takes ≢ true = λ t. other (theirs.taker_is t ∙ sym (mine.taker_is takes)) in (
+      no_taker,
+      record {
+        feeder_is = theirs.feeder_is;
+        pushed = theirs.pushed;
+        ended = theirs.ended;
+        taker_is = λ t. absurd (no_taker t);
+        taken = λ t. absurd (no_taker t);
+        through = λ t. absurd (no_taker t);
+      },
+    )) in
     record {
       feeder = h.feeder;
       taker = length vs;
@@ -356,7 +367,8 @@ few_ordered lists groups ordered =
     few_groups (length lists) groups (λ k d lt. (ordered.legal.each k d lt).inhabited) apart
 
 -- while the end mark wasn't pushed, the line holds at most as many parcels as there are nodes
-pub fit : (lists : List (List ℕ)) (port : ℕ) (v : Hand) → v.feeds ≡ true → v.ended ≡ false → Learns (LineHolds lists) port v (λ items. length items ≤ length lists)
+pub fit : (lists : List (List ℕ)) (port : ℕ) (v : Hand) → v.feeds ≡ true → v.ended ≡ false
+    → Learns (LineHolds lists) port v (λ items. length items ≤ length lists)
 fit lists port v feeds open_yet items views h at =
     let mine = h.each port v at in
     let few : length h.known.pushed ≤ length lists = few_ordered lists h.known.pushed h.ordered in
@@ -371,6 +383,7 @@ fit lists port v feeds open_yet items views h at =
     parcels_long (g ∷ groups) = ap suc (parcels_long groups)
 
 -- once the end mark was taken, all that was pushed was taken
-pub all_taken : (v : Hand) (items : List (Option (List ℕ))) → v.through ≡ true → parcels v.pushed v.ended ≡ parcels v.taken v.through ++ items → v.pushed ≡ v.taken
+pub all_taken : (v : Hand) (items : List (Option (List ℕ))) → v.through ≡ true → parcels v.pushed v.ended ≡ parcels v.taken v.through ++ items
+    → v.pushed ≡ v.taken
 all_taken v items through is =
     (behind v.pushed v.ended v.taken true items (is ∙ ap (λ e. parcels v.taken e ++ items) through)).0

@@ -25,7 +25,8 @@ places_from_below are = record { each = are.each; at = are.at }
 pub levels_so_far : {calls : ℕ → ℕ → Type 0} {groups : List (List ℕ)} {levels : List Level} → AreRaised calls groups levels → AreLevelsSoFar calls groups levels
 levels_so_far are = record { low = are.low; heights = are.heights; marks = are.marks }
 
-raised_from_so_far : {calls : ℕ → ℕ → Type 0} {groups : List (List ℕ)} {levels : List Level} → AreLevelsSoFar calls groups levels → AreRaised calls groups levels
+raised_from_so_far : {calls : ℕ → ℕ → Type 0} {groups : List (List ℕ)} {levels : List Level} → AreLevelsSoFar calls groups levels
+    → AreRaised calls groups levels
 raised_from_so_far are = record { low = are.low; heights = are.heights; marks = are.marks }
 
 -- the groups that were there stand where they stood, and the new one behind them
@@ -112,7 +113,8 @@ old_levels calls taken group levels legal each so_far = record {
   low = so_far.low;
   heights = λ i lt.
       let i_lt : i < length taken = omega (arith, lt, each) in
-      raised_same (GroupCalls calls taken i) (GroupCalls calls (taken ++ group ∷ []) i) levels 0 (level_at levels i).height (λ j led. to_all calls taken group i j led)
+      raised_same (GroupCalls calls taken i) (GroupCalls calls (taken ++ group ∷ []) i) levels 0 (level_at levels i).height
+      (λ j led. to_all calls taken group i j led)
       (λ j led. from_all calls taken group i j legal i_lt led) (so_far.heights i lt);
   marks = λ i lt.
       let i_lt : i < length taken = omega (arith, lt, each) in
@@ -151,11 +153,13 @@ pub heights_low : (lists taken : List (List ℕ)) (group : List ℕ) (places : L
 heights_low lists taken group places levels ordered are small =
     let long : length (taken ++ group ∷ []) ≡ length taken + 1 = length_push taken group in
     let each = are.each in
-    heights_fit ordered.legal ordered.nodes small (omega (arith, long, each)) (old_levels (Calls lists) taken group levels ordered.legal each (levels_so_far are.raised))
+    heights_fit ordered.legal ordered.nodes small (omega (arith, long, each))
+    (old_levels (Calls lists) taken group levels ordered.legal each (levels_so_far are.raised))
 
 -- where a member's callee stands
 pub callee_within : (lists taken : List (List ℕ)) (group : List ℕ) (new : List ℕ) → AreOrdered lists (taken ++ group ∷ [])
-    → ArePlacesBelow (length lists) (taken ++ group ∷ []) (length taken + 1) new → (p q : ℕ) → Contains group p → Calls lists p q → get_or new q 0 ≤ length taken
+    → ArePlacesBelow (length lists) (taken ++ group ∷ []) (length taken + 1) new → (p q : ℕ) → Contains group p → Calls lists p q
+    → get_or new q 0 ≤ length taken
 callee_within lists taken group new ordered placed p q member call =
     (callee_place lists ordered.legal (longer taken group) placed p q (subst (λ g. Contains g p) (sym (new_group taken group)) member) call).0
 
@@ -170,6 +174,7 @@ pub midway : (lists taken : List (List ℕ)) (group old table : List ℕ) (n roo
     → IsMidway lists taken group (take room (table ++ drop (length table) old)) levels
 midway lists taken group old table n room levels ordered are counted fits is =
     let stamped : IsStamped group (length taken) old table = subst (λ k. IsStamped group k old table) (counted ∙ are.each) is in
-    let placed : ArePlacesBelow (length lists) (taken ++ group ∷ []) (length taken + 1) table = stamped_places lists taken group old table ordered (places_below are.placed) stamped in
+    let placed : ArePlacesBelow (length lists) (taken ++ group ∷ []) (length taken + 1) table =
+    stamped_places lists taken group old table ordered (places_below are.placed) stamped in
     rw (take_at table (drop (length table) old) room (is.each ∙ sym fits))
     (record { ordered = ordered; are = leveled_still lists taken group old table levels are placed; placed = placed })

@@ -52,7 +52,6 @@ abbrev pub MayPush : List (List ℕ) → Hand → Option (List ℕ) → Type 0
 MayPush lists v (Some group) = AreOrdered lists (v.pushed ++ group ∷ [])
 MayPush lists v None = ⊤
 
-
 -- one pass at most may push, and knows what was pushed; and one may take, and knows what was taken
 pub record Fits (feeder taker : ℕ) (known : Hand) (port : ℕ) (v : Hand) : Type 0 where
   pub feeder_is : v.feeds ≡ true → port ≡ feeder

@@ -50,11 +50,7 @@ pub(crate) fn push<N: Graph, R: Wait>(
 }
 
 /// Waits for the next parcel, where the end mark wasn't taken yet. The promise holds if the call returns.
-pub(crate) fn next<N: Graph, R: Wait>(
-    rt: &R,
-    line: &Line<N>,
-    pass: &mut LinePass,
-) -> Option<Parcel>
+pub(crate) fn next<N: Graph, R: Wait>(rt: &R, line: &Line<N>, pass: &mut LinePass) -> Option<Parcel>
     requires queue { IsPassOf line.now pass.old }
     requires takes { (view pass.old).takes ≡ true }
     requires open_yet { (view pass.old).through ≡ false }

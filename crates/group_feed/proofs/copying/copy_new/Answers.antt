@@ -59,7 +59,8 @@ loop-at-preserved c =
     λ has. true≢false (sym (c.holds.ensures.1 (subst (HasMember copies) (sym first) has)) ∙ c.if-holds.false) in
     let copy_is : c.in_ok-copy.copy.items ≡ group_at groups n = c.in_ok-copy.ensures ∙ ap (λ l. group_at l n) same in
     let grown : c.append.new.self.groups ≡ copies ++ group_at groups n ∷ [] =
-    appended_as_is c.loop-at.copies c.append.new.self (group_at groups n) (class_at n c.keeps.ensures.good.legal lt).ascending (rw copy_is at c.append.ensures) in
+    appended_as_is c.loop-at.copies c.append.new.self (group_at groups n) (class_at n c.keeps.ensures.good.legal lt).ascending
+    (rw copy_is at c.append.ensures) in
     record {
       count = c.append.ensures.count ∙ c.loop-at.invariant.count;
       copied = rw grown

@@ -27,7 +27,8 @@ returns c =
     let long : length (lists_of behind) ≡ length groups =
     ap length (c.groups-at-end.ensures.groups ∙ ap (λ (r : ReleasedGroups). r.groups) c.released-released.ensures) in
     let passed = c.loop-at-test.false in
-    let made : length c.groups-copied.result.now ≡ length copies = sym (length-lists_of c.groups-copied.result.now) ∙ ap length c.groups-copied.ensures.groups in
+    let made : length c.groups-copied.result.now ≡ length copies =
+    sym (length-lists_of c.groups-copied.result.now) ∙ ap length c.groups-copied.ensures.groups in
     subst (λ n. AreCopiedUpTo n groups copies) (sym made)
     (copied_before c.args.book.now.lists copies groups c.requires.ordered c.keeps.ensures.good.legal c.requires.within
     (λ i p from lt. c.loop-at.invariant i p (omega (arith, from, made)) (omega (arith, lt, long, passed, length-lists_of behind))))

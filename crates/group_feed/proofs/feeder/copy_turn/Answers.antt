@@ -50,5 +50,6 @@ returns-clause-are g c =
       ordered = subst (λ (l : List (List ℕ)). AreOrdered l copies) lists c.copy_or_fail-goes_on.ensures.ordered;
       reached = λ v has.
           subst (λ (r : List ℕ). IsReached (Calls c.args.claims.now.lists) r v) roots
-          (subst (λ (l : List (List ℕ)). IsReached (Calls l) c.book.result.now.roots v) lists (c.copy_or_fail-goes_on.ensures.reached v (c.copy_or_fail-goes_on.ensures.within v has)));
+          (subst (λ (l : List (List ℕ)). IsReached (Calls l) c.book.result.now.roots v) lists
+          (c.copy_or_fail-goes_on.ensures.reached v (c.copy_or_fail-goes_on.ensures.within v has)));
     }

@@ -25,5 +25,6 @@ returns-then-fed_roots-roots-clause-found g c =
       pushed = answer ∙ sym pushed ∙ sym (ap (λ (v : Hand). v.pushed) c.push-then-fed_roots-roots.ensures.pushed);
       are = subst (AreFed c.args.claims.now) (sym answer) c.copy_turn-after.ensures.are;
       complete = subst (λ (starts : List ℕ). IsComplete starts (lists_of c.into_groups.result.items)) (sym c.requires.roots)
-          (subst (λ (groups : List (List ℕ)). IsComplete roots groups) (sym answer) (subst (All (HasMember copies)) all c.copied_roots-fed_roots.ensures.copied));
+          (subst (λ (groups : List (List ℕ)). IsComplete roots groups) (sym answer)
+          (subst (All (HasMember copies)) all c.copied_roots-fed_roots.ensures.copied));
     }

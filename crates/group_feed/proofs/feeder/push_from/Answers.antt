@@ -21,11 +21,10 @@ loop-at-preserved g c =
     let n : ℕ = c.loop-at.at in
     let lt : n < length groups =
     subst (λ (l : List (List ℕ)). n < length l) c.groups-at-end.ensures.groups (within_lists c.groups-at-end.result.now n c.loop-at-test.true) in
-    let is : c.in_ok-nodes.nodes.items ≡ get_or groups n [] = c.in_ok-nodes.ensures in
-    (
+    let is : c.in_ok-nodes.nodes.items ≡ get_or groups n [] = c.in_ok-nodes.ensures in (
       c.push.ensures.queue,
       ap (λ (v : Hand). v.feeds) c.push.ensures.pushed ∙ c.loop-at.invariant.1,
       ap (λ (v : Hand). v.ended) c.push.ensures.pushed ∙ c.loop-at.invariant.2,
       ap (λ (v : Hand). v.pushed) c.push.ensures.pushed
-      ∙ (ap₂ (λ (xs : List (List ℕ)) (x : List ℕ). xs ++ x ∷ []) c.loop-at.invariant.3 is ∙ sym (take_more groups n [] lt)),
+          ∙ (ap₂ (λ (xs : List (List ℕ)) (x : List ℕ). xs ++ x ∷ []) c.loop-at.invariant.3 is ∙ sym (take_more groups n [] lt)),
     )

@@ -27,7 +27,8 @@ loop-member-init g c =
     record {
       opener = refl;
       trail = refl;
-      midway = midway lists taken c.args.group.now c.self.inside.places.items c.stamp.new.table c.len.result c.self.inside.places.len c.self.inside.levels.items ordered
+      midway = midway lists taken c.args.group.now c.self.inside.places.items c.stamp.new.table c.len.result c.self.inside.places.len
+          c.self.inside.levels.items ordered
           c.self.invariant (c.len.ensures ∙ c.self.inside.levels.ok.0) c.self.inside.places.ok.0 stamped;
       seen = search rules;
     }
@@ -55,7 +56,8 @@ raised-height-requires-clause-known g c = λ k d lt.
     let call : Calls lists member (get_or c.deref.result.now k d) =
     subst (λ each. Contains each (get_or c.deref.result.now k d)) is (Contains-get_or c.deref.result.now k d lt) in
     let low : get_or c.loop-member.self-inside.places.items (get_or c.deref.result.now k d) 0 ≤ length taken =
-    callee_within lists taken c.args.group.now c.loop-member.self-inside.places.items c.loop-member.invariant.midway.ordered c.loop-member.invariant.midway.placed member
+    callee_within lists taken c.args.group.now c.loop-member.self-inside.places.items c.loop-member.invariant.midway.ordered
+    c.loop-member.invariant.midway.placed member
     (get_or c.deref.result.now k d) (Contains-get_or c.args.group.now n 0 c.loop-member-test.true) call in
     rw (c.deref-in-loop-member.ensures.value, c.deref-in-loop-member-2.ensures.value, c.loop-member.invariant.midway.are.each) low
 
@@ -96,7 +98,8 @@ invariant_of-self-2 g c =
     let lists : List (List ℕ) = g.O.Opener.lists c.loop-member.self-inside.opener.now in
     let taken : List (List ℕ) = c.loop-member.self-inside.trail in
     rw (c.add.ensures, c.in_ok-push.ensures.items)
-    (leveled_more lists taken c.args.group.now c.loop-member.self-inside.places.items c.loop-member.self-inside.places.items c.loop-member.self-inside.levels.items
+    (leveled_more lists taken c.args.group.now c.loop-member.self-inside.places.items c.loop-member.self-inside.places.items
+    c.loop-member.self-inside.levels.items
     (record { height = c.loop-member.height; recursive = c.loop-member.recursive }) c.loop-member.invariant.midway.ordered c.loop-member.invariant.midway.are
     c.loop-member.invariant.midway.placed (seen_all c.loop-member.invariant.seen c.loop-member-test.false))
 

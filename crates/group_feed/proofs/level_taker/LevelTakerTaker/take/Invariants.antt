@@ -10,5 +10,6 @@ invariant-loop-member g l = record {
   midway :
       IsMidway (g.O.Opener.lists l.self-inside.opener.now) l.self-inside.trail l.group l.self-inside.places.items l.self-inside.levels.items;
   seen :
-      AreMembersSeen (g.O.Opener.lists l.self-inside.opener.now) l.self-inside.places.items l.self-inside.levels.items l.group l.member-index l.height l.recursive;
+      AreMembersSeen (g.O.Opener.lists l.self-inside.opener.now) l.self-inside.places.items l.self-inside.levels.items l.group l.member-index
+      l.height l.recursive;
 }
