@@ -188,7 +188,7 @@ module _ (laws : PartLaws) where
   ]
 
   module _ (seen : Seen) (roots : List ℕ) (groups : List (List ℕ)) (levels : List Level) (below : All (λ q. q < length seen.predicates) roots)
-    (leveled : AreLeveled (Calls (successor_lists seen)) roots groups levels) where
+      (leveled : AreLeveled (Calls (successor_lists seen)) roots groups levels) where
     lists : List (List ℕ)
     lists = successor_lists seen
 

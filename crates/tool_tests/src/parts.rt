@@ -242,7 +242,14 @@ path user:a/0 user:d/0 user:f/0 user:h/0
     ),
     (
         &[
-            "--jobs", "2", "--unreached", "--loops", "--path", "m:c/0,m:a/0", "--effects", "f",
+            "--jobs",
+            "2",
+            "--unreached",
+            "--loops",
+            "--path",
+            "m:c/0,m:a/0",
+            "--effects",
+            "f",
         ],
         WRITER,
         0,
@@ -250,8 +257,16 @@ path user:a/0 user:d/0 user:f/0 user:h/0
     ),
     (
         &[
-            "--path=m:c/0,m:a/0", "--effects", "--loops", "--unreached", "--order", "--searches",
-            "3", "--seed", "2", "f",
+            "--path=m:c/0,m:a/0",
+            "--effects",
+            "--loops",
+            "--unreached",
+            "--order",
+            "--searches",
+            "3",
+            "--seed",
+            "2",
+            "f",
         ],
         WRITER,
         0,
@@ -413,8 +428,7 @@ static KINDS: [(&str, &str); 41] = [
 fn knows_the_effects_of_goals(rt: HostRuntime) -> Result<(), Fail> {
     let alloc = rt.alloc();
     let mut text = String::new(alloc);
-    let mut report =
-        String::from_str(alloc, "predicates 41 groups 41 recursive 0 levels 1\n")?;
+    let mut report = String::from_str(alloc, "predicates 41 groups 41 recursive 0 levels 1\n")?;
     let mut effects = String::new(alloc);
     for (number, (goal, kind)) in (10..51).zip(KINDS.iter()) {
         let clause = format!(in alloc; "p{number} :- {goal}.\n")?;

@@ -2,7 +2,7 @@ use denote.Param.Send.{sendable}
 use Rattle.std.proofs.Crossing.{crosses}
 use Rattle.call_edges.proofs.piece.Piece.TheSendSync as piece
 use Rattle.group_tool.proofs.SharedCalls.{program_shared}
-use Rattle.std.proofs.Common.{◌≡◌, ◌<◌, ◌∙◌, length, sym, subst, ap, arith}
+use Rattle.std.proofs.Common.{◌<◌, ◌∙◌, length, sym, subst, ap, arith}
 use Rattle.graph_law.specs.Graph.{Calls, lists_of}
 use Rattle.graph_law.proofs.GraphLaws.{length-lists_of}
 use Rattle.effect_flow.specs.Carriers.{AreFlows}
