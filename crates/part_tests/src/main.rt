@@ -40,7 +40,7 @@ fn main(rt: HostRuntime) -> io::Result<()> {
         circuits: true,
     };
     for number in 0..MOST_NODES * GRAPHS {
-        let rows = random_rows(alloc, number % MOST_NODES + 1, &mut draws)?;
+        let rows = random_rows(alloc, number % MOST_NODES, &mut draws)?;
         let graph = graph_of(alloc, &rows)?;
         agreed.carriers &= carriers_agree(&rt, alloc, &rows, &graph, &mut draws)?;
         agreed.paths &= paths_agree(alloc, &rows, &graph)?;
