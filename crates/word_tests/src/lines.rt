@@ -127,21 +127,38 @@ f.pl|x/..|=> usage
 --effects|f.pl|=> jobs 1 effects files f.pl
 --effects|f.pl|--effects|=> usage
 --effects=1|f.pl|=> usage
+--effects=|f.pl|=> usage
+--effect|f.pl|=> usage
 --make=5|--effects|=> usage
+--effects|=> usage
 --loops|f.pl|=> jobs 1 loops files f.pl
 --loops|f.pl|--loops|=> usage
---loops=1|f.pl|=> usage
---make=5|--loops|=> usage
+--loops=true|f.pl|=> usage
+--loops=|f.pl|=> usage
+--loop|f.pl|=> usage
+--loops|--make=5|=> usage
+--loops|=> usage
 --path=a:p/0,a:r/0|f.pl|=> jobs 1 path a:p/0 a:r/0 files f.pl
 --path|p/0,p/0|f.pl|=> jobs 1 path user:p/0 user:p/0 files f.pl
+--path=(b/0,((a:c)/1))|f.pl|=> jobs 1 path user:b/0 a:c/1 files f.pl
+--path=a/0,b/4294967295|f.pl|=> jobs 1 path user:a/0 user:b/4294967295 files f.pl
+--path=a/0,b/4294967296|f.pl|=> usage
 --path=a:p/0|f.pl|=> usage
 --path=a/0,b/0,c/0|f.pl|=> usage
+--path=a/0,(b/0,c/0)|f.pl|=> usage
+--path=a/0,b/0,|f.pl|=> usage
 --path=a:p|f.pl|=> usage
 --path=|f.pl|=> usage
+--path||f.pl|=> usage
 --path|-x|f.pl|=> usage
+--path=-/0,a/0|f.pl|=> usage
+--path|--|f.pl|=> usage
 f.pl|--path|=> usage
---path=a/0,b/0|--path=a/0,b/0|f.pl|=> usage
---make=5|--path=a/0,b/0|=> usage
+--path=a/0,b/0|--path|a/0,b/0|f.pl|=> usage
+--path=a/0,b/0|--make=5|=> usage
+--path=a/0,b/0|=> usage
+--loops|--path=q/0,p/0|f.pl|--effects|--unreached|--roots=q/0|--order|=> jobs 1 roots user:q/0 order unreached effects loops path user:q/0 user:p/0 files f.pl
+--|--effects|--loops|--path|=> jobs 1 files --effects.pl --loops.pl --path.pl
 ";
 
 fn push_name(alloc: Global, out: &mut String, root: &PredName) -> Result<(), AllocError> {
