@@ -1,9 +1,9 @@
 -- The parts behind a report exist.
-use Rattle.std.proofs.Common.{◌≡◌, ◌⊎◌, inl, inr, ◌↔◌, ℕ, zero, suc, ◌<◌, ◌++◌, bit_or, Bool, true, false, List, [], ◌∷◌, Option, Some, None, All, Contains, append-nil, length, map, get_or, refl, sym, ap, subst, ◌∙◌, arith}
+use Rattle.std.proofs.Common.{◌≡◌, ◌⊎◌, inl, inr, ◌↔◌, ℕ, zero, suc, ◌<◌, ◌++◌, bit_or, Bool, true, false, List, [], ◌∷◌, Option, Some, None, All, Contains, length, map, get_or, refl, sym, ap, subst, ◌∙◌, arith}
 use Rattle.std.specs.List.{flat_map, range_with_len}
 use Rattle.std.specs.Int.{IsBitSet}
 use Rattle.std.proofs.lemmas.Bool.{cases_lt}
-use Rattle.std.proofs.lemmas.List.{append_assoc, get_or_past}
+use Rattle.std.proofs.lemmas.List.{append-nil, append_assoc, get_or_past}
 use Rattle.std.proofs.lemmas.List.Elements.{All-cons, All-contains, All-head, All-nil, All-tail}
 use Rattle.std.proofs.lemmas.Option.{slice_get_within}
 use Rattle.std.proofs.lemmas.List.FromFn.{get_or-map-range_with_len, length-map-range_with_len}
@@ -35,7 +35,7 @@ use Rattle.loop_report.specs.Report.{IsLineOrder}
 use Rattle.loop_report.specs.Reportable.{AreLeveled, LeastDiffer}
 use Rattle.loop_report.specs.Walks.{circuit_line_at}
 use Rattle.loop_report.proofs.Printable.{least_differ}
-use Rattle.group_tool.specs.Parts.{AreOwnKinds, AreParts, HasEffect, IsOfSome, IsPart, IsPathPart, TellEffects, TellLoops, path_line}
+use Rattle.group_tool.specs.Parts.{AreOwnKinds, AreParts, HasEffect, SomeHasKind, IsPart, IsPathPart, TellEffects, TellLoops, path_line}
 use Rattle.group_tool.specs.Roots.{AreEnds, HasRoots, asked_names}
 use Rattle.group_tool.proofs.GroupLemmas.{members_listed}
 use Rattle.group_tool.proofs.KindLemmas.{AreKinds, kinds_more, kinds_none}
@@ -188,7 +188,7 @@ module _ (laws : PartLaws) where
   ]
 
   module _ (seen : Seen) (roots : List ℕ) (groups : List (List ℕ)) (levels : List Level) (below : All (λ q. q < length seen.predicates) roots)
-    (leveled : AreLeveled (Calls (successor_lists seen)) roots groups levels) where
+      (leveled : AreLeveled (Calls (successor_lists seen)) roots groups levels) where
     lists : List (List ℕ)
     lists = successor_lists seen
 

@@ -8,8 +8,8 @@ ghost use Rattle.group_tool.specs.End.{End};
 
 use call_edges::roots_below;
 use group_words::settings_within;
-use loop_paths::some_shortest;
 use load_law::load_or_faults;
+use loop_paths::some_shortest;
 use program_law::{goal_faults_exist, program_or_faults, roots_exist};
 use report_law::reports_exist;
 use schedule_law::{levels_exist, order_exists, schedule_ends};

@@ -16,10 +16,10 @@ use Rattle.module_table.specs.declared.goal_arg.GoalArg.TheVariants.{Plain, Goal
 use Rattle.call_edges.specs.declared.role.Row.{Row}
 use Rattle.call_edges.specs.declared.role.Way.{Way}
 use Rattle.call_edges.specs.declared.role.Way.TheVariants.{Silent, Behind, Control, Qualified, Calling}
-use Rattle.module_table.specs.Metas.{IsSmall}
+use Rattle.module_table.specs.Metas.{IsSmall, added}
 use Rattle.import_rules.specs.Program.{Seen, IsKnown, meta_meant}
 use Rattle.call_edges.specs.ProgramRows.{standing_by, rows_of}
-use Rattle.call_edges.specs.Goals.{added, first_only, second_only, first_two, first_and_third, adding_row, one_row, two_row, three_row, four_row, row, Standing, by_table, Rows, way, settled, goal_named, qualified_taken, taken_by, taken, role_at}
+use Rattle.call_edges.specs.Goals.{first_only, second_only, first_two, first_and_third, adding_row, one_row, two_row, three_row, four_row, row, Standing, by_table, Rows, way, settled, goal_named, qualified_taken, taken_by, taken, role_at}
 
 -- no argument gets more than n, or than the nine of a declaration
 pub record IsWithin (n : ℕ) (standing : Standing) : Type 0 where

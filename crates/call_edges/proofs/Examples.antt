@@ -298,7 +298,7 @@ each_of_a_module : declared_goals (with (codes ":") (name (codes "m") ∷ with (
     ≡ call (codes "m") (codes "each") 2 ∷ call (codes "m") (codes "show") 1 ∷ []
 each_of_a_module = refl
 
--- `p :- call(each(show), L).`: the first argument is written
+-- `p :- maplist(each(show), L).`: the first argument of `each/2` is written
 each_called : declared_goals (with (codes "maplist") (with (codes "each") (name (codes "show") ∷ []) ∷ var ∷ []))
     ≡ calls (codes "maplist") 2 ∷ calls (codes "each") 2 ∷ calls (codes "show") 1 ∷ []
 each_called = refl

@@ -1,5 +1,5 @@
 -- No body of a program is too heavy.
-use Rattle.std.proofs.Common.{◌≡◌, ℕ, ◌+◌, ◌≤◌, List, [], ◌∷◌, Option, Some, None, All, get_or, codes, slice_get, ap, ◌∙◌, subst, refl, arith}
+use Rattle.std.proofs.Common.{◌≡◌, ℕ, ◌+◌, ◌≤◌, List, Option, Some, None, All, get_or, codes, slice_get, ap, ◌∙◌, subst, refl, arith}
 use Rattle.std.specs.Prelude.{Contains}
 use Rattle.std.specs.List.{enumerate_from}
 use Rattle.std.specs.Option.{option_map}
@@ -14,7 +14,8 @@ use Rattle.module_table.specs.Facts.{Facts}
 use Rattle.file_library.specs.Loaded.{most_bytes}
 use Rattle.import_rules.specs.Program.{Seen, places_in, IsKnown}
 use Rattle.module_table.specs.declared.goal_arg.GoalArg.TheVariants.{Goal, Grammar}
-use Rattle.call_edges.specs.Goals.{Place, place, added}
+use Rattle.module_table.specs.Metas.{added}
+use Rattle.call_edges.specs.Goals.{Place, place}
 use Rattle.call_edges.specs.Calls.{body_by, body_of}
 use Rattle.call_edges.specs.Bodies.{Body, body_in, clause_bodies, bodies_at, bodies_in, goals_of_file, goals_in, IsLight}
 use Rattle.call_edges.proofs.AmongLemmas.{flat_has, map_has, among_given}

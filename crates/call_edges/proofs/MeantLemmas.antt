@@ -1,16 +1,15 @@
 -- No predicate of a program declares that more than nine arguments are added to a goal.
-use Rattle.std.proofs.Common.{◌≡◌, ℕ, List, [], ◌∷◌, Option, Some, None, All, filter, ap, sym, ◌∙◌, subst, refl}
+use Rattle.std.proofs.Common.{◌≡◌, ℕ, List, [], ◌∷◌, Option, Some, None, All, filter, subst}
 use Rattle.std.specs.Prelude.{Contains, slice_get}
-use Rattle.std.specs.List.{flat_map, enumerate_from}
+use Rattle.std.specs.List.{enumerate_from}
 use Rattle.std.proofs.lemmas.List.Elements.{All-nil, All-contains}
 use Rattle.std.proofs.lemmas.Option.{slice_get_within, get_or_from_slice_get}
 use Rattle.order_law.proofs.OneOrder.{in_first}
-use Rattle.module_table.specs.declared.goal_arg.GoalArg.{GoalArg}
 use Rattle.module_table.specs.Metas.{Declaration, IsSmall}
 use Rattle.module_table.specs.Facts.{Facts}
 use Rattle.module_table.specs.Kinds.{first_of}
 use Rattle.import_rules.specs.declared.names.PredName.{PredName}
-use Rattle.import_rules.specs.Metas.{MetaAt, meta_at, metas_of_file, metas_in, is_for, first_for, args_of, args_for}
+use Rattle.import_rules.specs.Metas.{MetaAt, meta_at, metas_of_file, metas_in, is_for, args_of, args_for}
 use Rattle.import_rules.specs.Program.{Seen, IsKnown, args_at, meta_in, meta_of_found, meta_meant, found}
 use Rattle.call_edges.proofs.AmongLemmas.{map_has, flat_has, filter_has}
 use Rattle.call_edges.proofs.PlaceLemmas.{enumerated}

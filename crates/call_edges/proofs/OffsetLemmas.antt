@@ -19,7 +19,8 @@ use Rattle.module_table.specs.declared.goal_arg.GoalArg.{GoalArg}
 use Rattle.module_table.specs.declared.goal_arg.GoalArg.TheVariants.{Plain, Goal, Caret, Grammar}
 use Rattle.call_edges.specs.declared.role.Way.{Way}
 use Rattle.call_edges.specs.declared.role.Way.TheVariants.{Silent, Behind, Control, Qualified, Calling}
-use Rattle.call_edges.specs.Goals.{Met, call, fault, Place, place, Rows, added, way, is_variable, goal_named, taken_by, atom_met, constant_met, met_at, IsPart, Leads, IsMet}
+use Rattle.module_table.specs.Metas.{added}
+use Rattle.call_edges.specs.Goals.{Met, call, fault, Place, place, Rows, way, is_variable, goal_named, taken_by, atom_met, constant_met, met_at, IsPart, Leads, IsMet}
 use Rattle.call_edges.specs.Calls.{body_by, IsMetInClause}
 use Rattle.call_edges.specs.GoalFaults.{IsMetInFile}
 

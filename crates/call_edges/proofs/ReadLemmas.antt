@@ -1,5 +1,5 @@
 -- What is known of each file of a program.
-use Rattle.std.proofs.Common.{◌≡◌, inl, inr, List, [], ◌∷◌, subst, arith}
+use Rattle.std.proofs.Common.{inl, inr, List, [], ◌∷◌, subst, arith}
 use Rattle.std.specs.Prelude.{Contains}
 use Rattle.std.specs.List.{AllZip}
 use Rattle.order_law.proofs.OneOrder.{first_or_rest}

@@ -8,7 +8,8 @@ use Rattle.module_table.specs.Facts.{Facts}
 use Rattle.import_rules.specs.Program.{Seen, places_in}
 use Rattle.module_table.specs.declared.goal_arg.GoalArg.TheVariants.{Goal}
 use Rattle.call_edges.specs.declared.body.Body.{Body as BodyKept}
-use Rattle.call_edges.specs.Goals.{Met, Place, place, added, Rows, IsMet}
+use Rattle.module_table.specs.Metas.{added}
+use Rattle.call_edges.specs.Goals.{Met, Place, place, Rows, IsMet}
 use Rattle.call_edges.specs.Calls.{body_of}
 
 -- a body, and the place of its file

@@ -8,7 +8,6 @@ use Rattle.prolog_terms.specs.Views.{inside, start_of, trees_in, atom_name}
 use Rattle.module_table.specs.Heads.{is_among}
 use Rattle.module_table.specs.declared.goal_arg.GoalArg.{GoalArg}
 use Rattle.module_table.specs.declared.goal_arg.GoalArg.TheVariants.{Plain, Goal, Caret, Grammar}
-pub use Rattle.module_table.specs.Metas.{added}
 use Rattle.module_table.specs.Metas.{added}
 use Rattle.call_edges.specs.declared.role.Row.{Row}
 use Rattle.call_edges.specs.declared.role.Way.{Way}

@@ -1,5 +1,5 @@
 -- How the arguments of goals stand in a program.
-use Rattle.std.specs.Prelude.{ℕ, List, [], ◌∷◌, Option}
+use Rattle.std.specs.Prelude.{List, [], ◌∷◌, Option}
 use Rattle.module_table.specs.declared.goal_arg.GoalArg.{GoalArg}
 use Rattle.import_rules.specs.Program.{Seen, meta_meant}
 use Rattle.call_edges.specs.declared.role.Row.{Row}

@@ -2,7 +2,8 @@
 
 ghost use Rattle.std.specs.Prelude.{◌≡◌, ◌≤◌, ◌+◌, length, map};
 ghost use Rattle.prolog_terms.specs.Tree.{tree_of};
-ghost use Rattle.call_edges.specs.Goals.{added, is_control, goal_way, way, settled, is_variable, goal_of, qualified_taken, taken};
+ghost use Rattle.module_table.specs.Metas.{added};
+ghost use Rattle.call_edges.specs.Goals.{is_control, goal_way, way, settled, is_variable, goal_of, qualified_taken, taken};
 ghost use Rattle.call_edges.specs.ProgramRows.{rows_of};
 ghost use Rattle.import_rules.specs.Program.{see_program};
 ghost use Rattle.call_edges.specs.Seen.{see_standing, see_taken};
@@ -124,12 +125,7 @@ fn qualified<'a>(owner: &'a str, role: GoalArg, args: &'a [Term]) -> Taken<'a>
 }
 
 /// How the arguments of a goal stand: as the predicate declares them that it calls, else by the table.
-fn standing_of<'a>(
-    program: &'a Program,
-    owner: &'a str,
-    name: &'a str,
-    arity: u32,
-) -> Standing<'a>
+fn standing_of<'a>(program: &'a Program, owner: &'a str, name: &'a str, arity: u32) -> Standing<'a>
     ensures { see_standing result ≡ rows_of (see_program program.now) owner.now name.now arity }
 {
     let declared = program.meta_meant(owner, name, arity);

@@ -46,7 +46,9 @@ pub fn push_targets(program: &Program, met: &[Met], out: &mut Vec<u32>) -> Resul
 /// Adds the predicates that are called in bodies.
 pub fn push_called(program: &Program, bodies: &[Body], out: &mut Vec<u32>) -> Result<(), AllocError>
     requires { All IsLight (map see_body bodies.now) }
-    ensures { OnOk result (Adds (GoesTo (see_program program.now) (IsAmong (IsMetInBody (rows_of (see_program program.now))) (map see_body bodies.now))) out.old.items out.new.items) }
+    ensures { OnOk result (Adds
+        (GoesTo (see_program program.now) (IsAmong (IsMetInBody (rows_of (see_program program.now))) (map see_body bodies.now)))
+        out.old.items out.new.items) }
 {
     let mut met = Vec::new(*out.allocator());
     for body in bodies {

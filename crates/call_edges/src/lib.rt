@@ -1,11 +1,13 @@
 //! Where goals stand in the bodies of a program, and what they call.
 //!
-//! A goal is a call, a control construct over goals, a goal of another module, or an argument of one
-//! of the predicates that take goals: in `p :- maplist(q, [a]), \+ m:s.` the goals call `maplist/2`,
-//! `q/1` and `m:s/0`. `Calls` is the graph of what the predicates of a program call; it opens a
-//! predicate at a time, and gives each callee once and ascending. `roots_of` are the predicates at
-//! which reach begins, and `unresolved_of` are the names that a predicate calls and that mean none.
-//! `check_goals` tells the goals that aren't callable, as the `3` of `p :- q, 3.`, with their places.
+//! A goal is a call, a control construct over goals, a goal of another module, or an argument of a
+//! predicate that takes goals: in `p :- maplist(q, [a]), \+ m:s.` the goals call `maplist/2`, `q/1`
+//! and `m:s/0`. Which arguments are goals a program declares, as by `:- meta_predicate each(1, ?).`;
+//! of a predicate that it doesn't declare a table says it. `Calls` is the graph of what the
+//! predicates of a program call; it opens a predicate at a time, and gives each callee once and
+//! ascending. `roots_of` are the predicates at which reach begins, and `unresolved_of` are the names
+//! that a predicate calls and that mean none. `check_goals` tells the goals that aren't callable, as
+//! the `3` of `p :- q, 3.`, with their places.
 //!
 //! Which predicate a name means in a module is for the layer below, and whom the predicates reach for
 //! the one above.

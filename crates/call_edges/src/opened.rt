@@ -43,7 +43,9 @@ fn found_in<'a>(
     faults: &mut Vec<(u32, u32)>,
 ) -> Result<(), AllocError>
     requires { All IsLight (map see_body bodies.now) }
-    ensures callees { OnOk result (Adds (GoesTo (see_program program.now) (IsAmong (IsMetInBody (rows_of (see_program program.now))) (map see_body bodies.now))) callees.old.items callees.new.items) }
+    ensures callees { OnOk result (Adds
+        (GoesTo (see_program program.now) (IsAmong (IsMetInBody (rows_of (see_program program.now))) (map see_body bodies.now)))
+        callees.old.items callees.new.items) }
     ensures faults { OnOk result (Adds (IsAmong (IsFaultIn (rows_of (see_program program.now))) (map see_body bodies.now)) faults.old.items faults.new.items) }
 {
     for body in bodies {
@@ -66,7 +68,8 @@ pub fn open<'a>(
 ) -> Result<(), AllocError>
     requires { node < length (see_program program.now).predicates }
     ensures callees { OnOk result (IsOpened (see_program program.now) node callees.new.items) }
-    ensures faults { OnOk result (Adds (IsAmong (IsFaultIn (rows_of (see_program program.now))) (bodies_in (see_program program.now) node)) faults.old.items faults.new.items) }
+    ensures faults { OnOk result (Adds (IsAmong (IsFaultIn (rows_of (see_program program.now))) (bodies_in (see_program program.now) node))
+        faults.old.items faults.new.items) }
 {
     program.is_known();
     callees.clear();

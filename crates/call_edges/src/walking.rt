@@ -4,7 +4,8 @@ ghost use Rattle.std.specs.Prelude.{◌≡◌, ◌≤◌, ◌+◌, ◌*◌, ◌+
 ghost use Rattle.std.specs.Option.{option_to_list};
 ghost use Rattle.prolog_terms.specs.Tree.{tree_of};
 ghost use Rattle.prolog_terms.specs.Weight.{weight};
-ghost use Rattle.call_edges.specs.Goals.{added, atom_met, constant_met, curly_role, row_role, role_at, no_goals, place, AddsMet};
+ghost use Rattle.module_table.specs.Metas.{added};
+ghost use Rattle.call_edges.specs.Goals.{atom_met, constant_met, curly_role, row_role, role_at, no_goals, place, AddsMet};
 ghost use Rattle.call_edges.specs.ProgramRows.{rows_of};
 ghost use Rattle.call_edges.specs.Seen.{see_met, see_mets, see_standing};
 ghost use Rattle.import_rules.specs.Program.{see_program};
@@ -69,6 +70,7 @@ fn curly_role(role: GoalArg) -> GoalArg
     }
 }
 
+/// How the argument at a place stands by a row of the table.
 fn role_in(row: Row, at: usize) -> GoalArg
     ensures { result ≡ row_role row at }
 {
@@ -126,7 +128,8 @@ pub fn walk<'a>(
     met: &mut Vec<Met<'a>>,
 ) -> Result<(), AllocError>
     requires { added role + 10 * weight (tree_of term.now) ≤ 4294967295 }
-    ensures { OnOk result (AddsMet (rows_of (see_program program.now)) (place owner.now role (tree_of term.now)) (see_mets met.old.items) (see_mets met.new.items)) }
+    ensures { OnOk result (AddsMet (rows_of (see_program program.now)) (place owner.now role (tree_of term.now))
+        (see_mets met.old.items) (see_mets met.new.items)) }
 {
     match term {
         Term::Var { .. } => Ok(()),

@@ -1,8 +1,8 @@
-//! Names that are called and mean nothing.
+//! Where reach begins, and names that are called and mean nothing.
 
-use call_edges::unresolved_of;
-use file_library::{MemoryLibrary, load_all};
-use import_rules::{PredName, Program, resolve_all};
+use call_edges::{GoalStop, check_goals, roots_of, unresolved_of};
+use file_library::{Fault, MemoryLibrary, load_all};
+use import_rules::{ImportStop, PredName, Program, resolve_all};
 use prolog_tokens::Text;
 use std::alloc::{AllocError, Global};
 use std::collections::BTreeMap;
@@ -10,8 +10,17 @@ use std::process::Abort;
 use std::test::Fail;
 use std::thread::Threads;
 
-/// A module with facts, a rule of facts, and a goal within goals.
-const FAMILY: &[u8] = b":- module(family, [ancestor/2, siblings/2, report/0]).
+/// The texts of the files `a.pl`, `b.pl` and so on, of which the first is a root; and what is told of
+/// their program.
+type Row = (&'static [&'static [u8]], &'static str);
+
+const NAMES: [&str; 3] = ["a.pl", "b.pl", "c.pl"];
+
+/// A module with facts, a rule of facts, and a goal within goals; and calls of other modules, of a
+/// variable one, and of predicates that take goals.
+static CALLS: [Row; 2] = [
+    (
+        &[b":- module(family, [ancestor/2, siblings/2, report/0]).
 parent(tom, bob).
 ancestor(X, Y) :- parent(X, Y).
 ancestor(X, Y) :- parent(X, Z), ancestor(Z, Y).
@@ -22,14 +31,133 @@ report :-
     ;   format(\"none~n\", [])
     ).
 show(X-Y) :- format(\"~w ~w~n\", [X, Y]).
-";
-
-/// Calls of other modules, of a variable one, and of predicates that take goals.
-const CALLS: &[u8] = b"p :- maplist(q, [a]), setof(X, Y^r(X, Y), L), M:s, m:s.
+"],
+        "roots family:ancestor/2 family:report/0 family:siblings/2
+family:ancestor/2:
+family:parent/2:
+family:report/0: family:=/2 family:findall/3 family:forall/2 family:format/2 family:member/2
+family:show/1: family:format/2
+family:siblings/2: family:\\==/2
+",
+    ),
+    (
+        &[b"p :- maplist(q, [a]), setof(X, Y^r(X, Y), L), M:s, m:s.
 q(_).
 r(_, _).
 g --> h, {i}, \"a\", !.
-";
+"],
+        "roots user:g/2 user:p/0 user:q/1 user:r/2
+user:g/2: user:h/2 user:i/0
+user:p/0: m:s/0 user:maplist/2 user:setof/3
+user:q/1:
+user:r/2:
+",
+    ),
+];
+
+/// Clauses for other modules: their bodies are those of the module of the file, clauses of one
+/// predicate stand in two files, and a root file gives what it defines for any module.
+static HEADS: [Row; 5] = [
+    (
+        &[b":- module(f, [q/0]). user:p :- q, r. q :- s. m:q :- s."],
+        "roots f:q/0\nf:q/0: f:s/0\nm:q/0: f:s/0\nuser:p/0: f:r/0\n",
+    ),
+    (
+        &[b":- [b]. p :- q.", b":- module(b, []). user:p :- r."],
+        "roots user:p/0\nuser:p/0: b:r/0 user:q/0\n",
+    ),
+    (
+        &[b"m:p. q. :- multifile n:r/0."],
+        "roots m:p/0 n:r/0 user:q/0\nm:p/0:\nn:r/0:\nuser:q/0:\n",
+    ),
+    (
+        &[b":- module(f, [p/0]). :- [b].", b"f:p :- q."],
+        "roots f:p/0\nf:p/0: user:q/0\n",
+    ),
+    (
+        &[b":- module(m, []). :- [b]. p.", b":- module(m, []). p."],
+        "faults b.pl:1:4 TwoModules",
+    ),
+];
+
+/// Declared goal arguments, a row for each thing that a declaration can say of an argument, and for
+/// each way in which one may not be the one that counts.
+static DECLARED: [Row; 17] = [
+    (
+        &[b":- meta_predicate t(0). t(_). p :- t(q)."],
+        "roots user:p/0 user:t/1\nuser:p/0: user:q/0\nuser:t/1:\n",
+    ),
+    (
+        &[b":- meta_predicate t(2, ?). t(_, _). p :- t(q(a), r)."],
+        "roots user:p/0 user:t/2\nuser:p/0: user:q/3\nuser:t/2:\n",
+    ),
+    (
+        &[b":- meta_predicate t(^). t(_). p :- t(X^(q^r))."],
+        "roots user:p/0 user:t/1\nuser:p/0: user:r/0\nuser:t/1:\n",
+    ),
+    (
+        &[b":- meta_predicate t(//). t(_). p :- t((q, {r}))."],
+        "roots user:p/0 user:t/1\nuser:p/0: user:q/2 user:r/0\nuser:t/1:\n",
+    ),
+    (
+        &[b":- meta_predicate t(?). t(_). p :- t(q)."],
+        "roots user:p/0 user:t/1\nuser:p/0:\nuser:t/1:\n",
+    ),
+    (
+        &[b":- meta_predicate call(0, ?). call(_, _). p :- call(q, r)."],
+        "roots user:call/2 user:p/0\nuser:call/2:\nuser:p/0: user:q/0\n",
+    ),
+    (
+        &[b"call(_, _). p :- call(q, r)."],
+        "roots user:call/2 user:p/0\nuser:call/2:\nuser:p/0: user:q/1\n",
+    ),
+    (
+        &[b":- meta_predicate m:t(0). m:t(_). t(_). p :- m:t(q), t(r)."],
+        "roots m:t/1 user:p/0 user:t/1\nm:t/1:\nuser:p/0: m:q/0\nuser:t/1:\n",
+    ),
+    (
+        &[b":- meta_predicate t(0). p :- t(q)."],
+        "roots user:p/0\nuser:p/0: user:t/1\n",
+    ),
+    (
+        &[b":- meta_predicate t(0, 0). t(_). p :- t(q)."],
+        "roots user:p/0 user:t/1\nuser:p/0:\nuser:t/1:\n",
+    ),
+    (
+        &[b":- meta_predicate t(0), t(?). t(_). p :- t(q)."],
+        "roots user:p/0 user:t/1\nuser:p/0: user:q/0\nuser:t/1:\n",
+    ),
+    (
+        &[b":- [b]. t(_). p :- t(q).", b":- meta_predicate t(0)."],
+        "roots user:p/0 user:t/1\nuser:p/0: user:q/0\nuser:t/1:\n",
+    ),
+    (
+        &[
+            b":- [b]. t(_). p :- t(q). :- meta_predicate t(?).",
+            b":- meta_predicate t(0).",
+        ],
+        "roots user:p/0 user:t/1\nuser:p/0:\nuser:t/1:\n",
+    ),
+    (
+        &[
+            b":- [b]. p :- t(q).",
+            b":- module(b, [t/1]). :- meta_predicate t(0). t(_).",
+        ],
+        "roots user:p/0\nb:t/1:\nuser:p/0: user:q/0\n",
+    ),
+    (
+        &[b":- module(a, []). :- meta_predicate t(0). t(_). q. :- t(q)."],
+        "roots a:q/0 a:t/1\na:q/0:\na:t/1:\n",
+    ),
+    (
+        &[b":- meta_predicate t(0).\nt(_).\np :- t(3).\n"],
+        "faults a.pl:3:8 NotCallable",
+    ),
+    (
+        &[b":- meta_predicate t(0).\nt(_).\n:- t(3).\n"],
+        "faults a.pl:3:6 NotCallable",
+    ),
+];
 
 /// Adds the name behind a space.
 fn push_name(alloc: Global, out: &mut String, name: &PredName) -> Result<(), AllocError> {
@@ -40,59 +168,106 @@ fn push_name(alloc: Global, out: &mut String, name: &PredName) -> Result<(), All
 }
 
 /// For each predicate of the program a line of its name and of what it calls that means nothing.
-fn told(alloc: Global, program: &Program) -> Result<String, AllocError> {
-    let mut out = String::new(alloc);
+fn push_unresolved(alloc: Global, out: &mut String, program: &Program) -> Result<(), AllocError> {
     for node in 0..program.count() {
-        push_name(alloc, &mut out, program.name_of(node))?;
-        out.push_str(":")?;
+        let mut line = String::new(alloc);
+        push_name(alloc, &mut line, program.name_of(node))?;
+        line.push_str(":")?;
         for name in &unresolved_of(alloc, program, node)? {
-            push_name(alloc, &mut out, name)?;
+            push_name(alloc, &mut line, name)?;
         }
+        out.push_str(line.trim_start())?;
         out.push_str("\n")?;
+    }
+    Ok(())
+}
+
+/// The roots of the program in a line, and a line for each predicate.
+fn told(alloc: Global, program: &Program) -> Result<String, AllocError> {
+    let mut out = String::from_str(alloc, "roots")?;
+    for node in roots_of(alloc, program)? {
+        if node < program.count() {
+            push_name(alloc, &mut out, program.name_of(node))?;
+        }
+    }
+    out.push_str("\n")?;
+    push_unresolved(alloc, &mut out, program)?;
+    Ok(out)
+}
+
+/// Each fault as the file, the line, the column and the cause.
+fn told_faults(alloc: Global, faults: &[Fault]) -> Result<String, AllocError> {
+    let mut out = String::from_str(alloc, "faults")?;
+    for fault in faults {
+        let file = fault.file.as_str();
+        let (line, column) = (fault.place.line, fault.place.column);
+        let cause = fault.cause;
+        let text = format!(in alloc; " {file}:{line}:{column} {cause:?}")?;
+        out.push_str(&text)?;
     }
     Ok(out)
 }
 
-/// What is told of the file with this text, or an empty text where it is no program.
-fn told_of<R: Threads + Sync>(rt: &R, alloc: Global, text: &[u8]) -> Result<String, AllocError> {
-    let mut files = BTreeMap::new(alloc);
-    files.insert(Text::new(alloc, "f.pl")?, text.to_vec(alloc)?)?;
-    let mut library = MemoryLibrary::new(alloc, files, Vec::new(alloc))?;
-    let mut roots = Vec::new(alloc);
-    roots.push(Text::new(alloc, "f.pl")?)?;
-    let Ok(loaded) = load_all(rt, alloc, &roots, &mut library) else {
-        return Ok(String::new(alloc));
-    };
-    match resolve_all(alloc, loaded) {
-        Ok(program) => told(alloc, &program),
-        Err(_) => Ok(String::new(alloc)),
+/// What is told of a program, or of its goals where one isn't callable.
+fn told_checked<R: Threads + Sync>(
+    rt: &R,
+    alloc: Global,
+    program: &Program,
+) -> Result<String, AllocError> {
+    match check_goals(rt, alloc, program) {
+        Ok(()) => told(alloc, program),
+        Err(GoalStop::Faults(faults)) => told_faults(alloc, &faults),
+        Err(GoalStop::NoMemory) => String::from_str(alloc, "no memory"),
     }
 }
 
-fn expect_told<R: Threads + Sync + Abort>(
+/// A library of these texts.
+fn library_of(alloc: Global, texts: &[&[u8]]) -> Result<MemoryLibrary, AllocError> {
+    let mut files = BTreeMap::new(alloc);
+    for (name, text) in NAMES.iter().zip(texts) {
+        files.insert(Text::new(alloc, name)?, text.to_vec(alloc)?)?;
+    }
+    MemoryLibrary::new(alloc, files, Vec::new(alloc))
+}
+
+/// What is told of the files with these texts.
+fn told_of<R: Threads + Sync>(
     rt: &R,
     alloc: Global,
-    text: &[u8],
-    wanted: &str,
-) -> Result<(), Fail> {
-    let found = told_of(rt, alloc, text)?;
-    assert_eq!(rt; found.as_str(), wanted);
+    texts: &[&[u8]],
+) -> Result<String, AllocError> {
+    let mut library = library_of(alloc, texts)?;
+    let mut roots = Vec::new(alloc);
+    roots.push(Text::new(alloc, "a.pl")?)?;
+    let Ok(loaded) = load_all(rt, alloc, &roots, &mut library) else {
+        return String::from_str(alloc, "not loaded");
+    };
+    match resolve_all(alloc, loaded) {
+        Ok(program) => told_checked(rt, alloc, &program),
+        Err(ImportStop::Faults(faults)) => told_faults(alloc, &faults),
+        Err(_) => String::from_str(alloc, "no program"),
+    }
+}
+
+fn expect_rows<R: Threads + Sync + Abort>(rt: &R, alloc: Global, rows: &[Row]) -> Result<(), Fail> {
+    for (texts, wanted) in rows {
+        let found = told_of(rt, alloc, texts)?;
+        assert_eq!(rt; found.as_str(), *wanted);
+    }
     Ok(())
 }
 
 #[test]
 fn tells_names_that_mean_nothing(rt: HostRuntime) -> Result<(), Fail> {
-    let alloc = rt.alloc();
-    expect_told(
-        &rt,
-        alloc,
-        FAMILY,
-        " family:ancestor/2:\n family:parent/2:\n family:report/0: family:=/2 family:findall/3 family:forall/2 family:format/2 family:member/2\n family:show/1: family:format/2\n family:siblings/2: family:\\==/2\n",
-    )?;
-    expect_told(
-        &rt,
-        alloc,
-        CALLS,
-        " user:g/2: user:h/2 user:i/0\n user:p/0: m:s/0 user:maplist/2 user:setof/3\n user:q/1:\n user:r/2:\n",
-    )
+    expect_rows(&rt, rt.alloc(), &CALLS)
+}
+
+#[test]
+fn takes_bodies_in_the_module_of_their_file(rt: HostRuntime) -> Result<(), Fail> {
+    expect_rows(&rt, rt.alloc(), &HEADS)
+}
+
+#[test]
+fn heeds_the_first_declaration_of_a_predicate(rt: HostRuntime) -> Result<(), Fail> {
+    expect_rows(&rt, rt.alloc(), &DECLARED)
 }

@@ -13,7 +13,7 @@ use Rattle.clause_text.specs.declared.cause.Cause.TheVariants.{LateModule, BadIn
 use Rattle.module_table.specs.declared.indicator.Indicator.{Indicator}
 use Rattle.module_table.specs.declared.load.LoadKind.{LoadKind}
 use Rattle.module_table.specs.declared.load.LoadKind.TheVariants.{UseAll, UseSome, Ensure}
-use Rattle.module_table.specs.Metas.{Takes, takes_of}
+use Rattle.module_table.specs.Metas.{Declaration, takes_of}
 use Rattle.module_table.specs.Said.{Said, Part, Declares, declares, loads, defines, goal, Refusal, refused, in_turn, each_said, nothing, only, takes}
 use Rattle.module_table.specs.Heads.{is_among, control_names, headless_names, head_named, plain_head, behind_modules, Owned, owned_by, head, grammar_head}
 use Rattle.module_table.specs.Indicators.{indicator, one_indicator, indicators, list_of, listed_indicators}
@@ -209,7 +209,7 @@ mutual
   each_dynamic_plain owner (with_more tree trees) =
       turns (dynamic_at Item owner tree) (each_dynamic owner trees) (dynamic_plain Item owner tree) (each_dynamic_plain owner trees)
 
-all_taken : (ts : List Takes) → All IsPlain (map takes ts)
+all_taken : (ts : List Declaration) → All IsPlain (map takes ts)
 all_taken [] = All-nil IsPlain
 all_taken (t ∷ ts) = All-cons IsPlain (takes t) (map takes ts) tt (all_taken ts)
 
@@ -243,7 +243,7 @@ one_said_plain user name argument tree =
     by_said (bytes_eq name (codes "use_module")) (use_all_said user.file argument) _ (use_all_plain user.file argument)
     (by_said (is_among (codes "ensure_loaded" ∷ codes "consult" ∷ []) name) (load_said user.file Ensure [] argument) _ (load_plain user.file Ensure [] argument)
     (by_said (is_among (codes "dynamic" ∷ codes "multifile" ∷ []) name) (dynamic_said user.module_ argument) _ (dynamic_plain Whole user.module_ argument)
-    (by_said (bytes_eq name (codes "meta_predicate")) (meta_said argument) _ (all_taken (takes_of None argument))
+    (by_said (bytes_eq name (codes "meta_predicate")) (meta_said user.module_ argument) _ (all_taken (takes_of user.module_ argument))
     (by_said (is_among silent_names name) nothing _ no_parts
     (by_said (is_among outside_names name) (refused NotInProfile tree) (only (goal tree)) refl (only_plain (goal tree) tt))))))
 

@@ -1,5 +1,5 @@
 -- Each text is a reading or has a fault, and each file has facts or a fault.
-use Rattle.std.proofs.Common.{◌≡◌, ◌⊎◌, inl, inr, ℕ, zero, suc, ◌≤◌, true, false, List, [], ◌∷◌, ◌++◌, Option, Some, None, Ok, Err, codes, length, refl, ap, sym, subst, arith, append_assoc, length-append, map}
+use Rattle.std.proofs.Common.{◌≡◌, ◌⊎◌, inl, inr, ℕ, zero, suc, ◌≤◌, true, false, List, [], ◌∷◌, ◌++◌, Option, Some, None, Ok, Err, codes, length, refl, ap, sym, subst, arith, append_assoc, length-append}
 use Rattle.std.specs.Str.{IsUtf8}
 use Rattle.std.specs.List.{filter_map}
 use Rattle.prolog_tokens.specs.declared.token.Token.{Token}
@@ -19,7 +19,6 @@ use Rattle.clause_text.specs.TextFault.{fault_of_tokens, HasTextFault, bytes, to
 use Rattle.clause_text.proofs.KeptTables.{items_keep}
 use Rattle.clause_text.proofs.OneReading.{opening_ops_are}
 use Rattle.module_table.specs.Said.{Said, Part, Declares, Refusal}
-use Rattle.module_table.specs.Metas.{declared_in}
 use Rattle.module_table.specs.Kinds.{declared_part, load_part, defined_part, takes_part, goal_part, first_of, IsModule}
 use Rattle.module_table.specs.Facts.{Facts, AreFacts, AreFactsOf, file_said}
 use Rattle.module_table.specs.FileText.{HasFacts, HasFault}
@@ -45,7 +44,7 @@ facts_of_parts name parts = by_module (first_of (filter_map declared_part parts)
             exports = own.exports;
             loads = filter_map load_part parts;
             defined = defined.0;
-            metas = map (declared_in own.name) (filter_map takes_part parts);
+            metas = filter_map takes_part parts;
             goals = filter_map goal_part parts;
           },
           record {
@@ -67,7 +66,7 @@ facts_of_parts name parts = by_module (first_of (filter_map declared_part parts)
             exports = [];
             loads = filter_map load_part parts;
             defined = defined.0;
-            metas = map (declared_in (codes "user")) (filter_map takes_part parts);
+            metas = filter_map takes_part parts;
             goals = filter_map goal_part parts;
           },
           record {

@@ -1,6 +1,5 @@
 -- The module of a file is the one that its clauses are read for.
 use Rattle.std.proofs.Common.{◌≡◌, ℕ, Bool, true, false, List, [], ◌∷◌, Option, Some, None, Result, Ok, Err, codes, refl, ap, sym, ◌∙◌, subst, if◌then◌else◌}
-use Rattle.std.specs.Prelude.{All}
 use Rattle.std.specs.List.{filter_map}
 use Rattle.std.specs.Str.{bytes_eq}
 use Rattle.std.proofs.lemmas.Slice.Eq.{bytes_eq-Decides}
@@ -15,11 +14,11 @@ use Rattle.module_table.specs.Kinds.{declared_part, first_of, IsModule}
 use Rattle.module_table.specs.Heads.{is_among}
 use Rattle.module_table.specs.Indicators.{listed_indicators}
 use Rattle.module_table.specs.Loading.{loads_said}
-use Rattle.module_table.specs.Directives.{Home, home, use_some_said, exports, declared_said, module_name, module_said, one_said, three_said, shallow_said, directive_said}
+use Rattle.module_table.specs.Directives.{Home, home, use_some_said, exports, declared_said, module_name, module_said, one_said, three_said, directive_said}
 use Rattle.module_table.specs.Facts.{Facts, AreFacts, clause_head, headed, clause_said, named_module, module_by, module_of}
 use Rattle.file_law.specs.Turns.{module_in, first_module}
 use Rattle.file_law.proofs.Turns.{both_say}
-use Rattle.file_law.proofs.Causes.{Plain, IsPlain, by_said, turns, only_plain, no_parts, some_plain, listed_any, loads_plain, one_said_plain, three_said_plain, headed_plain, clause_head_any, later_plain, directive_one, one_plain, later_all_plain}
+use Rattle.file_law.proofs.Causes.{Plain, by_said, turns, only_plain, no_parts, some_plain, listed_any, loads_plain, one_said_plain, three_said_plain, headed_plain, clause_head_any, directive_one, one_plain}
 use Rattle.file_law.proofs.Modules.{none_declared, module_kept}
 
 abbrev name_or_user : Option Declares → List ℕ

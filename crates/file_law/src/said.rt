@@ -10,7 +10,7 @@ ghost use Rattle.clause_text.specs.TextFault.{HasTextFault};
 ghost use Rattle.module_table.specs.Said.{Part, Declares, declares, Refusal, in_turn, each_said};
 ghost use Rattle.module_table.specs.Kinds.{IsModule};
 ghost use Rattle.module_table.specs.Directives.{Home, home, directive_said};
-ghost use Rattle.module_table.specs.Facts.{Facts, AreFacts, module_by, clause_said, trees_said, file_said};
+ghost use Rattle.module_table.specs.Facts.{Facts, AreFacts, module_by, module_of, clause_said, trees_said, file_said};
 ghost use Rattle.file_law.specs.Turns.{AreTold, all_of, IsFirstRefusal, AreFactsOfEach, first_module};
 ghost use Rattle.file_law.specs.Causes.{is_fact_cause, is_text_cause};
 
@@ -39,13 +39,16 @@ pub fn directives_joined()
 {}
 
 /// No clause but the first declares a module, and where that one does it says nothing else. The
-/// module of a file and its exports are those that its first clause declares.
+/// module of a file and its exports are those that its first clause declares; and the module is the
+/// one in which heads and directives that name none are read.
 pub fn module_first()
-    ensures others { (user : Home) (tree : Tree) (parts : List Part) (own : Declares) → clause_said user false tree ≡ Ok parts → Contains parts (declares own) → ⊥ }
+    ensures others { (user : Home) (tree : Tree) (parts : List Part) (own : Declares) → clause_said user false tree ≡ Ok parts
+        → Contains parts (declares own) → ⊥ }
     ensures first { (user : List ℕ) (tree : Tree) (trees : List Tree) (parts : List Part) (own : Declares) → file_said user (tree ∷ trees) ≡ Ok parts
         → Contains parts (declares own) → clause_said (home user (module_by tree)) true tree ≡ Ok (declares own ∷ []) }
     ensures exports { (user : List ℕ) (trees : List Tree) (facts : Facts) → AreFacts user trees facts
         → IsModule (first_module user trees) facts.module_ facts.is_module facts.module_from facts.exports }
+    ensures heads { (user : List ℕ) (trees : List Tree) (facts : Facts) → AreFacts user trees facts → facts.module_ ≡ module_of trees }
 {}
 
 /// What the clauses of a file say is refused for a cause that directives and heads have, for each of

@@ -22,7 +22,8 @@ use Rattle.group_tool.specs.Lines.{fault_line, fault_lines, limit_line, missing_
 use Rattle.group_tool.specs.Answer.{ComesTo, IsAnswer}
 use Rattle.group_tool.specs.End.{unread}
 use Rattle.group_tool.specs.Wanted.{AreJust, HasNoOptions, made_name, files_read}
-use Rattle.group_tool.specs.Roots.{IsFirstMissing, LacksRoot}
+use Rattle.group_tool.specs.Parts.{path_line}
+use Rattle.group_tool.specs.Roots.{IsFirstMissing, LacksRoot, asked_names}
 use Rattle.group_tool.specs.LoadedEnd.{IsOutput}
 
 -- the made text is the one file that is read
@@ -83,6 +84,24 @@ later_missing is = later is.before is.after is.is is.there
 -- without a list no root is missing
 none_missing : (seen : Seen) (root : PredName) → LacksRoot None seen root → ⊥
 none_missing seen root is = is
+
+-- the names asked for are those of the list, and behind them the ends of a path
+
+path_alone : asked_names (Some (named 0, named 1)) None ≡ Some (named 0 ∷ named 1 ∷ [])
+path_alone = refl
+
+path_behind : asked_names (Some (named 3, named 2)) (Some (named 1 ∷ [])) ≡ Some (named 1 ∷ named 3 ∷ named 2 ∷ [])
+path_behind = refl
+
+-- the line of a path, and that there is none
+
+way : path_line two 1 0 (Some (1 ∷ 0 ∷ [])) ≡ codes "path a:p/1 a:p/0\n"
+unfolding digits spelled_name
+way = refl
+
+no_way : path_line two 0 1 None ≡ codes "no-path a:p/0 a:p/1\n"
+unfolding digits spelled_name
+no_way = refl
 
 -- of a made program the first line alone is written
 

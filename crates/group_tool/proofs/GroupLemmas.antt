@@ -1,11 +1,12 @@
 -- The groups of a program: what holds of its successor lists holds of its calls.
-use Rattle.std.proofs.Common.{◌≡◌, ◌<◌, ◌≤◌, ◌++◌, ℕ, List, [], All, Contains, length, ap, subst, inl, inr, arith}
+use Rattle.std.proofs.Common.{◌≡◌, ◌<◌, ◌≤◌, ◌++◌, ℕ, List, [], Result, Ok, Err, IfOk, All, Contains, length, ap, subst, inl, inr, arith}
 use Rattle.std.proofs.lemmas.Bool.{cases_lt}
 use Rattle.std.proofs.lemmas.List.{get_or_past}
 use Rattle.std.proofs.lemmas.List.Elements.{All-contains}
 use Rattle.std.proofs.lemmas.Option.{slice_get_past}
 use Rattle.order_law.proofs.OneOrder.{nothing_in}
-use Rattle.graph_law.specs.Reach.{Agree}
+use Rattle.graph_law.specs.LegalOrder.{IsComplete, IsLegalOrder}
+use Rattle.graph_law.specs.Reach.{Agree, IsReached}
 use Rattle.graph_law.specs.Graph.{Calls}
 use Rattle.graph_law.specs.Classes.{HasMember, group_at}
 use Rattle.graph_law.proofs.ReachLaws.{along_walk, is_reached_along}
@@ -109,3 +110,12 @@ reports settings seen roots groups levels first parts bytes are leveled order ou
   are_parts = are_parts;
   is = is;
 }
+
+-- the groups that a search over the calls of the program ensures are those of its successor lists
+pub searched : {X E : Type 0} (r : Result X E) (groups_in : X → List (List ℕ)) (seen called : Seen) (roots : List ℕ) → called ≡ seen
+    → IfOk r (λ found. IsLegalOrder (Calls (successor_lists called)) (groups_in found)) → IfOk r (λ found. IsComplete roots (groups_in found))
+    → IfOk r (λ found. (p : ℕ) → HasMember (groups_in found) p → IsReached (Calls (successor_lists called)) roots p)
+    → IfOk r (λ found. AreGroups (Calls (successor_lists seen)) roots (groups_in found))
+searched {X} {E} (Ok found) groups_in seen called roots same legal complete reached =
+    subst (λ (s : Seen). AreGroups (Calls (successor_lists s)) roots (groups_in found)) same (record { legal = legal; complete = complete; reached = reached })
+searched {X} {E} (Err error) groups_in seen called roots same legal complete reached = tt

@@ -1,7 +1,7 @@
 -- The kinds of effects that predicates have themselves.
-use Rattle.std.proofs.Common.{◌≡◌, ◌⊎◌, inl, inr, ◌↔◌, ℕ, ◌<◌, ◌≤◌, ◌+◌, ◌*◌, ◌^◌, bit_and, bit_or, List, [], ◌∷◌, ◌++◌, All, Contains, length, get_or, take, refl, sym, subst, ap, ◌∙◌, arith}
+use Rattle.std.proofs.Common.{◌≡◌, ◌⊎◌, inl, inr, ◌↔◌, ℕ, ◌<◌, ◌≤◌, ◌+◌, ◌*◌, ◌^◌, bit_and, bit_or, List, [], ◌∷◌, ◌++◌, length, get_or, take, refl, sym, subst, ap, ◌∙◌, arith}
 use Rattle.std.specs.Int.{IsBitSet, bit_at}
-use Rattle.std.proofs.lemmas.Bool.{cases_eq, cases_lt}
+use Rattle.std.proofs.lemmas.Bool.{cases_eq}
 use Rattle.std.proofs.lemmas.List.{get_or_append_left, length-append, take_all, take_more}
 use Rattle.std.proofs.Math.Seq.{get_or-append_seam}
 use Rattle.std.proofs.lemmas.List.Elements.{All-contains, Contains-append_left, Contains-push, Contains-push_cases}
@@ -13,7 +13,7 @@ use Rattle.effect_flow.specs.Kinds.{kinds}
 use Rattle.import_rules.specs.declared.names.PredName.{PredName}
 use Rattle.import_rules.specs.Program.{Seen}
 use Rattle.call_edges.specs.Unresolved.{AreUnresolved, IsUnresolved}
-use Rattle.group_tool.specs.Parts.{AreOwnKinds, HasEffect, IsOfSome}
+use Rattle.group_tool.specs.Parts.{AreOwnKinds, HasEffect, SomeHasKind}
 
 -- a bit that is set is 1
 set_one : (n k : ℕ) → IsBitSet n k → bit_at n k ≡ 1
@@ -42,17 +42,17 @@ or_cases a b k set = elim (cases_eq (bit_at a k) 1) [
   | inl one ↦ inl (one_set a k one)
   | inr other ↦
       inr (one_set b k (
-        let both = bit_at_or a b k in
-        let one = set_one (bit_or a b) k set in
-        let low = bit_at-lt a k in
-        let low_too = bit_at-lt b k in
-        omega (arith, both, one, low, low_too, other)
+      let both = bit_at_or a b k in
+      let one = set_one (bit_or a b) k set in
+      let low = bit_at-lt a k in
+      let low_too = bit_at-lt b k in
+      omega (arith, both, one, low, low_too, other)
       ))
 ]
 
 -- the number has the kinds of the names
 abbrev pub AreKinds : List PredName → ℕ → Type 0
-AreKinds names all = (kind : ℕ) → IsBitSet all kind ↔ IsOfSome names kind
+AreKinds names all = (kind : ℕ) → IsBitSet all kind ↔ SomeHasKind names kind
 
 pub kinds_none : AreKinds [] 0
 kinds_none kind = (

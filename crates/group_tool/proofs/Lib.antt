@@ -1,5 +1,6 @@
 pub mod Said
 pub mod Examples
+pub mod LimitLine
 pub mod ToldWaves
 pub mod ToldEnd
 mod OneCircuits
@@ -13,5 +14,6 @@ pub mod RootLemmas
 pub mod KindLemmas
 pub mod PartLemmas
 pub mod GroupLemmas
+mod SharedCalls
 pub mod RunLemmas
 pub mod AskedNames

@@ -1,5 +1,5 @@
 -- Groups that are the same in any legal order have one list of circuit lines.
-use Rattle.std.proofs.Common.{◌≡◌, ℕ, ◌<◌, List, [], Option, None, length, get_or, map, refl, sym, ap, ◌∙◌, subst, arith}
+use Rattle.std.proofs.Common.{◌≡◌, ℕ, ◌<◌, List, Option, None, length, get_or, map, sym, ap, ◌∙◌, subst, arith}
 use Rattle.std.specs.List.{flat_map}
 use Rattle.std.proofs.lemmas.List.{ext_get_or, get_or-map, length-map}
 use Rattle.std.proofs.lemmas.List.Folds.{flat_map-map}
@@ -18,8 +18,8 @@ abbrev circuit_at : List (Option (List ℕ)) → ℕ → Option (List ℕ)
 circuit_at circuits place = get_or circuits place None
 
 module _ (calls : ℕ → ℕ → Type 0) (groups others : List (List ℕ)) (levels marks : List Level) (circuits rounds : List (Option (List ℕ))) (order rows : List ℕ)
-  (in_order : IsLineOrder groups levels order) (in_rows : IsLineOrder others marks rows) (same : lines groups levels order ≡ lines others marks rows)
-  (are : AreCircuits calls groups circuits) (also : AreCircuits calls others rounds) where
+    (in_order : IsLineOrder groups levels order) (in_rows : IsLineOrder others marks rows) (same : lines groups levels order ≡ lines others marks rows)
+    (are : AreCircuits calls groups circuits) (also : AreCircuits calls others rounds) where
   as_long : length order ≡ length rows
   as_long = sym (length-map order (line_at groups levels)) ∙ (ap length same ∙ length-map rows (line_at others marks))
 

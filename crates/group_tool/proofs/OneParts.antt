@@ -1,5 +1,5 @@
 -- The parts behind the report are one, in whatever legal order the groups are.
-use Rattle.std.proofs.Common.{◌≡◌, inl, inr, ℕ, ◌<◌, ◌++◌, List, Bool, true, false, Option, Some, None, length, refl, ap, ap₂, sym, ◌∙◌, subst, arith}
+use Rattle.std.proofs.Common.{◌≡◌, inl, inr, ℕ, ◌<◌, ◌++◌, List, Bool, true, false, Option, Some, None, length, refl, ap₂, sym, ◌∙◌, subst, arith}
 use Rattle.std.specs.Int.{IsBitSet}
 use Rattle.std.proofs.lemmas.Bool.{cases_lt}
 use Rattle.std.proofs.lemmas.List.{get_or_past}
@@ -13,7 +13,7 @@ use Rattle.call_edges.specs.Calls.{NodeCalls}
 use Rattle.group_words.specs.Settings.{Settings}
 use Rattle.loop_report.specs.Reportable.{AreLeveled}
 use Rattle.loop_report.proofs.OneEffects.{same_effects}
-use Rattle.group_tool.specs.Parts.{AreOwnKinds, AreParts, IsPart, IsPathPart, TellEffects, TellLoops, TellPath, path_line}
+use Rattle.group_tool.specs.Parts.{AreOwnKinds, AreParts, IsPart, IsPathPart, TellEffects, TellLoops, path_line}
 use Rattle.group_tool.proofs.OneCircuits.{same_circuit_lines}
 use Rattle.group_tool.proofs.RootLemmas.{AreRising, one_named}
 

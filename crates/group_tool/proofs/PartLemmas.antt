@@ -1,11 +1,10 @@
 -- What the parts behind the report are made of.
-use Rattle.std.proofs.Common.{◌≡◌, ◌<◌, ◌++◌, ◌∷◌, [], ℕ, List, Option, Some, None, All, Vec, length, get_or, map, refl, sym, subst, ap, ◌∙◌, arith}
-use Rattle.std.proofs.lemmas.List.{get_or_default, length-map}
+use Rattle.std.proofs.Common.{◌≡◌, ◌<◌, ◌++◌, ◌∷◌, [], ℕ, List, Option, Some, None, All, length, get_or, refl, sym, subst, arith}
+use Rattle.std.proofs.lemmas.List.{get_or_default}
 use Rattle.std.proofs.lemmas.List.Elements.{All-cons, All-head, All-nil, All-tail}
 use Rattle.std.proofs.lemmas.Option.{slice_get_within}
-use Rattle.graph_law.specs.Classes.{HasMember, IsClass, group_at, least_member}
-use Rattle.graph_law.specs.Graph.{Calls, IsClosed, lists_of}
-use Rattle.graph_law.specs.LegalOrder.{IsLegalOrder}
+use Rattle.graph_law.specs.Classes.{IsClass, group_at, least_member}
+use Rattle.graph_law.specs.Graph.{Calls, IsClosed}
 use Rattle.graph_law.specs.Reach.{IsWalk}
 use Rattle.graph_law.proofs.ClassLaws.{least_is_member}
 use Rattle.group_release.specs.declared.level.Level.{Level}
@@ -23,7 +22,7 @@ use Rattle.loop_report.specs.Effects.{AreEffectLines}
 use Rattle.loop_report.specs.Reportable.{AreLeveled}
 use Rattle.loop_report.specs.Walks.{AreCircuitLines, IsCircuitWithin}
 use Rattle.group_tool.specs.Parts.{AreOwnKinds, IsPathPart, TellEffects, TellLoops, path_line}
-use Rattle.group_tool.specs.Roots.{AreEnds, IsNamed}
+use Rattle.group_tool.specs.Roots.{AreEnds}
 use Rattle.group_tool.proofs.GroupLemmas.{lists_agree, members_listed}
 
 -- the nodes of a path are nodes of the graph

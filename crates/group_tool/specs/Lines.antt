@@ -6,6 +6,7 @@ use Rattle.prolog_tokens.specs.declared.token.Place.{Place}
 use Rattle.clause_text.specs.Cause.{cause_text}
 use Rattle.file_library.specs.declared.fault.Fault.{Fault}
 use Rattle.import_rules.specs.declared.names.PredName.{PredName}
+use Rattle.import_rules.specs.Program.{most_predicates}
 use Rattle.loop_report.specs.Names.{name_text}
 use Rattle.group_tool.specs.declared.stop.Limit.{Limit}
 use Rattle.group_tool.specs.declared.stop.Limit.TheVariants.{TooManyFiles, FileTooLarge, TooMuchText, TooManyPredicates}
@@ -22,7 +23,7 @@ fault_line fault = fault.file ++ (place_text fault.place ++ (codes ": " ++ (caus
 abbrev pub fault_lines : List Fault → List ℕ
 fault_lines faults = flat_map fault_line faults
 
--- a root that is no predicate of the program
+-- a name of the words that is no predicate of the program
 abbrev pub missing_line : PredName → List ℕ
 missing_line root = codes "groups: no predicate " ++ (name_text root ++ codes "\n")
 
@@ -33,4 +34,4 @@ abbrev pub limit_line : Limit → List ℕ
 limit_line TooManyFiles = codes "groups: more than 1024 files\n"
 limit_line (FileTooLarge name) = codes "groups: " ++ (name ++ codes " is larger than 8388608 bytes\n")
 limit_line TooMuchText = codes "groups: more than 33554432 bytes of text\n"
-limit_line TooManyPredicates = codes "groups: more than 1048576 predicates\n"
+limit_line TooManyPredicates = codes "groups: more than " ++ (decimal most_predicates ++ codes " predicates\n")

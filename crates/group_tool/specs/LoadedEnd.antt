@@ -40,7 +40,7 @@ pub record AreCallable (found : LoadedFiles) (seen : Seen) : Type 0 where
   pub program : IsProgram found seen
   pub callable : AreGoalFaults seen []
 
--- they are a callable program, and this is the first of the asked names that it does not have
+-- they are a callable program, and this is the first of the names asked for that it does not have
 pub record LackRoot (settings : Settings) (found : LoadedFiles) (root : PredName) : Type 0 where
   pub seen : Seen
   pub program : AreCallable found seen
@@ -66,14 +66,14 @@ pub record ReportsProgram (settings : Settings) (seen : Seen) (bytes : List ℕ)
   pub are_parts : AreParts settings seen groups levels parts
   pub is : bytes ≡ report ++ parts
 
--- they are a callable program that has the roots, and the bytes are its report
+-- they are a callable program that has all names asked for, and the bytes are its report
 pub record ReportsLoaded (settings : Settings) (found : LoadedFiles) (bytes : List ℕ) : Type 0 where
   pub seen : Seen
   pub program : AreCallable found seen
   pub rooted : HasRoots (asked_names settings.path settings.roots) seen
   pub reports : ReportsProgram settings seen bytes
 
--- too many predicates come before import faults, these before goal faults, and these before a root that is missing
+-- too many predicates come before import faults, these before goal faults, and these before a name that is missing
 abbrev pub LoadedComesTo : Settings → LoadedFiles → End → Type 0
 LoadedComesTo settings found (faults list) = HaveImportFaults found list ⊎ HaveGoalFaults found list
 LoadedComesTo settings found (limit passed) = (passed ≡ TooManyPredicates) × DefineTooMany found

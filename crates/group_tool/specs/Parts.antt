@@ -25,7 +25,7 @@ pub record HasEffect (seen : Seen) (kind node : ℕ) : Type 0 where
   pub of_kind : IsBitSet (kinds name.name name.arity) kind
 
 -- one of the names has the kind
-pub record IsOfSome (names : List PredName) (kind : ℕ) : Type 0 where
+pub record SomeHasKind (names : List PredName) (kind : ℕ) : Type 0 where
   pub name : PredName
   pub is_name : Contains names name
   pub of_kind : IsBitSet (kinds name.name name.arity) kind

@@ -149,7 +149,7 @@ pub record HasUsage (wanted : Settings → Type 0) (before_err after_err : Optio
   pub none : HasNoOptions wanted
   pub on_err : after_err ≡ more_taken before_err usage_line
 
--- the program of the files has no such root, and the line on `err` says so
+-- the program of the files lacks a predicate that the words name, and the line on `err` says so
 pub record HasNoRoot (wanted : Settings → Type 0) (told : Option Files) (misses misses' : ℕ) (before_err after_err : Option (List ℕ)) : Type 0 where
   pub root : PredName
   pub library : Asking
@@ -190,7 +190,7 @@ pub record IsCutOff (wanted : Settings → Type 0) (told : Option Files) (asked'
   pub cause : EndIs wanted (record { told = told; asked = asked; asked' = asked'; faults = f; faults' = f'; misses = m; misses' = m' }) end
   pub cut : CutBy out err end
 
--- the library was asked for the first of the names that these files lead to over some map, each once; for all of them where there is a report, or a fault, or a root that is missing
+-- the library was asked for the first of the names that these files lead to over some map, each once; for all of them where there is a report, or a fault, or a name that is missing
 pub record AreAskedFor (roots asked asked' : List (List ℕ)) (result : ℕ) : Type 0 where
   pub seen : Files
   pub names : List (List ℕ)

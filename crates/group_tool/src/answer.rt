@@ -102,9 +102,7 @@ fn tell_alone<R: Threads + Sync>(
     let roots = roots_by(alloc, program, options)?;
     let ends = ends_by(alloc, program, options)?;
     let groups = groups_alone(alloc, options, program, &calls, &roots)?;
-    let bytes = report_groups(
-        rt, alloc, options, program, &calls, &roots, ends, &groups,
-    )?;
+    let bytes = report_groups(rt, alloc, options, program, &calls, &roots, ends, &groups)?;
     Ok(bytes)
 }
 
@@ -124,9 +122,7 @@ fn tell_by_workers<R: Threads + Wait + Sync, G: Gate>(
     let roots = roots_by(alloc, program, options)?;
     let ends = ends_by(alloc, program, options)?;
     let groups = groups_by_workers(rt, alloc, options, program, &calls, &roots, gate)?;
-    let bytes = report_groups(
-        rt, alloc, options, program, &calls, &roots, ends, &groups,
-    )?;
+    let bytes = report_groups(rt, alloc, options, program, &calls, &roots, ends, &groups)?;
     Ok(bytes)
 }
 

@@ -1,8 +1,9 @@
 //! `run_groups` puts the right answer to words over files on two sinks, and answers its status.
 //!
-//! The answer is the usage, the first limit that is passed, the faults of the files, the first root
-//! that is no predicate of the program, or the report of the groups that the roots reach. It is one,
-//! but where the groups are told in the order of their release. Where the files and the sinks tell
+//! The answer is the usage, the first limit that is passed, the faults of the files, the first name of
+//! the words that is no predicate of the program, or the report of the groups that the roots reach,
+//! with the effects, circuits and path that the words ask for behind it. It is one, but where the
+//! groups are told in the order of their release. Where the files and the sinks tell
 //! what they hold and no read or put failed, it is put whole, or memory was wanting; of any files and
 //! sinks each status says what it stands for, and which files were asked for. Over the file
 //! `p :- q. q :- p.` the report is

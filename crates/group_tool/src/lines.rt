@@ -54,7 +54,7 @@ fn push_number(alloc: Global, text: &mut String, number: u32) -> Result<(), Allo
     text.push_str(&digits)
 }
 
-/// The line that says which root is no predicate of the program.
+/// The line that says which name of the words is no predicate of the program.
 pub fn missing_line(alloc: Global, root: &PredName) -> Result<String, AllocError>
     ensures { IfOk result (λ text. string_bytes text ≡ missing_line root.now) }
 {
@@ -70,6 +70,7 @@ pub fn unread_line(alloc: Global, name: &Text) -> Result<String, AllocError>
 }
 
 /// The line that says which limit was passed.
+#[tactic(auto, using(crate::proofs::LimitLine::many_predicates))]
 pub fn limit_line(alloc: Global, limit: &Limit) -> Result<String, AllocError>
     ensures { IfOk result (λ text. string_bytes text ≡ limit_line limit.now) }
 {

@@ -2,21 +2,21 @@
 
 ghost use Rattle.std.specs.Prelude.{◌<◌, ◌↔◌, ℕ, length, IfOk, IsBitSet};
 ghost use Rattle.import_rules.specs.Program.{see_program};
-ghost use Rattle.group_tool.specs.Parts.{AreOwnKinds, HasEffect, IsOfSome};
+ghost use Rattle.group_tool.specs.Parts.{AreOwnKinds, HasEffect, SomeHasKind};
 
 use call_edges::unresolved_of;
 use effect_flow::kinds_of;
 use import_rules::{PredName, Program};
 use std::alloc::{AllocError, Global};
 
-/// The kinds that some of the names have.
+/// All kinds that one of the names or another has.
 fn kinds_in(names: &[PredName]) -> u64
-    ensures { (kind : ℕ) → IsBitSet result kind ↔ IsOfSome names.now kind }
+    ensures { (kind : ℕ) → IsBitSet result kind ↔ SomeHasKind names.now kind }
 {
     let mut all = 0;
     for name in names {
         let own = kinds_of(name.name.as_str(), name.arity);
-        all = all | own;
+        all |= own;
     }
     all
 }

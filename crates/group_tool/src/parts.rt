@@ -21,7 +21,7 @@ use loop_report::{circuit_lines, effect_lines, walk_line};
 use std::alloc::{AllocError, Global};
 use std::thread::Threads;
 
-/// The lines of effects.
+/// A line for each group and effect that it may reach, with the predicate that has the effect.
 fn effects_told<R: Threads + Sync>(
     rt: &R,
     alloc: Global,
@@ -43,58 +43,7 @@ fn effects_told<R: Threads + Sync>(
     Ok(bytes)
 }
 
-/// The lines of circuits.
-fn loops_told(
-    alloc: Global,
-    program: &Program,
-    calls: &CallLists<'_>,
-    roots: &[u32],
-    groups: &[Vec<u32>],
-    levels: &[Level],
-) -> Result<Vec<u8>, AllocError>
-    requires calls { see_call_lists calls.now ≡ see_program program.now }
-    requires below { All (λ q. q < length (see_program program.now).predicates) roots.now }
-    requires leveled { AreLeveled (ListCalls (successor_lists (see_program program.now))) roots.now (lists_of groups.now) levels.now }
-    ensures { IfOk result (λ bytes. TellLoops (see_program program.now) (lists_of groups.now) levels.now bytes.items) }
-{
-    let _roots = roots;
-    let found = circuits(alloc, calls, groups)?;
-    let bytes = circuit_lines(alloc, program, groups, levels, &found)?;
-    Ok(bytes)
-}
-
-/// The line of a path.
-fn path_told(
-    alloc: Global,
-    options: &Options,
-    program: &Program,
-    calls: &CallLists<'_>,
-    ends: Option<(u32, u32)>,
-) -> Result<Vec<u8>, AllocError>
-    requires calls { see_call_lists calls.now ≡ see_program program.now }
-    requires ends { AreEnds (see_options options.now).path (see_program program.now) ends }
-    ensures { IfOk result (λ bytes. IsPathPart (see_options options.now).path (see_program program.now) bytes.items) }
-{
-    let _options = options;
-    let Some((from, to)) = ends else {
-        return Ok(Vec::new(alloc));
-    };
-    match shortest(alloc, calls, from, to)? {
-        Some(path) => walk_line(alloc, program, "path", &path),
-        None => walk_line(alloc, program, "no-path", &[from, to]),
-    }
-}
-
-/// The bytes, and others behind them.
-pub fn joined(first: Vec<u8>, second: &[u8]) -> Result<Vec<u8>, AllocError>
-    ensures { IfOk result (λ bytes. bytes.items ≡ first.items ++ second.now) }
-{
-    let mut bytes = first;
-    bytes.extend_from_slice(second)?;
-    Ok(bytes)
-}
-
-/// The effects, where they are wanted.
+/// The lines of effects, where they are wanted.
 fn effects_part<R: Threads + Sync>(
     rt: &R,
     alloc: Global,
@@ -116,7 +65,27 @@ fn effects_part<R: Threads + Sync>(
     effects_told(rt, alloc, program, calls, roots, groups, levels)
 }
 
-/// The circuits, where they are wanted.
+/// A line for each recursive group, with the least circuit of its least member.
+fn loops_told(
+    alloc: Global,
+    program: &Program,
+    calls: &CallLists<'_>,
+    roots: &[u32],
+    groups: &[Vec<u32>],
+    levels: &[Level],
+) -> Result<Vec<u8>, AllocError>
+    requires calls { see_call_lists calls.now ≡ see_program program.now }
+    requires below { All (λ q. q < length (see_program program.now).predicates) roots.now }
+    requires leveled { AreLeveled (ListCalls (successor_lists (see_program program.now))) roots.now (lists_of groups.now) levels.now }
+    ensures { IfOk result (λ bytes. TellLoops (see_program program.now) (lists_of groups.now) levels.now bytes.items) }
+{
+    let _roots = roots;
+    let found = circuits(alloc, calls, groups)?;
+    let bytes = circuit_lines(alloc, program, groups, levels, &found)?;
+    Ok(bytes)
+}
+
+/// The lines of circuits, where they are wanted.
 fn loops_part(
     alloc: Global,
     options: &Options,
@@ -137,7 +106,38 @@ fn loops_part(
     loops_told(alloc, program, calls, roots, groups, levels)
 }
 
-/// The parts behind the report that the options ask for.
+/// The line of the least path between the ends, or that there is none, where a path is wanted.
+fn path_told(
+    alloc: Global,
+    options: &Options,
+    program: &Program,
+    calls: &CallLists<'_>,
+    ends: Option<(u32, u32)>,
+) -> Result<Vec<u8>, AllocError>
+    requires calls { see_call_lists calls.now ≡ see_program program.now }
+    requires ends { AreEnds (see_options options.now).path (see_program program.now) ends }
+    ensures { IfOk result (λ bytes. IsPathPart (see_options options.now).path (see_program program.now) bytes.items) }
+{
+    let _options = options;
+    let Some((from, to)) = ends else {
+        return Ok(Vec::new(alloc));
+    };
+    match shortest(alloc, calls, from, to)? {
+        Some(path) => walk_line(alloc, program, "path", &path),
+        None => walk_line(alloc, program, "no-path", &[from, to]),
+    }
+}
+
+/// The bytes, and the others behind them.
+pub fn joined(first: Vec<u8>, second: &[u8]) -> Result<Vec<u8>, AllocError>
+    ensures { IfOk result (λ bytes. bytes.items ≡ first.items ++ second.now) }
+{
+    let mut bytes = first;
+    bytes.extend_from_slice(second)?;
+    Ok(bytes)
+}
+
+/// The parts behind the report that the options ask for, in their order.
 pub fn parts_of<R: Threads + Sync>(
     rt: &R,
     alloc: Global,

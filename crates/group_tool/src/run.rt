@@ -171,10 +171,10 @@ fn run<R: Threads + Wait + Sync, L: Library, O: Sink, E: Sink, G: Gate>(
 }
 
 /// Answers the words over the library: a report on `out`, or lines on `err` that say why there is
-/// none, and the status of the run: 0 for a report, 2 for wrong words or a root that is no predicate
-/// of the program, 3 for faults of the files, 4 where the library could not read a file, 5 where a
-/// sink failed, 6 where a limit was passed, 7 where memory was wanting. The memory of the program that
-/// it read isn't given back, since a run is the last thing that its process does.
+/// none, and the status of the run: 0 for a report, 2 for wrong words or a name in them that is no
+/// predicate of the program, 3 for faults of the files, 4 where the library could not read a file, 5
+/// where a sink failed, 6 where a limit was passed, 7 where memory was wanting. The memory of the
+/// program that it read isn't given back, since a run is the last thing that its process does.
 pub fn run_groups<R: Threads + Wait + Sync, L: Library, O: Sink, E: Sink, G: Gate>(
     rt: &R,
     alloc: Global,

@@ -25,7 +25,7 @@ pub enum Stop {
     Usage,
     /// What is wrong with the files, in order.
     Faults(Vec<Fault>),
-    /// The root that is no predicate of the program.
+    /// The first name of the words that is no predicate of the program.
     NoPredicate(PredName),
     /// The file that could not be read.
     ReadFault(Text),

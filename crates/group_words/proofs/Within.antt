@@ -31,6 +31,13 @@ roots_within given None are = tt
 roots_within None (Some roots) are = absurd are
 roots_within (Some text) (Some roots) are = arities_fit text roots are
 
+path_within : (given : Option (List ℕ)) (path : Option (PredName × PredName)) → PathIs given path
+    → IfSome path (λ both. (both.0.arity < 2 ^ 32) × (both.1.arity < 2 ^ 32))
+path_within given None is = tt
+path_within None (Some both) is = absurd is
+path_within (Some text) (Some both) is =
+    let fit = arities_fit text (both.0 ∷ both.1 ∷ []) is in (fit 0 both.0 (omega arith), fit 1 both.0 (omega arith))
+
 make_within : (given : Option (List ℕ)) (make : Option ℕ) → MakeIs given make → IfSome make (λ count. (1 ≤ count) × (count ≤ 100000))
 make_within given None is = tt
 make_within None (Some count) is = absurd is
@@ -114,6 +121,7 @@ settings_within given files s sets = record {
   jobs = jobs_within (given Jobs) s.jobs sets.jobs;
   searches = searches_within (given Searches) (given Seed) (given Jobs) s.jobs s.searches sets.searches sets.jobs sets.together.one_way;
   roots = roots_within (given Roots) s.roots sets.roots;
+  path = path_within (given Path) s.path sets.path;
   make = make_within (given Make) s.make sets.make;
   made = λ is.
       let none = sets.together.made (sym (make_given (given Make) s.make sets.make) ∙ is) in (

@@ -56,7 +56,7 @@ RootsAre None None = Unit {0}
 RootsAre (Some text) (Some roots) = IsRootList text roots
 RootsAre text roots = ⊥
 
--- the list has just two
+-- the list has just these two
 abbrev pub PathIs : Option (List ℕ) → Option (PredName × PredName) → Type 0
 PathIs None None = Unit {0}
 PathIs (Some text) (Some both) = IsRootList text (both.0 ∷ both.1 ∷ [])
@@ -81,7 +81,9 @@ pub record FilesAre (words named : List (List ℕ)) : Type 0 where
 -- what excludes what
 pub record GoTogether (given : Key → Option (List ℕ)) (files : List (List ℕ)) : Type 0 where
   pub one_way : is_some (given Searches) ≡ true → given Jobs ≡ None
-  pub made : is_some (given Make) ≡ true → (given Roots ≡ None) × (given Path ≡ None) × (given Order ≡ None) × (given Unreached ≡ None) × (given Effects ≡ None) × (given Loops ≡ None) × (files ≡ [])
+  pub made : is_some (given Make) ≡ true
+      → (given Roots ≡ None) × (given Path ≡ None) × (given Order ≡ None) × (given Unreached ≡ None) × (given Effects ≡ None)
+      × (given Loops ≡ None) × (files ≡ [])
   pub read : given Make ≡ None → files ≢ []
 
 pub record AreSettings (given : Key → Option (List ℕ)) (files : List (List ℕ)) (s : Settings) : Type 0 where
@@ -109,8 +111,11 @@ pub record AreWithin (s : Settings) : Type 0 where
   pub jobs : (1 ≤ s.jobs) × (s.jobs ≤ 64)
   pub searches : IfSome s.searches (λ both. (1 ≤ both.0) × (both.0 ≤ 64) × (both.1 < 2 ^ 64) × (s.jobs ≡ 1))
   pub roots : IfSome s.roots (All (λ root. root.arity < 2 ^ 32))
+  pub path : IfSome s.path (λ both. (both.0.arity < 2 ^ 32) × (both.1.arity < 2 ^ 32))
   pub make : IfSome s.make (λ count. (1 ≤ count) × (count ≤ 100000))
-  pub made : is_some s.make ≡ true → (s.roots ≡ None) × (s.path ≡ None) × (s.order ≡ false) × (s.unreached ≡ false) × (s.effects ≡ false) × (s.loops ≡ false) × (s.files ≡ [])
+  pub made : is_some s.make ≡ true
+      → (s.roots ≡ None) × (s.path ≡ None) × (s.order ≡ false) × (s.unreached ≡ false) × (s.effects ≡ false) × (s.loops ≡ false)
+      × (s.files ≡ [])
   pub read : s.make ≡ None → s.files ≢ []
   pub once : IsDistinct bytes_eq s.files
 

@@ -92,13 +92,13 @@ fn roots_of(alloc: Global, text: Option<&str>) -> Result<Option<Vec<PredName>>, 
     }
 }
 
-/// The two that are in the list, where these are all.
-fn just_two(roots: Vec<PredName>) -> Option<(PredName, PredName)>
+/// The first and the second of a list of just two.
+fn just_two(named: Vec<PredName>) -> Option<(PredName, PredName)>
     ensures { MatchOption result
-        ((both : PredName × PredName) → roots.items ≡ both.0 ∷ both.1 ∷ [] → ⊥)
-        (λ both. roots.items ≡ both.0 ∷ both.1 ∷ []) }
+        ((both : PredName × PredName) → named.items ≡ both.0 ∷ both.1 ∷ [] → ⊥)
+        (λ both. named.items ≡ both.0 ∷ both.1 ∷ []) }
 {
-    let mut left = roots;
+    let mut left = named;
     let to = left.pop()?;
     let from = left.pop()?;
     if !left.is_empty() {
@@ -107,17 +107,19 @@ fn just_two(roots: Vec<PredName>) -> Option<(PredName, PredName)>
     Some((from, to))
 }
 
+/// The predicates that a path leaves and comes to, where one is asked for.
 fn path_of(alloc: Global, text: Option<&str>) -> Result<Option<(PredName, PredName)>, WordFault>
     ensures ok { IfOk result (λ path. PathIs (option_map (λ t. t.now) text.entry) path) }
-    ensures usage { IfErr result (λ fault. fault ≡ WordFault.Usage → (path : Option (PredName × PredName)) → PathIs (option_map (λ t. t.now) text.entry) path → ⊥) }
+    ensures usage { IfErr result (λ fault. fault ≡ WordFault.Usage
+        → (path : Option (PredName × PredName)) → PathIs (option_map (λ t. t.now) text.entry) path → ⊥) }
 {
     let Some(list) = text else {
         return Ok(None);
     };
-    let Some(roots) = read_roots(alloc, list)? else {
+    let Some(named) = read_roots(alloc, list)? else {
         return Err(WordFault::Usage);
     };
-    match just_two(roots) {
+    match just_two(named) {
         Some(both) => Ok(Some(both)),
         None => Err(WordFault::Usage),
     }

@@ -6,6 +6,9 @@ use Rattle.module_table.specs.declared.load.LoadKind.TheVariants.{UseAll, UseSom
 use Rattle.module_table.specs.Defined.{Predicate}
 use Rattle.module_table.specs.Facts.{Facts}
 use Rattle.module_table.specs.Said.{Loads}
+use Rattle.module_table.specs.declared.goal_arg.GoalArg.{GoalArg}
+use Rattle.module_table.specs.declared.goal_arg.GoalArg.TheVariants.{Plain, Goal, Caret}
+use Rattle.module_table.specs.Metas.{Declaration}
 use Rattle.clause_text.specs.declared.cause.Cause.TheVariants.{TwoModules, NoFile, NotModule, NotExported, NotDefined, TwoImports}
 use Rattle.import_rules.specs.declared.names.PredName.{PredName}
 use Rattle.import_rules.specs.Items.{items, foreign_items}
@@ -13,14 +16,15 @@ use Rattle.import_rules.specs.Clashes.{Imports, clash}
 use Rattle.import_rules.specs.Flaws.{Flaw, file_flaws, clash_flaw}
 use Rattle.import_rules.specs.Find.{found_in}
 use Rattle.import_rules.specs.Numbers.{parts_in, places_for}
+use Rattle.import_rules.specs.Metas.{args_for}
 
 abbrev indicator : List ℕ → ℕ → ℕ → Indicator
 indicator name arity from = record { name = name; arity = arity; from = from }
 
+-- a predicate without clauses, which gets its module from its file
 abbrev bare : List ℕ → ℕ → Predicate
 bare name arity = record { module_ = []; name = name; arity = arity; clauses = [] }
 
--- they are of the module
 abbrev of_module : List ℕ → List Predicate → List Predicate
 of_module owner defined = map (λ (p : Predicate). record p { module_ = owner }) defined
 
@@ -192,3 +196,39 @@ by_arity =
 
 no_clash_of_arities : clash (foreign_items by_arity) (pred (codes "m") (codes "x") 0) ≡ None
 no_clash_of_arities = refl
+
+-- a file may define for another module, which no file need declare
+
+abbrev elsewhere : List Facts
+elsewhere = record (m []) { defined = of_module (codes "hooks") (x ∷ []) } ∷ record (of_user (codes "n.pl") [] []) { defined = of_module (codes "hooks") (bare (codes "a") 0 ∷ x ∷ []) } ∷ []
+
+of_other_files : places_for (parts_in elsewhere) (pred (codes "hooks") (codes "x") 0) ≡ (0, 0) ∷ (1, 1) ∷ []
+of_other_files = refl
+
+not_of_their_module : places_for (parts_in elsewhere) (pred (codes "m") (codes "x") 0) ≡ []
+not_of_their_module = refl
+
+-- the first declaration for a predicate counts, in order of file and place: one of another arity or another module is for another predicate
+
+abbrev declaration : List ℕ → List ℕ → List GoalArg → Declaration
+declaration owner name args = record { module_ = owner; name = name; args = args; from = 0 }
+
+abbrev declaring : List ℕ → List Declaration → Facts
+declaring name metas = record (of_user name [] []) { metas = metas }
+
+abbrev declared : List Facts
+declared =
+    declaring (codes "a.pl") (declaration (codes "m") (codes "t") (Goal 1 ∷ []) ∷ declaration (codes "user") (codes "t") (Goal 2 ∷ Plain ∷ []) ∷ [])
+    ∷ declaring (codes "b.pl") (declaration (codes "user") (codes "t") (Goal 3 ∷ []) ∷ declaration (codes "user") (codes "t") (Caret ∷ []) ∷ []) ∷ []
+
+first_declared : args_for declared (pred (codes "user") (codes "t") 1) ≡ Goal 3 ∷ []
+first_declared = refl
+
+declared_for_a_module : args_for declared (pred (codes "m") (codes "t") 1) ≡ Goal 1 ∷ []
+declared_for_a_module = refl
+
+other_arity_is_declared : args_for declared (pred (codes "user") (codes "t") 2) ≡ Goal 2 ∷ Plain ∷ []
+other_arity_is_declared = refl
+
+none_declared : args_for declared (pred (codes "user") (codes "t") 3) ≡ []
+none_declared = refl

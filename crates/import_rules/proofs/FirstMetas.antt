@@ -1,18 +1,16 @@
 -- The first declaration for each predicate, and its place.
-use Rattle.std.proofs.Common.{◌≡◌, ◌≢◌, ℕ, zero, suc, ◌+◌, ◌<◌, ◌≤◌, ◌==◌, Bool, true, false, List, [], ◌∷◌, ◌++◌, Option, Some, None, AllPairs, Contains, cond, length, map, filter, flat_map, take, get_or, refl, sym, ap, ◌∙◌, subst, inl, inr, arith, if◌then◌else◌}
+use Rattle.std.proofs.Common.{◌≡◌, ◌≢◌, ℕ, ◌+◌, ◌==◌, Bool, true, false, List, [], ◌∷◌, ◌++◌, Option, Some, None, AllPairs, Contains, cond, length, filter, refl, sym, ap, ◌∙◌, inl, inr, arith, if◌then◌else◌}
 use Rattle.std.specs.Prelude.{slice_get, slice_index_or}
-use Rattle.std.specs.List.{enumerate_from, list_any}
+use Rattle.std.specs.List.{list_any}
 use Rattle.std.specs.declared.cmp.Ordering.TheVariants.{Less}
 use Rattle.std.proofs.lemmas.Bool.{cases_eq, false_from_ne_true}
-use Rattle.std.proofs.lemmas.Option.{slice_get_within, get_or_from_slice_get, none-some}
+use Rattle.std.proofs.lemmas.Option.{slice_get_within, get_or_from_slice_get}
 use Rattle.module_table.specs.Kinds.{first_of}
-use Rattle.module_table.specs.Metas.{Declaration, see_meta}
-use Rattle.module_table.specs.Facts.{Facts}
 use Rattle.import_rules.specs.declared.names.PredName.{PredName}
 use Rattle.import_rules.specs.Names.{is_same, pred_cmp}
 use Rattle.import_rules.specs.Metas.{MetaAt, name_for, is_for, first_for, kept_as, first_kept, AreDeclared}
 use Rattle.import_rules.proofs.Lists.{any_there}
-use Rattle.import_rules.proofs.NameOrder.{same_parts, same_itself, same_from}
+use Rattle.import_rules.proofs.NameOrder.{same_parts, same_from}
 use Rattle.import_rules.proofs.NumberLemmas.{number_at}
 
 -- one more declaration

@@ -1,6 +1,6 @@
 -- Where the declaration of a predicate stands, by the place that is kept of it.
-use Rattle.std.proofs.Common.{◌≡◌, ◌≢◌, ℕ, ◌+◌, ◌-◌, ◌<◌, List, [], ◌∷◌, Option, Some, None, Contains, filter, map, flat_map, refl, sym, ap, ◌∙◌, subst, arith}
-use Rattle.std.specs.Prelude.{slice_get, slice_index_or}
+use Rattle.std.proofs.Common.{◌≡◌, ◌≢◌, ℕ, ◌+◌, ◌-◌, List, [], ◌∷◌, Option, Some, None, Contains, filter, refl, sym, ap, ◌∙◌, subst, arith}
+use Rattle.std.specs.Prelude.{slice_get}
 use Rattle.std.specs.List.{enumerate_from}
 use Rattle.order_law.proofs.OneOrder.{in_first}
 use Rattle.module_table.specs.declared.goal_arg.GoalArg.{GoalArg}
@@ -8,7 +8,7 @@ use Rattle.module_table.specs.Metas.{Declaration}
 use Rattle.module_table.specs.Facts.{Facts}
 use Rattle.module_table.specs.Kinds.{first_of}
 use Rattle.import_rules.specs.declared.names.PredName.{PredName}
-use Rattle.import_rules.specs.Metas.{MetaAt, meta_at, metas_of_file, metas_in, is_for, first_for, args_of, args_for, kept_as, AreDeclared}
+use Rattle.import_rules.specs.Metas.{MetaAt, meta_at, metas_of_file, metas_in, is_for, first_for, args_of, args_for, kept_as}
 use Rattle.import_rules.proofs.Lists.{map_from, kept_there}
 use Rattle.import_rules.proofs.Members.{flat_map_from, counted_from}
 

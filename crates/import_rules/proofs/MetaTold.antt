@@ -4,14 +4,11 @@ use Rattle.std.specs.Prelude.{slice_get, slice_index_or}
 use Rattle.std.proofs.lemmas.Bool.{eq-eqb, eqb-true}
 use Rattle.std.proofs.lemmas.List.{length-map, get_or_past}
 use Rattle.std.proofs.lemmas.Option.{slice_get-get_or, slice_get_within, slice_get-map, slice_get_read, same_Some}
-use Rattle.module_table.specs.Facts.{see_facts}
 use Rattle.file_library.specs.SortedOut.{see_loaded}
 use Rattle.import_rules.specs.declared.program.Program.{Program}
 use Rattle.import_rules.specs.Names.{pred_name}
-use Rattle.import_rules.specs.Metas.{args_for, kept_as, first_for, metas_in}
-use Rattle.import_rules.specs.Program.{see_program, found, args_at, meta_in, meta_of_found, meta_meant}
+use Rattle.import_rules.specs.Program.{see_program, args_at, meta_in, meta_of_found}
 use Rattle.import_rules.proofs.MetaThere.{IsMetaAt, none_kept, one_kept}
-use Rattle.import_rules.proofs.Seen.{count_is}
 
 pub seen_at : {X Y : Type 0} (f : X → Y) (xs : List X) (i : ℕ) (x : X) (y : Y) → x ≡ get_or xs i x → slice_get (map f xs) i ≡ Some y → f x ≡ y
 seen_at f xs i x y is there =

@@ -1,12 +1,12 @@
 -- The declarations of the files up to one, and of a file up to one.
-use Rattle.std.proofs.Common.{◌≡◌, ℕ, ◌+◌, ◌<◌, ◌≤◌, List, [], ◌∷◌, ◌++◌, length, map, take, flat_map, get_or, sym, ap, ◌∙◌, arith, append_assoc, append-nil}
+use Rattle.std.proofs.Common.{◌≡◌, ℕ, ◌+◌, ◌<◌, ◌≤◌, List, [], ◌∷◌, ◌++◌, length, map, take, flat_map, get_or, sym, ap, ◌∙◌, arith, append-nil}
 use Rattle.std.specs.List.{enumerate_from}
 use Rattle.std.proofs.lemmas.Grind.{flat_map-append}
 use Rattle.std.proofs.lemmas.List.{take_more, take_all, map-append, get_or-map, length-map}
 use Rattle.std.proofs.lemmas.List.FromFn.{length-enumerate_from, get_or-enumerate_from}
 use Rattle.module_table.specs.declared.meta.Meta.{Meta}
 use Rattle.module_table.specs.declared.file_facts.FileFacts.{FileFacts}
-use Rattle.module_table.specs.Metas.{Declaration, see_meta}
+use Rattle.module_table.specs.Metas.{see_meta}
 use Rattle.module_table.specs.Facts.{Facts, see_facts}
 use Rattle.import_rules.specs.Metas.{MetaAt, meta_at, metas_of_file, metas_in}
 

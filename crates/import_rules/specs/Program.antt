@@ -79,7 +79,8 @@ IsImportStop loaded (Faults faults) =
     HasPredicates loaded (λ n. n ≤ most_predicates) × AreImportFaults loaded faults.items × (faults.items ≢ [])
 IsImportStop loaded NoMemory = Unit {0}
 
--- the facts are those of a file with this text: they stand in it, none of their terms is too heavy, and no more than nine arguments are added where it declares goals
+-- the facts are those of a file with this text: they stand in it, none of their terms is too heavy, and no more than
+-- nine arguments are added where it declares goals
 pub record IsReadFrom (text : NamedText) (facts : Facts) : Type 0 where
   pub named : facts.file ≡ text.0
   pub small : length text.1 ≤ most_bytes

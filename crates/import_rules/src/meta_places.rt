@@ -12,11 +12,7 @@ use module_table::FileFacts;
 use std::alloc::{AllocError, Global};
 
 /// Makes room for a place for each of so many predicates, where there is none yet.
-fn make_room(
-    alloc: Global,
-    count: usize,
-    kept: &mut Vec<(u32, u32)>,
-) -> Result<(), AllocError>
+fn make_room(alloc: Global, count: usize, kept: &mut Vec<(u32, u32)>) -> Result<(), AllocError>
     requires { kept.old.items ≢ [] → length kept.old.items ≡ count }
     ensures long { OnOk result (length kept.new.items ≡ count) }
     ensures same { OnOk result ((k : ℕ) → slice_index_or kept.new.items k (0, 0) ≡ slice_index_or kept.old.items k (0, 0)) }
@@ -52,7 +48,8 @@ fn keep_file(
     requires few { HasFewMetas (see_facts file.now) }
     requires long { kept.old.items ≢ [] → length kept.old.items ≡ length predicates.now }
     requires in_order { AllPairs (λ p q. pred_cmp p q ≡ Less) predicates.now }
-    ensures { OnOk result ((done : List MetaAt) → AreDeclared done predicates.now kept.old.items → AreDeclared (done ++ metas_of_file place (see_facts file.now)) predicates.now kept.new.items) }
+    ensures { OnOk result ((done : List MetaAt) → AreDeclared done predicates.now kept.old.items
+        → AreDeclared (done ++ metas_of_file place (see_facts file.now)) predicates.now kept.new.items) }
 {
     for (at, meta) in file.metas.iter().enumerate() {
         let Some(node) = predicates.find(

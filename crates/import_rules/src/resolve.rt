@@ -11,8 +11,8 @@ ghost use Rattle.import_rules.specs.Numbers.{AreNumbers, lists_of, parts_in};
 ghost use Rattle.import_rules.specs.Program.{see_program, IsProgram, IsImportStop};
 
 use crate::check::{Checked, check_imports};
-use crate::meta_places::meta_places;
 use crate::meanings::{Meanings, with_imports};
+use crate::meta_places::meta_places;
 use crate::name_table::NameTable;
 use crate::number::{Numbered, number};
 use crate::part::parts_of;
@@ -22,7 +22,7 @@ use file_library::Loaded;
 use std::alloc::{AllocError, Global};
 
 /// How many predicates a program may have.
-const MOST_PREDICATES: usize = 1_048_576;
+pub const MOST_PREDICATES: usize = 1_048_576;
 
 /// The predicates of the files, numbered.
 fn numbered(alloc: Global, loaded: &Loaded) -> Result<Numbered, AllocError>

@@ -1,5 +1,5 @@
 -- Groups that are the same in any legal order have the same lines of effects.
-use Rattle.std.proofs.Common.{◌≡◌, ℕ, ◌<◌, List, [], length, map, get_or, Contains, Option, sym, subst, ◌∙◌, ap, arith}
+use Rattle.std.proofs.Common.{◌≡◌, ℕ, ◌<◌, List, [], length, map, get_or, Option, sym, subst, ◌∙◌, ap, arith}
 use Rattle.std.specs.List.{flat_map, range_with_len}
 use Rattle.std.proofs.lemmas.List.{ext_get_or, get_or-map, length-map}
 use Rattle.std.proofs.lemmas.List.Elements.{Contains-get_or}
@@ -11,7 +11,7 @@ use Rattle.effect_flow.specs.Carriers.{AreFlows, HasKind, IsCarrier, first_at, f
 use Rattle.effect_flow.proofs.Known.{one_carrier}
 use Rattle.import_rules.specs.declared.names.PredName.{PredName}
 use Rattle.loop_report.specs.Effects.{AreEffectLines, effect_line, group_effects, kind_word, place_effects}
-use Rattle.loop_report.specs.Report.{IsLineOrder, least_at}
+use Rattle.loop_report.specs.Report.{least_at}
 use Rattle.loop_report.specs.Reportable.{AreLeveled}
 use Rattle.loop_report.proofs.OneLine.{line_at, lines, same_lines}
 use Rattle.order_law.proofs.OneOrder.{order_below}

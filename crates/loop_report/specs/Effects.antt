@@ -1,14 +1,13 @@
 -- The effects that groups may reach, as lines.
 use Rattle.std.specs.Prelude.{◌≡◌, ℕ, List, [], ◌∷◌, ◌++◌, Option, Some, None, slice_index_or, codes}
 use Rattle.std.specs.List.{flat_map, range_with_len}
-use Rattle.graph_law.specs.Classes.{group_at}
 use Rattle.group_release.specs.declared.level.Level.{Level}
 use Rattle.effect_flow.specs.Carriers.{first_at, flow_at}
 use Rattle.import_rules.specs.declared.names.PredName.{PredName}
 use Rattle.loop_report.specs.Names.{member_name}
 use Rattle.loop_report.specs.Report.{IsLineOrder, least_at}
 
--- the words of the kinds
+-- the words of the kinds, by their numbers
 abbrev pub kind_words : List (List ℕ)
 kind_words = codes "output" ∷ codes "input" ∷ codes "database" ∷ codes "streams" ∷ codes "throw" ∷ codes "halt" ∷ codes "flags" ∷ []
 
@@ -30,7 +29,8 @@ abbrev pub place_effects : List PredName → List (List ℕ) → List (List (Opt
 place_effects predicates groups flows place = group_effects predicates (least_at groups place) (flow_at flows place)
 
 -- the bytes are the lines of all groups, in order of height and least member
-pub record AreEffectLines (predicates : List PredName) (groups : List (List ℕ)) (levels : List Level) (flows : List (List (Option ℕ))) (bytes : List ℕ) : Type 0 where
+pub record AreEffectLines (predicates : List PredName) (groups : List (List ℕ)) (levels : List Level) (flows : List (List (Option ℕ)))
+    (bytes : List ℕ) : Type 0 where
   pub order : List ℕ
   pub in_order : IsLineOrder groups levels order
   pub is : bytes ≡ flat_map (place_effects predicates groups flows) order

@@ -1,5 +1,5 @@
 -- The lines of walks and of circuits.
-use Rattle.std.specs.Prelude.{◌≡◌, ℕ, ◌<◌, List, [], ◌++◌, Option, None, Some, Vec, All, length, map, option_map, slice_index_or, codes}
+use Rattle.std.specs.Prelude.{◌≡◌, ℕ, ◌<◌, List, [], ◌++◌, Option, None, Some, Vec, All, option_map, slice_index_or, codes}
 use Rattle.std.specs.List.{flat_map}
 use Rattle.group_release.specs.declared.level.Level.{Level}
 use Rattle.import_rules.specs.declared.names.PredName.{PredName}
@@ -29,7 +29,8 @@ abbrev pub circuit_line_at : List PredName → List (Option (List ℕ)) → ℕ 
 circuit_line_at predicates circuits place = circuit_line predicates (slice_index_or circuits place None)
 
 -- the lines of the groups' circuits, in order of height and least member
-pub record AreCircuitLines (predicates : List PredName) (groups : List (List ℕ)) (levels : List Level) (circuits : List (Option (List ℕ))) (bytes : List ℕ) : Type 0 where
+pub record AreCircuitLines (predicates : List PredName) (groups : List (List ℕ)) (levels : List Level) (circuits : List (Option (List ℕ)))
+    (bytes : List ℕ) : Type 0 where
   pub order : List ℕ
   pub in_order : IsLineOrder groups levels order
   pub is : bytes ≡ flat_map (circuit_line_at predicates circuits) order

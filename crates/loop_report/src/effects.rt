@@ -70,7 +70,8 @@ fn push_effects<'a>(
     flow: Flow,
 ) -> Result<(), AllocError>
     requires least { least < length (see_program program.now).predicates }
-    requires carriers { (kind q : ℕ) → kind < 7 → first_at (see_flow flow) kind ≡ Some q → q < length (see_program program.now).predicates }
+    requires carriers { (kind q : ℕ) → kind < 7
+        → first_at (see_flow flow) kind ≡ Some q → q < length (see_program program.now).predicates }
     ensures { OnOk result (string_bytes text.new
         ≡ string_bytes text.old ++ group_effects (see_program program.now).predicates least (see_flow flow)) }
 {
@@ -83,6 +84,7 @@ fn push_effects<'a>(
     Ok(())
 }
 
+/// The flow of the group at a place.
 fn flow_there(flows: &[Flow], place: usize) -> Flow
     requires { place < length flows.now }
     ensures { see_flow result ≡ flow_at (see_flows flows.now) place }
@@ -100,9 +102,9 @@ fn least_there(groups: &[Vec<u32>], place: usize) -> u32
 }
 
 /// A line for each group and each kind of effect that it has a carrier for, in order of height, least
-/// member and kind: the name of the least member, the word of the kind and the carrier. The groups are
+/// member and kind: `effect`, the least member, the word of the kind and the carrier. The groups are
 /// in a legal order of some graph of the predicates, the levels are theirs there, and there is a flow
-/// for each.
+/// for each. Only memory can be wanting.
 pub fn effect_lines(
     alloc: Global,
     program: &Program,
@@ -112,8 +114,10 @@ pub fn effect_lines(
 ) -> Result<Vec<u8>, AllocError>
     requires groups { AreReportable (length (see_program program.now).predicates) (lists_of groups.now) levels.now }
     requires each { length flows.now ≡ length groups.now }
-    requires carriers { (place kind q : ℕ) → place < length groups.now → kind < 7 → first_at (flow_at (see_flows flows.now) place) kind ≡ Some q → q < length (see_program program.now).predicates }
-    ensures { IfOk result (λ bytes. AreEffectLines (see_program program.now).predicates (lists_of groups.now) levels.now (see_flows flows.now) bytes.items) }
+    requires carriers { (place kind q : ℕ) → place < length groups.now → kind < 7
+        → first_at (flow_at (see_flows flows.now) place) kind ≡ Some q → q < length (see_program program.now).predicates }
+    ensures { IfOk result (λ bytes. AreEffectLines (see_program program.now).predicates (lists_of groups.now) levels.now
+        (see_flows flows.now) bytes.items) }
 {
     let order = line_order(alloc, groups, levels)?;
     let mut text = String::new(alloc);

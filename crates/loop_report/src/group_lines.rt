@@ -58,6 +58,7 @@ fn kind_name(recursive: bool) -> &'static str
     if recursive { " recursive" } else { " plain" }
 }
 
+/// Adds the names of these predicates, each after a space.
 pub(crate) fn push_members<'a>(
     text: &mut String,
     program: &'a Program,

@@ -13,6 +13,17 @@
 //! ```
 //!
 //! It is the same in whatever legal order the groups are given; `order_report` keeps that order.
+//!
+//! Further parts stand behind a report, each of lines of its own: `effect_lines` tells which effects each
+//! group may reach, `circuit_lines` a loop of calls for each recursive group, and `walk_line` a path of
+//! calls.
+//!
+//! ```text
+//! effect a:p/0 output b:q/0
+//! loop a:p/0 b:q/0
+//! path c:t/0 a:p/0 b:q/0
+//! ```
+//!
 //! Names are spelled so that each reads back as itself.
 #![tactic(auto)]
 

@@ -30,7 +30,8 @@ fn push_walk<'a>(
     text.push_str("\n")
 }
 
-/// The line of the word and of the predicates with these numbers, each after a space.
+/// The line of the word and of the predicates with these numbers, each after a space. Only memory can
+/// be wanting.
 pub fn walk_line(
     alloc: Global,
     program: &Program,
@@ -83,8 +84,9 @@ fn push_circuits(
     Ok(())
 }
 
-/// The lines of the groups' circuits, for those groups that have one, in order of height and least
-/// member.
+/// A line for each group that has a circuit, in order of height and least member: `loop` and the
+/// predicates of the circuit. The groups are in a legal order of some graph of the predicates, the
+/// levels are theirs there, and there is a circuit or none for each. Only memory can be wanting.
 pub fn circuit_lines(
     alloc: Global,
     program: &Program,
@@ -95,7 +97,8 @@ pub fn circuit_lines(
     requires groups { AreReportable (length (see_program program.now).predicates) (lists_of groups.now) levels.now }
     requires each { length circuits.now ≡ length groups.now }
     requires within { All (IsCircuitWithin (length (see_program program.now).predicates)) (map see_circuit circuits.now) }
-    ensures { IfOk result (λ bytes. AreCircuitLines (see_program program.now).predicates (lists_of groups.now) levels.now (map see_circuit circuits.now) bytes.items) }
+    ensures { IfOk result (λ bytes. AreCircuitLines (see_program program.now).predicates (lists_of groups.now) levels.now
+        (map see_circuit circuits.now) bytes.items) }
 {
     let order = line_order(alloc, groups, levels)?;
     let mut text = String::new(alloc);

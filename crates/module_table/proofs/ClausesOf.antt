@@ -1,5 +1,5 @@
 -- The clauses of a predicate are those of the file that are of it, in order.
-use Rattle.std.proofs.Common.{◌≡◌, ℕ, Bool, true, false, ◌&&◌, List, [], ◌∷◌, ◌++◌, Option, Some, None, Result, Ok, Err, All, Contains, arith, map, filter, nat_eq, refl, sym, ap, subst, ◌∙◌, inl, inr, if◌then◌else◌, append-nil}
+use Rattle.std.proofs.Common.{◌≡◌, ℕ, Bool, true, false, ◌&&◌, List, [], ◌∷◌, ◌++◌, Option, Some, None, Result, Ok, Err, All, Contains, arith, filter, nat_eq, refl, sym, ap, subst, ◌∙◌, inl, inr, if◌then◌else◌, append-nil}
 use Rattle.std.specs.List.{filter_map, AllByRecursion}
 use Rattle.std.specs.Str.{bytes_eq}
 use Rattle.std.proofs.lemmas.List.Concat.{flat_map-append}
@@ -10,7 +10,7 @@ use Rattle.prolog_terms.specs.Tree.{Tree}
 use Rattle.clause_text.specs.Items.{directive_of}
 use Rattle.module_table.specs.Defined.{Defines, Predicate, clause_for, clauses_for}
 use Rattle.module_table.specs.Said.{Said, Part, Loads, declares, loads, defines, goal, Refusal, in_turn, each_said, takes}
-use Rattle.module_table.specs.Metas.{Declaration, declared_in, IsSmall}
+use Rattle.module_table.specs.Metas.{Declaration, IsSmall}
 use Rattle.module_table.specs.Kinds.{defined_part, load_part, takes_part}
 use Rattle.module_table.specs.Heads.{Owned}
 use Rattle.module_table.specs.Directives.{Home, home, directive_said}
@@ -291,15 +291,15 @@ module _ (user : Home) where
 abbrev AreSmall : Declaration → Type 0
 AreSmall d = All IsSmall d.args
 
-small_in : (own : List ℕ) (parts : List Part) → AllByRecursion AddsFew parts → AllByRecursion AreSmall (map (declared_in own) (filter_map takes_part parts))
-small_in own [] all = tt
-small_in own (declares d ∷ parts) all = small_in own parts all.1
-small_in own (loads d ∷ parts) all = small_in own parts all.1
-small_in own (defines d ∷ parts) all = small_in own parts all.1
-small_in own (takes t ∷ parts) all = (All-from_recursion IsSmall t.args all.0, small_in own parts all.1)
-small_in own (goal d ∷ parts) all = small_in own parts all.1
+small_in : (parts : List Part) → AllByRecursion AddsFew parts → AllByRecursion AreSmall (filter_map takes_part parts)
+small_in [] all = tt
+small_in (declares d ∷ parts) all = small_in parts all.1
+small_in (loads d ∷ parts) all = small_in parts all.1
+small_in (defines d ∷ parts) all = small_in parts all.1
+small_in (takes d ∷ parts) all = (All-from_recursion IsSmall d.args all.0, small_in parts all.1)
+small_in (goal d ∷ parts) all = small_in parts all.1
 
 pub metas_small : (user : List ℕ) (trees : List Tree) (facts : Facts) → AreFacts user trees facts → All (λ (d : Declaration). All IsSmall d.args) facts.metas
 metas_small user trees facts are =
-    let small = small_in facts.module_ are.parts (subst (AllFit AddsFew) are.said (trees_few (home user (module_of trees)) trees)) in
+    let small = small_in are.parts (subst (AllFit AddsFew) are.said (trees_few (home user (module_of trees)) trees)) in
     All-from_recursion AreSmall facts.metas (subst (AllByRecursion AreSmall) (sym are.are.metas) small)

@@ -14,7 +14,7 @@ use Rattle.module_table.specs.declared.indicator.Indicator.{Indicator}
 use Rattle.module_table.specs.declared.load.LoadKind.{LoadKind}
 use Rattle.module_table.specs.declared.load.LoadKind.TheVariants.{UseAll, UseSome, Ensure}
 use Rattle.module_table.specs.FileName.{resolved}
-use Rattle.module_table.specs.Metas.{Takes, IsSmall, goal_arg, goal_arg_at, name_arg, digit_arg, taking, where_named, takes_of, all_takes}
+use Rattle.module_table.specs.Metas.{Declaration, IsSmall, goal_arg, goal_arg_at, name_arg, digit_arg, takes_of, all_takes}
 use Rattle.module_table.specs.Said.{Said, Part, declares, loads, defines, goal, Refusal, refused, in_turn, each_said, takes}
 use Rattle.clause_text.specs.declared.cause.Cause.TheVariants.{BadIndicator}
 use Rattle.module_table.specs.Indicators.{listed_indicators}
@@ -23,7 +23,7 @@ use Rattle.module_table.specs.declared.dynamic.Standing.{Standing}
 use Rattle.module_table.specs.declared.dynamic.Standing.TheVariants.{Whole, Joint, Item}
 use Rattle.module_table.specs.Dynamic.{owned, bare_said, is_joint, is_whole, dynamic_at, each_dynamic}
 use Rattle.module_table.specs.Loading.{path_text, resolved_in, is_system, file_of, load_said, loads_said, use_all_said}
-use Rattle.module_table.specs.Directives.{Home, some_said, exports, declared_said, module_name, module_said, silent_names, outside_names, one_said, two_said, three_said, shallow_said, directive_said, meta_said}
+use Rattle.module_table.specs.Directives.{Home, some_said, exports, declared_said, module_name, module_said, silent_names, outside_names, one_said, two_said, three_said, shallow_said, directive_said}
 
 pub each_join : {A : Type 0} (P : A → Type 0) (xs ys : List A) → AllByRecursion P xs → AllByRecursion P ys → AllByRecursion P (xs ++ ys)
 each_join P [] ys all also = also
@@ -76,26 +76,26 @@ args_small : (trees : List Tree) → AllByRecursion IsSmall (map goal_arg trees)
 args_small [] = tt
 args_small (tree ∷ trees) = (arg_at_small (inside tree), args_small trees)
 
-abbrev AreSmall : Takes → Type 0
-AreSmall t = AllByRecursion IsSmall t.args
+abbrev AreSmall : Declaration → Type 0
+AreSmall d = AllByRecursion IsSmall d.args
 
-small_if : (test : Bool) (a b : List Takes) → AllByRecursion AreSmall a → AllByRecursion AreSmall b → AllByRecursion AreSmall (if test then a else b)
+small_if : (test : Bool) (a b : List Declaration) → AllByRecursion AreSmall a → AllByRecursion AreSmall b → AllByRecursion AreSmall (if test then a else b)
 small_if true a b one other = one
 small_if false a b one other = other
 
-named_small : (found : Option (List ℕ)) (ts : List Takes) → AllByRecursion AreSmall ts → AllByRecursion AreSmall (where_named found ts)
-named_small (Some name) ts all = all
-named_small None ts all = tt
+named_small : (found : Option (List ℕ)) (right : Tree) → ((own : List ℕ) → AllByRecursion AreSmall (takes_of own right))
+    → AllByRecursion AreSmall (elim found [ Some own ↦ takes_of own right | None ↦ [] ])
+named_small (Some own) right all = all own
+named_small None right all = tt
 
 mutual
-  takes_small : (owner : Option (List ℕ)) (tree : Tree) → AllByRecursion AreSmall (takes_of owner tree)
+  takes_small : (owner : List ℕ) (tree : Tree) → AllByRecursion AreSmall (takes_of owner tree)
   takes_small owner (compound name none form span) = (tt, tt)
   takes_small owner (compound name (with_more a none) form span) = (args_small (a ∷ []), tt)
   takes_small owner (compound name (with_more left (with_more right none)) form span) =
       small_if (bytes_eq name (codes ",")) (takes_of owner left ++ takes_of owner right) _
       (each_join AreSmall (takes_of owner left) (takes_of owner right) (takes_small owner left) (takes_small owner right))
-      (small_if (bytes_eq name (codes ":")) (where_named (atom_name left) (takes_of (atom_name left) right)) _
-      (named_small (atom_name left) (takes_of (atom_name left) right) (takes_small (atom_name left) right)) (args_small (left ∷ right ∷ []), tt))
+      (small_if (bytes_eq name (codes ":")) _ _ (named_small (atom_name left) right (λ own. takes_small own right)) (args_small (left ∷ right ∷ []), tt))
   takes_small owner (compound name (with_more a (with_more b (with_more c rest))) form span) = (args_small (trees_in (with_more a (with_more b (with_more c rest)))), tt)
   takes_small owner (listed items span) = items_small owner items
   takes_small owner (paren inner span) = takes_small owner inner
@@ -105,7 +105,7 @@ mutual
   takes_small owner (constant kind minus value span) = tt
   takes_small owner (curly inner span) = tt
 
-  items_small : (owner : Option (List ℕ)) (trees : Trees) → AllByRecursion AreSmall (all_takes owner trees)
+  items_small : (owner : List ℕ) (trees : Trees) → AllByRecursion AreSmall (all_takes owner trees)
   items_small owner none = tt
   items_small owner (with_more tree trees) = each_join AreSmall (takes_of owner tree) (all_takes owner trees) (takes_small owner tree) (items_small owner trees)
 
@@ -184,7 +184,7 @@ module _ (user : Home) where
     each_dynamic_of owner (with_more tree trees) =
         fit_in_turn IsOfDirective (dynamic_at Item owner tree) (each_dynamic owner trees) (dynamic_of Item owner tree) (each_dynamic_of owner trees)
 
-  taken_of : (ts : List Takes) → AllByRecursion AreSmall ts → AllByRecursion IsOfDirective (map takes ts)
+  taken_of : (ts : List Declaration) → AllByRecursion AreSmall ts → AllByRecursion IsOfDirective (map takes ts)
   taken_of [] all = tt
   taken_of (t ∷ ts) all = (all.0, taken_of ts all.1)
 
@@ -208,7 +208,7 @@ module _ (user : Home) where
       by_test (bytes_eq own (codes "use_module")) _ _ (use_all_of argument)
       (by_test (is_among (codes "ensure_loaded" ∷ codes "consult" ∷ []) own) _ _ (load_of Ensure [] argument)
       (by_test (is_among (codes "dynamic" ∷ codes "multifile" ∷ []) own) _ _ (dynamic_of Whole user.module_ argument)
-      (by_test (bytes_eq own (codes "meta_predicate")) _ _ (taken_of (takes_of None argument) (takes_small None argument))
+      (by_test (bytes_eq own (codes "meta_predicate")) _ _ (taken_of (takes_of user.module_ argument) (takes_small user.module_ argument))
       (by_test (is_among silent_names own) _ _ tt (by_test (is_among outside_names own) _ _ tt (tt, tt))))))
 
   two_of : (first : Bool) (own : List ℕ) (left right tree : Tree) → OfDirective (two_said user first own left right tree)

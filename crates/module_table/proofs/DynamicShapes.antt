@@ -1,15 +1,15 @@
 -- What `dynamic` and `multifile` say of a term, by what the term is.
-use Rattle.std.proofs.Common.{◌≡◌, ℕ, zero, suc, ◌<◌, ◌≤◌, Bool, true, false, ◌&&◌, List, [], ◌∷◌, Option, Some, None, codes, length, get_or, refl, sym, ap, subst, ◌∙◌, arith, if◌then◌else◌}
+use Rattle.std.proofs.Common.{◌≡◌, ℕ, zero, suc, ◌<◌, ◌≤◌, Bool, true, false, ◌&&◌, List, [], Option, Some, None, codes, length, get_or, refl, ap, subst, ◌∙◌, arith, if◌then◌else◌}
 use Rattle.std.specs.Str.{bytes_eq}
 use Rattle.prolog_terms.specs.Tree.{Tree, Trees, variable, constant, atom, compound, listed, tailed, curly, paren, more as with_more, none, depth, deepest}
-use Rattle.prolog_terms.specs.Views.{inside, trees_in, sides_of, atom_name}
+use Rattle.prolog_terms.specs.Views.{trees_in, sides_of, atom_name}
 use Rattle.prolog_terms.proofs.ViewLemmas.{pair_if, of_sides, of_none}
 use Rattle.clause_text.specs.declared.cause.Cause.TheVariants.{BadIndicator}
 use Rattle.module_table.specs.declared.dynamic.Standing.{Standing}
 use Rattle.module_table.specs.declared.dynamic.Standing.TheVariants.{Whole, Joint, Item}
 use Rattle.module_table.specs.Said.{Said, refused, in_turn, each_said}
 use Rattle.module_table.specs.Indicators.{list_of}
-use Rattle.module_table.specs.Dynamic.{bare_said, is_joint, is_whole, joint_sides, whole_items, dynamic_at, each_dynamic}
+use Rattle.module_table.specs.Dynamic.{bare_said, is_joint, joint_sides, whole_items, dynamic_at, each_dynamic}
 
 -- the sides of a comma
 

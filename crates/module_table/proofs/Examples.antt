@@ -1,14 +1,16 @@
 -- What small files say, by their definition.
-use Rattle.std.proofs.Common.{◌≡◌, ℕ, List, [], ◌∷◌, Some, None, Ok, Err, false, codes, refl}
+use Rattle.std.proofs.Common.{◌≡◌, ℕ, List, [], ◌∷◌, Some, None, Ok, Err, false, true, codes, refl}
 use Rattle.prolog_terms.specs.declared.term.Span.{Span}
 use Rattle.prolog_terms.specs.declared.term.Form.TheVariants.{Functional, Prefix, Infix}
 use Rattle.prolog_terms.specs.declared.term.ConstKind.TheVariants as const
-use Rattle.prolog_terms.specs.Tree.{Tree, variable, constant, atom, compound, listed, paren, more, none}
+use Rattle.prolog_terms.specs.Tree.{Tree, variable, constant, atom, compound, listed, tailed, paren, more, none}
 use Rattle.clause_text.specs.declared.cause.Cause.{Cause}
 use Rattle.clause_text.specs.declared.cause.Cause.TheVariants.{LateModule, BadIndicator, BadSpec, ControlHead, BadHead, NotInProfile}
+use Rattle.module_table.specs.declared.goal_arg.GoalArg.{GoalArg}
+use Rattle.module_table.specs.declared.goal_arg.GoalArg.TheVariants.{Plain, Goal, Caret, Grammar}
 use Rattle.module_table.specs.declared.load.LoadKind.TheVariants.{UseAll}
 use Rattle.module_table.specs.Defined.{clauses_for}
-use Rattle.module_table.specs.Said.{Said, Part, declares, loads, defines, goal}
+use Rattle.module_table.specs.Said.{Said, Part, declares, loads, defines, takes, goal}
 use Rattle.module_table.specs.Facts.{file_said}
 
 abbrev at : ℕ → Span
@@ -169,3 +171,45 @@ dynamic_deep = refl
 -- `:- dynamic X:[p/0].`
 dynamic_of_variable : says (directive (one (codes "dynamic") (two (codes ":") (variable (at 11)) (listed (more (two (codes "/") p (number 0 16) 14) none) (at 13)) 11) 3) ∷ []) ≡ refusal BadIndicator 11
 dynamic_of_variable = refl
+
+-- declarations of goal arguments
+
+abbrev meta_predicate : Tree → Tree
+meta_predicate declared = directive (one (codes "meta_predicate") declared 3)
+
+abbrev takes_goals : List ℕ → List ℕ → List GoalArg → ℕ → Part
+takes_goals owner name args from = takes (record { module_ = owner; name = name; args = args; from = from })
+
+-- `each(1, ?)`
+abbrev each : Tree
+each = two (codes "each") (number 1 23) (atom (codes "?") (at 26)) 18
+
+-- `:- meta_predicate each(1, ?), m:[n:each(1, ?), each(1, ?)].`
+abbrev each_in_m : Tree
+each_in_m = two (codes ":") (atom (codes "m") (at 30)) (listed (more (two (codes ":") (atom (codes "n") (at 33)) each 33) (more each none)) (at 32)) 30
+
+declared_innermost : says (meta_predicate (two (codes ",") each each_in_m 18) ∷ [])
+    ≡ Ok (takes_goals (codes "user") (codes "each") (Goal 1 ∷ Plain ∷ []) 18 ∷ takes_goals (codes "n") (codes "each") (Goal 1 ∷ Plain ∷ []) 18
+    ∷ takes_goals (codes "m") (codes "each") (Goal 1 ∷ Plain ∷ []) 18 ∷ [])
+declared_innermost = refl
+
+-- `:- meta_predicate p((9), 10, -1, ^, //, "0").`
+declared_each_way : says (meta_predicate (compound (codes "p") (more (paren (number 9 21) (at 20)) (more (number 10 25) (more (constant const.Integer true (Some 1) (at 29))
+    (more (atom (codes "^") (at 33)) (more (atom (codes "//") (at 36)) (more (constant const.Str false (Some 0) (at 40)) none)))))) Functional (at 18)) ∷ [])
+    ≡ Ok (takes_goals (codes "user") (codes "p") (Goal 9 ∷ Plain ∷ Plain ∷ Caret ∷ Grammar ∷ Plain ∷ []) 18 ∷ [])
+declared_each_way = refl
+
+-- `:- meta_predicate each.`, `:- meta_predicate X:each(1, ?).` and `:- meta_predicate [each(1, ?)|T].`
+name_declares_nothing : says (meta_predicate (atom (codes "each") (at 18)) ∷ []) ≡ Ok []
+name_declares_nothing = refl
+
+variable_declares_nothing : says (meta_predicate (two (codes ":") (variable (at 18)) each 18) ∷ []) ≡ Ok []
+variable_declares_nothing = refl
+
+tail_declares_nothing : says (meta_predicate (tailed (more each none) (variable (at 31)) (at 18)) ∷ []) ≡ Ok []
+tail_declares_nothing = refl
+
+-- `:- meta_predicate each(1, ?).` in a file of the module `f`
+declared_in_f : says (module_f ∷ meta_predicate each ∷ [])
+    ≡ Ok (declares (record { name = codes "f"; from = 3; exports = [] }) ∷ takes_goals (codes "f") (codes "each") (Goal 1 ∷ Plain ∷ []) 18 ∷ [])
+declared_in_f = refl

@@ -1,12 +1,12 @@
 -- What is handed down from the clauses of a file holds of its facts.
-use Rattle.std.proofs.Common.{◌≡◌, ℕ, Bool, true, false, List, [], ◌∷◌, Option, Some, None, length, map, refl, sym, ◌∙◌, subst, get_or}
+use Rattle.std.proofs.Common.{◌≡◌, ℕ, Bool, true, false, List, [], ◌∷◌, Option, Some, None, length, refl, sym, ◌∙◌, subst, get_or}
 use Rattle.std.specs.Prelude.{All}
 use Rattle.std.specs.List.{filter_map}
 use Rattle.std.proofs.lemmas.List.Elements.{All-nil, All-cons, All-head, All-tail, All-filter, Contains-get_or}
 use Rattle.prolog_terms.specs.Tree.{Tree}
 use Rattle.module_table.specs.declared.indicator.Indicator.{Indicator}
 use Rattle.module_table.specs.Defined.{Predicate}
-use Rattle.module_table.specs.Metas.{Takes, Declaration, declared_in}
+use Rattle.module_table.specs.Metas.{Declaration}
 use Rattle.module_table.specs.Said.{Part, Declares, Loads, declares, loads, defines, goal, takes}
 use Rattle.module_table.specs.Kinds.{declared_part, load_part, goal_part, first_of, IsModule, takes_part}
 use Rattle.module_table.specs.Facts.{Facts, AreFacts, module_of, is_clause_of}
@@ -44,22 +44,15 @@ module _ (k : HandsDown) where
   load_one (takes own) x is kept = let both : None ≡ Some x = is in absurd (cc)
   load_one (goal own) x is kept = let both : None ≡ Some x = is in absurd (cc)
 
-  abbrev TakesKept : Takes → Type 0
-  TakesKept own = k.At own.from × k.Many (length own.args)
+  abbrev DeclarationKept : Declaration → Type 0
+  DeclarationKept own = k.At own.from × k.Many (length own.args)
 
-  takes_one : (part : Part) (x : Takes) → takes_part part ≡ Some x → IsKept k part → TakesKept x
+  takes_one : (part : Part) (x : Declaration) → takes_part part ≡ Some x → IsKept k part → DeclarationKept x
   takes_one (declares own) x is kept = let both : None ≡ Some x = is in absurd (cc)
   takes_one (loads own) x is kept = let both : None ≡ Some x = is in absurd (cc)
   takes_one (defines own) x is kept = let both : None ≡ Some x = is in absurd (cc)
-  takes_one (takes own) x is kept = let same : own ≡ x = cc in subst TakesKept same kept
+  takes_one (takes own) x is kept = let same : own ≡ x = cc in subst DeclarationKept same kept
   takes_one (goal own) x is kept = let both : None ≡ Some x = is in absurd (cc)
-
-  abbrev DeclarationKept : Declaration → Type 0
-  DeclarationKept d = k.At d.from × k.Many (length d.args)
-
-  all_declared : (own : List ℕ) (ts : List Takes) → All TakesKept ts → All DeclarationKept (map (declared_in own) ts)
-  all_declared own [] all = All-nil DeclarationKept
-  all_declared own (t ∷ ts) all = All-cons DeclarationKept (declared_in own t) (map (declared_in own) ts) (All-head TakesKept t ts all) (all_declared own ts (All-tail TakesKept t ts all))
 
   goal_one : (part : Part) (x : Tree) → goal_part part ≡ Some x → IsKept k part → k.Good x
   goal_one (declares own) x is kept = let both : None ≡ Some x = is in absurd (cc)
@@ -98,6 +91,6 @@ module _ (k : HandsDown) where
         of_clauses = λ i p below.
             subst (All k.Good) (sym (clauses_are user trees facts are (get_or facts.defined i p) (Contains-get_or facts.defined i p below)))
             (All-filter (is_clause_of (module_of trees) (get_or facts.defined i p).module_ (get_or facts.defined i p).name (get_or facts.defined i p).arity) k.Good trees all);
-        of_metas = subst (All DeclarationKept) (sym are.are.metas) (all_declared facts.module_ (filter_map takes_part are.parts) (picked takes_part TakesKept (IsKept k) takes_one are.parts kept));
+        of_metas = subst (All DeclarationKept) (sym are.are.metas) (picked takes_part DeclarationKept (IsKept k) takes_one are.parts kept);
         of_goals = subst (All k.Good) (sym are.are.goals) (picked goal_part k.Good (IsKept k) goal_one are.parts kept);
       }

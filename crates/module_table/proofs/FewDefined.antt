@@ -10,8 +10,7 @@ use Rattle.order_law.proofs.OneOrder.{nothing_in, first_or_rest, in_rest, in_fir
 use Rattle.prolog_terms.specs.Tree.{Tree}
 use Rattle.clause_text.specs.Clauses.{total_weight}
 use Rattle.module_table.specs.Defined.{Defines, Predicate, AreDefined, IsDefined, predicate_cmp, key}
-use Rattle.module_table.specs.Metas.{declared_in}
-use Rattle.module_table.specs.Kinds.{defined_part, takes_part}
+use Rattle.module_table.specs.Kinds.{defined_part}
 use Rattle.module_table.specs.Directives.{home}
 use Rattle.module_table.specs.Facts.{Facts, AreFacts, module_of}
 use Rattle.module_table.proofs.PredicateOrder.{predicate_cmp_total}
@@ -80,4 +79,4 @@ few_defined user trees facts are =
 pub few_metas : (user : List ℕ) (trees : List Tree) (facts : Facts) → AreFacts user trees facts → length facts.metas ≤ total_weight trees
 few_metas user trees facts are =
     let few : definitions are.parts ≤ total_weight trees = subst (DefinesAtMost (total_weight trees)) are.said (trees_few (home user (module_of trees)) trees) in
-    omega (arith, few, ap length are.are.metas, length-map (filter_map takes_part are.parts) (declared_in facts.module_))
+    omega (arith, few, ap length are.are.metas)

@@ -10,7 +10,7 @@ use Rattle.clause_text.specs.declared.cause.Cause.TheVariants.{ControlHead, BadH
 use Rattle.module_table.specs.Said.{Refusal, IsWhy}
 use Rattle.module_table.specs.declared.said.FactFault.{FactFault}
 use Rattle.module_table.specs.declared.said.FactFault.TheVariants.{At, NoMemory}
-use Rattle.module_table.specs.Heads.{is_among, control_names, headless_names, head_named, plain_head, Within, within, behind_modules, Owned, owned_by, head_within, head, is_pushback, before_pushback, grammar_head}
+use Rattle.module_table.specs.Heads.{is_among, control_names, headless_names, head_named, plain_head, within, behind_modules, Owned, owned_by, head, is_pushback, before_pushback, grammar_head}
 use Rattle.module_table.specs.Facts.{with_added, head_with, clause_head}
 
 abbrev told : Named → Result Named Refusal

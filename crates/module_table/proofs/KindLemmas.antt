@@ -3,7 +3,7 @@ use Rattle.std.proofs.Common.{◌≡◌, map, List, [], ◌∷◌, ◌++◌, Opt
 use Rattle.std.specs.List.{filter_map}
 use Rattle.std.proofs.lemmas.List.Elements.{filter_map-append}
 use Rattle.module_table.specs.declared.kinds.Kinds.{Kinds}
-use Rattle.module_table.specs.Metas.{Takes}
+use Rattle.module_table.specs.Metas.{Declaration}
 use Rattle.module_table.specs.Said.{Said, Part, Refusal, Declares, declares, loads, defines, takes, goal, more, in_turn}
 use Rattle.module_table.specs.Kinds.{declared_part, load_part, defined_part, takes_part, goal_part, first_of, first_module_seen, ByKind, see_kinds, none_said, with_part, with_parts, with_said, AreSaid}
 
@@ -114,7 +114,7 @@ kinds_go_on old mid new (Ok parts) b is also = with_more old parts b ∙ (ap (λ
 kinds_go_on old mid new (Err refusal) b is also = let both : Err refusal ≡ told mid = is in absurd (cc)
 
 -- declarations behind what was said
-pub takes_on : (k : ByKind) (more : List Takes) → with_parts k (map takes more) ≡ record k { takes = k.takes ++ more }
+pub takes_on : (k : ByKind) (more : List Declaration) → with_parts k (map takes more) ≡ record k { takes = k.takes ++ more }
 takes_on k [] = λ i. record k { takes = sym (append-nil k.takes) i }
 takes_on k (one ∷ more) = takes_on (with_part k (takes one)) more ∙ (λ i. record k { takes = append_assoc k.takes (one ∷ []) more i })
 

@@ -1,9 +1,8 @@
 -- The clauses of a file have one record of facts.
-use Rattle.std.proofs.Common.{◌≡◌, ℕ, List, Option, Some, None, map, ap, sym, ◌∙◌, subst}
+use Rattle.std.proofs.Common.{◌≡◌, ℕ, List, Option, Some, None, sym, ◌∙◌, subst}
 use Rattle.prolog_terms.specs.Tree.{Tree}
 use Rattle.module_table.specs.Said.{Part, Declares}
-use Rattle.module_table.specs.Metas.{declared_in}
-use Rattle.module_table.specs.Kinds.{declared_part, takes_part, first_of, IsModule}
+use Rattle.module_table.specs.Kinds.{declared_part, first_of, IsModule}
 use Rattle.module_table.specs.Facts.{Facts, AreFacts, AreFactsOf}
 use Rattle.module_table.proofs.Grouping.{one_grouping}
 use Rattle.module_table.proofs.SaidLemmas.{ok_once}
@@ -26,7 +25,7 @@ one_of user parts f g a b =
     let same = same_module (first_of (filter_map declared_part parts)) f g a.of_module b.of_module in
     let loads = a.loads ∙ sym b.loads in
     let defined = one_grouping _ f.defined g.defined a.defined b.defined in
-    let metas = a.metas ∙ (ap (λ own. map (declared_in own) (filter_map takes_part parts)) same.name ∙ sym b.metas) in
+    let metas = a.metas ∙ sym b.metas in
     let goals = a.goals ∙ sym b.goals in
     λ i. record {
       file = file i;

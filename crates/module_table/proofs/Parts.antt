@@ -1,7 +1,7 @@
 -- What is said of terms that commas and slashes join, by their sides.
 use Rattle.std.proofs.Common.{◌≡◌, ℕ, Bool, false, List, Some, None, codes, refl}
 use Rattle.std.specs.Str.{bytes_eq}
-use Rattle.prolog_terms.specs.Tree.{Tree, variable, constant, atom, compound, listed, tailed, curly, paren, more as with_more, none}
+use Rattle.prolog_terms.specs.Tree.{Tree, atom, compound, paren, more as with_more, none}
 use Rattle.prolog_terms.specs.Views.{inside, sides_of, atom_name}
 use Rattle.prolog_terms.proofs.ViewLemmas.{of_sides, of_none}
 use Rattle.module_table.specs.Said.{in_turn}

@@ -1,5 +1,5 @@
 -- Clauses define no more than they weigh.
-use Rattle.std.proofs.Common.{◌≡◌, ℕ, ◌+◌, ◌≤◌, Bool, true, false, ◌||◌, ◌&&◌, List, [], ◌∷◌, ◌++◌, Option, Some, None, Result, Ok, Err, length, sum_by, codes, refl, ap, subst, ◌∙◌, sym, arith, if◌then◌else◌, length-append, map}
+use Rattle.std.proofs.Common.{◌≡◌, ℕ, ◌+◌, ◌≤◌, Bool, true, false, ◌||◌, ◌&&◌, List, [], ◌∷◌, ◌++◌, Option, Some, None, Result, Ok, Err, length, sum_by, codes, refl, ap, subst, sym, arith, if◌then◌else◌, length-append, map}
 use Rattle.std.specs.List.{filter_map}
 use Rattle.std.specs.Str.{bytes_eq}
 use Rattle.std.proofs.lemmas.List.Elements.{filter_map-append}
@@ -14,7 +14,7 @@ use Rattle.clause_text.specs.Clauses.{total_weight}
 use Rattle.module_table.specs.declared.indicator.Indicator.{Indicator}
 use Rattle.module_table.specs.declared.load.LoadKind.{LoadKind}
 use Rattle.module_table.specs.declared.load.LoadKind.TheVariants.{UseAll, UseSome, Ensure}
-use Rattle.module_table.specs.Metas.{Takes, taking, where_named, takes_of, all_takes}
+use Rattle.module_table.specs.Metas.{Declaration, takes_of, all_takes}
 use Rattle.module_table.specs.Said.{Said, Part, Refusal, refused, in_turn, each_said, takes}
 use Rattle.clause_text.specs.declared.cause.Cause.TheVariants.{BadIndicator}
 use Rattle.module_table.specs.Kinds.{defined_part, takes_part}
@@ -24,7 +24,7 @@ use Rattle.module_table.specs.declared.dynamic.Standing.{Standing}
 use Rattle.module_table.specs.declared.dynamic.Standing.TheVariants.{Whole, Joint, Item}
 use Rattle.module_table.specs.Dynamic.{owned, bare_said, is_joint, is_whole, dynamic_at, each_dynamic}
 use Rattle.module_table.specs.Loading.{is_system, file_of, load_said, loads_said, use_all_said}
-use Rattle.module_table.specs.Directives.{Home, some_said, exports, declared_said, module_name, module_said, silent_names, outside_names, one_said, two_said, three_said, shallow_said, directive_said, meta_said}
+use Rattle.module_table.specs.Directives.{Home, some_said, exports, declared_said, module_name, module_said, silent_names, outside_names, one_said, two_said, three_said, shallow_said, directive_said}
 use Rattle.module_table.specs.Facts.{clause_head, headed, clause_said, trees_said}
 
 -- how many things a file defines, and for how many it declares goal arguments
@@ -107,27 +107,24 @@ mutual
 
 -- declarations of goal arguments
 
-taking_count : (owner : Option (List ℕ)) (name : List ℕ) (args : Trees) (from : ℕ) → length (taking owner name args from) ≡ 1
-taking_count owner name args from = refl
-
-count_if : (n : ℕ) (test : Bool) (a b : List Takes) → length a ≤ n → length b ≤ n → length (if test then a else b) ≤ n
+count_if : (n : ℕ) (test : Bool) (a b : List Declaration) → length a ≤ n → length b ≤ n → length (if test then a else b) ≤ n
 count_if n true a b one other = one
 count_if n false a b one other = other
 
-named_count : (n : ℕ) (found : Option (List ℕ)) (ts : List Takes) → length ts ≤ n → length (where_named found ts) ≤ n
-named_count n (Some name) ts few = few
-named_count n None ts few = omega arith
+named_count : (n : ℕ) (found : Option (List ℕ)) (right : Tree) → ((own : List ℕ) → length (takes_of own right) ≤ n)
+    → length {A = Declaration} (elim found [ Some own ↦ takes_of own right | None ↦ [] ]) ≤ n
+named_count n (Some own) right few = few own
+named_count n None right few = omega arith
 
 mutual
-  takes_few : (owner : Option (List ℕ)) (tree : Tree) → length (takes_of owner tree) ≤ weight tree + 1
+  takes_few : (owner : List ℕ) (tree : Tree) → length (takes_of owner tree) ≤ weight tree + 1
   takes_few owner (compound name none form span) = omega arith
   takes_few owner (compound name (with_more a none) form span) = omega arith
   takes_few owner (compound name (with_more left (with_more right none)) form span) =
       let n = weight (compound name (with_more left (with_more right none)) form span) + 1 in
       count_if n (bytes_eq name (codes ",")) (takes_of owner left ++ takes_of owner right) _
       (omega (arith, length-append (takes_of owner left) (takes_of owner right), takes_few owner left, takes_few owner right))
-      (count_if n (bytes_eq name (codes ":")) (where_named (atom_name left) (takes_of (atom_name left) right)) _
-      (named_count n (atom_name left) (takes_of (atom_name left) right) (omega (arith, takes_few (atom_name left) right))) (omega arith))
+      (count_if n (bytes_eq name (codes ":")) _ _ (named_count n (atom_name left) right (λ own. omega (arith, takes_few own right))) (omega arith))
   takes_few owner (compound name (with_more a (with_more b (with_more c rest))) form span) = omega arith
   takes_few owner (listed items span) = omega (arith, all_takes_few owner items)
   takes_few owner (paren inner span) = omega (arith, takes_few owner inner)
@@ -137,11 +134,11 @@ mutual
   takes_few owner (constant kind minus value span) = omega arith
   takes_few owner (curly inner span) = omega arith
 
-  all_takes_few : (owner : Option (List ℕ)) (trees : Trees) → length (all_takes owner trees) ≤ weights trees
+  all_takes_few : (owner : List ℕ) (trees : Trees) → length (all_takes owner trees) ≤ weights trees
   all_takes_few owner none = omega arith
   all_takes_few owner (with_more tree trees) = omega (arith, length-append (takes_of owner tree) (all_takes owner trees), takes_few owner tree, all_takes_few owner trees)
 
-all_counted : (ts : List Takes) → definitions (map takes ts) ≡ length ts
+all_counted : (ts : List Declaration) → definitions (map takes ts) ≡ length ts
 all_counted [] = refl
 all_counted (t ∷ ts) = omega (arith, all_counted ts)
 
@@ -193,7 +190,7 @@ module _ (user : Home) where
       by_test n (bytes_eq own (codes "use_module")) _ _ (at_most n (use_all_said user.file argument) (use_all_none argument))
       (by_test n (is_among (codes "ensure_loaded" ∷ codes "consult" ∷ []) own) _ _ (at_most n (load_said user.file Ensure [] argument) (load_none Ensure [] argument))
       (by_test n (is_among (codes "dynamic" ∷ codes "multifile" ∷ []) own) _ _ (dynamic_few Whole user.module_ argument)
-      (by_test n (bytes_eq own (codes "meta_predicate")) _ _ (omega (arith, all_counted (takes_of None argument), takes_few None argument))
+      (by_test n (bytes_eq own (codes "meta_predicate")) _ _ (omega (arith, all_counted (takes_of user.module_ argument), takes_few user.module_ argument))
       (by_test n (is_among silent_names own) _ _ (omega arith) (by_test n (is_among outside_names own) _ _ tt (omega arith))))))
 
   two_none : (first : Bool) (own : List ℕ) (left right tree : Tree) → DefinesAtMost 0 (two_said user first own left right tree)

@@ -14,7 +14,7 @@ use Rattle.clause_text.specs.declared.cause.Cause.TheVariants.{LateModule, BadIn
 use Rattle.module_table.specs.declared.indicator.Indicator.{Indicator}
 use Rattle.module_table.specs.declared.load.LoadKind.{LoadKind}
 use Rattle.module_table.specs.declared.load.LoadKind.TheVariants.{UseAll, UseSome, Ensure}
-use Rattle.module_table.specs.Metas.{Takes, goal_arg, takes_of, all_takes, taking, where_named}
+use Rattle.module_table.specs.Metas.{Declaration, goal_arg, takes_of, all_takes, taking}
 use Rattle.module_table.specs.Said.{Said, Part, declares, loads, defines, goal, Refusal, refused, in_turn, each_said, nothing, only, takes}
 use Rattle.module_table.specs.Heads.{is_among, control_names, headless_names, named_head, head_named, plain_head, within, behind_modules, Owned, owned_by, head, grammar_head}
 use Rattle.module_table.specs.Indicators.{indicator_of, indicator_with, indicator_from, arguments_added, arity_of, indicator, one_indicator, indicators, list_of, listed_indicators}
@@ -259,29 +259,30 @@ module _ (k : HandsDown) where
 
   -- declarations of goal arguments
 
-  abbrev IsTaken : Takes → Type 0
+  abbrev IsTaken : Declaration → Type 0
   IsTaken t = k.At t.from × k.Many (length t.args)
 
-  all_taken : (ts : List Takes) → All IsTaken ts → All IsKept (map takes ts)
+  all_taken : (ts : List Declaration) → All IsTaken ts → All IsKept (map takes ts)
   all_taken [] all = All-nil IsKept
   all_taken (t ∷ ts) all = All-cons IsKept (takes t) (map takes ts) (all 0 t (omega arith)) (all_taken ts (λ i x below. all (suc i) x (omega (arith, below))))
 
-  taking_kept : (owner : Option (List ℕ)) (name : List ℕ) (args : Trees) (form : Form) (span : Span) → k.Good (compound name args form span) → All IsTaken (taking owner name args span.from)
+  taking_kept : (owner : List ℕ) (name : List ℕ) (args : Trees) (form : Form) (span : Span) → k.Good (compound name args form span) → All IsTaken (taking owner name args span.from)
   taking_kept owner name args form span good =
-      let one : Takes = record { owner = owner; name = name; args = map goal_arg (trees_in args); from = span.from } in
+      let one : Declaration = record { module_ = owner; name = name; args = map goal_arg (trees_in args); from = span.from } in
       let many : k.Many (length one.args) = subst k.Many (sym (length-map (trees_in args) goal_arg)) (k.many name args form span good) in
       All-cons IsTaken one [] (k.start (compound name args form span) good, many) (All-nil IsTaken)
 
-  named_taken : (found : Option (List ℕ)) (ts : List Takes) → All IsTaken ts → All IsTaken (where_named found ts)
-  named_taken (Some name) ts all = all
-  named_taken None ts all = All-nil IsTaken
+  named_taken : (found : Option (List ℕ)) (right : Tree) → ((own : List ℕ) → All IsTaken (takes_of own right))
+      → All IsTaken (elim found [ Some own ↦ takes_of own right | None ↦ [] ])
+  named_taken (Some own) right all = all own
+  named_taken None right all = All-nil IsTaken
 
-  taken_if : (test : Bool) (a b : List Takes) → All IsTaken a → All IsTaken b → All IsTaken (if test then a else b)
+  taken_if : (test : Bool) (a b : List Declaration) → All IsTaken a → All IsTaken b → All IsTaken (if test then a else b)
   taken_if true a b one other = one
   taken_if false a b one other = other
 
   mutual
-    takes_kept : (owner : Option (List ℕ)) (tree : Tree) → k.Good tree → All IsTaken (takes_of owner tree)
+    takes_kept : (owner : List ℕ) (tree : Tree) → k.Good tree → All IsTaken (takes_of owner tree)
     takes_kept owner (compound name none form span) good = taking_kept owner name none form span good
     takes_kept owner (compound name (with_more a none) form span) good = taking_kept owner name (with_more a none) form span good
     takes_kept owner (compound name (with_more left (with_more right none)) form span) good =
@@ -289,8 +290,7 @@ module _ (k : HandsDown) where
         let other = second_good k name left right none form span good in
         taken_if (bytes_eq name (codes ",")) (takes_of owner left ++ takes_of owner right) _
         (All-append IsTaken (takes_of owner left) (takes_of owner right) (takes_kept owner left one) (takes_kept owner right other))
-        (taken_if (bytes_eq name (codes ":")) (where_named (atom_name left) (takes_of (atom_name left) right)) _
-        (named_taken (atom_name left) (takes_of (atom_name left) right) (takes_kept (atom_name left) right other))
+        (taken_if (bytes_eq name (codes ":")) _ _ (named_taken (atom_name left) right (λ own. takes_kept own right other))
         (taking_kept owner name (with_more left (with_more right none)) form span good))
     takes_kept owner (compound name (with_more a (with_more b (with_more c rest))) form span) good =
         taking_kept owner name (with_more a (with_more b (with_more c rest))) form span good
@@ -302,7 +302,7 @@ module _ (k : HandsDown) where
     takes_kept owner (constant kind minus value span) good = All-nil IsTaken
     takes_kept owner (curly inner span) good = All-nil IsTaken
 
-    items_kept : (owner : Option (List ℕ)) (trees : Trees) → All k.Good (trees_in trees) → All IsTaken (all_takes owner trees)
+    items_kept : (owner : List ℕ) (trees : Trees) → All k.Good (trees_in trees) → All IsTaken (all_takes owner trees)
     items_kept owner none all = All-nil IsTaken
     items_kept owner (with_more tree trees) all =
         All-append IsTaken (takes_of owner tree) (all_takes owner trees) (takes_kept owner tree (all 0 tree (omega arith)))
@@ -313,7 +313,7 @@ module _ (k : HandsDown) where
       by_test_said (bytes_eq name (codes "use_module")) (use_all_said user.file argument) _ (use_all_kept user.file argument inner)
       (by_test_said (is_among (codes "ensure_loaded" ∷ codes "consult" ∷ []) name) (load_said user.file Ensure [] argument) _ (load_kept user.file Ensure [] argument (All-nil IsAt) inner)
       (by_test_said (is_among (codes "dynamic" ∷ codes "multifile" ∷ []) name) (dynamic_said user.module_ argument) _ (dynamic_kept Whole user.module_ argument inner)
-      (by_test_said (bytes_eq name (codes "meta_predicate")) (meta_said argument) _ (all_taken (takes_of None argument) (takes_kept None argument inner))
+      (by_test_said (bytes_eq name (codes "meta_predicate")) (meta_said user.module_ argument) _ (all_taken (takes_of user.module_ argument) (takes_kept user.module_ argument inner))
       (by_test_said (is_among silent_names name) nothing _ no_parts
       (by_test_said (is_among outside_names name) (refused NotInProfile tree) (only (goal tree)) (start_good k tree good) (only_kept (goal tree) good))))))
 

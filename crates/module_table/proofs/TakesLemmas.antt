@@ -1,31 +1,30 @@
 -- What a term of a `meta_predicate` declares, by its sides, its arguments and its items.
-use Rattle.std.proofs.Common.{◌≡◌, ℕ, zero, suc, ◌+◌, ◌<◌, ◌≤◌, Bool, List, [], ◌∷◌, ◌++◌, Option, Some, None, Vec, Global, length, map, take, get_or, slice_get, option_map, codes, refl, ap, sym, ◌∙◌, arith, append_assoc, append-nil}
+use Rattle.std.proofs.Common.{◌≡◌, ℕ, zero, suc, ◌+◌, ◌<◌, ◌≤◌, Bool, List, [], ◌∷◌, ◌++◌, Option, Some, None, length, map, take, get_or, slice_get, option_map, codes, refl, ap, sym, ◌∙◌, arith, append_assoc, append-nil}
 use Rattle.std.specs.Str.{bytes_eq}
 use Rattle.std.proofs.lemmas.List.{map_more}
 use Rattle.std.proofs.lemmas.Option.{same_Some, slice_get-map, slice_get_read}
 use Rattle.prolog_terms.specs.declared.term.Span.{Span}
-use Rattle.prolog_terms.specs.declared.term.Form.{Form}
 use Rattle.prolog_terms.specs.declared.term.ConstKind.{ConstKind}
 use Rattle.prolog_terms.specs.declared.term.Term.{Term, fold-roll-Term}
 use Rattle.prolog_terms.specs.declared.term.Term.TheOpen.{Term-F}
 use Rattle.prolog_terms.specs.declared.term.Term.TheVariants as kept
-use Rattle.prolog_terms.specs.Tree.{Tree, Trees, tree_of, tree_step, depth, deepest, variable, constant, atom, compound, listed, tailed, curly, paren, more as with_more, none, trees_from}
+use Rattle.prolog_terms.specs.Tree.{Tree, tree_of, tree_step, depth, deepest, variable, constant, atom, compound, listed, tailed, curly, paren, more as with_more, none, trees_from}
 use Rattle.prolog_terms.specs.Views.{inside, sides_of, atom_name}
 use Rattle.prolog_terms.proofs.ViewLemmas.{of_sides, of_none}
-use Rattle.module_table.specs.Metas.{Takes, taking, where_named, takes_of, all_takes}
+use Rattle.module_table.specs.Metas.{Declaration, taking, takes_of, all_takes}
 
 -- what a term declares that is no comma, no `M:S` and has no brackets round it
-abbrev pub shallow_takes : Option (List ℕ) → Tree → List Takes
+abbrev pub shallow_takes : List ℕ → Tree → List Declaration
 shallow_takes owner (compound name args form span) = taking owner name args span.from
 shallow_takes owner (listed items span) = all_takes owner items
 shallow_takes owner tree = []
 
-module _ (owner : Option (List ℕ)) where
-  abbrev both : Tree → Tree → List Takes
+module _ (owner : List ℕ) where
+  abbrev both : Tree → Tree → List Declaration
   both a b = takes_of owner a ++ takes_of owner b
 
-  abbrev named : Tree → Tree → List Takes
-  named a b = where_named (atom_name a) (takes_of (atom_name a) b)
+  abbrev named : Tree → Tree → List Declaration
+  named a b = elim (atom_name a) [ Some own ↦ takes_of own b | None ↦ [] ]
 
   pub takes_comma : (tree l r : Tree) → sides_of (codes ",") tree ≡ Some (l, r) → takes_of owner tree ≡ takes_of owner l ++ takes_of owner r
   takes_comma (compound name (with_more left (with_more right none)) form span) l r is =
@@ -34,7 +33,7 @@ module _ (owner : Option (List ℕ)) where
   takes_comma tree l r is = let no : None ≡ Some (l, r) = is in absurd (cc)
 
   pub takes_named : (tree l r : Tree) → sides_of (codes ",") tree ≡ None → sides_of (codes ":") tree ≡ Some (l, r)
-      → takes_of owner tree ≡ where_named (atom_name l) (takes_of (atom_name l) r)
+      → takes_of owner tree ≡ elim (atom_name l) [ Some own ↦ takes_of own r | None ↦ [] ]
   takes_named (compound name (with_more left (with_more right none)) form span) l r plain is =
       of_none both _ (bytes_eq name (codes ",")) left right plain ∙ of_sides named _ (bytes_eq name (codes ":")) left right l r is
   takes_named (paren inner span) l r plain is = takes_named inner l r plain is
@@ -60,7 +59,7 @@ module _ (owner : Option (List ℕ)) where
       ap (λ ts. takes_of owner first ++ ts) (all_more trees tree) ∙ sym (append_assoc (takes_of owner first) (all_takes owner (trees_from trees)) (takes_of owner tree))
 
   -- one more item of a list
-  pub items_more : (terms : List Term) (at : ℕ) (term : Term) (old mid new : List Takes) → at < length terms → term ≡ get_or terms at term
+  pub items_more : (terms : List Term) (at : ℕ) (term : Term) (old mid new : List Declaration) → at < length terms → term ≡ get_or terms at term
       → mid ≡ old ++ all_takes owner (trees_from (map tree_of (take at terms))) → new ≡ mid ++ takes_of owner (tree_of term)
       → new ≡ old ++ all_takes owner (trees_from (map tree_of (take (at + 1) terms)))
   items_more terms at term old mid new below is so_far adds =
@@ -102,7 +101,7 @@ constant_seen found kind minus value span is =
     ap tree_of (is ∙ sym (kept.rolls-Const kind minus value span)) ∙ fold-roll-Term Tree tree_step (Term-F.Const kind minus value span)
 
 -- what is kept where the term inside all brackets declares nothing
-pub nothing_more : (owner : Option (List ℕ)) (tree bare : Tree) (old : List Takes) → None ≡ sides_of (codes ",") tree → None ≡ sides_of (codes ":") tree → bare ≡ inside tree
+pub nothing_more : (owner : List ℕ) (tree bare : Tree) (old : List Declaration) → None ≡ sides_of (codes ",") tree → None ≡ sides_of (codes ":") tree → bare ≡ inside tree
     → shallow_takes owner bare ≡ [] → old ≡ old ++ takes_of owner tree
 nothing_more owner tree bare old plain own is silent =
     let all : takes_of owner tree ≡ [] = takes_alone owner tree (sym plain) (sym own) ∙ (ap (shallow_takes owner) (sym is) ∙ silent) in

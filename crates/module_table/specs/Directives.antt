@@ -58,9 +58,9 @@ module_name tree = elim (atom_name tree) [ Some name ↦ if bytes_eq name (codes
 abbrev pub module_said : Tree → Tree → ℕ → Said
 module_said name list from = elim (module_name name) [ Some own ↦ declared_said own from (exports list) | None ↦ refused BadIndicator name ]
 
--- what `meta_predicate` says
-abbrev pub meta_said : Tree → Said
-meta_said tree = Ok (map takes (takes_of None tree))
+-- what `meta_predicate` says in a file of the module
+abbrev pub meta_said : List ℕ → Tree → Said
+meta_said owner tree = Ok (map takes (takes_of owner tree))
 
 -- directives that say nothing here
 abbrev pub silent_names : List (List ℕ)
@@ -75,7 +75,7 @@ one_said user name argument tree =
     if bytes_eq name (codes "use_module") then use_all_said user.file argument
     else if is_among (codes "ensure_loaded" ∷ codes "consult" ∷ []) name then load_said user.file Ensure [] argument
     else if is_among (codes "dynamic" ∷ codes "multifile" ∷ []) name then dynamic_said user.module_ argument
-    else if bytes_eq name (codes "meta_predicate") then meta_said argument
+    else if bytes_eq name (codes "meta_predicate") then meta_said user.module_ argument
     else if is_among silent_names name then nothing
     else if is_among outside_names name then refused NotInProfile tree
     else only (goal tree)

@@ -75,7 +75,7 @@ abbrev mutual
   dynamic_at at owner (compound name (more left (more right none)) form span) =
       if is_joint at && bytes_eq name (codes ",") then in_turn (dynamic_at Joint owner left) (dynamic_at Joint owner right)
       else if bytes_eq name (codes ":") then
-        elim (atom_name left) [ Some own ↦ dynamic_at Whole own right | None ↦ refused BadIndicator (compound name (more left (more right none)) form span) ]
+      elim (atom_name left) [ Some own ↦ dynamic_at Whole own right | None ↦ refused BadIndicator (compound name (more left (more right none)) form span) ]
       else bare_said owner (compound name (more left (more right none)) form span)
   dynamic_at at owner (listed items span) = if is_whole at then each_dynamic owner items else refused BadIndicator (listed items span)
   dynamic_at at owner (atom name span) = if is_whole at && bytes_eq name (codes "[]") then nothing else refused BadIndicator (atom name span)

@@ -8,7 +8,7 @@ use Rattle.clause_text.specs.Items.{directive_of}
 use Rattle.module_table.specs.declared.indicator.Indicator.{Indicator}
 use Rattle.module_table.specs.declared.file_facts.FileFacts.{FileFacts}
 use Rattle.module_table.specs.Defined.{Predicate, AreDefined, see_defined}
-use Rattle.module_table.specs.Metas.{Declaration, declared_in, see_meta}
+use Rattle.module_table.specs.Metas.{Declaration, see_meta}
 use Rattle.module_table.specs.Said.{Said, Part, Loads, defines, nothing, only, Refusal, in_turn, each_said, see_load}
 use Rattle.module_table.specs.Heads.{Owned, head, grammar_head}
 use Rattle.module_table.specs.Directives.{Home, home, directive_said}
@@ -100,7 +100,7 @@ pub record AreFactsOf (user : List ℕ) (parts : List Part) (facts : Facts) : Ty
   pub of_module : IsModule (first_of (filter_map declared_part parts)) facts.module_ facts.is_module facts.module_from facts.exports
   pub loads : facts.loads ≡ filter_map load_part parts
   pub defined : AreDefined (filter_map defined_part parts) facts.defined
-  pub metas : facts.metas ≡ map (declared_in facts.module_) (filter_map takes_part parts)
+  pub metas : facts.metas ≡ filter_map takes_part parts
   pub goals : facts.goals ≡ filter_map goal_part parts
 
 -- the facts of a file with these clauses

@@ -54,7 +54,7 @@ within owner tree = record { module_ = owner; tree = tree }
 abbrev pub behind_modules : List ℕ → Tree → Within
 behind_modules owner (compound name (more left (more right none)) form span) =
     if bytes_eq name (codes ":") then
-      elim (atom_name left) [ Some own ↦ behind_modules own right | None ↦ within owner (compound name (more left (more right none)) form span) ]
+    elim (atom_name left) [ Some own ↦ behind_modules own right | None ↦ within owner (compound name (more left (more right none)) form span) ]
     else within owner (compound name (more left (more right none)) form span)
 behind_modules owner (paren inner span) = behind_modules owner inner
 behind_modules owner tree = within owner tree

@@ -3,7 +3,7 @@ use Rattle.std.specs.Prelude.{ℕ, ◌+◌, List, [], ◌∷◌, Option, Some, N
 use Rattle.std.specs.Str.{bytes_eq}
 use Rattle.prolog_terms.specs.declared.term.ConstKind.TheVariants.{Integer}
 use Rattle.prolog_terms.specs.Tree.{Tree, constant}
-use Rattle.prolog_terms.specs.Views.{inside, start_of, Binary, binary, joined, atom_name}
+use Rattle.prolog_terms.specs.Views.{inside, start_of, Binary, binary, atom_name}
 use Rattle.clause_text.specs.Lists.{written_items}
 use Rattle.clause_text.specs.declared.cause.Cause.TheVariants.{BadIndicator}
 use Rattle.module_table.specs.declared.indicator.Indicator.{Indicator}

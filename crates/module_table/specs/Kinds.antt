@@ -5,7 +5,7 @@ use Rattle.prolog_terms.specs.Tree.{Tree, tree_of}
 use Rattle.module_table.specs.declared.indicator.Indicator.{Indicator}
 use Rattle.module_table.specs.declared.kinds.Kinds.{Kinds}
 use Rattle.module_table.specs.Defined.{Defines, see_run}
-use Rattle.module_table.specs.Metas.{Takes, see_takes}
+use Rattle.module_table.specs.Metas.{Declaration, see_meta}
 use Rattle.module_table.specs.Said.{Part, Said, Refusal, Declares, Loads, declares, loads, defines, takes, goal, see_module, see_load}
 
 abbrev pub declared_part : Part → Option Declares
@@ -20,7 +20,7 @@ abbrev pub defined_part : Part → Option Defines
 defined_part (defines own) = Some own
 defined_part part = None
 
-abbrev pub takes_part : Part → Option Takes
+abbrev pub takes_part : Part → Option Declaration
 takes_part (takes own) = Some own
 takes_part part = None
 
@@ -47,7 +47,7 @@ pub record AreKinds (parts : List Part) (kinds : Kinds) : Type 0 where
   pub declared : option_map see_module kinds.declared ≡ first_of (filter_map declared_part parts)
   pub loads : map see_load kinds.loads.items ≡ filter_map load_part parts
   pub definitions : flat_map see_run kinds.definitions.items ≡ filter_map defined_part parts
-  pub takes : map see_takes kinds.takes.items ≡ filter_map takes_part parts
+  pub takes : map see_meta kinds.takes.items ≡ filter_map takes_part parts
   pub goals : map tree_of kinds.goals.items ≡ filter_map goal_part parts
 
 -- what is said, by kind
@@ -55,7 +55,7 @@ pub record ByKind : Type 0 where
   pub declared : Option Declares
   pub loads : List Loads
   pub definitions : List Defines
-  pub takes : List Takes
+  pub takes : List Declaration
   pub goals : List Tree
 
 abbrev pub see_kinds : Kinds → ByKind
@@ -63,7 +63,7 @@ see_kinds k = record {
   declared = option_map see_module k.declared;
   loads = map see_load k.loads.items;
   definitions = flat_map see_run k.definitions.items;
-  takes = map see_takes k.takes.items;
+  takes = map see_meta k.takes.items;
   goals = map tree_of k.goals.items;
 }
 

@@ -1,14 +1,13 @@
 -- Declarations of the arguments of predicates that are goals.
-use Rattle.std.specs.Prelude.{ℕ, ◌≤◌, List, [], ◌∷◌, ◌++◌, Option, Some, None, Bool, true, false, nat_le, if◌then◌else◌, codes, map, option_map}
+use Rattle.std.specs.Prelude.{ℕ, ◌≤◌, List, [], ◌∷◌, ◌++◌, Option, Some, None, Bool, false, nat_le, if◌then◌else◌, codes, map}
 use Rattle.std.specs.Str.{bytes_eq}
 use Rattle.prolog_terms.specs.declared.term.ConstKind.{ConstKind}
 use Rattle.prolog_terms.specs.declared.term.ConstKind.TheVariants.{Integer}
-use Rattle.prolog_terms.specs.Tree.{Tree, Trees, constant, atom, compound, listed, paren, more, none, span_of}
+use Rattle.prolog_terms.specs.Tree.{Tree, Trees, constant, atom, compound, listed, paren, more, none}
 use Rattle.prolog_terms.specs.Views.{inside, trees_in, atom_name}
 use Rattle.module_table.specs.declared.goal_arg.GoalArg.{GoalArg}
 use Rattle.module_table.specs.declared.goal_arg.GoalArg.TheVariants.{Plain, Goal, Caret, Grammar}
 use Rattle.module_table.specs.declared.meta.Meta.{Meta}
-use Rattle.module_table.specs.declared.meta.Takes.{Takes as TakesKept}
 
 -- how many arguments are added to those that are written
 abbrev pub added : GoalArg → ℕ
@@ -37,37 +36,6 @@ goal_arg_at _ = Plain
 abbrev pub goal_arg : Tree → GoalArg
 goal_arg tree = goal_arg_at (inside tree)
 
--- a predicate takes goals: of the module that is named, else of that of the file
-pub record Takes : Type 0 where
-  pub owner : Option (List ℕ)
-  pub name : List ℕ
-  pub args : List GoalArg
-  pub from : ℕ
-
-abbrev pub taking : Option (List ℕ) → List ℕ → Trees → ℕ → List Takes
-taking owner name args from = record { owner = owner; name = name; args = map goal_arg (trees_in args); from = from } ∷ []
-
--- these, where there is a name
-abbrev pub where_named : Option (List ℕ) → List Takes → List Takes
-where_named (Some name) takes = takes
-where_named None takes = []
-
--- what `meta_predicate` declares, in the order of the text: of terms that commas join, of the items of a list, of `M:S` in the module M, and of any other compound
-abbrev mutual
-  pub takes_of : Option (List ℕ) → Tree → List Takes
-  takes_of owner (compound name (more left (more right none)) form span) =
-      if bytes_eq name (codes ",") then takes_of owner left ++ takes_of owner right
-      else if bytes_eq name (codes ":") then where_named (atom_name left) (takes_of (atom_name left) right)
-      else taking owner name (more left (more right none)) span.from
-  takes_of owner (compound name args form span) = taking owner name args span.from
-  takes_of owner (listed items span) = all_takes owner items
-  takes_of owner (paren inner span) = takes_of owner inner
-  takes_of owner tree = []
-
-  pub all_takes : Option (List ℕ) → Trees → List Takes
-  all_takes owner none = []
-  all_takes owner (more tree trees) = takes_of owner tree ++ all_takes owner trees
-
 -- a declaration for a predicate of a module, with its offset
 pub record Declaration : Type 0 where
   pub module_ : List ℕ
@@ -75,20 +43,29 @@ pub record Declaration : Type 0 where
   pub args : List GoalArg
   pub from : ℕ
 
-abbrev pub named_or : List ℕ → Option (List ℕ) → List ℕ
-named_or own (Some name) = name
-named_or own None = own
+abbrev pub taking : List ℕ → List ℕ → Trees → ℕ → List Declaration
+taking owner name args from = record { module_ = owner; name = name; args = map goal_arg (trees_in args); from = from } ∷ []
 
--- that of a file of this module
-abbrev pub declared_in : List ℕ → Takes → Declaration
-declared_in own t = record { module_ = named_or own t.owner; name = t.name; args = t.args; from = t.from }
+-- what `meta_predicate` declares in a module, in the order of the text: by terms that commas join, by the items of a list,
+-- by `M:S` for the module M, and by any other compound
+abbrev mutual
+  pub takes_of : List ℕ → Tree → List Declaration
+  takes_of owner (compound name (more left (more right none)) form span) =
+      if bytes_eq name (codes ",") then takes_of owner left ++ takes_of owner right
+      else if bytes_eq name (codes ":") then elim (atom_name left) [ Some own ↦ takes_of own right | None ↦ [] ]
+      else taking owner name (more left (more right none)) span.from
+  takes_of owner (compound name args form span) = taking owner name args span.from
+  takes_of owner (listed items span) = all_takes owner items
+  takes_of owner (paren inner span) = takes_of owner inner
+  takes_of owner tree = []
+
+  pub all_takes : List ℕ → Trees → List Declaration
+  all_takes owner none = []
+  all_takes owner (more tree trees) = takes_of owner tree ++ all_takes owner trees
 
 -- no more than nine arguments are added to a goal
 abbrev pub IsSmall : GoalArg → Type 0
 IsSmall arg = added arg ≤ most_added
-
-abbrev pub see_takes : TakesKept → Takes
-see_takes t = record { owner = t.owner; name = t.name; args = t.args.items; from = t.from }
 
 abbrev pub see_meta : Meta → Declaration
 see_meta m = record { module_ = m.module; name = m.name; args = m.args.items; from = m.from }

@@ -12,7 +12,7 @@ use Rattle.module_table.specs.declared.said.Part.TheVariants as kept
 use Rattle.module_table.specs.declared.said.Module.{Module}
 use Rattle.module_table.specs.declared.load.Load.{Load}
 use Rattle.module_table.specs.Defined.{Defines}
-use Rattle.module_table.specs.Metas.{Takes}
+use Rattle.module_table.specs.Metas.{Declaration}
 
 -- the module of a file, and what it exports
 pub record Declares : Type 0 where
@@ -32,7 +32,7 @@ pub data Part : Type 0 where
   declares : Declares → Part
   loads : Loads → Part
   defines : Defines → Part
-  takes : Takes → Part
+  takes : Declaration → Part
   goal : Tree → Part
 
 -- why a file is refused, and where

@@ -18,8 +18,8 @@ pub struct Defined {
     pub clauses: Vec<Clause>,
 }
 
-/// The predicates of the runs, each once, in the order of modules, names and arities. Each
-/// has its clauses, in the order of the runs.
+/// The predicates of the runs, each once, in the order of modules, names and arities. Each has its
+/// clauses, in the order of the runs.
 pub fn group(alloc: Global, mut runs: Vec<Defined>) -> Result<Vec<Defined>, AllocError>
     ensures { IfOk result (λ defined. AreDefined (flat_map see_run runs.items) (map see_defined defined.items)) }
 {
@@ -68,7 +68,8 @@ fn add(defined: &mut Vec<Defined>, mut run: Defined) -> Result<(), AllocError>
 }
 
 fn is_of(run: &Defined, predicate: &Defined) -> bool
-    ensures { result ≡ (bytes_eq predicate.now.module run.now.module && (bytes_eq predicate.now.name run.now.name && nat_eq predicate.now.arity run.now.arity)) }
+    ensures { result ≡ (bytes_eq predicate.now.module run.now.module
+        && (bytes_eq predicate.now.name run.now.name && nat_eq predicate.now.arity run.now.arity)) }
 {
     predicate.module == run.module && (predicate.name == run.name && predicate.arity == run.arity)
 }

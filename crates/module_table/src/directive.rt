@@ -28,11 +28,16 @@ pub enum Told {
 }
 
 /// Adds what `meta_predicate` declares.
-fn push_meta(alloc: Global, declared: &Term, kinds: &mut Kinds) -> Result<(), FactFault>
-    ensures ok { OnOk result (with_said (see_kinds kinds.old) (meta_said (tree_of declared.now)) ≡ Ok (see_kinds kinds.new)) }
-    ensures refused { IfErr result (λ fault. IsWhy (meta_said (tree_of declared.now)) fault) }
+fn push_meta(
+    alloc: Global,
+    owner: &str,
+    declared: &Term,
+    kinds: &mut Kinds,
+) -> Result<(), FactFault>
+    ensures ok { OnOk result (with_said (see_kinds kinds.old) (meta_said owner.now (tree_of declared.now)) ≡ Ok (see_kinds kinds.new)) }
+    ensures refused { IfErr result (λ fault. IsWhy (meta_said owner.now (tree_of declared.now)) fault) }
 {
-    push_takes(alloc, None, declared, &mut kinds.takes)?;
+    push_takes(alloc, owner, declared, &mut kinds.takes)?;
     Ok(())
 }
 
@@ -67,7 +72,8 @@ fn one_told(
     directive: &Term,
     kinds: &mut Kinds,
 ) -> Result<Told, FactFault>
-    ensures ok { IfOk result (λ told. IsTold told (see_kinds kinds.old) (one_said (home user.now owner.now) name.now (tree_of argument.now) (tree_of directive.now)) (tree_of directive.now) (see_kinds kinds.new)) }
+    ensures ok { IfOk result (λ told. IsTold told (see_kinds kinds.old)
+        (one_said (home user.now owner.now) name.now (tree_of argument.now) (tree_of directive.now)) (tree_of directive.now) (see_kinds kinds.new)) }
     ensures refused { IfErr result (λ fault. IsWhy (one_said (home user.now owner.now) name.now (tree_of argument.now) (tree_of directive.now)) fault) }
 {
     if name == "use_module" {
@@ -90,7 +96,7 @@ fn one_told(
         return Ok(Told::Done);
     }
     if name == "meta_predicate" {
-        push_meta(alloc, argument, kinds)?;
+        push_meta(alloc, owner, argument, kinds)?;
         return Ok(Told::Done);
     }
     let silent = ["discontiguous", "mode", "public", "table"];
@@ -115,8 +121,11 @@ fn two_told(
     directive: &Term,
     kinds: &mut Kinds,
 ) -> Result<Told, FactFault>
-    ensures ok { IfOk result (λ told. IsTold told (see_kinds kinds.old) (two_said (home user.now owner.now) first name.now (tree_of left.now) (tree_of right.now) (tree_of directive.now)) (tree_of directive.now) (see_kinds kinds.new)) }
-    ensures refused { IfErr result (λ fault. IsWhy (two_said (home user.now owner.now) first name.now (tree_of left.now) (tree_of right.now) (tree_of directive.now)) fault) }
+    ensures ok { IfOk result (λ told. IsTold told (see_kinds kinds.old)
+        (two_said (home user.now owner.now) first name.now (tree_of left.now) (tree_of right.now) (tree_of directive.now)) (tree_of directive.now)
+        (see_kinds kinds.new)) }
+    ensures refused { IfErr result (λ fault. IsWhy
+        (two_said (home user.now owner.now) first name.now (tree_of left.now) (tree_of right.now) (tree_of directive.now)) fault) }
 {
     if name == "module" {
         if !first {
@@ -162,7 +171,8 @@ fn tell(
     directive: &Term,
     kinds: &mut Kinds,
 ) -> Result<Told, FactFault>
-    ensures ok { IfOk result (λ told. IsTold told (see_kinds kinds.old) (shallow_said (home user.now owner.now) first (tree_of directive.now)) (tree_of directive.now) (see_kinds kinds.new)) }
+    ensures ok { IfOk result (λ told. IsTold told (see_kinds kinds.old)
+        (shallow_said (home user.now owner.now) first (tree_of directive.now)) (tree_of directive.now) (see_kinds kinds.new)) }
     ensures refused { IfErr result (λ fault. IsWhy (shallow_said (home user.now owner.now) first (tree_of directive.now)) fault) }
 {
     match directive {

@@ -25,9 +25,9 @@ pub enum Standing {
     Item,
 }
 
-/// A name in a module, with a number of arguments.
+/// The module, the name and the number of arguments of a predicate.
 #[derive(Clone, Copy)]
-struct BareName<'a> {
+struct OwnedIndicator<'a> {
     module: &'a str,
     name: &'a str,
     arity: u32,
@@ -57,14 +57,14 @@ fn name_in<'a>(owner: &'a str, term: &'a Term) -> Option<NameIn<'a>>
 }
 
 /// `N/A`, `N//A`, `(M:N)/A` or `(M:N)//A`.
-fn owned<'a>(owner: &'a str, term: &'a Term) -> Option<BareName<'a>>
+fn owned<'a>(owner: &'a str, term: &'a Term) -> Option<OwnedIndicator<'a>>
     ensures { option_map (λ own. record { module_ = own.module.now; name = own.name.now; arity = own.arity }) result ≡ owned owner.now (tree_of term.now) }
 {
     let pair = binary(term)?;
     let added = arguments_added(pair.name)?;
     let own = name_in(owner, pair.left)?;
     let arity = arity_of(pair.right, added)?;
-    Some(BareName {
+    Some(OwnedIndicator {
         module: own.module,
         name: own.name,
         arity,
@@ -72,12 +72,7 @@ fn owned<'a>(owner: &'a str, term: &'a Term) -> Option<BareName<'a>>
 }
 
 /// Adds the predicate that the term names.
-fn push_one(
-    alloc: Global,
-    owner: &str,
-    term: &Term,
-    kinds: &mut Kinds,
-) -> Result<(), FactFault>
+fn push_one(alloc: Global, owner: &str, term: &Term, kinds: &mut Kinds) -> Result<(), FactFault>
     ensures ok { OnOk result (with_said (see_kinds kinds.old) (bare_said owner.now (tree_of term.now)) ≡ Ok (see_kinds kinds.new)) }
     ensures refused { IfErr result (λ fault. IsWhy (bare_said owner.now (tree_of term.now)) fault) }
 {

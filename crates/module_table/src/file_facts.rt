@@ -15,7 +15,7 @@ use crate::head::{OwnedHead, grammar_head, head};
 use crate::indicator::Indicator;
 use crate::kinds::{Kinds, module_of_file, none_said};
 use crate::load::Load;
-use crate::meta::{Meta, all_declared};
+use crate::meta::Meta;
 use crate::runs::{end_in, push_last, push_run};
 use crate::said::FactFault;
 use crate::taken::{Taken, directive_taken};
@@ -46,7 +46,8 @@ pub struct FileFacts {
 /// The predicate that a clause defines in a file of the module `owner`.
 fn clause_head<'a>(owner: &'a str, clause: &'a Term) -> Result<OwnedHead<'a>, FactFault>
     requires { weight (tree_of clause.now) ≤ 8388608 }
-    ensures ok { IfOk result (λ own. clause_head owner.now (tree_of clause.now) ≡ Ok (record { module_ = own.module.now; name = own.name.now; arity = own.arity })) }
+    ensures ok { IfOk result (λ own. clause_head owner.now (tree_of clause.now)
+        ≡ Ok (record { module_ = own.module.now; name = own.name.now; arity = own.arity })) }
     ensures refused { IfErr result (λ fault. IsWhy (clause_head owner.now (tree_of clause.now)) fault) }
 {
     let Some(pair) = binary(clause) else {
@@ -77,7 +78,8 @@ fn push_headed(
     kinds: &mut Kinds,
 ) -> Result<(), FactFault>
     requires { weight (clause_tree clause) ≤ 8388608 }
-    ensures ok { OnOk result (with_said (see_kinds kinds.old) (headed (clause_head owner.now (clause_tree clause)) (clause_tree clause)) ≡ Ok (see_kinds kinds.new)) }
+    ensures ok { OnOk result (with_said (see_kinds kinds.old) (headed (clause_head owner.now (clause_tree clause)) (clause_tree clause))
+        ≡ Ok (see_kinds kinds.new)) }
     ensures refused { IfErr result (λ fault. IsWhy (headed (clause_head owner.now (clause_tree clause)) (clause_tree clause)) fault) }
 {
     let own = match clause_head(owner, &clause.term) {
@@ -142,12 +144,7 @@ fn module_of(clauses: &[Clause]) -> &str
 }
 
 /// All that the clauses say in a file of the module `owner`, by kind.
-fn said(
-    alloc: Global,
-    file: &str,
-    owner: &str,
-    clauses: Vec<Clause>,
-) -> Result<Kinds, FactFault>
+fn said(alloc: Global, file: &str, owner: &str, clauses: Vec<Clause>) -> Result<Kinds, FactFault>
     requires { All (λ tree. weight tree ≤ 8388608) (map clause_tree clauses.items) }
     ensures ok { IfOk result (λ kinds. AreSaid (trees_said (home file.now owner.now) (map clause_tree clauses.items)) kinds) }
     ensures refused { IfErr result (λ fault. IsWhy (trees_said (home file.now owner.now) (map clause_tree clauses.items)) fault) }
@@ -171,7 +168,6 @@ pub fn facts(alloc: Global, file: &str, clauses: Vec<Clause>) -> Result<FileFact
     let owner = Text::new(alloc, module_of(&clauses))?;
     let kinds = said(alloc, file, owner.as_str(), clauses)?;
     let own = module_of_file(alloc, kinds.declared)?;
-    let metas = all_declared(alloc, own.name.as_str(), kinds.takes)?;
     Ok(FileFacts {
         file: Text::new(alloc, file)?,
         module: own.name,
@@ -180,7 +176,7 @@ pub fn facts(alloc: Global, file: &str, clauses: Vec<Clause>) -> Result<FileFact
         exports: own.exports,
         loads: kinds.loads,
         defined: group(alloc, kinds.definitions)?,
-        metas,
+        metas: kinds.takes,
         goals: kinds.goals,
     })
 }

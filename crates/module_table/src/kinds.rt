@@ -8,7 +8,7 @@ ghost use Rattle.module_table.specs.Kinds.{IsModule, none_said, see_kinds, with_
 use crate::defined::Defined;
 use crate::indicator::Indicator;
 use crate::load::Load;
-use crate::meta::Takes;
+use crate::meta::Meta;
 use crate::said::{FactFault, Module, Part};
 use prolog_terms::Term;
 use prolog_tokens::Text;
@@ -21,7 +21,7 @@ pub struct Kinds {
     pub declared: Option<Module>,
     pub loads: Vec<Load>,
     pub definitions: Vec<Defined>,
-    pub takes: Vec<Takes>,
+    pub takes: Vec<Meta>,
     pub goals: Vec<Term>,
 }
 

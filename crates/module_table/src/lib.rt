@@ -32,8 +32,9 @@ pub use file_name::resolve_name;
 pub use goal_arg::GoalArg;
 pub use indicator::Indicator;
 pub use laws::{
-    clauses_kept, facts_light, facts_placed, few_added, few_defined, folders_cut, loads_named, names_kept,
-    names_lead, names_resolved, none_named, one_facts, one_name, one_of_text, refusals_placed,
+    clauses_kept, facts_light, facts_placed, few_added, few_defined, folders_cut, loads_named,
+    names_kept, names_lead, names_resolved, none_named, one_facts, one_name, one_of_text,
+    refusals_placed,
 };
 pub use load::{Load, LoadKind};
 pub use meta::Meta;

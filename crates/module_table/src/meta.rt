@@ -1,8 +1,8 @@
 //! Declarations of the arguments of predicates that are goals.
 
-ghost use Rattle.std.specs.Prelude.{◌≡◌, ◌++◌, ◌∷◌, [], map, IfOk, OnOk, option_map};
+ghost use Rattle.std.specs.Prelude.{◌≡◌, ◌++◌, ◌∷◌, [], map, IfOk, OnOk};
 ghost use Rattle.prolog_terms.specs.Tree.{tree_of};
-ghost use Rattle.module_table.specs.Metas.{digit_arg, name_arg, goal_arg, takes_of, declared_in, see_takes, see_meta};
+ghost use Rattle.module_table.specs.Metas.{digit_arg, name_arg, goal_arg, takes_of, see_meta};
 
 use crate::goal_arg::GoalArg;
 use prolog_terms::{ConstKind, Term, atom_name, inside, sides};
@@ -22,16 +22,7 @@ pub struct Meta {
     pub from: u32,
 }
 
-/// A declaration that names its module or is one of the module of the file.
-#[derive(Drop)]
-pub struct Takes {
-    pub owner: Option<Text>,
-    pub name: Text,
-    pub args: Vec<GoalArg>,
-    pub from: u32,
-}
-
-/// A digit is a number of added arguments.
+/// An integer of at most nine says how many arguments are added; any other constant says nothing.
 fn digit_arg(kind: ConstKind, minus: bool, value: Option<u32>) -> GoalArg
     ensures { result ≡ digit_arg kind minus value }
 {
@@ -41,17 +32,16 @@ fn digit_arg(kind: ConstKind, minus: bool, value: Option<u32>) -> GoalArg
     if minus {
         return GoalArg::Plain;
     }
-    match value {
-        Some(number) => {
-            if number <= MOST_ADDED {
-                return GoalArg::Goal(number);
-            }
-            GoalArg::Plain
-        }
-        None => GoalArg::Plain,
+    let Some(number) = value else {
+        return GoalArg::Plain;
+    };
+    if number > MOST_ADDED {
+        return GoalArg::Plain;
     }
+    GoalArg::Goal(number)
 }
 
+/// Of all names `^` and `//` alone say something.
 fn name_arg(name: &str) -> GoalArg
     ensures { result ≡ name_arg name.now }
 {
@@ -80,6 +70,7 @@ fn goal_arg(term: &Term) -> GoalArg
     }
 }
 
+/// One for each argument of a declaration.
 fn goal_args(alloc: Global, terms: &[Term]) -> Result<Vec<GoalArg>, AllocError>
     ensures { IfOk result (λ args. args.items ≡ map goal_arg (map tree_of terms.now)) }
 {
@@ -90,23 +81,20 @@ fn goal_args(alloc: Global, terms: &[Term]) -> Result<Vec<GoalArg>, AllocError>
     Ok(args)
 }
 
-/// Adds the declaration that a compound of this name and these arguments is.
+/// Adds the declaration that a compound of this name and these arguments makes.
 fn push_taking(
     alloc: Global,
-    owner: Option<&str>,
+    owner: &str,
     name: &str,
     args: &[Term],
     from: u32,
-    takes: &mut Vec<Takes>,
+    takes: &mut Vec<Meta>,
 ) -> Result<(), AllocError>
-    ensures { OnOk result (map see_takes takes.new.items ≡ map see_takes takes.old.items ++ (record { owner = option_map (λ own. own.now) owner.entry; name = name.now; args = map goal_arg (map tree_of args.now); from = from } ∷ [])) }
+    ensures { OnOk result (map see_meta takes.new.items ≡ map see_meta takes.old.items
+        ++ (record { module_ = owner.now; name = name.now; args = map goal_arg (map tree_of args.now); from = from } ∷ [])) }
 {
-    let own = match owner {
-        Some(own) => Some(Text::new(alloc, own)?),
-        None => None,
-    };
-    takes.push(Takes {
-        owner: own,
+    takes.push(Meta {
+        module: Text::new(alloc, owner)?,
         name: Text::new(alloc, name)?,
         args: goal_args(alloc, args)?,
         from,
@@ -114,14 +102,14 @@ fn push_taking(
     Ok(())
 }
 
-/// Adds what `meta_predicate` declares of the term: for the module `owner`, where one was named.
+/// Adds what `meta_predicate` declares of the term in a module.
 pub fn push_takes(
     alloc: Global,
-    owner: Option<&str>,
+    owner: &str,
     term: &Term,
-    takes: &mut Vec<Takes>,
+    takes: &mut Vec<Meta>,
 ) -> Result<(), AllocError>
-    ensures { OnOk result (map see_takes takes.new.items ≡ map see_takes takes.old.items ++ takes_of (option_map (λ own. own.now) owner.entry) (tree_of term.now)) }
+    ensures { OnOk result (map see_meta takes.new.items ≡ map see_meta takes.old.items ++ takes_of owner.now (tree_of term.now)) }
 {
     if let Some((left, right)) = sides(term, ",") {
         push_takes(alloc, owner, left, takes)?;
@@ -131,11 +119,14 @@ pub fn push_takes(
         let Some(own) = atom_name(left) else {
             return Ok(());
         };
-        return push_takes(alloc, Some(own), right, takes);
+        return push_takes(alloc, own, right, takes);
     }
     match inside(term) {
         Term::Compound {
-            name, args, span, ..
+            name,
+            args,
+            span,
+            ..
         } => push_taking(alloc, owner, name.as_str(), args, span.from, takes),
         Term::List { items, tail, .. } => match tail {
             Some(_) => Ok(()),
@@ -152,41 +143,4 @@ pub fn push_takes(
         Term::Curly { .. } => Ok(()),
         Term::Paren { .. } => Ok(()),
     }
-}
-
-/// The declaration of a file of this module.
-fn declared_in(alloc: Global, own: &str, one: Takes) -> Result<Meta, AllocError>
-    ensures { IfOk result (λ meta. see_meta meta ≡ declared_in own.now (see_takes one)) }
-{
-    let Takes {
-        owner,
-        name,
-        args,
-        from,
-    } = one;
-    match owner {
-        Some(module) => Ok(Meta {
-            module,
-            name,
-            args,
-            from,
-        }),
-        None => Ok(Meta {
-            module: Text::new(alloc, own)?,
-            name,
-            args,
-            from,
-        }),
-    }
-}
-
-/// The declarations of a file of this module.
-pub fn all_declared(alloc: Global, own: &str, takes: Vec<Takes>) -> Result<Vec<Meta>, AllocError>
-    ensures { IfOk result (λ metas. map see_meta metas.items ≡ map (declared_in own.now) (map see_takes takes.items)) }
-{
-    let mut metas = Vec::with_capacity(alloc, takes.len())?;
-    for one in takes {
-        metas.push(declared_in(alloc, own, one)?)?;
-    }
-    Ok(metas)
 }

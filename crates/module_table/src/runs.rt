@@ -71,7 +71,8 @@ pub fn push_bare(
     name: Text,
     arity: u32,
 ) -> Result<(), AllocError>
-    ensures { OnOk result (flat_map see_run runs.new.items ≡ flat_map see_run runs.old.items ++ record { module_ = owner; name = name; arity = arity; clause = None } ∷ []) }
+    ensures { OnOk result (flat_map see_run runs.new.items ≡ flat_map see_run runs.old.items
+        ++ record { module_ = owner; name = name; arity = arity; clause = None } ∷ []) }
 {
     runs.push(Defined {
         module: owner,

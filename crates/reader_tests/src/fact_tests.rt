@@ -1,5 +1,5 @@
 use clause_text::{Cause, TextFault, cause_text, read_text};
-use module_table::{FactFault, FileFacts, Indicator, Load, LoadKind, facts};
+use module_table::{FactFault, FileFacts, GoalArg, Indicator, Load, LoadKind, Meta, facts};
 use prolog_terms::{Term, span_at};
 use std::alloc::{AllocError, Global};
 use std::process::Abort;
@@ -47,6 +47,44 @@ fn push_loads(alloc: Global, out: &mut String, loads: &[Load]) -> Result<(), All
     Ok(())
 }
 
+/// Adds each predicate with the number of its clauses, and with its module where that isn't the
+/// file's.
+fn push_defined(alloc: Global, out: &mut String, facts: &FileFacts) -> Result<(), AllocError> {
+    for predicate in &facts.defined {
+        if predicate.module != facts.module {
+            out.push_str(predicate.module.as_str())?;
+            out.push_str(":")?;
+        }
+        let name = predicate.name.as_str();
+        let (arity, clauses) = (predicate.arity, predicate.clauses.len());
+        let text = format!(in alloc; "{name}/{arity}:{clauses};")?;
+        out.push_str(&text)?;
+    }
+    Ok(())
+}
+
+/// Adds each declaration as it may be written, with its offset.
+fn push_metas(alloc: Global, out: &mut String, metas: &[Meta]) -> Result<(), AllocError> {
+    for meta in metas {
+        let (owner, name) = (meta.module.as_str(), meta.name.as_str());
+        let text = format!(in alloc; "takes {owner}:{name}")?;
+        out.push_str(&text)?;
+        for arg in &meta.args {
+            let text = match arg {
+                GoalArg::Plain => String::from_str(alloc, " ?")?,
+                GoalArg::Goal(more) => format!(in alloc; " {more}")?,
+                GoalArg::Caret => String::from_str(alloc, " ^")?,
+                GoalArg::Grammar => String::from_str(alloc, " //")?,
+            };
+            out.push_str(&text)?;
+        }
+        let from = meta.from;
+        let text = format!(in alloc; "@{from};")?;
+        out.push_str(&text)?;
+    }
+    Ok(())
+}
+
 fn push_goals(alloc: Global, out: &mut String, goals: &[Term]) -> Result<(), AllocError> {
     for goal in goals {
         let from = span_at(goal).from;
@@ -56,8 +94,8 @@ fn push_goals(alloc: Global, out: &mut String, goals: &[Term]) -> Result<(), All
     Ok(())
 }
 
-/// The module with its exports, the loads, each predicate with the number of its clauses, and the
-/// goals, each with its offset.
+/// The module with its exports, the loads, each predicate with the number of its clauses, the
+/// declarations of goal arguments, and the goals.
 fn written(alloc: Global, facts: &FileFacts) -> Result<String, AllocError> {
     let mut out = String::new(alloc);
     if facts.is_module {
@@ -68,12 +106,8 @@ fn written(alloc: Global, facts: &FileFacts) -> Result<String, AllocError> {
     }
     push_indicators(alloc, &mut out, "+", &facts.exports, ";")?;
     push_loads(alloc, &mut out, &facts.loads)?;
-    for predicate in &facts.defined {
-        let name = predicate.name.as_str();
-        let (arity, clauses) = (predicate.arity, predicate.clauses.len());
-        let text = format!(in alloc; "{name}/{arity}:{clauses};")?;
-        out.push_str(&text)?;
-    }
+    push_defined(alloc, &mut out, facts)?;
+    push_metas(alloc, &mut out, &facts.metas)?;
     push_goals(alloc, &mut out, &facts.goals)?;
     if out.is_empty() {
         out.push_str("nothing")?;
@@ -88,7 +122,7 @@ fn refused(alloc: Global, cause: Cause, offset: u32) -> Result<String, AllocErro
 
 /// What the text says as the file `d/f.pl`, or why it is refused.
 fn told<R: Threads + Sync>(rt: &R, alloc: Global, text: &str) -> Result<String, AllocError> {
-    if text.len() > 1000 {
+    if text.len() > 4000 {
         return String::from_str(alloc, "too long");
     }
     let clauses = match read_text(rt, alloc, text.as_bytes()) {
@@ -127,6 +161,14 @@ a, \"s\" --> b. => a/2:1;
 a, [] --> b. => a/2:1;
 a, [x|Y] --> b. => a/2:1;
 :-(p, q). => p/0:1;
+a:b. => a:b/0:1;
+a:b:p. => b:p/0:1;
+m:p :- q. => m:p/0:1;
+m:a, [x] --> b. => m:a/2:1;
+p. m:p. n:p(_). p. => m:p/0:1;n:p/1:1;p/0:2;
+:- module(f, [p/0]). user:hook(X) :- q(X). p. => module f@3;+p/0@14;p/0:1;user:hook/1:1;
+:- multifile user:hook/1, m:[a/0, n:b//1]. => m:a/0:0;n:b/3:0;hook/1:0;
+:- dynamic m:(a/1, n:b/2), m:[]. => m:a/1:0;n:b/2:0;
 :- module(m, []). => module m@3;
 :- module(m, [p/0, q//1, op(700, xfx, ===)]). p. => module m@3;+p/0@14;+q/3@19;p/0:1;
 :- module([], []). => module []@3;
@@ -155,7 +197,19 @@ a, [x|Y] --> b. => a/2:1;
 :- dynamic p//4294967293. => p/4294967295:0;
 :- multifile p/1. p(a). => p/1:1;
 :- discontiguous p/1. => nothing
-:- meta_predicate p(0). => nothing
+:- meta_predicate p(0). => takes user:p 0@18;
+:- meta_predicate each(1, ?). => takes user:each 1 ?@18;
+:- meta_predicate a(0), [b(^), m:c(//)]. => takes user:a 0@18;takes user:b ^@25;takes m:c //@33;
+:- meta_predicate m:(n:a(0), b((9), x)). => takes n:a 0@23;takes m:b 9 ?@29;
+:- module(f, []). :- meta_predicate t(0), user:u(0). => module f@3;takes f:t 0@36;takes user:u 0@47;
+:- meta_predicate each. => nothing
+:- meta_predicate X. => nothing
+:- meta_predicate []. => nothing
+:- meta_predicate X:each(1). => nothing
+:- meta_predicate [each(1)|T]. => nothing
+:- meta_predicate each(10). => takes user:each ?@18;
+:- meta_predicate each(-1). => takes user:each ?@18;
+:- meta_predicate each(\"0\"). => takes user:each ?@18;
 :- mode p(+). => nothing
 :- public p/1. => nothing
 :- table p/1. => nothing
@@ -172,6 +226,26 @@ a, [x|Y] --> b. => a/2:1;
 #[test]
 fn finds_facts(rt: HostRuntime) -> Result<(), Fail> {
     expect_rows(&rt, rt.alloc(), FACTS)
+}
+
+/// A fact behind so many names of modules.
+fn behind_modules(alloc: Global, count: usize) -> Result<String, AllocError> {
+    let mut text = "m:".repeat(alloc, count)?;
+    text.push_str("p.")?;
+    Ok(text)
+}
+
+#[test]
+fn takes_heads_behind_many_modules(rt: HostRuntime) -> Result<(), Fail> {
+    let alloc = rt.alloc();
+    for (count, wanted) in [
+        (999, "m:p/0:1;"),
+        (1000, "term is nested deeper than 1000 at 1999"),
+    ] {
+        let text = behind_modules(alloc, count)?;
+        assert_eq!(rt; told(&rt, alloc, &text)?.as_str(), wanted);
+    }
+    Ok(())
 }
 
 /// Each predicate with the offsets of its clauses, in their order.
@@ -250,7 +324,13 @@ X. => clause head is not an atom or a compound term at 0
 {a}. => clause head is not an atom or a compound term at 0
 []. => clause head is not an atom or a compound term at 0
 {}. => clause head is not an atom or a compound term at 0
-a:b. => clause head is not an atom or a compound term at 0
+X:p. => clause head is not an atom or a compound term at 0
+m:X:p. => clause head is not an atom or a compound term at 2
+m:3. => clause head is not an atom or a compound term at 2
+m:[a]. => clause head is not an atom or a compound term at 2
+m:(p :- q). => control construct cannot be defined at 3
+m:(a, [x]) --> b. => control construct cannot be defined at 3
+a:(:- dynamic b/0). => control construct cannot be defined at 3
 3 --> a. => clause head is not an atom or a compound term at 0
 p. X :- a. => clause head is not an atom or a compound term at 3
 p. :- module(m, []). => module directive is not the first clause at 6
@@ -281,6 +361,12 @@ p. :- module(m, []). => module directive is not the first clause at 6
 :- dynamic p/a. => predicate indicator is expected at 11
 :- dynamic X/1. => predicate indicator is expected at 11
 :- dynamic p/1, q. => predicate indicator is expected at 16
+:- dynamic a:b:c/1. => predicate indicator is expected at 11
+:- dynamic X:[p/0]. => predicate indicator is expected at 11
+:- dynamic m:[p/0|T]. => predicate indicator is expected at 13
+:- dynamic [a/0, (b/0, c/0)]. => predicate indicator is expected at 18
+:- use_module(b, [m:p/1]). => predicate indicator is expected at 18
+:- module(m, [n:p/0]). => predicate indicator is expected at 14
 :- dynamic p/4294967296. => predicate indicator is expected at 11
 :- dynamic p//4294967294. => predicate indicator is expected at 11
 :- if(a). => directive is outside this profile at 3

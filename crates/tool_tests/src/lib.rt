@@ -6,6 +6,8 @@ mod drivers;
 #[cfg(test)]
 mod faults;
 #[cfg(test)]
+mod goal_arguments;
+#[cfg(test)]
 mod libraries;
 #[cfg(test)]
 mod limits;
@@ -13,6 +15,10 @@ mod limits;
 mod loads;
 #[cfg(test)]
 mod options;
+#[cfg(test)]
+mod other_modules;
+#[cfg(test)]
+mod parts;
 #[cfg(test)]
 mod programs;
 #[cfg(test)]

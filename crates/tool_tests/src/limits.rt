@@ -23,7 +23,7 @@ fn expect_start<R: Threads + Wait + Sync + Abort>(
     on_out: &str,
     on_err: &str,
 ) -> Result<(), Fail> {
-    let mut out = MemorySink::with_room(alloc, 8000000)?;
+    let mut out = MemorySink::with_room(alloc, 1000)?;
     let mut err = MemorySink::with_room(alloc, 100000)?;
     let status = run_groups(rt, alloc, words, library, &mut out, &mut err, &OpenGate);
     assert_eq!(rt; (status, library.asked().len()), wanted);
@@ -148,37 +148,40 @@ fn takes_so_many_bytes(rt: HostRuntime) -> Result<(), Fail> {
     )
 }
 
-/// So many facts of different names.
-fn facts(alloc: Global, count: u32) -> Result<String, AllocError> {
+/// The facts `p0` and so on that are numbered from the first to before the second.
+fn facts(alloc: Global, from: u32, to: u32) -> Result<String, AllocError> {
     let mut text = String::new(alloc);
-    for number in 0..count {
+    for number in from..to {
         let fact = format!(in alloc; "p{number}.\n")?;
         text.push_str(&fact)?;
     }
     Ok(text)
 }
 
+/// One root alone is told of, so that the report is short.
 #[test]
 fn takes_so_many_predicates(rt: HostRuntime) -> Result<(), Fail> {
     let alloc = rt.alloc();
-    let words = words_of(alloc, &["f.pl"])?;
+    let words = words_of(alloc, &["--roots", "p1048575/0", "a.pl", "b.pl"])?;
+    let first = facts(alloc, 0, 524288)?;
     for (count, status, on_out, on_err) in [
         (
-            262144,
+            1048576,
             0,
-            "predicates 262144 groups 262144 recursive 0 levels 1\n0 plain user:p0/0\n0 plain user:p1/0\n0 plain user:p10/0\n",
+            "predicates 1 groups 1 recursive 0 levels 1\n0 plain user:p1048575/0\n",
             "",
         ),
-        (262145, 6, "", "groups: more than 262144 predicates\n"),
+        (1048577, 6, "", "groups: more than 1048576 predicates\n"),
     ] {
-        let text = facts(alloc, count)?;
-        let mut library = library_of(alloc, &[("f.pl", text.as_bytes())], &[])?;
+        let second = facts(alloc, 524288, count)?;
+        let files = [("a.pl", first.as_bytes()), ("b.pl", second.as_bytes())];
+        let mut library = library_of(alloc, &files, &[])?;
         expect_start(
             &rt,
             alloc,
             &words,
             &mut library,
-            (status, 1),
+            (status, 2),
             on_out,
             on_err,
         )?;

@@ -3,13 +3,13 @@
 use crate::runs::{FilesRun, expect_files, expect_make};
 use std::test::Fail;
 
-const USAGE: &str =
+pub const USAGE: &str =
     "usage: groups [--jobs N | --searches K --seed S] [--roots LIST] [--order] [--unreached] [--effects] [--loops] [--path LIST] FILE... | groups --make N [--jobs N | --searches K --seed S]\n";
 
 /// A chain of three predicates, of which there is one legal order.
-const CHAIN: &[(&str, &[u8])] = &[("f.pl", b":- module(a, [p/0]).\np :- q, r.\nq :- r.\nr.\n")];
+pub const CHAIN: &[(&str, &[u8])] = &[("f.pl", b":- module(a, [p/0]).\np :- q, r.\nq :- r.\nr.\n")];
 
-const CHAIN_REPORT: &str =
+pub const CHAIN_REPORT: &str =
     "predicates 3 groups 3 recursive 0 levels 3\n0 plain a:r/0\n1 plain a:q/0\n2 plain a:p/0\n";
 
 /// What is reached from the second of the chain.
@@ -23,7 +23,7 @@ const MAIN: &[(&str, &[u8])] = &[(
 )];
 
 /// A module that imports a predicate.
-const IMPORTED: &[(&str, &[u8])] = &[
+pub const IMPORTED: &[(&str, &[u8])] = &[
     (
         "a.pl",
         b":- module(a, [p/0]).\n:- use_module(c).\np :- s.\n",
@@ -32,7 +32,7 @@ const IMPORTED: &[(&str, &[u8])] = &[
 ];
 
 /// A goal that isn't callable.
-const NOT_CALLABLE: &[(&str, &[u8])] = &[("f.pl", b"p :- 3.\n")];
+pub const NOT_CALLABLE: &[(&str, &[u8])] = &[("f.pl", b"p :- 3.\n")];
 
 static REPORTED: [FilesRun; 12] = [
     (

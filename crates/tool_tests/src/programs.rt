@@ -30,6 +30,12 @@ const TWICE: &[(&str, &[u8])] = &[
     ),
 ];
 
+/// A small program as they are written, of one file.
+pub const FAMILY: &[(&str, &[u8])] = &[(
+    "family.pl",
+    b"/* Family facts. */\n:- module(family, [ancestor/2, siblings/2, report/0]).\n:- use_module(library(lists)).\n:- dynamic parent/2.\n\nparent(tom, bob).\nparent(bob, \"ann\").\n\n% ancestor(A, D): A is above D.\nancestor(X, Y) :- parent(X, Y).\nancestor(X, Y) :- parent(X, Z), ancestor(Z, Y).\n\nsiblings(X, Y) :- parent(P, X), parent(P, Y), X \\== Y.\n\nreport :-\n    (   findall(X-Y, siblings(X, Y), L), L = [_|_]\n    ->  forall(member(P, L), show(P))\n    ;   format(\"none~n\", [])\n    ).\n\nshow(X-Y) :- format(\"~w ~w~n\", [X, Y]).\n",
+)];
+
 static REPORTED: [FilesRun; 7] = [
     (
         &["a.pl"],
@@ -94,10 +100,7 @@ static REPORTED: [FilesRun; 7] = [
     ),
     (
         &["family.pl"],
-        &[(
-            "family.pl",
-            b"/* Family facts. */\n:- module(family, [ancestor/2, siblings/2, report/0]).\n:- use_module(library(lists)).\n:- dynamic parent/2.\n\nparent(tom, bob).\nparent(bob, \"ann\").\n\n% ancestor(A, D): A is above D.\nancestor(X, Y) :- parent(X, Y).\nancestor(X, Y) :- parent(X, Z), ancestor(Z, Y).\n\nsiblings(X, Y) :- parent(P, X), parent(P, Y), X \\== Y.\n\nreport :-\n    (   findall(X-Y, siblings(X, Y), L), L = [_|_]\n    ->  forall(member(P, L), show(P))\n    ;   format(\"none~n\", [])\n    ).\n\nshow(X-Y) :- format(\"~w ~w~n\", [X, Y]).\n",
-        )],
+        FAMILY,
         &[],
         " family.pl",
         0,

@@ -25,6 +25,14 @@ pub type FilesRun = (
     &'static str,
 );
 
+/// Words and files, and the wanted status and bytes, which are on the one sink or the other.
+pub type ProgramRun = (
+    &'static [&'static str],
+    &'static [(&'static str, &'static [u8])],
+    u8,
+    &'static str,
+);
+
 /// The words of a command line.
 pub fn words_of(alloc: Global, words: &[&str]) -> Result<Vec<Text>, AllocError> {
     let mut found = Vec::new(alloc);
@@ -72,8 +80,8 @@ pub fn expect_run<R: Threads + Wait + Sync + Abort>(
     alloc: Global,
     wanted: (u8, &str, &str),
 ) -> Result<(), Fail> {
-    let mut out = MemorySink::with_room(alloc, 1000)?;
-    let mut err = MemorySink::with_room(alloc, 1000)?;
+    let mut out = MemorySink::with_room(alloc, 4000)?;
+    let mut err = MemorySink::with_room(alloc, 4000)?;
     let status = run_groups(rt, alloc, words, library, &mut out, &mut err, &OpenGate);
     assert_eq!(rt; (status, shown(&out), shown(&err)), wanted);
     Ok(())
@@ -92,6 +100,25 @@ pub fn expect_files<R: Threads + Wait + Sync + Abort>(
         let mut names = String::new(alloc);
         push_names(&mut names, library.asked())?;
         assert_eq!(rt; names.as_str(), *asked);
+    }
+    Ok(())
+}
+
+/// Runs on the words of each row over its files, and compares the status and the bytes on the sink that
+/// it speaks of; the other has taken none.
+pub fn expect_programs<R: Threads + Wait + Sync + Abort>(
+    rt: &R,
+    alloc: Global,
+    rows: &[ProgramRun],
+) -> Result<(), Fail> {
+    for (words, files, status, said) in rows {
+        let mut library = library_of(alloc, files, &[])?;
+        let words = words_of(alloc, words)?;
+        if *status == 0 {
+            expect_run(rt, &words, &mut library, alloc, (0, said, ""))?;
+        } else {
+            expect_run(rt, &words, &mut library, alloc, (*status, "", said))?;
+        }
     }
     Ok(())
 }

@@ -1,37 +1,7 @@
 //! Small programs, each for one rule of imports or of goals.
 
-use crate::runs::{expect_run, library_of, words_of};
-use std::alloc::Global;
-use std::process::Abort;
-use std::sync::Wait;
+use crate::runs::{ProgramRun, expect_programs};
 use std::test::Fail;
-use std::thread::Threads;
-
-/// Words and files, and the wanted status and bytes, which are on the one sink or the other.
-type ProgramRun = (
-    &'static [&'static str],
-    &'static [(&'static str, &'static [u8])],
-    u8,
-    &'static str,
-);
-
-/// Runs on the words of each row over its files.
-fn expect_programs<R: Threads + Wait + Sync + Abort>(
-    rt: &R,
-    alloc: Global,
-    rows: &[ProgramRun],
-) -> Result<(), Fail> {
-    for (words, files, status, said) in rows {
-        let mut library = library_of(alloc, files, &[])?;
-        let words = words_of(alloc, words)?;
-        if *status == 0 {
-            expect_run(rt, &words, &mut library, alloc, (0, said, ""))?;
-        } else {
-            expect_run(rt, &words, &mut library, alloc, (*status, "", said))?;
-        }
-    }
-    Ok(())
-}
 
 /// Each fault of imports: alone, beside others, and where it isn't one.
 static IMPORTS: [ProgramRun; 26] = [

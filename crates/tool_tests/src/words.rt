@@ -1,10 +1,8 @@
 //! Words, and the files that they mean.
 
+use crate::options::USAGE;
 use crate::runs::{FilesRun, expect_files};
 use std::test::Fail;
-
-const USAGE: &str =
-    "usage: groups [--jobs N | --searches K --seed S] [--roots LIST] [--order] [--unreached] [--effects] [--loops] [--path LIST] FILE... | groups --make N [--jobs N | --searches K --seed S]\n";
 
 const LOOP: &[(&str, &[u8])] = &[("f.pl", b"p :- p.\n")];
 

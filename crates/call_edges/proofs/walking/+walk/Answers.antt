@@ -1,11 +1,12 @@
-use Rattle.std.proofs.Common.{◌≡◌, ◌++◌, map, length, Some, slice_get, ap, sym, ◌∙◌, subst, refl, arith}
+use Rattle.std.proofs.Common.{◌≡◌, ◌++◌, map, length, Some, slice_get, ap, ◌∙◌, subst, refl, arith}
 use Rattle.std.specs.Option.{option_to_list}
 use Rattle.std.proofs.lemmas.List.{length-map}
 use Rattle.prolog_terms.specs.Tree.{tree_of, depth}
 use Rattle.prolog_terms.specs.Weight.{weight}
 use Rattle.prolog_terms.proofs.ViewLemmas.{compound_seen}
 use Rattle.module_table.specs.declared.goal_arg.GoalArg.{GoalArg}
-use Rattle.call_edges.specs.Goals.{added, atom_met, place, taken, Taken, role_at, AddsMet}
+use Rattle.module_table.specs.Metas.{added}
+use Rattle.call_edges.specs.Goals.{atom_met, place, taken, Taken, role_at, AddsMet}
 use Rattle.import_rules.specs.Program.{see_program}
 use Rattle.call_edges.specs.ProgramRows.{rows_of}
 use Rattle.call_edges.specs.Seen.{see_mets, see_taken}

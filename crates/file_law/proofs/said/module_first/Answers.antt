@@ -1,4 +1,5 @@
 use Rattle.file_law.proofs.Modules as of_files
+use Rattle.file_law.proofs.OwnModules as of_heads
 use Rattle.file_law.proofs.said.module_first.Goals as goal
 
 pub returns-clause-others : goal.returns-clause-others
@@ -9,3 +10,6 @@ returns-clause-first c = λ user tree trees parts own is has. of_files.module_fi
 
 pub returns-clause-exports : goal.returns-clause-exports
 returns-clause-exports c = λ user trees facts are. of_files.module_kept user trees facts are
+
+pub returns-clause-heads : goal.returns-clause-heads
+returns-clause-heads c = λ user trees facts are. of_heads.own_module user trees facts are

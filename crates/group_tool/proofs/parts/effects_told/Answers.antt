@@ -1,4 +1,8 @@
-use Rattle.std.proofs.Common.{◌≡◌, ◌<◌, ◌∙◌, length, sym, subst, ap, arith}
+use denote.Param.Send.{sendable}
+use Rattle.std.proofs.Crossing.{crosses}
+use Rattle.call_edges.proofs.piece.Piece.TheSendSync as piece
+use Rattle.group_tool.proofs.SharedCalls.{program_shared}
+use Rattle.std.proofs.Common.{◌<◌, ◌∙◌, length, sym, subst, ap, arith}
 use Rattle.graph_law.specs.Graph.{Calls, lists_of}
 use Rattle.graph_law.proofs.GraphLaws.{length-lists_of}
 use Rattle.effect_flow.specs.Carriers.{AreFlows}
@@ -43,3 +47,6 @@ returns g c =
     let are = subst (λ (s : Seen). AreFlows (Calls (successor_lists s)) own groups flows) c.requires.calls (rw (c.deref.ensures.value) at c.in_ok-flows.ensures) in
     told_effects (see_program c.args.program.now) groups c.args.levels.now own flows c.in_ok-bytes.bytes.items c.in_ok-own.ensures are
     (rw (c.deref-2.ensures.value) at c.in_ok-bytes.ensures)
+
+pub flow-requires-sync-O : goal.flow-requires-sync-O
+flow-requires-sync-O g c κs within = search (sendable, crosses, program_shared, piece.the_sync) depth 20 fits 3000

@@ -1,4 +1,4 @@
-use Rattle.std.proofs.Common.{◌≡◌, ◌<◌, ◌∷◌, [], ℕ, Some, None, All, length, sym, subst, arith}
+use Rattle.std.proofs.Common.{◌<◌, ◌∷◌, [], Some, None, length, sym, subst, arith}
 use Rattle.std.proofs.lemmas.List.Elements.{All-cons, All-nil}
 use Rattle.std.proofs.lemmas.Result.{IfOk-weaker}
 use Rattle.graph_law.specs.Graph.{Calls}
@@ -7,7 +7,6 @@ use Rattle.import_rules.specs.Program.{Seen, see_program}
 use Rattle.call_edges.specs.Successors.{successor_lists}
 use Rattle.call_edges.proofs.SuccessorLemmas.{lists_count}
 use Rattle.group_words.specs.Settings.{see_options}
-use Rattle.group_tool.specs.Roots.{AreEnds}
 use Rattle.group_tool.proofs.PartLemmas.{ends_below, path_within, told_path}
 use Rattle.group_tool.proofs.parts.path_told.Goals as goal
 

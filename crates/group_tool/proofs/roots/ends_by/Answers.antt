@@ -1,4 +1,4 @@
-use Rattle.std.proofs.Common.{◌≡◌, Some, sym, subst, ap, ◌∙◌}
+use Rattle.std.proofs.Common.{sym, subst}
 use Rattle.clause_text.proofs.Outcomes.{on_err}
 use Rattle.import_rules.specs.Program.{see_program}
 use Rattle.group_words.specs.Settings.{see_options}

@@ -1,10 +1,8 @@
-use Rattle.std.proofs.Common.{◌≡◌, ◌≢◌, ◌<◌, ◌≤◌, ◌+◌, ◌++◌, ◌∷◌, [], false, List, Some, All, length, map, get_or, slice_get, ap, sym, ◌∙◌, subst, arith, append_assoc, append-nil}
-use Rattle.std.specs.Prelude.{slice_index_or}
+use Rattle.std.proofs.Common.{◌≡◌, ◌<◌, ◌≤◌, ◌++◌, ◌∷◌, [], false, List, Some, length, map, get_or, slice_get, ap, sym, ◌∙◌, subst, arith, append_assoc, append-nil}
 use Rattle.std.specs.List.{list_any}
 use Rattle.std.proofs.lemmas.List.{get_or-map, length-map}
 use Rattle.module_table.specs.Metas.{Declaration, see_meta}
 use Rattle.module_table.specs.Facts.{see_facts}
-use Rattle.import_rules.specs.declared.names.PredName.{PredName}
 use Rattle.import_rules.specs.Names.{pred_name, is_same}
 use Rattle.import_rules.specs.Metas.{MetaAt, meta_at, name_for, kept_as, first_kept, AreDeclared}
 use Rattle.import_rules.proofs.FirstMetas.{none_declared, one_declared}

@@ -1,6 +1,6 @@
-use Rattle.std.proofs.Common.{◌≡◌, ◌<◌, List, All, length, map, get_or, ap, sym, ◌∙◌, subst, arith}
+use Rattle.std.proofs.Common.{◌≡◌, ◌<◌, List, length, map, get_or, ap, sym, ◌∙◌, subst, arith}
 use Rattle.std.proofs.lemmas.List.{get_or-map, length-map}
-use Rattle.module_table.specs.Facts.{Facts, see_facts}
+use Rattle.module_table.specs.Facts.{see_facts}
 use Rattle.import_rules.specs.Metas.{MetaAt, AreDeclared, HasFewMetas}
 use Rattle.import_rules.proofs.MetasSoFar.{files_below, more_file, all_files}
 use Rattle.import_rules.proofs.meta_places.meta_places.Goals as goal

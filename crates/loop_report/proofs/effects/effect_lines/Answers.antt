@@ -1,13 +1,10 @@
-use Rattle.std.proofs.Common.{◌≡◌, ℕ, ◌<◌, ◌++◌, List, [], length, get_or, Some, map, ap, subst, sym, ◌∙◌, arith}
-use Rattle.std.specs.Prelude.{Contains}
+use Rattle.std.proofs.Common.{ℕ, ◌<◌, ◌++◌, List, [], length, get_or, ap, subst, sym, ◌∙◌, arith}
 use Rattle.std.specs.String.{string_bytes}
 use Rattle.std.proofs.lemmas.List.{get_or_default}
-use Rattle.std.proofs.lemmas.List.Elements.{Contains-get_or}
-use Rattle.graph_law.specs.Classes.{group_at}
 use Rattle.graph_law.specs.Graph.{lists_of}
 use Rattle.graph_law.proofs.GraphLaws.{length-lists_of}
-use Rattle.effect_flow.specs.Carriers.{first_at, flow_at}
-use Rattle.effect_flow.specs.Seen.{see_flow, see_flows}
+use Rattle.effect_flow.specs.Carriers.{first_at}
+use Rattle.effect_flow.specs.Seen.{see_flows}
 use Rattle.import_rules.specs.Program.{see_program}
 use Rattle.loop_report.specs.Effects.{group_effects, place_effects}
 use Rattle.loop_report.proofs.LineOrder.{places_within}

@@ -1,4 +1,4 @@
-use Rattle.std.proofs.Common.{◌<◌, ◌∙◌, sym, All, subst, length}
+use Rattle.std.proofs.Common.{◌<◌, ◌∙◌, sym, All, subst}
 use Rattle.graph_law.specs.Graph.{lists_of}
 use Rattle.graph_law.proofs.GraphLaws.{length-lists_of}
 use Rattle.loop_report.proofs.LineOrder.{places_within}

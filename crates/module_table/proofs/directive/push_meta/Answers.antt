@@ -1,4 +1,4 @@
-use Rattle.std.proofs.Common.{None, Ok, sym, ap, ◌∙◌}
+use Rattle.std.proofs.Common.{Ok, sym, ap, ◌∙◌}
 use Rattle.prolog_terms.specs.Tree.{tree_of}
 use Rattle.module_table.specs.Metas.{takes_of}
 use Rattle.module_table.specs.Kinds.{see_kinds}
@@ -8,4 +8,4 @@ use Rattle.module_table.proofs.directive.push_meta.Goals as goal
 pub returns-clause-ok : goal.returns-clause-ok
 returns-clause-ok c =
     let old = see_kinds c.args.kinds.now in
-    ap (λ k. Ok k) (takes_on old (takes_of None (tree_of c.args.declared.now)) ∙ (λ i. record old { takes = sym c.in_ok-push_takes.ensures i }))
+    ap (λ k. Ok k) (takes_on old (takes_of c.args.owner.now (tree_of c.args.declared.now)) ∙ (λ i. record old { takes = sym c.in_ok-push_takes.ensures i }))

@@ -4,10 +4,10 @@ use Rattle.std.proofs.lemmas.List.{length-map, take_all}
 use Rattle.std.proofs.lemmas.Result.{err_from_is_err_and, on_ok_weaker, IfErr-weaker}
 use Rattle.prolog_terms.specs.Tree.{tree_of, depth}
 use Rattle.prolog_terms.proofs.ViewLemmas.{AreBelow, sides_below, read_tree}
-use Rattle.module_table.specs.declared.dynamic.Standing.TheVariants.{Whole, Joint, Item}
+use Rattle.module_table.specs.declared.dynamic.Standing.TheVariants.{Joint, Item}
 use Rattle.module_table.specs.Said.{IsWhy, each_said}
 use Rattle.module_table.specs.Kinds.{see_kinds, with_said}
-use Rattle.module_table.specs.Dynamic.{bare_said, dynamic_at}
+use Rattle.module_table.specs.Dynamic.{dynamic_at}
 use Rattle.module_table.proofs.SaidLemmas.{more_none, stops_first, stops_second, each_step, each_stops}
 use Rattle.module_table.proofs.KindLemmas.{kinds_go_on, added_parts}
 use Rattle.module_table.proofs.DynamicShapes.{dynamic_joint, dynamic_within, dynamic_nameless, dynamic_list, dynamic_alone, items_below, whole_list, joint_pair}

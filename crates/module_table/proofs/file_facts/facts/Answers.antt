@@ -1,7 +1,6 @@
 use Rattle.std.proofs.Common.{◌≡◌, map, ap, sym, ◌∙◌, subst}
 use Rattle.module_table.specs.declared.file_facts.FileFacts.{FileFacts}
 use Rattle.module_table.specs.Defined.{clause_tree, AreDefined, see_defined}
-use Rattle.module_table.specs.Metas.{declared_in, see_takes}
 use Rattle.module_table.specs.Kinds.{IsModule}
 use Rattle.module_table.specs.Directives.{home}
 use Rattle.module_table.specs.Facts.{AreFacts, module_of, trees_said, see_facts}
@@ -23,7 +22,7 @@ returns-clause-only c = λ other are.
       exports = own.exports;
       loads = kinds.loads;
       defined = c.in_ok-group.field-0;
-      metas = c.in_ok-metas.metas;
+      metas = kinds.takes;
       goals = kinds.goals;
     } in
     let mine : AreFacts c.args.file.now (map clause_tree c.args.clauses.items) (see_facts found) = record {
@@ -34,7 +33,7 @@ returns-clause-only c = λ other are.
         of_module = subst (λ m. IsModule m own.name own.is_declared own.from own.exports.items) said.are.declared c.in_ok-own.ensures;
         loads = said.are.loads;
         defined = subst (λ ds. AreDefined ds (map see_defined c.in_ok-group.field-0.items)) said.are.definitions c.in_ok-group.ensures;
-        metas = c.in_ok-metas.ensures ∙ (ap (λ name. map (declared_in name) (map see_takes kinds.takes.items)) c.as_str-2.ensures ∙ ap (map (declared_in own.name)) said.are.takes);
+        metas = said.are.takes;
         goals = said.are.goals;
       };
     } in

@@ -1,4 +1,4 @@
-use Rattle.std.proofs.Common.{◌≡◌, ap, sym, ◌∙◌, arith, codes}
+use Rattle.std.proofs.Common.{ap, sym, ◌∙◌, arith, codes}
 use Rattle.prolog_terms.specs.Tree.{tree_of}
 use Rattle.prolog_terms.proofs.ViewLemmas.{AreBelow, sides_below}
 use Rattle.module_table.specs.Heads.{within}

@@ -1,12 +1,11 @@
-use Rattle.std.proofs.Common.{◌≡◌, ◌<◌, ◌≤◌, ◌++◌, [], ◌∷◌, List, Option, Some, None, ℕ, length, map, option_map, take, codes, refl, ap, sym, ◌∙◌, subst, arith, append_assoc, append-nil}
-use Rattle.std.specs.Prelude.{OnOk}
-use Rattle.std.proofs.lemmas.List.{length-map, take_all}
+use Rattle.std.proofs.Common.{◌≡◌, ◌++◌, [], ◌∷◌, List, Some, None, map, take, codes, ap, sym, ◌∙◌, arith, append_assoc, append-nil}
+use Rattle.std.proofs.lemmas.List.{take_all}
 use Rattle.std.proofs.lemmas.Result.{on_ok_weaker}
 use Rattle.prolog_terms.specs.declared.term.Term.TheVariants.{List as list_term}
-use Rattle.prolog_terms.specs.Tree.{Tree, tree_of, depth, deepest, compound, listed, trees_from}
-use Rattle.prolog_terms.specs.Views.{inside, sides_of, trees_in, atom_name}
+use Rattle.prolog_terms.specs.Tree.{tree_of, depth, deepest, compound, listed, trees_from}
+use Rattle.prolog_terms.specs.Views.{trees_in}
 use Rattle.prolog_terms.proofs.ViewLemmas.{AreBelow, sides_below, atom_seen, compound_seen, list_seen, tailed_seen, curly_seen, paren_seen, trees_back}
-use Rattle.module_table.specs.Metas.{Takes, goal_arg, taking, see_takes, takes_of, all_takes, where_named}
+use Rattle.module_table.specs.Metas.{Declaration, goal_arg, taking, see_meta, takes_of, all_takes}
 use Rattle.module_table.proofs.TakesLemmas.{takes_comma, takes_named, takes_alone, shallow_takes, items_more, inside_depth, deepest_one, read_seen, variable_seen, constant_seen, nothing_more}
 use Rattle.module_table.proofs.meta.+push_takes.Goals as goal
 
@@ -22,11 +21,11 @@ push_takes-requires-in-Some t c =
 
 pub returns-in-Some : goal.returns-in-Some
 returns-in-Some t c =
-    let owner = option_map (λ own. own.now) c.args.owner in
+    let owner = c.args.owner.now in
     let tree = tree_of c.args.term.now in
     let left = tree_of c.in-Some.left.now in
     let right = tree_of c.in-Some.right.now in
-    let old = map see_takes c.args.takes.now.items in
+    let old = map see_meta c.args.takes.now.items in
     let whole = takes_comma owner tree left right (sym c.in-Some.ensures) in
     on_ok_weaker c.push_takes-in-Some.result
     (λ is.
@@ -37,14 +36,14 @@ returns-in-Some t c =
 
 pub returns-in_default-atom_name : goal.returns-in_default-atom_name
 returns-in_default-atom_name t c =
-    let owner = option_map (λ own. own.now) c.args.owner in
+    let owner = c.args.owner.now in
     let tree = tree_of c.args.term.now in
     let left = tree_of c.in-Some-sides.left.now in
     let right = tree_of c.in-Some-sides.right.now in
-    let old = map see_takes c.args.takes.now.items in
+    let old = map see_meta c.args.takes.now.items in
     let none : takes_of owner tree ≡ [] =
     takes_named owner tree left right (sym c.in_default.ensures) (sym c.in-Some-sides.ensures)
-    ∙ ap (λ name. where_named name (takes_of (atom_name left) right)) (sym c.in_default-atom_name.ensures) in
+    ∙ ap (λ name. elim name [ Some own ↦ takes_of own right | None ↦ [] ]) (sym c.in_default-atom_name.ensures) in
     sym (ap (λ ts. old ++ ts) none ∙ append-nil old)
 
 pub push_takes-requires-in-Some-sides : goal.push_takes-requires-in-Some-sides
@@ -55,15 +54,15 @@ push_takes-requires-in-Some-sides t c =
 
 pub returns-in-Some-sides : goal.returns-in-Some-sides
 returns-in-Some-sides t c =
-    let owner = option_map (λ own. own.now) c.args.owner in
+    let owner = c.args.owner.now in
     let tree = tree_of c.args.term.now in
     let left = tree_of c.in-Some-sides.left.now in
     let right = tree_of c.in-Some-sides.right.now in
-    let old = map see_takes c.args.takes.now.items in
+    let old = map see_meta c.args.takes.now.items in
     let name = c.in-Some-atom_name.own.now in
-    let whole : takes_of owner tree ≡ takes_of (Some name) right =
+    let whole : takes_of owner tree ≡ takes_of name right =
     takes_named owner tree left right (sym c.in_default.ensures) (sym c.in-Some-sides.ensures)
-    ∙ ap (λ found. where_named found (takes_of found right)) (sym c.in-Some-atom_name.ensures) in
+    ∙ ap (λ found. elim found [ Some own ↦ takes_of own right | None ↦ [] ]) (sym c.in-Some-atom_name.ensures) in
     on_ok_weaker c.push_takes-in-Some-sides.result (λ is. is ∙ ap (λ ts. old ++ ts) (sym whole)) c.push_takes-in-Some-sides.ensures
 
 pub push_takes-requires-in-loop-item : goal.push_takes-requires-in-loop-item
@@ -80,32 +79,32 @@ push_takes-requires-in-loop-item t c =
 
 pub loop-item-preserved : goal.loop-item-preserved
 loop-item-preserved t c =
-    items_more (option_map (λ own. own.now) c.args.owner) c.deref-item-items.result.now c.loop-item.item-index c.item-item.result (map see_takes c.args.takes.now.items)
-    (map see_takes c.loop-item.takes.items) (map see_takes c.push_takes-in-loop-item.new.takes.items) c.loop-item-test.true c.item-item.is c.loop-item.invariant
+    items_more c.args.owner.now c.deref-item-items.result.now c.loop-item.item-index c.item-item.result (map see_meta c.args.takes.now.items)
+    (map see_meta c.loop-item.takes.items) (map see_meta c.push_takes-in-loop-item.new.takes.items) c.loop-item-test.true c.item-item.is c.loop-item.invariant
     c.in_ok-push_takes-in-None.ensures
 
 pub returns-in-Compound : goal.returns-in-Compound
 returns-in-Compound t c =
-    let owner = option_map (λ own. own.now) c.args.owner in
+    let owner = c.args.owner.now in
     let tree = tree_of c.args.term.now in
     let v = c.in-Compound in
     let parts = map tree_of v.args.items in
-    let old = map see_takes c.args.takes.now.items in
+    let old = map see_meta c.args.takes.now.items in
     let is : tree_of c.inside.result.now ≡ compound v.name (trees_from parts) v.form v.span = compound_seen c.inside.result.now v.name v.args v.form v.span v.is in
     let whole : takes_of owner tree ≡ taking owner v.name (trees_from parts) v.span.from =
     takes_alone owner tree (sym c.in_default.ensures) (sym c.in_default-sides.ensures) ∙ ap (shallow_takes owner) (sym c.inside.ensures ∙ is) in
     let args : map goal_arg (map tree_of c.deref.result.now) ≡ map goal_arg (trees_in (trees_from parts)) =
     ap (λ xs. map goal_arg (map tree_of xs)) c.deref.ensures.value ∙ ap (map goal_arg) (sym (trees_back parts)) in
-    let made : List Takes = record { owner = owner; name = c.as_str.result.now; args = map goal_arg (map tree_of c.deref.result.now); from = v.span.from } ∷ [] in
+    let made : List Declaration = record { module_ = owner; name = c.as_str.result.now; args = map goal_arg (map tree_of c.deref.result.now); from = v.span.from } ∷ [] in
     let same : made ≡ taking owner v.name (trees_from parts) v.span.from =
-    λ i. record { owner = owner; name = c.as_str.ensures i; args = args i; from = v.span.from } ∷ [] in
+    λ i. record { module_ = owner; name = c.as_str.ensures i; args = args i; from = v.span.from } ∷ [] in
     on_ok_weaker c.push_taking.result (λ adds. adds ∙ ap (λ ts. old ++ ts) (same ∙ sym whole)) c.push_taking.ensures
 
 pub returns-in-Some-tail : goal.returns-in-Some-tail
 returns-in-Some-tail t c =
-    let owner = option_map (λ own. own.now) c.args.owner in
+    let owner = c.args.owner.now in
     let tree = tree_of c.args.term.now in
-    let old = map see_takes c.args.takes.now.items in
+    let old = map see_meta c.args.takes.now.items in
     let v = c.in-List in
     let end = c.in-Some-tail.field-0 in
     let is : tree_of c.inside.result.now ≡ _ = tailed_seen c.inside.result.now v.items end v.span (v.is ∙ ap (λ tail. list_term v.items tail v.span) c.in-Some-tail.is) in
@@ -115,12 +114,12 @@ returns-in-Some-tail t c =
 
 pub returns-after-loop-item : goal.returns-after-loop-item
 returns-after-loop-item t c =
-    let owner = option_map (λ own. own.now) c.args.owner in
+    let owner = c.args.owner.now in
     let tree = tree_of c.args.term.now in
     let v = c.in-List in
     let parts = map tree_of v.items.items in
     let items = c.deref-item-items.result.now in
-    let old = map see_takes c.args.takes.now.items in
+    let old = map see_meta c.args.takes.now.items in
     let is : tree_of c.inside.result.now ≡ listed (trees_from parts) v.span = list_seen c.inside.result.now v.items v.span (v.is ∙ ap (λ tail. list_term v.items tail v.span) c.in-None.is) in
     let whole : takes_of owner tree ≡ all_takes owner (trees_from parts) =
     takes_alone owner tree (sym c.in_default.ensures) (sym c.in_default-sides.ensures) ∙ ap (shallow_takes owner) (sym c.inside.ensures ∙ is) in
@@ -132,44 +131,44 @@ returns-after-loop-item t c =
 pub returns-in-Var : goal.returns-in-Var
 returns-in-Var t c =
     let v = c.in-Var in
-    let owner = option_map (λ own. own.now) c.args.owner in
+    let owner = c.args.owner.now in
     let tree = tree_of c.args.term.now in
     let is = variable_seen c.inside.result.now v.span v.is in
-    nothing_more owner tree (tree_of c.inside.result.now) (map see_takes c.args.takes.now.items) c.in_default.ensures c.in_default-sides.ensures c.inside.ensures
+    nothing_more owner tree (tree_of c.inside.result.now) (map see_meta c.args.takes.now.items) c.in_default.ensures c.in_default-sides.ensures c.inside.ensures
     (ap (shallow_takes owner) is)
 
 pub returns-in-Const : goal.returns-in-Const
 returns-in-Const t c =
     let v = c.in-Const in
-    let owner = option_map (λ own. own.now) c.args.owner in
+    let owner = c.args.owner.now in
     let tree = tree_of c.args.term.now in
     let is = constant_seen c.inside.result.now v.kind v.minus v.value v.span v.is in
-    nothing_more owner tree (tree_of c.inside.result.now) (map see_takes c.args.takes.now.items) c.in_default.ensures c.in_default-sides.ensures c.inside.ensures
+    nothing_more owner tree (tree_of c.inside.result.now) (map see_meta c.args.takes.now.items) c.in_default.ensures c.in_default-sides.ensures c.inside.ensures
     (ap (shallow_takes owner) is)
 
 pub returns-in-Atom : goal.returns-in-Atom
 returns-in-Atom t c =
     let v = c.in-Atom in
-    let owner = option_map (λ own. own.now) c.args.owner in
+    let owner = c.args.owner.now in
     let tree = tree_of c.args.term.now in
     let is = atom_seen c.inside.result.now v.name v.span v.is in
-    nothing_more owner tree (tree_of c.inside.result.now) (map see_takes c.args.takes.now.items) c.in_default.ensures c.in_default-sides.ensures c.inside.ensures
+    nothing_more owner tree (tree_of c.inside.result.now) (map see_meta c.args.takes.now.items) c.in_default.ensures c.in_default-sides.ensures c.inside.ensures
     (ap (shallow_takes owner) is)
 
 pub returns-in-Curly : goal.returns-in-Curly
 returns-in-Curly t c =
     let v = c.in-Curly in
-    let owner = option_map (λ own. own.now) c.args.owner in
+    let owner = c.args.owner.now in
     let tree = tree_of c.args.term.now in
     let is = curly_seen c.inside.result.now v.inner v.span v.is in
-    nothing_more owner tree (tree_of c.inside.result.now) (map see_takes c.args.takes.now.items) c.in_default.ensures c.in_default-sides.ensures c.inside.ensures
+    nothing_more owner tree (tree_of c.inside.result.now) (map see_meta c.args.takes.now.items) c.in_default.ensures c.in_default-sides.ensures c.inside.ensures
     (ap (shallow_takes owner) is)
 
 pub returns-in-Paren : goal.returns-in-Paren
 returns-in-Paren t c =
     let v = c.in-Paren in
-    let owner = option_map (λ own. own.now) c.args.owner in
+    let owner = c.args.owner.now in
     let tree = tree_of c.args.term.now in
     let is = paren_seen c.inside.result.now v.inner v.span v.is in
-    nothing_more owner tree (tree_of c.inside.result.now) (map see_takes c.args.takes.now.items) c.in_default.ensures c.in_default-sides.ensures c.inside.ensures
+    nothing_more owner tree (tree_of c.inside.result.now) (map see_meta c.args.takes.now.items) c.in_default.ensures c.in_default-sides.ensures c.inside.ensures
     (ap (shallow_takes owner) is)

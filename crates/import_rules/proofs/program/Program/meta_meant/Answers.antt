@@ -1,4 +1,4 @@
-use Rattle.std.proofs.Common.{◌≡◌, Some, sym, ap, ◌∙◌}
+use Rattle.std.proofs.Common.{sym, ap, ◌∙◌}
 use Rattle.import_rules.specs.Program.{see_program, found, meta_of_found}
 use Rattle.import_rules.proofs.FoundMeans.{below}
 use Rattle.import_rules.proofs.MetaTold.{no_places, meant_none}

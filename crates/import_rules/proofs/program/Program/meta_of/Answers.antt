@@ -1,12 +1,9 @@
-use Rattle.std.proofs.Common.{◌≡◌, ◌≢◌, ◌<◌, ◌-◌, ℕ, List, [], Some, length, map, get_or, option_map, refl, sym, ap, ◌∙◌, subst, arith}
-use Rattle.std.specs.Prelude.{slice_get, slice_index_or}
+use Rattle.std.proofs.Common.{◌≡◌, ◌≢◌, ◌-◌, [], Some, length, map, refl, sym, ap, ◌∙◌, arith}
+use Rattle.std.specs.Prelude.{slice_get}
 use Rattle.std.proofs.lemmas.List.{length-map, get_or_read, get_or_past}
-use Rattle.std.proofs.lemmas.Option.{slice_get-get_or, slice_get_within, slice_get-map, slice_get_read, same_Some}
+use Rattle.std.proofs.lemmas.Option.{slice_get_within}
 use Rattle.module_table.specs.Metas.{see_meta}
 use Rattle.module_table.specs.Facts.{see_facts}
-
-use Rattle.import_rules.specs.Program.{see_program, meta_in}
-use Rattle.import_rules.proofs.MetaThere.{IsMetaAt}
 use Rattle.import_rules.proofs.MetaTold.{told_none, told_one, long_places, no_places, some_places, seen_at}
 use Rattle.import_rules.proofs.program.Program.meta_of.Goals as goal
 

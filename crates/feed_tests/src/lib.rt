@@ -1,0 +1,17 @@
+//! Tests of the feed of released groups.
+#![tactic(auto)]
+
+#[cfg(test)]
+mod gate_tests;
+#[cfg(test)]
+mod graphs;
+#[cfg(test)]
+mod keeper;
+#[cfg(test)]
+mod level_tests;
+#[cfg(test)]
+mod memory_tests;
+#[cfg(test)]
+mod slow_tests;
+#[cfg(test)]
+mod starved;

@@ -1,0 +1,5 @@
+mod CopyPlaces
+mod CopySteps
+mod FeedSteps
+mod LineSteps
+mod TakeSteps

@@ -1,6 +1,0 @@
-//! Trial.
-#![tactic(auto)]
-
-mod laws;
-
-pub use laws::one_list_of_lines;
