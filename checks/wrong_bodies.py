@@ -13,6 +13,7 @@ Ends with status 1 where an edit isn't refused as it should be."""
 
 import argparse
 import concurrent.futures
+import functools
 import hashlib
 import os
 import pathlib
@@ -148,13 +149,20 @@ def files_of(name):
     return sorted(it for part in kit.PARTS for it in (ROOT / "crates" / name).glob(f"{part}/**/*") if it.is_file())
 
 
+@functools.cache
+def version():
+    return kit.version()
+
+
+@functools.cache
+def sum_of_files(name):
+    return hashlib.sha256(repr([(str(it.relative_to(ROOT)), it.read_bytes()) for it in files_of(name)]).encode()).hexdigest()
+
+
 def sum_of_crate(name):
     """A sum of the kit, and of the files of the crate and of those below it."""
-    sum = hashlib.sha256(kit.version().encode())
-    for crate in [*kit.below(name, TABLE), name]:
-        for path in files_of(crate):
-            sum.update(repr((str(path.relative_to(ROOT)), path.read_bytes())).encode())
-    return sum.hexdigest()
+    whole = [version(), *map(sum_of_files, [*kit.below(name, TABLE), name])]
+    return hashlib.sha256(repr(whole).encode()).hexdigest()
 
 
 class Seen:
