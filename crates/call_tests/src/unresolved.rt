@@ -20,7 +20,8 @@ const NAMES: [&str; 3] = ["a.pl", "b.pl", "c.pl"];
 /// variable one, and of predicates that take goals.
 static CALLS: [Row; 2] = [
     (
-        &[b":- module(family, [ancestor/2, siblings/2, report/0]).
+        &[
+            b":- module(family, [ancestor/2, siblings/2, report/0]).
 parent(tom, bob).
 ancestor(X, Y) :- parent(X, Y).
 ancestor(X, Y) :- parent(X, Z), ancestor(Z, Y).
@@ -31,7 +32,8 @@ report :-
     ;   format(\"none~n\", [])
     ).
 show(X-Y) :- format(\"~w ~w~n\", [X, Y]).
-"],
+",
+        ],
         "roots family:ancestor/2 family:report/0 family:siblings/2
 family:ancestor/2:
 family:parent/2:
@@ -41,11 +43,13 @@ family:siblings/2: family:\\==/2
 ",
     ),
     (
-        &[b"p :- maplist(q, [a]), setof(X, Y^r(X, Y), L), M:s, m:s.
+        &[
+            b"p :- maplist(q, [a]), setof(X, Y^r(X, Y), L), M:s, m:s.
 q(_).
 r(_, _).
 g --> h, {i}, \"a\", !.
-"],
+",
+        ],
         "roots user:g/2 user:p/0 user:q/1 user:r/2
 user:g/2: user:h/2 user:i/0
 user:p/0: m:s/0 user:maplist/2 user:setof/3
