@@ -441,5 +441,5 @@ fn knows_the_effects_of_goals(rt: HostRuntime) -> Result<(), Fail> {
     report.push_str(&effects)?;
     let words = words_of(alloc, &["--effects", "f"])?;
     let mut library = library_of(alloc, &[("f.pl", text.as_bytes())], &[])?;
-    expect_run(&rt, &words, &mut library, alloc, (0, &report, ""))
+    expect_run(&rt, &words, &mut library, alloc, (0, report.as_str(), ""))
 }
