@@ -13,7 +13,7 @@ use Rattle.group_release.specs.declared.level.Level.{Level}
 use Rattle.import_rules.specs.Program.{Seen, see_program}
 use Rattle.call_edges.specs.Opened.{see_call_lists}
 use Rattle.call_edges.specs.Successors.{successor_lists}
-use Rattle.loop_report.specs.Reportable.{AreGroups, AreLeveled}
+use Rattle.loop_report.specs.Reportable.{AreGroups}
 use Rattle.group_tool.proofs.GroupLemmas.{roots_listed}
 use Rattle.group_tool.proofs.driver.groups_by_stream.Goals as goal
 
