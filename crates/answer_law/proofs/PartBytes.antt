@@ -1,5 +1,5 @@
 -- The parts behind a report exist.
-use Rattle.std.proofs.Common.{◌≡◌, ◌⊎◌, inl, inr, ◌↔◌, ℕ, zero, suc, ◌<◌, ◌++◌, bit_or, Bool, true, false, List, [], ◌∷◌, Option, Some, None, All, Contains, length, map, get_or, refl, sym, ap, subst, ◌∙◌, arith}
+use Rattle.std.proofs.Common.{◌≡◌, ◌⊎◌, inl, inr, ℕ, zero, suc, ◌<◌, ◌++◌, bit_or, Bool, true, false, List, [], ◌∷◌, Option, Some, None, All, Contains, length, map, get_or, refl, sym, subst, arith}
 use Rattle.std.specs.List.{flat_map, range_with_len}
 use Rattle.std.specs.Int.{IsBitSet}
 use Rattle.std.proofs.lemmas.Bool.{cases_lt}
@@ -15,7 +15,6 @@ use Rattle.graph_law.specs.Reach.{IsReached}
 use Rattle.graph_law.proofs.ReachLaws.{along_walk}
 use Rattle.group_release.specs.declared.level.Level.{Level}
 use Rattle.schedule_law.proofs.Choices.{in_or_out}
-use Rattle.effect_flow.specs.Carriers.{AreFlows, HasKind}
 use Rattle.effect_flow.specs.Kinds.{kinds}
 use Rattle.effect_flow.proofs.Known.{IsKnown, some_flows}
 use Rattle.loop_paths.specs.Circuits.{AreCircuits, IsShortest}
@@ -23,7 +22,7 @@ use Rattle.import_rules.specs.declared.names.PredName.{PredName}
 use Rattle.import_rules.specs.Names.{pred_name}
 use Rattle.import_rules.specs.Program.{Seen, found}
 use Rattle.import_rules.proofs.Lists.{all_by}
-use Rattle.call_edges.specs.Calls.{IsAmong, IsMetIn}
+use Rattle.call_edges.specs.Calls.{IsMetIn}
 use Rattle.call_edges.specs.Goals.{Met, call, fault}
 use Rattle.call_edges.specs.Successors.{node_mets, successor_lists}
 use Rattle.call_edges.specs.Unresolved.{IsUnresolved}
@@ -35,8 +34,8 @@ use Rattle.loop_report.specs.Report.{IsLineOrder}
 use Rattle.loop_report.specs.Reportable.{AreLeveled, LeastDiffer}
 use Rattle.loop_report.specs.Walks.{circuit_line_at}
 use Rattle.loop_report.proofs.Printable.{least_differ}
-use Rattle.group_tool.specs.Parts.{AreOwnKinds, AreParts, HasEffect, SomeHasKind, IsPart, IsPathPart, TellEffects, TellLoops, path_line}
-use Rattle.group_tool.specs.Roots.{AreEnds, HasRoots, asked_names}
+use Rattle.group_tool.specs.Parts.{AreOwnKinds, AreParts, IsPart, IsPathPart, TellEffects, TellLoops, path_line}
+use Rattle.group_tool.specs.Roots.{HasRoots, asked_names}
 use Rattle.group_tool.proofs.GroupLemmas.{members_listed}
 use Rattle.group_tool.proofs.KindLemmas.{AreKinds, kinds_more, kinds_none}
 use Rattle.group_tool.proofs.PartLemmas.{told_effects, told_loops, told_path}
@@ -189,7 +188,7 @@ module _ (laws : PartLaws) where
 
   module _ (seen : Seen) (roots : List ℕ) (groups : List (List ℕ)) (levels : List Level) (below : All (λ q. q < length seen.predicates) roots)
       (leveled : AreLeveled (Calls (successor_lists seen)) roots groups levels) where
-    lists : List (List ℕ)
+    abbrev lists : List (List ℕ)
     lists = successor_lists seen
 
     nodes : (p : ℕ) → HasMember groups p → p < length lists
