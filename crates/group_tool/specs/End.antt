@@ -16,7 +16,7 @@ pub data End : Type 0 where
 
 abbrev pub usage_line : List ℕ
 usage_line =
-    codes "usage: groups [--jobs N | --searches K --seed S] [--roots LIST] [--order] [--unreached] [--effects] [--loops] [--path LIST] FILE... | groups --make N [--jobs N | --searches K --seed S]\n"
+    codes "usage: groups [--jobs N | --searches K --seed S] [--roots LIST] [--order [--stream]] [--unreached] [--effects] [--loops] [--path LIST] FILE... | groups --make N [--jobs N | --searches K --seed S]\n"
 
 abbrev pub memory_line : List ℕ
 memory_line = codes "groups: out of memory\n"

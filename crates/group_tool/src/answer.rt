@@ -14,13 +14,14 @@ ghost use Rattle.group_tool.specs.Wanted.{AreJust};
 ghost use Rattle.import_rules.specs.Program.{see_program};
 ghost use Rattle.loop_report.specs.Reportable.{AreGroups, AreLeveled, AreReportable};
 
-use crate::driver::{groups_alone, groups_by_workers};
+use crate::driver::{groups_alone, groups_by_stream, groups_by_workers};
 use crate::loading::load_program;
 use crate::parts::{joined, parts_of};
 use crate::roots::{ends_by, roots_by};
 use crate::stop::Stop;
 use call_edges::{CallLists, call_lists};
 use file_library::Library;
+use group_feed::LevelTaker;
 use group_release::{Level, levels};
 use group_words::Options;
 use import_rules::Program;
@@ -81,6 +82,32 @@ pub fn report_by_workers<R: Threads + Wait + Sync, L: Library, G: Gate>(
     told
 }
 
+/// The same, where workers find the groups and their levels are found as they come.
+pub fn report_by_stream<R: Threads + Wait + Sync, L: Library, G: Gate>(
+    rt: &R,
+    alloc: Global,
+    options: &Options,
+    library: &mut L,
+    gate: &G,
+) -> Result<Vec<u8>, Stop>
+    requires lawful { (words : List (List ℕ)) × AreLawful words (see_options options.now) }
+    requires workers { (see_options options.now).searches ≡ None }
+    ensures { EndIs (AreJust (see_options options.now)) (record {
+      told = L.files library.old;
+      asked = L.asked library.old;
+      asked' = L.asked library.new;
+      faults = L.faults library.old;
+      faults' = L.faults library.new;
+      misses = L.misses library.old;
+      misses' = L.misses library.new;
+    }) (end_of result) }
+{
+    let program = load_program(rt, alloc, options, library)?;
+    let told = tell_by_stream(rt, alloc, options, &program, gate);
+    leave(program);
+    told
+}
+
 /// Leaves the memory of the program to the end of the process, which comes next: to give it back term
 /// by term would take a fifth of the run.
 fn leave(program: Program) {
@@ -126,6 +153,31 @@ fn tell_by_workers<R: Threads + Wait + Sync, G: Gate>(
     Ok(bytes)
 }
 
+/// The same, where workers find the groups and their levels are found as they come.
+fn tell_by_stream<R: Threads + Wait + Sync, G: Gate>(
+    rt: &R,
+    alloc: Global,
+    options: &Options,
+    program: &Program,
+    gate: &G,
+) -> Result<Vec<u8>, Stop>
+    requires lawful { (words : List (List ℕ)) × AreLawful words (see_options options.now) }
+    requires workers { (see_options options.now).searches ≡ None }
+    ensures { ProgramComesTo (see_options options.now) (see_program program.now) (end_of result) }
+{
+    let calls = call_lists(rt, alloc, program)?;
+    let roots = roots_by(alloc, program, options)?;
+    let ends = ends_by(alloc, program, options)?;
+    let mut taker = LevelTaker::new(alloc, &calls)?;
+    let groups = groups_by_stream(
+        rt, alloc, options, program, &calls, &roots, gate, &mut taker,
+    )?;
+    let bytes = report_leveled(
+        rt, alloc, options, program, &calls, &roots, ends, &groups, taker.levels(),
+    )?;
+    Ok(bytes)
+}
+
 /// The report of the groups that the roots reach, by what the predicates call.
 fn report_groups<R: Threads + Sync>(
     rt: &R,
@@ -146,9 +198,34 @@ fn report_groups<R: Threads + Sync>(
     ensures { IfOk result (λ bytes. ReportsProgram (see_options options.now) (see_program program.now) bytes.items) }
 {
     let levels = levels_of(alloc, program, calls, roots, groups)?;
-    let first = written(alloc, options, program, groups, &levels)?;
-    let parts = parts_of(
+    report_leveled(
         rt, alloc, options, program, calls, roots, ends, groups, &levels,
+    )
+}
+
+/// The same, where the levels are known.
+fn report_leveled<R: Threads + Sync>(
+    rt: &R,
+    alloc: Global,
+    options: &Options,
+    program: &Program,
+    calls: &CallLists<'_>,
+    roots: &[u32],
+    ends: Option<(u32, u32)>,
+    groups: &[Vec<u32>],
+    levels: &[Level],
+) -> Result<Vec<u8>, AllocError>
+    requires calls { see_call_lists calls.now ≡ see_program program.now }
+    requires below { All (λ q. q < length (see_program program.now).predicates) roots.now }
+    requires roots { AreRoots (see_options options.now).roots (see_program program.now) roots.now }
+    requires leveled { AreLeveled (ListCalls (successor_lists (see_program program.now))) roots.now (lists_of groups.now) levels.now }
+    requires order { AreInOrder (see_options options.now).searches (successor_lists (see_program program.now)) roots.now (lists_of groups.now) }
+    requires ends { AreEnds (see_options options.now).path (see_program program.now) ends }
+    ensures { IfOk result (λ bytes. ReportsProgram (see_options options.now) (see_program program.now) bytes.items) }
+{
+    let first = written(alloc, options, program, groups, levels)?;
+    let parts = parts_of(
+        rt, alloc, options, program, calls, roots, ends, groups, levels,
     )?;
     let bytes = joined(first, &parts)?;
     Ok(bytes)

@@ -1,15 +1,17 @@
-//! Who finds the groups: one search, many that take turns on one thread, or workers.
+//! Who finds the groups: one search, many that take turns on one thread, or workers, with or without a
+//! feed of their groups.
 
-ghost use Rattle.std.specs.Prelude.{◌≡◌, ◌<◌, List, ℕ, None, All, IfOk, length};
+ghost use Rattle.std.specs.Prelude.{◌≡◌, ◌<◌, [], List, ℕ, None, true, All, IfOk, length};
 ghost use Rattle.graph_law.specs.Graph.{Calls as ListCalls, lists_of};
 ghost use Rattle.call_edges.specs.Opened.{see_call_lists};
 ghost use Rattle.call_edges.specs.Successors.{successor_lists};
 ghost use Rattle.import_rules.specs.Program.{see_program};
-ghost use Rattle.loop_report.specs.Reportable.{AreGroups};
+ghost use Rattle.loop_report.specs.Reportable.{AreGroups, AreLeveled};
 ghost use Rattle.group_words.specs.Settings.{AreLawful, see_options};
 ghost use Rattle.group_tool.specs.Driving.{AreInOrder};
 
 use call_edges::CallLists;
+use group_feed::{LevelTaker, drive_feed};
 use group_words::{Options, settings_within};
 use import_rules::Program;
 use search_pool::{Gate, drive_workers};
@@ -60,4 +62,30 @@ pub fn groups_by_workers<R: Threads + Wait + Sync, G: Gate>(
     settings_within();
     let _program = program;
     drive_workers(rt, alloc, calls, roots, options.jobs, gate)
+}
+
+/// The same, and the taker finds their levels as they come.
+pub fn groups_by_stream<R: Threads + Wait + Sync, G: Gate>(
+    rt: &R,
+    alloc: Global,
+    options: &Options,
+    program: &Program,
+    calls: &CallLists<'_>,
+    roots: &[u32],
+    gate: &G,
+    taker: &mut LevelTaker<'_, CallLists<'_>>,
+) -> Result<Vec<Vec<u32>>, AllocError>
+    requires lawful { (words : List (List ℕ)) × AreLawful words (see_options options.now) }
+    requires calls { see_call_lists calls.now ≡ see_program program.now }
+    requires roots { All (λ q. q < length (see_program program.now).predicates) roots.now }
+    requires lists { taker.old.lists ≡ successor_lists (see_call_lists calls.now) }
+    requires fresh { taker.old.taken ≡ [] }
+    ensures groups { IfOk result (λ groups. AreGroups (ListCalls (successor_lists (see_program program.now))) roots.now (lists_of groups.items)) }
+    ensures leveled { IfOk result (λ groups. AreLeveled (ListCalls (successor_lists (see_program program.now))) roots.now (lists_of groups.items) taker.new.levels) }
+{
+    settings_within();
+    let _program = program;
+    let groups = drive_feed(rt, alloc, calls, roots, options.jobs, gate, taker)?;
+    taker.levels();
+    Ok(groups)
 }

@@ -1,4 +1,4 @@
-ghost use Rattle.std.specs.Prelude.{◌≡◌, ◌≢◌, ◌⊎◌, ℕ, List, MatchResult, Some, None, true, is_some};
+ghost use Rattle.std.specs.Prelude.{◌≡◌, ◌≢◌, ◌⊎◌, ℕ, List, MatchResult, Some, None, true, false, is_some};
 ghost use Rattle.std.specs.String.{string_bytes};
 ghost use Rattle.file_library.specs.Counts.{Rose};
 ghost use Rattle.file_library.specs.Asking.{LoadEnd};
@@ -9,13 +9,13 @@ ghost use Rattle.group_tool.specs.Stop.{end_of_stop};
 ghost use Rattle.group_tool.specs.Wanted.{AreJust, AskForNone, HasNoOptions};
 ghost use Rattle.group_tool.specs.Run.{EndsReading, IsRun, IsSettled, AreAskedFor, SaysAnswer, SaysNoMemory, SaidWith, SaidEnd, HasReported, HasUsage, HasNoRoot, HasFaults, HasPassed, HasUnread, IsCutOff};
 
-use crate::answer::{report_alone, report_by_workers};
+use crate::answer::{report_alone, report_by_stream, report_by_workers};
 use crate::lines::{fault_lines, limit_line, missing_line, unread_line};
 use crate::say::say;
 use crate::sink::Sink;
 use crate::stop::Stop;
 use file_library::Library;
-use group_words::{Options, parse_words};
+use group_words::{Options, parse_words, settings_within};
 use prolog_tokens::Text;
 use search_pool::Gate;
 use std::alloc::{AllocError, Global};
@@ -23,7 +23,7 @@ use std::sync::Wait;
 use std::thread::Threads;
 
 const USAGE: &str =
-    "usage: groups [--jobs N | --searches K --seed S] [--roots LIST] [--order] [--unreached] [--effects] [--loops] [--path LIST] FILE... | groups --make N [--jobs N | --searches K --seed S]\n";
+    "usage: groups [--jobs N | --searches K --seed S] [--roots LIST] [--order [--stream]] [--unreached] [--effects] [--loops] [--path LIST] FILE... | groups --make N [--jobs N | --searches K --seed S]\n";
 
 const OUT_OF_MEMORY: &str = "groups: out of memory\n";
 
@@ -115,8 +115,35 @@ fn run_with_workers<R: Threads + Wait + Sync, L: Library, O: Sink, E: Sink, G: G
     }
 }
 
+/// The same, where workers find the groups and their levels are found as they come.
+fn run_streaming<R: Threads + Wait + Sync, L: Library, O: Sink, E: Sink, G: Gate>(
+    rt: &R,
+    alloc: Global,
+    options: &Options,
+    library: &mut L,
+    out: &mut O,
+    err: &mut E,
+    gate: &G,
+) -> u8
+    requires lawful { (words : List (List ℕ)) × AreLawful words (see_options options.now) }
+    requires workers { (see_options options.now).searches ≡ None }
+    ensures run { IsRun (AreJust (see_options options.now))
+        (record { told = L.files library.old; asked = L.asked library.old; asked' = L.asked library.new; faults = L.faults library.old; faults' = L.faults library.new; misses = L.misses library.old; misses' = L.misses library.new })
+        (record { taken = O.taken out.old; taken' = O.taken out.new; faults = O.faults out.old; faults' = O.faults out.new; settled' = O.settled out.new })
+        (record { taken = E.taken err.old; taken' = E.taken err.new; faults = E.faults err.old; faults' = E.faults err.new; settled' = E.settled err.new })
+        result }
+    ensures err_left { result ≡ 0 → err.new ≡ err.old }
+    ensures out_left { result ≢ 0 → result ≢ 5 → out.new ≡ out.old }
+    ensures one_left { (out.new ≡ out.old) ⊎ (err.new ≡ err.old) }
+{
+    match report_by_stream(rt, alloc, options, library, gate) {
+        Ok(bytes) => say_with(out, &bytes, 0),
+        Err(stop) => say_stop(alloc, err, &stop),
+    }
+}
+
 /// Puts what the options of lawful words come to on the sink that it goes to: on one thread, or with
-/// workers.
+/// workers, whose groups are leveled at the end or as they come.
 fn run_lawful<R: Threads + Wait + Sync, L: Library, O: Sink, E: Sink, G: Gate>(
     rt: &R,
     alloc: Global,
@@ -136,6 +163,10 @@ fn run_lawful<R: Threads + Wait + Sync, L: Library, O: Sink, E: Sink, G: Gate>(
     ensures out_left { result ≢ 0 → result ≢ 5 → out.new ≡ out.old }
     ensures one_left { (out.new ≡ out.old) ⊎ (err.new ≡ err.old) }
 {
+    settings_within();
+    if options.stream {
+        return run_streaming(rt, alloc, options, library, out, err, gate);
+    }
     if options.searches.is_some() {
         return run_alone(rt, alloc, options, library, out, err);
     }
@@ -231,7 +262,8 @@ pub fn run_groups<R: Threads + Wait + Sync, L: Library, O: Sink, E: Sink, G: Gat
 }
 
 /// Answers the options of lawful words as `run_groups` answers the words, on one thread, and always
-/// returns: where there are many searches, or no more than one worker.
+/// returns: where there are many searches, or no more than one worker, and levels aren't found as groups
+/// come.
 pub fn run_alone<R: Threads + Sync, L: Library, O: Sink, E: Sink>(
     rt: &R,
     alloc: Global,
@@ -241,6 +273,7 @@ pub fn run_alone<R: Threads + Sync, L: Library, O: Sink, E: Sink>(
     err: &mut E,
 ) -> u8
     requires lawful { (words : List (List ℕ)) × AreLawful words (see_options options.now) }
+    requires at_the_end { (see_options options.now).stream ≡ false }
     requires alone { (is_some (see_options options.now).searches ≡ true) ⊎ ((see_options options.now).jobs ≡ 1) }
     // Over a library and sinks that tell what they hold, and where no count of faults rose, the
     // sinks have taken the bytes of the right answer, or memory was wanting.

@@ -7,7 +7,7 @@ use Rattle.clap.specs.Walk.{Row, Rule, Text, all_of, default_rows, has_row, idle
 use Rattle.clap.specs.Simple.{built, entered, matches_of}
 use Rattle.clap.specs.Kinds.{Kinds, or_else}
 use Rattle.clap.specs.Faults.{default_fault, defaults_fault, entered_fault, fault_of, level_fault, walk_fault}
-use Rattle.group_words.specs.Words.{Key, Jobs, Searches, Seed, Roots, Path, Order, Unreached, Effects, Loops, Make, key_name, same_key, takes_value}
+use Rattle.group_words.specs.Words.{Key, Jobs, Searches, Seed, Roots, Path, Order, Unreached, Effects, Loops, Stream, Make, key_name, same_key, takes_value}
 use Rattle.group_words.specs.ClapCommand.{words_app}
 use Rattle.group_words.proofs.WordRules.{all_keys, called_own, file_id, file_not, file_rule, not_file, rule_at, shape}
 use Rattle.group_words.proofs.WordClasses.{eq_text}
@@ -136,6 +136,7 @@ flag_kept Order bare rows = flag_keys Order refl all_keys rows
 flag_kept Unreached bare rows = flag_keys Unreached refl all_keys rows
 flag_kept Effects bare rows = flag_keys Effects refl all_keys rows
 flag_kept Loops bare rows = flag_keys Loops refl all_keys rows
+flag_kept Stream bare rows = flag_keys Stream refl all_keys rows
 flag_kept Jobs bare rows = let both : true ≡ false = bare in cc
 flag_kept Searches bare rows = let both : true ≡ false = bare in cc
 flag_kept Seed bare rows = let both : true ≡ false = bare in cc

@@ -10,7 +10,7 @@ use Rattle.import_rules.specs.Names.{pred_name}
 use Rattle.group_words.specs.Made.{line}
 use Rattle.group_words.specs.Numbers.{IsNumber, is_digit}
 use Rattle.group_words.specs.RootList.{named_predicate}
-use Rattle.group_words.specs.Words.{Key, Jobs, Searches, Seed, Roots, Path, Order, Unreached, Effects, Loops, Make, file, apart, joined, IsPart, IsReading, as_list, is_file, is_plain, values}
+use Rattle.group_words.specs.Words.{Key, Jobs, Searches, Seed, Roots, Path, Order, Unreached, Effects, Loops, Stream, Make, file, apart, joined, IsPart, IsReading, as_list, is_file, is_plain, values}
 use Rattle.group_words.specs.Settings.{AreLawful, JobsAre, Settings, each_once}
 use Rattle.group_words.proofs.Readings.{one_given}
 
@@ -87,6 +87,7 @@ two_once Order = refl
 two_once Unreached = refl
 two_once Effects = refl
 two_once Loops = refl
+two_once Stream = refl
 two_once Make = refl
 
 reads_two : IsReading two_words two_jobs (codes "f.pl" ∷ [])
@@ -108,7 +109,7 @@ one_digit b is = record {
 }
 
 abbrev two_settings : Settings
-two_settings = record { jobs = 2; searches = None; roots = None; order = false; unreached = false; effects = false; loops = false; path = None; make = None; files = codes "f.pl" ∷ [] }
+two_settings = record { jobs = 2; searches = None; roots = None; order = false; unreached = false; effects = false; loops = false; stream = false; path = None; make = None; files = codes "f.pl" ∷ [] }
 
 lawful_two : AreLawful two_words two_settings
 lawful_two = record {
@@ -118,6 +119,7 @@ lawful_two = record {
   sets = record {
     together = record {
       one_way = λ e. absurd (let both : false ≡ true = e in cc);
+      streamed = λ e. absurd (let both : false ≡ true = e in cc);
       made = λ e. absurd (let both : false ≡ true = e in cc);
       read = λ e is. let both : codes "f.pl" ∷ [] ≡ [] = is in cc;
     };
@@ -128,6 +130,7 @@ lawful_two = record {
     unreached = refl;
     effects = refl;
     loops = refl;
+    stream = refl;
     path = tt;
     make = tt;
     named = record { names = codes "f.pl" ∷ []; resolve = refl; each = refl };
@@ -153,6 +156,7 @@ many_once Order = refl
 many_once Unreached = refl
 many_once Effects = refl
 many_once Loops = refl
+many_once Stream = refl
 many_once Make = refl
 
 reads_many : IsReading many_words many_jobs (codes "f" ∷ [])

@@ -8,7 +8,7 @@ use Rattle.clap.specs.Walk.{Row, Text, all_of, first_of}
 use Rattle.clap.specs.Simple.{matches_of}
 use Rattle.clap.specs.Faults.{fault_of}
 use Rattle.group_words.specs.declared.given.Given.{Given}
-use Rattle.group_words.specs.Words.{Key, Jobs, Searches, Seed, Roots, Path, Order, Unreached, Effects, Loops, Make, Part, file, flag, apart, joined, IsPart, IsReading, as_list, is_file, is_plain, key_name, part_files, rest_files, same_key, takes_value, values}
+use Rattle.group_words.specs.Words.{Key, Jobs, Searches, Seed, Roots, Path, Order, Unreached, Effects, Loops, Stream, Make, Part, file, flag, apart, joined, IsPart, IsReading, as_list, is_file, is_plain, key_name, part_files, rest_files, same_key, takes_value, values}
 use Rattle.group_words.specs.ClapCommand.{IsGiven, file_words, given_of, has_plain_values, is_plain_value, is_set, set_flag, words_app}
 use Rattle.group_words.proofs.WalkSteps.{IsBare, same_text}
 use Rattle.group_words.proofs.WordClasses.{plain_bare}
@@ -106,6 +106,7 @@ module _ (words : List Text) (given other : Key → Option Text) (files more : L
   one_given Unreached = same_flag Unreached refl (sym (views.flags Unreached refl) ∙ others.flags Unreached refl)
   one_given Effects = same_flag Effects refl (sym (views.flags Effects refl) ∙ others.flags Effects refl)
   one_given Loops = same_flag Loops refl (sym (views.flags Loops refl) ∙ others.flags Loops refl)
+  one_given Stream = same_flag Stream refl (sym (views.flags Stream refl) ∙ others.flags Stream refl)
   one_given Make = same_valued Make refl
 
   pub one_files : files ≡ more
@@ -159,6 +160,7 @@ module _ (rows : List Row) (g : Given) (is : IsGiven rows g) (parts : List Part)
   held Unreached = flag_held Unreached refl (v.flags Unreached refl) g.unreached is.unreached
   held Effects = flag_held Effects refl (v.flags Effects refl) g.effects is.effects
   held Loops = flag_held Loops refl (v.flags Loops refl) g.loops is.loops
+  held Stream = flag_held Stream refl (v.flags Stream refl) g.stream is.stream
   held Make = valued_held Make refl is.make
 
   pub files_held : file_words g ≡ flat_map part_files parts ++ rest_files rest
@@ -344,6 +346,7 @@ module _ (words : List Text) (g : Given) (is : IsGiven (matches_of words_app wor
       plain_given Unreached valued = let both : false ≡ true = valued in cc
       plain_given Effects valued = let both : false ≡ true = valued in cc
       plain_given Loops valued = let both : false ≡ true = valued in cc
+      plain_given Stream valued = let both : false ≡ true = valued in cc
       plain_given Make valued = plain_list (given_of g Make) tests.5
 
   -- where there is a reading, values and files are lawful

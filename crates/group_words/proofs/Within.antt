@@ -60,6 +60,12 @@ no_roots None None are none = refl
 no_roots None (Some roots) are none = absurd are
 no_roots (Some text) roots are none = let both : Some text ≡ None = none in cc
 
+no_searches : (searches seed : Option (List ℕ)) (both : Option (ℕ × ℕ)) → SearchesAre searches seed both → searches ≡ None → both ≡ None
+no_searches searches seed None are none = refl
+no_searches None None (Some both) are none = absurd are
+no_searches None (Some seed) (Some both) are none = absurd are
+no_searches (Some text) seed (Some both) are none = let both : Some text ≡ None = none in cc
+
 no_path : (given : Option (List ℕ)) (path : Option (PredName × PredName)) → PathIs given path → given ≡ None → path ≡ None
 no_path None None are none = refl
 no_path None (Some both) are none = absurd are
@@ -122,6 +128,9 @@ settings_within given files s sets = record {
   searches = searches_within (given Searches) (given Seed) (given Jobs) s.jobs s.searches sets.searches sets.jobs sets.together.one_way;
   roots = roots_within (given Roots) s.roots sets.roots;
   path = path_within (given Path) s.path sets.path;
+  streamed = λ is.
+      let asked = sets.together.streamed (sym sets.stream ∙ is) in
+      (sets.order ∙ asked.0, no_searches (given Searches) (given Seed) s.searches sets.searches asked.1);
   make = make_within (given Make) s.make sets.make;
   made = λ is.
       let none = sets.together.made (sym (make_given (given Make) s.make sets.make) ∙ is) in (

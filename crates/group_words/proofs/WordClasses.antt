@@ -6,7 +6,7 @@ use Rattle.std.specs.Cmp.Lexicographic.{same_text}
 use Rattle.std.proofs.lemmas.Bool.Decides.{nat_tests}
 use Rattle.clap.specs.Lexer.{long_of, long_of_rest, name_and_value, short_of, short_of_rest, strip_byte}
 use Rattle.clap.specs.Walk.{Text}
-use Rattle.group_words.specs.Words.{Key, Jobs, Searches, Seed, Roots, Path, Order, Unreached, Effects, Loops, Make, key_name, option_word, is_plain}
+use Rattle.group_words.specs.Words.{Key, Jobs, Searches, Seed, Roots, Path, Order, Unreached, Effects, Loops, Stream, Make, key_name, option_word, is_plain}
 use Rattle.group_words.proofs.WordRules.{all_keys, called}
 use Rattle.group_words.proofs.WalkSteps.{IsBare, IsLong, IsShort}
 
@@ -98,6 +98,7 @@ option_long Order = record { apart = refl; is = refl }
 option_long Unreached = record { apart = refl; is = refl }
 option_long Effects = record { apart = refl; is = refl }
 option_long Loops = record { apart = refl; is = refl }
+option_long Stream = record { apart = refl; is = refl }
 option_long Make = record { apart = refl; is = refl }
 
 pub joined_long : (key : Key) (v : Text) → IsLong (option_word key ++ codes "=" ++ v) (key_name key) (Some v)
@@ -110,6 +111,7 @@ joined_long Order v = record { apart = refl; is = refl }
 joined_long Unreached v = record { apart = refl; is = refl }
 joined_long Effects v = record { apart = refl; is = refl }
 joined_long Loops v = record { apart = refl; is = refl }
+joined_long Stream v = record { apart = refl; is = refl }
 joined_long Make v = record { apart = refl; is = refl }
 
 -- a plain word is no option

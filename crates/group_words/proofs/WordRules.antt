@@ -9,7 +9,7 @@ use Rattle.clap.specs.declared.builder.value_parser.ValueParser.{ValueParser}
 use Rattle.clap.specs.declared.builder.value_parser.ValueParser.TheVariants as vp
 use Rattle.clap.specs.Walk.{Rule, Text, arg_by_id, arg_by_index, arg_by_long, arg_by_short, has_long, takes_values}
 use Rattle.clap.specs.Simple.{Shape, built}
-use Rattle.group_words.specs.Words.{Key, Jobs, Searches, Seed, Roots, Path, Order, Unreached, Effects, Loops, Make, key_name, takes_value}
+use Rattle.group_words.specs.Words.{Key, Jobs, Searches, Seed, Roots, Path, Order, Unreached, Effects, Loops, Stream, Make, key_name, takes_value}
 use Rattle.group_words.specs.ClapCommand.{words_app}
 
 abbrev pub range_for : Bool → ValueRange
@@ -80,7 +80,7 @@ file_rule = record {
 }
 
 abbrev pub all_keys : List Key
-all_keys = Jobs ∷ Searches ∷ Seed ∷ Roots ∷ Path ∷ Order ∷ Unreached ∷ Effects ∷ Loops ∷ Make ∷ []
+all_keys = Jobs ∷ Searches ∷ Seed ∷ Roots ∷ Path ∷ Order ∷ Unreached ∷ Effects ∷ Loops ∷ Stream ∷ Make ∷ []
 
 -- the option of a name
 abbrev pub called : Text → Option Key
@@ -136,6 +136,7 @@ keys = record {
     by_key Unreached = refl
     by_key Effects = refl
     by_key Loops = refl
+    by_key Stream = refl
     by_key Make = refl
 
 -- whether an option takes a value, as clap sees it
@@ -154,6 +155,7 @@ called_own Order = refl
 called_own Unreached = refl
 called_own Effects = refl
 called_own Loops = refl
+called_own Stream = refl
 called_own Make = refl
 
 -- no option is named as the words for files are
@@ -167,6 +169,7 @@ not_file Order = refl
 not_file Unreached = refl
 not_file Effects = refl
 not_file Loops = refl
+not_file Stream = refl
 not_file Make = refl
 
 pub file_not : (key : Key) → bytes_eq file_id (key_name key) ≡ false
@@ -179,4 +182,5 @@ file_not Order = refl
 file_not Unreached = refl
 file_not Effects = refl
 file_not Loops = refl
+file_not Stream = refl
 file_not Make = refl

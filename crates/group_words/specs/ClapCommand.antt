@@ -5,7 +5,7 @@ use Rattle.clap.specs.Words.{App, Row, Rule, Text, all_of, first_of, new_app, ne
 use Rattle.clap.specs.Simple.{on_top}
 use Rattle.clap.specs.declared.builder.action.ArgAction.TheVariants.{Append, SetTrue}
 use Rattle.group_words.specs.declared.given.Given.{Given}
-use Rattle.group_words.specs.Words.{Key, Jobs, Searches, Seed, Roots, Path, Order, Unreached, Effects, Loops, Make, is_plain}
+use Rattle.group_words.specs.Words.{Key, Jobs, Searches, Seed, Roots, Path, Order, Unreached, Effects, Loops, Stream, Make, is_plain}
 
 -- an option with a value, one without, and the words for files
 abbrev pub asked_valued : Text → Rule
@@ -30,7 +30,7 @@ with_flag app name = with_rule app (asked_flag name)
 abbrev pub words_app : App
 words_app =
     let valued = with_valued (with_valued (with_valued (with_valued (with_valued bare_app (codes "jobs")) (codes "searches")) (codes "seed")) (codes "roots")) (codes "path") in
-    with_rule (with_valued (with_flag (with_flag (with_flag (with_flag valued (codes "order")) (codes "unreached")) (codes "effects")) (codes "loops")) (codes "make")) asked_files
+    with_rule (with_valued (with_flag (with_flag (with_flag (with_flag (with_flag valued (codes "order")) (codes "unreached")) (codes "effects")) (codes "loops")) (codes "stream")) (codes "make")) asked_files
 
 -- whether an option is given, as what it is given
 abbrev pub set_flag : Bool → Option (List ℕ)
@@ -47,6 +47,7 @@ given_of given Order = set_flag given.order
 given_of given Unreached = set_flag given.unreached
 given_of given Effects = set_flag given.effects
 given_of given Loops = set_flag given.loops
+given_of given Stream = set_flag given.stream
 given_of given Make = option_map (λ text. text.now) given.make
 
 -- the words for files
@@ -69,6 +70,7 @@ pub record IsGiven (rows : List Row) (given : Given) : Type 0 where
   pub unreached : given.unreached ≡ is_set (first_of (codes "unreached") rows)
   pub effects : given.effects ≡ is_set (first_of (codes "effects") rows)
   pub loops : given.loops ≡ is_set (first_of (codes "loops") rows)
+  pub stream : given.stream ≡ is_set (first_of (codes "stream") rows)
   pub make : given_of given Make ≡ first_of (codes "make") rows
   pub files : file_words given ≡ unwrap_or (all_of (codes "file") rows) []
 

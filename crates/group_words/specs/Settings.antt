@@ -8,7 +8,7 @@ use Rattle.std.specs.Str.{bytes_eq}
 use Rattle.module_table.specs.FileName.{resolved}
 use Rattle.import_rules.specs.declared.names.PredName.{PredName}
 use Rattle.group_words.specs.declared.options.Options.{Options}
-use Rattle.group_words.specs.Words.{Key, Jobs, Searches, Seed, Roots, Path, Order, Unreached, Effects, Loops, Make, IsReading}
+use Rattle.group_words.specs.Words.{Key, Jobs, Searches, Seed, Roots, Path, Order, Unreached, Effects, Loops, Stream, Make, IsReading}
 use Rattle.group_words.specs.Numbers.{IsNumberIn}
 use Rattle.group_words.specs.RootList.{IsRootList, all_there}
 
@@ -21,6 +21,7 @@ pub record Settings : Type 0 where
   pub unreached : Bool
   pub effects : Bool
   pub loops : Bool
+  pub stream : Bool
   pub path : Option (PredName × PredName)
   pub make : Option ℕ
   pub files : List (List ℕ)
@@ -35,6 +36,7 @@ see_options options = record {
   unreached = options.unreached;
   effects = options.effects;
   loops = options.loops;
+  stream = options.stream;
   path = options.path;
   make = options.make;
   files = options.files.items;
@@ -81,6 +83,7 @@ pub record FilesAre (words named : List (List ℕ)) : Type 0 where
 -- what excludes what
 pub record GoTogether (given : Key → Option (List ℕ)) (files : List (List ℕ)) : Type 0 where
   pub one_way : is_some (given Searches) ≡ true → given Jobs ≡ None
+  pub streamed : is_some (given Stream) ≡ true → (is_some (given Order) ≡ true) × (given Searches ≡ None)
   pub made : is_some (given Make) ≡ true
       → (given Roots ≡ None) × (given Path ≡ None) × (given Order ≡ None) × (given Unreached ≡ None) × (given Effects ≡ None)
       × (given Loops ≡ None) × (files ≡ [])
@@ -95,6 +98,7 @@ pub record AreSettings (given : Key → Option (List ℕ)) (files : List (List �
   pub unreached : s.unreached ≡ is_some (given Unreached)
   pub effects : s.effects ≡ is_some (given Effects)
   pub loops : s.loops ≡ is_some (given Loops)
+  pub stream : s.stream ≡ is_some (given Stream)
   pub path : PathIs (given Path) s.path
   pub make : MakeIs (given Make) s.make
   pub named : FilesAre files s.files
@@ -111,6 +115,7 @@ pub record AreWithin (s : Settings) : Type 0 where
   pub jobs : (1 ≤ s.jobs) × (s.jobs ≤ 64)
   pub searches : IfSome s.searches (λ both. (1 ≤ both.0) × (both.0 ≤ 64) × (both.1 < 2 ^ 64) × (s.jobs ≡ 1))
   pub roots : IfSome s.roots (All (λ root. root.arity < 2 ^ 32))
+  pub streamed : s.stream ≡ true → (s.order ≡ true) × (s.searches ≡ None)
   pub path : IfSome s.path (λ both. (both.0.arity < 2 ^ 32) × (both.1.arity < 2 ^ 32))
   pub make : IfSome s.make (λ count. (1 ≤ count) × (count ≤ 100000))
   pub made : is_some s.make ≡ true

@@ -13,6 +13,7 @@ pub data Key : Type 0 where
   Unreached : Key
   Effects : Key
   Loops : Key
+  Stream : Key
   Make : Key
 
 abbrev pub key_name : Key → List ℕ
@@ -25,6 +26,7 @@ key_name Order = codes "order"
 key_name Unreached = codes "unreached"
 key_name Effects = codes "effects"
 key_name Loops = codes "loops"
+key_name Stream = codes "stream"
 key_name Make = codes "make"
 
 abbrev pub takes_value : Key → Bool
@@ -32,6 +34,7 @@ takes_value Order = false
 takes_value Unreached = false
 takes_value Effects = false
 takes_value Loops = false
+takes_value Stream = false
 takes_value _ = true
 
 abbrev pub same_key : Key → Key → Bool

@@ -52,6 +52,7 @@ fn command<'a>(alloc: Global) -> Result<Command<'a>, AllocError>
         .arg(flag(alloc, "unreached"))?
         .arg(flag(alloc, "effects"))?
         .arg(flag(alloc, "loops"))?
+        .arg(flag(alloc, "stream"))?
         .arg(valued(alloc, "make"))?
         .arg(files(alloc))
 }

@@ -22,6 +22,7 @@ pub struct Given<'a> {
     pub unreached: bool,
     pub effects: bool,
     pub loops: bool,
+    pub stream: bool,
     pub make: Option<&'a str>,
     pub files: Vec<&'a str>,
 }
@@ -59,6 +60,7 @@ fn given_by<'a>(alloc: Global, matches: &ArgMatches<'a>) -> Result<Given<'a>, Al
         unreached: is_set(matches, "unreached"),
         effects: is_set(matches, "effects"),
         loops: is_set(matches, "loops"),
+        stream: is_set(matches, "stream"),
         make: matches.get_str("make"),
         files,
     })

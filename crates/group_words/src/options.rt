@@ -20,6 +20,9 @@ pub struct Options {
     pub effects: bool,
     /// Whether the circuits of groups are reported.
     pub loops: bool,
+    /// Whether the levels of groups are found while the search goes on. Then `order` is set, and there are
+    /// no searches.
+    pub stream: bool,
     /// The two predicates whose least path is reported: the one that it leaves, and the one that it
     /// comes to.
     pub path: Option<(PredName, PredName)>,

@@ -163,6 +163,12 @@ fn go_together(given: &Given<'_>) -> bool
     if given.searches.is_some() && given.jobs.is_some() {
         return false;
     }
+    if given.stream && !given.order {
+        return false;
+    }
+    if given.stream && given.searches.is_some() {
+        return false;
+    }
     if given.make.is_none() {
         return !given.files.is_empty();
     }
@@ -197,6 +203,7 @@ pub fn options_of(alloc: Global, given: &Given<'_>) -> Result<Options, WordFault
         unreached: given.unreached,
         effects: given.effects,
         loops: given.loops,
+        stream: given.stream,
         path,
         make,
         files,

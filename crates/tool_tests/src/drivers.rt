@@ -19,6 +19,8 @@ const LINES: &str = "f.pl
 --jobs 2 f.pl
 --jobs 3 f.pl
 --jobs 64 f.pl
+--order --stream f.pl
+--order --stream --jobs 3 f.pl
 --searches 1 --seed 0 f.pl
 --searches 2 --seed 1 f.pl
 --searches 3 --seed 7 f.pl
@@ -91,6 +93,7 @@ fn answers_options_without_waiting(rt: HostRuntime) -> Result<(), Fail> {
     match parse_words(alloc, &words) {
         Ok(options) => {
             assert!(rt; options.searches.is_some());
+            assert!(rt; !options.stream);
             let status = run_alone(&rt, alloc, &options, &mut library, &mut out, &mut err);
             assert_eq!(rt; (status, shown(&out), shown(&err)), (0, REPORT, ""));
         }

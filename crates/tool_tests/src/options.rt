@@ -4,7 +4,7 @@ use crate::runs::{FilesRun, expect_files, expect_make};
 use std::test::Fail;
 
 pub const USAGE: &str =
-    "usage: groups [--jobs N | --searches K --seed S] [--roots LIST] [--order] [--unreached] [--effects] [--loops] [--path LIST] FILE... | groups --make N [--jobs N | --searches K --seed S]\n";
+    "usage: groups [--jobs N | --searches K --seed S] [--roots LIST] [--order [--stream]] [--unreached] [--effects] [--loops] [--path LIST] FILE... | groups --make N [--jobs N | --searches K --seed S]\n";
 
 /// A chain of three predicates, of which there is one legal order.
 pub const CHAIN: &[(&str, &[u8])] = &[("f.pl", b":- module(a, [p/0]).\np :- q, r.\nq :- r.\nr.\n")];
@@ -34,7 +34,7 @@ pub const IMPORTED: &[(&str, &[u8])] = &[
 /// A goal that isn't callable.
 pub const NOT_CALLABLE: &[(&str, &[u8])] = &[("f.pl", b"p :- 3.\n")];
 
-static REPORTED: [FilesRun; 12] = [
+static REPORTED: [FilesRun; 14] = [
     (
         &["f.pl", "--order"],
         CHAIN,
@@ -42,6 +42,24 @@ static REPORTED: [FilesRun; 12] = [
         " f.pl",
         0,
         CHAIN_REPORT,
+        "",
+    ),
+    (
+        &["--order", "--stream", "--jobs", "4", "f.pl"],
+        CHAIN,
+        &[],
+        " f.pl",
+        0,
+        CHAIN_REPORT,
+        "",
+    ),
+    (
+        &["--stream", "f.pl", "--order"],
+        &[("f.pl", b"")],
+        &[],
+        " f.pl",
+        0,
+        "predicates 0 groups 0 recursive 0 levels 0\n",
         "",
     ),
     (
@@ -148,7 +166,7 @@ static REPORTED: [FilesRun; 12] = [
     ),
 ];
 
-static REFUSED: [FilesRun; 17] = [
+static REFUSED: [FilesRun; 22] = [
     (
         &["f.pl", "--roots", "a:z/0"],
         CHAIN,
@@ -230,6 +248,43 @@ static REFUSED: [FilesRun; 17] = [
     (&["--order"], CHAIN, &[], "", 2, "", USAGE),
     (&["--roots", "a:p/0.", "f.pl"], CHAIN, &[], "", 2, "", USAGE),
     (&["f.pl", ""], CHAIN, &[], "", 2, "", USAGE),
+    (&["--stream", "f.pl"], CHAIN, &[], "", 2, "", USAGE),
+    (
+        &["--order", "--stream", "--searches", "2", "--seed", "1", "f.pl"],
+        CHAIN,
+        &[],
+        "",
+        2,
+        "",
+        USAGE,
+    ),
+    (
+        &["--order", "--stream", "--stream", "f.pl"],
+        CHAIN,
+        &[],
+        "",
+        2,
+        "",
+        USAGE,
+    ),
+    (
+        &["--order", "--stream=x", "f.pl"],
+        CHAIN,
+        &[],
+        "",
+        2,
+        "",
+        USAGE,
+    ),
+    (
+        &["--make", "5", "--order", "--stream"],
+        CHAIN,
+        &[],
+        "",
+        2,
+        "",
+        USAGE,
+    ),
 ];
 
 #[test]

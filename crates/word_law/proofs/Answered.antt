@@ -1,7 +1,7 @@
 -- Words are lawful, and set options, or they are not.
 use Rattle.std.proofs.Common.{◌≡◌, ◌⊎◌, inl, inr, ℕ, List, Option, Some, All, is_some, refl}
 use Rattle.std.specs.Str.{IsUtf8}
-use Rattle.group_words.specs.Words.{Key, Jobs, Searches, Seed, Roots, Path, Order, Unreached, Effects, Loops, Make}
+use Rattle.group_words.specs.Words.{Key, Jobs, Searches, Seed, Roots, Path, Order, Unreached, Effects, Loops, Stream, Make}
 use Rattle.group_words.specs.Settings.{AreLawful, AreSettings, FilesAre, GoTogether, JobsAre, MakeIs, PathIs, RootsAre, SearchesAre}
 use Rattle.group_words.proofs.OneSettings.{settings_moved}
 use Rattle.word_law.proofs.Known.{IsFound, IsKnown}
@@ -35,6 +35,7 @@ module _ (tokens : AreTokens) (clauses : AreClauses) where
           unreached = is_some (given Unreached);
           effects = is_some (given Effects);
           loops = is_some (given Loops);
+          stream = is_some (given Stream);
           path = path.0;
           make = make.0;
           files = named.0;
@@ -48,6 +49,7 @@ module _ (tokens : AreTokens) (clauses : AreClauses) where
           unreached = refl;
           effects = refl;
           loops = refl;
+          stream = refl;
           path = path.1;
           make = make.1;
           named = named.1;

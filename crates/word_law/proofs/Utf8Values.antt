@@ -5,7 +5,7 @@ use Rattle.std.specs.Str.{IsUtf8}
 use Rattle.std.proofs.lemmas.Bool.Decides.{nat_tests}
 use Rattle.std.proofs.lemmas.List.Elements.{All-head, All-tail}
 use Rattle.std.proofs.lemmas.Str.{IsCharBoundary-after_ascii, IsUtf8-drop, IsUtf8-nil}
-use Rattle.group_words.specs.Words.{Key, Jobs, Searches, Seed, Roots, Path, Order, Unreached, Effects, Loops, Make, Part, file, flag, apart, joined, IsReading, as_list, option_word, part_words, rest_words, same_key, values}
+use Rattle.group_words.specs.Words.{Key, Jobs, Searches, Seed, Roots, Path, Order, Unreached, Effects, Loops, Stream, Make, Part, file, flag, apart, joined, IsReading, as_list, option_word, part_words, rest_words, same_key, values}
 
 abbrev AreUtf8 : List (List ℕ) → Type 0
 AreUtf8 [] = Unit {0}
@@ -57,6 +57,7 @@ word_ascii Order = refl
 word_ascii Unreached = refl
 word_ascii Effects = refl
 word_ascii Loops = refl
+word_ascii Stream = refl
 word_ascii Make = refl
 
 values_utf8 : (key : Key) (parts : List Part) → AreUtf8 (flat_map part_words parts) → AreUtf8 (values key parts)

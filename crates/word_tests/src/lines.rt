@@ -158,6 +158,18 @@ f.pl|--path|=> usage
 --path=a/0,b/0|--make=5|=> usage
 --path=a/0,b/0|=> usage
 --loops|--path=q/0,p/0|f.pl|--effects|--unreached|--roots=q/0|--order|=> jobs 1 roots user:q/0 order unreached effects loops path user:q/0 user:p/0 files f.pl
+--order|--stream|f.pl|=> jobs 1 order stream files f.pl
+f.pl|--stream|--jobs=4|--order|--roots=q/0|=> jobs 4 roots user:q/0 order stream files f.pl
+--loops|--stream|--order|--path=q/0,p/0|f.pl|=> jobs 1 order loops stream path user:q/0 user:p/0 files f.pl
+--stream|f.pl|=> usage
+--order|--stream|--stream|f.pl|=> usage
+--order|--stream=1|f.pl|=> usage
+--order|--stream=|f.pl|=> usage
+--order|--strea|f.pl|=> usage
+--order|--stream|--searches=2|--seed=1|f.pl|=> usage
+--order|--stream|--make=5|=> usage
+--stream|--make=5|=> usage
+--order|--stream|=> usage
 --|--effects|--loops|--path|=> jobs 1 files --effects.pl --loops.pl --path.pl
 ";
 
@@ -211,6 +223,9 @@ fn shown(alloc: Global, options: &Options) -> Result<String, AllocError> {
     }
     if options.loops {
         out.push_str(" loops")?;
+    }
+    if options.stream {
+        out.push_str(" stream")?;
     }
     if let Some(both) = &options.path {
         out.push_str(" path")?;

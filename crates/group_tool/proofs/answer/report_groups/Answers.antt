@@ -1,19 +1,4 @@
-use Rattle.graph_law.specs.Graph.{lists_of}
-use Rattle.import_rules.specs.Program.{see_program}
-use Rattle.group_words.specs.Settings.{see_options}
-use Rattle.group_tool.proofs.GroupLemmas.{reportable, reports}
 use Rattle.group_tool.proofs.answer.report_groups.Goals as goal
 
-pub written-requires : goal.written-requires
-written-requires g c =
-    rw (c.deref.ensures.value)
-    (reportable (see_program c.args.program.now) c.args.roots.now (lists_of c.args.groups.now) c.in_ok-levels.levels.items c.requires.below c.in_ok-levels.ensures)
-
-pub parts_of-requires-clause-leveled : goal.parts_of-requires-clause-leveled
-parts_of-requires-clause-leveled g c κs within = rw (c.deref-2.ensures.value) c.in_ok-levels.ensures
-
-pub returns : goal.returns
-returns g c =
-    reports (see_options c.args.options.now) (see_program c.args.program.now) c.args.roots.now (lists_of c.args.groups.now) c.in_ok-levels.levels.items c.in_ok-first.first.items
-    c.in_ok-parts.parts.items c.in_ok-bytes.bytes.items c.requires.roots c.in_ok-levels.ensures c.requires.order (rw (c.deref.ensures.value) at c.in_ok-first.ensures)
-    (rw (c.deref-2.ensures.value) at c.in_ok-parts.ensures) (rw (c.deref-3.ensures.value) at c.in_ok-bytes.ensures)
+pub report_leveled-requires-clause-leveled : goal.report_leveled-requires-clause-leveled
+report_leveled-requires-clause-leveled g c κs within = rw (c.deref.ensures.value) c.in_ok-levels.ensures

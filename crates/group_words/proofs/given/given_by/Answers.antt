@@ -14,6 +14,7 @@ returns c = let found = found_of c.args.matches.now in record {
   unreached = c.is_set-2.ensures;
   effects = c.is_set-3.ensures;
   loops = c.is_set-4.ensures;
+  stream = c.is_set-5.ensures;
   make = c.get_str-6.ensures ∙ first_value-rows found (codes "make");
   files = c.in_ok-files.ensures;
 }

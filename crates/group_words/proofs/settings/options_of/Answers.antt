@@ -52,6 +52,7 @@ returns-clause-ok c = record {
   unreached = flag_there c.args.given.now.unreached;
   effects = flag_there c.args.given.now.effects;
   loops = flag_there c.args.given.now.loops;
+  stream = flag_there c.args.given.now.stream;
   path = c.in_ok-path.ensures.ok;
   make = c.in_ok-make.ensures.ok;
   named = subst (λ files. FilesAre (map (λ (word : Bor (List ℕ)). word.now) files) c.in_ok-files.files.items) c.deref.ensures.value c.in_ok-files.ensures.ok;

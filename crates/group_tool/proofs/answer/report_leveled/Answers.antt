@@ -1,0 +1,18 @@
+use Rattle.graph_law.specs.Graph.{lists_of}
+use Rattle.import_rules.specs.Program.{see_program}
+use Rattle.group_words.specs.Settings.{see_options}
+use Rattle.group_tool.proofs.GroupLemmas.{reportable, reports}
+use Rattle.group_tool.proofs.answer.report_leveled.Goals as goal
+
+pub written-requires : goal.written-requires
+written-requires g c =
+    (reportable (see_program c.args.program.now) c.args.roots.now (lists_of c.args.groups.now) c.args.levels.now c.requires.below c.requires.leveled)
+
+pub parts_of-requires-clause-leveled : goal.parts_of-requires-clause-leveled
+parts_of-requires-clause-leveled g c κs within = c.requires.leveled
+
+pub returns : goal.returns
+returns g c =
+    reports (see_options c.args.options.now) (see_program c.args.program.now) c.args.roots.now (lists_of c.args.groups.now) c.args.levels.now c.in_ok-first.first.items
+    c.in_ok-parts.parts.items c.in_ok-bytes.bytes.items c.requires.roots c.requires.leveled c.requires.order c.in_ok-first.ensures
+    c.in_ok-parts.ensures (rw (c.deref.ensures.value) at c.in_ok-bytes.ensures)
