@@ -31,10 +31,10 @@ def laid_out():
     The program isn't one of the repository's crates, so the gate doesn't prove it each time. Its sources stand in `bench/crate`,
     with `.txt` behind the names of those that `rt` reads.
     """
-    lines = (ROOT / "crates.txt").read_text() + (ROOT / "bench" / "crate" / "crates.txt").read_text()
+    lines = (ROOT / "crates.txt").read_text() + (ROOT / "bench" / "crate" / "crates-line.txt").read_text()
     state = hashlib.sha256(lines.encode())
     sources = [path for top in ("crates", "bench/crate") for path in sorted((ROOT / top).rglob("*"))
-               if path.is_file() and "out" not in path.parts and path.name != "crates.txt"]
+               if path.is_file() and "out" not in path.parts and path.name != "crates-line.txt"]
     for path in sources:
         state.update(str(path.relative_to(ROOT)).encode() + b"\0" + path.read_bytes())
     cache = pathlib.Path(os.environ.get("XDG_CACHE_HOME") or pathlib.Path.home() / ".cache")
