@@ -173,7 +173,15 @@ fn tell_by_stream<R: Threads + Wait + Sync, G: Gate>(
         rt, alloc, options, program, &calls, &roots, gate, &mut taker,
     )?;
     let bytes = report_leveled(
-        rt, alloc, options, program, &calls, &roots, ends, &groups, taker.levels(),
+        rt,
+        alloc,
+        options,
+        program,
+        &calls,
+        &roots,
+        ends,
+        &groups,
+        taker.levels(),
     )?;
     Ok(bytes)
 }

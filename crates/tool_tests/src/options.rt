@@ -250,7 +250,15 @@ static REFUSED: [FilesRun; 22] = [
     (&["f.pl", ""], CHAIN, &[], "", 2, "", USAGE),
     (&["--stream", "f.pl"], CHAIN, &[], "", 2, "", USAGE),
     (
-        &["--order", "--stream", "--searches", "2", "--seed", "1", "f.pl"],
+        &[
+            "--order",
+            "--stream",
+            "--searches",
+            "2",
+            "--seed",
+            "1",
+            "f.pl",
+        ],
         CHAIN,
         &[],
         "",
