@@ -58,11 +58,21 @@ class Edit:
         name = re.findall(r"(?m)^\s*(?:pub(?:\(\w+\))? )?(?:const )?fn (\w+)", head)[-1:]
         tops = re.findall(r"(?m)^(?:impl(?:<[^{]*?>)? (?:(\w+)(?:<[^{]*?>)? for )?(\w+)|(}))", head)
         trait, of, closed = tops[-1] if tops else ("", "", "}")
-        module = file.removeprefix("src/").removesuffix(".rt").removesuffix("/mod").split("/")
         inside = [] if closed or not name else [of + trait]
+        if inside:
+            file = home_of(crate, of) or file
+        module = file.removeprefix("src/").removesuffix(".rt").removesuffix("/mod").split("/")
         if name and closed and re.search(r"(?m)^(?:pub(?:\(\w+\))? )?(?:const|static) .*\Z", head.rpartition("\n")[2]):
             name = []
         return "::".join([*(it for it in module if it not in ("lib", "main")), *inside, *name])
+
+
+def home_of(crate, name):
+    """The file in which the type stands: the prover names its functions by that one, wherever their `impl` is."""
+    for path in sorted(crate.glob("src/**/*.rt")):
+        if re.search(rf"(?m)^(?:pub(?:\(\w+\))? )?(?:struct|enum) {name}\b", path.read_text()):
+            return str(path.relative_to(crate))
+    return None
 
 
 def applied(crate, edits):
