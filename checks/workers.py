@@ -3,6 +3,7 @@
 
 - random small graphs, some to a file: with 1, 2, 3 and 8 workers the report is one, and it has as many groups
   as the classes of mutual reach that are counted here;
+- the same with `--order --stream`, where the lines of the groups are those of one worker in another order;
 - hard shapes: a ring of 100,000 predicates with 64 workers, from one root and from all; 200,000 predicates that
   call nothing, each a root; rings of few predicates with more workers than these. Each run ends in time, with
   the report of one worker.
@@ -32,9 +33,9 @@ chosen = []
 wrong = []
 
 
-def run(folder, jobs):
+def run(folder, jobs, *options):
     """The report on the file with so many workers, or None where the run ends wrong or too late."""
-    words = [chosen[0], "--jobs", str(jobs), "f.pl"]
+    words = [chosen[0], *options, "--jobs", str(jobs), "f.pl"]
     try:
         done = subprocess.run(words, cwd=folder, capture_output=True, timeout=MOST_SECONDS)
     except subprocess.TimeoutExpired:
@@ -94,6 +95,12 @@ def differ(name, report, expected):
         wrong.append(f"{name}: another report, of {len(report)} bytes for {len(expected)}")
 
 
+def differ_in_lines(name, report, expected):
+    """Notes where a report has other lines than one was expected to have, whatever their order."""
+    if report is not None and sorted(report.splitlines()) != sorted(expected.splitlines()):
+        wrong.append(f"{name}, in a stream: other lines")
+
+
 def small_graphs(folder, count):
     source = random.Random(13)
     for begun in range(0, count, GRAPHS_IN_A_FILE):
@@ -113,6 +120,7 @@ def small_graphs(folder, count):
             wrong.append(f"graphs from {begun} on: {group_count(expected)} groups for {classes} classes")
         for jobs in JOBS[1:]:
             differ(f"graphs from {begun} on, {jobs} jobs", run(folder, jobs), expected)
+            differ_in_lines(f"graphs from {begun} on, {jobs} jobs", run(folder, jobs, "--order", "--stream"), expected)
 
 
 def ring(count):
@@ -140,6 +148,7 @@ def hard_runs(folder, count):
             wrong.append(f"{name}: {group_count(expected)} groups for {groups}")
         for _ in range(times):
             differ(name, run(folder, MOST_JOBS), expected)
+            differ_in_lines(name, run(folder, MOST_JOBS, "--order", "--stream"), expected)
         print(f"{name}: {times} runs in {time.monotonic() - begun:.1f} s", flush=True)
 
 
