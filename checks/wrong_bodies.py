@@ -125,7 +125,11 @@ def said_of(crate, edits):
 
 def verdict(crate, edit, said):
     """Whether the edit's own function is refused by itself, and what is said of it."""
-    lines = re.findall(rf"(?m)^fn {re.escape(crate.name)}::({re.escape(edit.function)}(?:::\S+)?): (.*)$", said)
+    # (a closure is named by the function that it stands in, behind the word `fn`)
+    module, _, name = edit.function.rpartition("::")
+    closure = f"{module}::fn::{name}" if module else f"fn::{name}"
+    named = f"{re.escape(edit.function)}(?:::\\S+)?|{re.escape(closure)}::\\S+"
+    lines = re.findall(rf"(?m)^fn {re.escape(crate.name)}::({named}): (.*)$", said)
     refused = [f"{at}: {it}" for at, it in lines if it.startswith(("no proof", "not proved")) and "it calls" not in it]
     # (where it also calls what isn't proved, an error in its own proof shows that it is refused by itself)
     own = re.search(rf"(?m)^(?:\./)?proofs/{re.escape(edit.function.replace('::', '/'))}/\w+\.antt:\d+:\d+: error.*$", said)
