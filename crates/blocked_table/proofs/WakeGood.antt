@@ -1,7 +1,7 @@
 -- Kept searches stay good where those are woken that want a node that is finished now.
 use Rattle.std.proofs.Common.{◌≡◌, ◌⊎◌, inl, inr, ℕ, List, [], ◌∷◌, Option, None, Some, is_some, refl, ◌∙◌, sym, subst}
 use Rattle.std.specs.Prelude.{Contains, IfSome}
-use Rattle.order_law.proofs.OneOrder.{first_or_rest, in_first, in_rest, nothing_in}
+use Rattle.list_laws.proofs.OneOrder.{first_or_rest, in_first, in_rest, nothing_in}
 use Rattle.std.proofs.lemmas.Bool.{cases_eq}
 use Rattle.search_stack.specs.Search.{SearchValue, IsGoodSearch, IsLastBegun}
 use Rattle.search_stack.specs.GoodSearch.{IsGood}

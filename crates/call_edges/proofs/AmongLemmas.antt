@@ -4,7 +4,7 @@ use Rattle.std.specs.Prelude.{Contains}
 use Rattle.std.specs.List.{flat_map, filter_map, list_any}
 use Rattle.std.proofs.lemmas.List.{take_more, take_all, get_or_default}
 use Rattle.std.proofs.lemmas.List.Elements.{Contains-append_left, Contains-append_right, Contains-append_cases, Contains-push, Contains-push_cases}
-use Rattle.order_law.proofs.OneOrder.{nothing_in, first_or_rest, in_rest, in_first}
+use Rattle.list_laws.proofs.OneOrder.{nothing_in, first_or_rest, in_rest, in_first}
 use Rattle.call_edges.specs.Goals.{Adds}
 use Rattle.call_edges.specs.Calls.{IsAmong}
 use Rattle.call_edges.proofs.AddsLemmas.{adds_as, adds_then, adds_nothing}

@@ -13,7 +13,7 @@ use Rattle.std.proofs.lemmas.List.{length-map, get_or-map}
 use Rattle.std.proofs.lemmas.List.Elements.{Contains-get_or, All-contains}
 use Rattle.std.proofs.lemmas.Map.Keys.{Less-from_sorted}
 use Rattle.std.proofs.lemmas.Option.{same_Some, slice_get_within, get_or_from_slice_get}
-use Rattle.order_law.proofs.OneOrder.{same_order, less_strict}
+use Rattle.list_laws.proofs.OneOrder.{same_order, less_strict}
 use Rattle.prolog_tokens.specs.Places.{IsPlace}
 use Rattle.prolog_tokens.proofs.PlaceSteps.{place_once}
 use Rattle.file_library.specs.declared.fault.Fault.{Fault}

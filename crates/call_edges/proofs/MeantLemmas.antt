@@ -4,7 +4,7 @@ use Rattle.std.specs.Prelude.{Contains, slice_get}
 use Rattle.std.specs.List.{enumerate_from}
 use Rattle.std.proofs.lemmas.List.Elements.{All-nil, All-contains}
 use Rattle.std.proofs.lemmas.Option.{slice_get_within, get_or_from_slice_get}
-use Rattle.order_law.proofs.OneOrder.{in_first}
+use Rattle.list_laws.proofs.OneOrder.{in_first}
 use Rattle.module_table.specs.Metas.{Declaration, IsSmall}
 use Rattle.module_table.specs.Facts.{Facts}
 use Rattle.module_table.specs.Kinds.{first_of}

@@ -2,7 +2,7 @@
 use Rattle.std.proofs.Common.{inl, inr, List, [], ◌∷◌, subst, arith}
 use Rattle.std.specs.Prelude.{Contains}
 use Rattle.std.specs.List.{AllZip}
-use Rattle.order_law.proofs.OneOrder.{first_or_rest}
+use Rattle.list_laws.proofs.OneOrder.{first_or_rest}
 use Rattle.module_table.specs.Facts.{Facts}
 use Rattle.file_library.specs.Loaded.{NamedText}
 use Rattle.import_rules.specs.Program.{IsReadFrom}

@@ -8,7 +8,7 @@ use Rattle.std.proofs.lemmas.List.{get_or_past}
 use Rattle.std.proofs.lemmas.List.FromFn.{length-map-range_with_len, get_or-map-range_with_len, length-range_with_len, get_or-range_with_len}
 use Rattle.std.proofs.lemmas.List.Kept.{IsStrictlyIncreasing-filter}
 use Rattle.std.proofs.lemmas.Option.{same_Some, none-some, cond_some}
-use Rattle.order_law.proofs.OneOrder.{range_has}
+use Rattle.list_laws.proofs.OneOrder.{range_has}
 use Rattle.graph_law.specs.Graph.{Calls, IsClosed}
 use Rattle.graph_law.proofs.Unique.{increasing_unique}
 use Rattle.import_rules.specs.declared.names.PredName.{PredName}

@@ -4,7 +4,7 @@ use Rattle.std.proofs.lemmas.Bool.{cases_lt}
 use Rattle.std.proofs.lemmas.List.{map-append, append_assoc, flat_map_more, length-append, length-map}
 use Rattle.std.proofs.lemmas.List.Elements.{Contains-append_left, All-append, All-nil}
 use Rattle.std.proofs.lemmas.List.Sums.{sum_by-append}
-use Rattle.order_law.proofs.OneOrder.{nothing_in}
+use Rattle.list_laws.proofs.OneOrder.{nothing_in}
 use Rattle.file_library.specs.Library.{Files}
 use Rattle.file_library.specs.Asked.{IsInWave, AreInOrder, IsWave, AreFirstWaves, names_in}
 use Rattle.file_library.specs.FileLoads.{FileLoads}

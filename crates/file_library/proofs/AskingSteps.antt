@@ -6,7 +6,7 @@ use Rattle.std.proofs.lemmas.List.{map-append, append_assoc, flat_map_more, leng
 use Rattle.std.proofs.lemmas.List.Elements.{Contains-append_right}
 use Rattle.std.proofs.lemmas.List.Sums.{sum_by-append}
 use Rattle.std.proofs.Math.Seq.{get_or-append_seam}
-use Rattle.order_law.proofs.OneOrder.{nothing_in, holds_of}
+use Rattle.list_laws.proofs.OneOrder.{nothing_in, holds_of}
 use Rattle.file_library.specs.Library.{Files}
 use Rattle.file_library.specs.Asked.{IsInWave, wave_at, AreInOrder, AreFirstWaves, names_in}
 use Rattle.file_library.specs.FileLoads.{FileLoads}

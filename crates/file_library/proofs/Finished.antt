@@ -1,7 +1,7 @@
 -- What files that were all asked for come to.
 use Rattle.std.proofs.Common.{ℕ, ◌≤◌, List, [], Option, Result, Ok, Err, IfErr, Contains, length, refl, sym, subst, ap, ◌∙◌, inl, inr, arith, append-nil}
 use Rattle.std.specs.BTreeSet.{BTreeSet}
-use Rattle.order_law.proofs.OneOrder.{nothing_in}
+use Rattle.list_laws.proofs.OneOrder.{nothing_in}
 use Rattle.file_library.specs.Asked.{AreInOrder, names_in}
 use Rattle.file_library.specs.FileLoads.{FileLoads}
 use Rattle.file_library.specs.Library.{Files}

@@ -9,7 +9,7 @@ use Rattle.std.specs.declared.cmp.Ordering.TheVariants.{Less}
 use Rattle.std.proofs.lemmas.List.Elements.{filter_passes, Contains-get_or}
 use Rattle.std.proofs.lemmas.List.Kept.{AllPairs-filter}
 use Rattle.std.proofs.lemmas.List.Sorted.{Contains-permutation, IsPermutation-sym}
-use Rattle.order_law.proofs.OneOrder.{nothing_in, first_or_rest, in_rest, in_first, before_rest, rest_in_order, holds_of}
+use Rattle.list_laws.proofs.OneOrder.{nothing_in, first_or_rest, in_rest, in_first, before_rest, rest_in_order, holds_of}
 use Rattle.prolog_tokens.specs.Places.{IsPlace}
 use Rattle.prolog_tokens.proofs.PlaceSteps.{place_once}
 use Rattle.clause_text.specs.declared.cause.Cause.TheVariants.{NoRoot}

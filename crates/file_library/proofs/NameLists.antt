@@ -13,7 +13,7 @@ use Rattle.std.proofs.lemmas.Slice.Eq.{bytes_eq-Decides}
 use Rattle.std.proofs.lemmas.Grind.{flat_map-append}
 use Rattle.std.proofs.lemmas.List.{length-append, length-map, get_or-map, append_assoc, append-nil}
 use Rattle.std.proofs.lemmas.List.Concat.{flat_map-cons}
-use Rattle.order_law.proofs.OneOrder.{IsStrict, same_order, less_strict, first_or_rest, nothing_in}
+use Rattle.list_laws.proofs.OneOrder.{IsStrict, same_order, less_strict, first_or_rest, nothing_in}
 use Rattle.file_library.specs.Asked.{AreInOrder, wave_at, names_in}
 use Rattle.file_library.specs.Loaded.{AreThose}
 use Rattle.file_library.proofs.Lookups.{order_once}

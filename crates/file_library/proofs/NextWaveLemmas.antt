@@ -12,7 +12,7 @@ use Rattle.std.proofs.lemmas.Map.Views.{btree_set_contains_iff}
 use Rattle.std.proofs.lemmas.List.{flat_map_more, take_more, take_all}
 use Rattle.std.proofs.lemmas.List.Concat.{flat_map-cons}
 use Rattle.std.proofs.lemmas.List.Elements.{Contains-append_left, Contains-append_right, Contains-append_cases}
-use Rattle.order_law.proofs.OneOrder.{nothing_in, first_or_rest, in_rest, in_first}
+use Rattle.list_laws.proofs.OneOrder.{nothing_in, first_or_rest, in_rest, in_first}
 use Rattle.file_library.specs.NextWave.{AddsFiles}
 
 -- a set has a name where it is among its keys

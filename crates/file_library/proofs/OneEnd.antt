@@ -6,7 +6,7 @@ use Rattle.std.proofs.lemmas.Grind.{flat_map-append}
 use Rattle.std.proofs.lemmas.List.{length-append, get_or_append_left, get_or-append-add, get_or_past, append-nil}
 use Rattle.std.proofs.lemmas.List.Sums.{sum_by-append}
 use Rattle.std.proofs.Math.Seq.{get_or-append_seam}
-use Rattle.order_law.proofs.OneOrder.{holds_of, in_first}
+use Rattle.list_laws.proofs.OneOrder.{holds_of, in_first}
 use Rattle.module_table.specs.Facts.{Facts}
 use Rattle.module_table.specs.FileText.{HasFacts}
 use Rattle.module_table.proofs.OneText.{same_facts, faulty_no_facts}

@@ -14,7 +14,7 @@ use Rattle.module_table.specs.Said.{IsWhy}
 use Rattle.module_table.specs.Facts.{file_said}
 use Rattle.module_table.proofs.FactOffsets.{refusals_placed}
 use Rattle.prolog_terms.specs.Tree.{Tree}
-use Rattle.order_law.proofs.OneOrder.{holds_of}
+use Rattle.list_laws.proofs.OneOrder.{holds_of}
 use Rattle.file_library.specs.AskedFile.{IsFaultOf, items_in}
 
 -- what clauses say is refused, so the file has that fault

@@ -9,7 +9,7 @@ use Rattle.std.proofs.lemmas.List.Elements.{Contains-append_left, Contains-appen
 use Rattle.std.proofs.lemmas.Slice.Eq.{bytes_eq-Decides}
 use Rattle.std.proofs.Math.ListN.{get_or-eq_default}
 use Rattle.std.proofs.Math.Seq.{get_or-append_seam}
-use Rattle.order_law.proofs.OneOrder.{nothing_in, first_or_rest, in_rest, in_first}
+use Rattle.list_laws.proofs.OneOrder.{nothing_in, first_or_rest, in_rest, in_first}
 use Rattle.file_library.specs.Asked.{LeadsIn, IsAsked, IsInWave, wave_at, AreInOrder, IsWave, AreFirstWaves, AreWaves, names_in}
 
 abbrev pub Names : Type 0

@@ -3,7 +3,7 @@ use Rattle.std.proofs.Common.{AllPairs, ◌≡◌, inl, inr, ℕ, zero, suc, ◌
 use Rattle.std.proofs.lemmas.List.{ext_get_or, get_or_default, get_or-map, length-map}
 use Rattle.std.specs.Prelude.{Contains}
 use Rattle.std.specs.List.Sorted.{IsStrictlyIncreasing}
-use Rattle.order_law.proofs.OneOrder.{same_order}
+use Rattle.list_laws.proofs.OneOrder.{same_order}
 use Rattle.graph_law.specs.Classes.{IsClass, AreClasses, HasMember, group_at, least_member}
 use Rattle.graph_law.specs.Heights.{HaveHeights}
 use Rattle.graph_law.proofs.ClassLaws.{least_is_member}

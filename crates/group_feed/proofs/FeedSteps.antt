@@ -2,8 +2,8 @@
 use Rattle.std.proofs.Common.{◌≡◌, inl, ℕ, ◌<◌, ◌+◌, true, List, [], ◌∷◌, ◌++◌, length, take, drop, get_or, subst, sym, refl, ap, ◌∙◌, arith}
 use Rattle.std.proofs.lemmas.List.{append-nil, get_or_append_left, length-append, take-append-drop, take_at, take_more}
 use Rattle.std.specs.Prelude.{All, Contains}
-use Rattle.node_counts.specs.Counts.{IsLonger, flat, times}
-use Rattle.node_counts.proofs.Counting.{counted, standing, times-append}
+use Rattle.list_laws.specs.Counts.{IsLonger, flat, times}
+use Rattle.list_laws.proofs.Counting.{counted, standing, times-append}
 use Rattle.graph_law.specs.Classes.{HasMember}
 use Rattle.group_release.specs.Book.{BookValue}
 use Rattle.group_release.proofs.Nodes.{from_flat, in_flat}

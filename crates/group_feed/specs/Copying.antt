@@ -1,6 +1,6 @@
 -- Released groups that were copied, a part of them at a time.
 use Rattle.std.specs.Prelude.{ℕ, ◌<◌, List, Contains}
-use Rattle.node_counts.specs.Counts.{IsLonger, times}
+use Rattle.list_laws.specs.Counts.{IsLonger, times}
 use Rattle.graph_law.specs.Classes.{HasMember, group_at}
 use Rattle.group_feed.specs.Ordered.{AreOrdered}
 

@@ -1,5 +1,5 @@
 ghost use Rattle.std.specs.Prelude.{◌≡◌, ◌<◌, length, IfOk, OnOk};
-ghost use Rattle.node_counts.specs.Counts.{IsLonger};
+ghost use Rattle.list_laws.specs.Counts.{IsLonger};
 ghost use Rattle.graph_law.specs.Classes.{group_at, least_member};
 ghost use Rattle.group_feed.specs.Copying.{AreCopiedUpTo, AreWithin};
 ghost use Rattle.group_feed.specs.Ordered.{AreOrdered};

@@ -1,6 +1,6 @@
 ghost use Rattle.std.specs.Prelude.{◌≡◌, ◌≤◌, ◌+◌, ℕ, true, false, [], length, take, All, IfOk, OnOk};
 ghost use Rattle.crossbeam_queue.specs.Passes.{view, IsPassOf as is_line_pass, ruled_capacity};
-ghost use Rattle.node_counts.specs.Counts.{IsLonger};
+ghost use Rattle.list_laws.specs.Counts.{IsLonger};
 ghost use Rattle.graph_law.specs.Classes.{HasMember};
 ghost use Rattle.graph_law.specs.Graph.{Calls, lists_of};
 ghost use Rattle.graph_law.specs.Reach.{IsReached};

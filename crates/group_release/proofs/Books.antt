@@ -3,7 +3,7 @@ use Rattle.std.proofs.Common.{◌≡◌, ◌⊎◌, inl, inr, ℕ, ◌<◌, ◌�
 use Rattle.std.proofs.lemmas.Bool.{cases_eq, cases_lt}
 use Rattle.std.proofs.lemmas.List.Elements.{All-nil}
 use Rattle.std.specs.Prelude.{All, IfOk, IfErr, IfSome, IfNone}
-use Rattle.node_counts.specs.Counts.{times, flat}
+use Rattle.list_laws.specs.Counts.{times, flat}
 use Rattle.graph_law.specs.Classes.{HasMember, IsClass}
 use Rattle.graph_law.specs.Graph.{Calls, IsClosed}
 use Rattle.search_stack.specs.Stack.{size}

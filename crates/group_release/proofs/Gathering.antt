@@ -1,7 +1,7 @@
 -- What a transfer keeps besides: no released node comes in, each want is an old one or leads to the search that goes on, and no node is lost.
 use Rattle.std.proofs.Common.{◌≡◌, ◌⊎◌, inl, inr, ℕ, ◌<◌, ◌+◌, List, [], ◌∷◌, map, take, Option, None, Some, ap, ◌∙◌, sym, subst, arith}
 use Rattle.std.proofs.lemmas.Bool.{cases_eq}
-use Rattle.node_counts.specs.Counts.{times}
+use Rattle.list_laws.specs.Counts.{times}
 use Rattle.search_stack.specs.Stack.{Stack, IsShaped, size, position}
 use Rattle.search_stack.specs.GoodSearch.{StandsIn}
 use Rattle.search_stack.specs.Search.{SearchValue, IsOn, below_frame, joined}

@@ -3,10 +3,10 @@ use Rattle.std.proofs.Common.{◌≡◌, inl, inr, ℕ, ◌<◌, ◌≤◌, ◌+
 use Rattle.std.proofs.lemmas.List.{get_or-map, length-map, get_or_past}
 use Rattle.std.proofs.lemmas.Bool.{cases_lt}
 use Rattle.std.specs.Prelude.{Contains}
-use Rattle.order_law.proofs.OneOrder.{first_or_rest, in_first, nothing_in}
-use Rattle.node_counts.specs.Counts.{times, total}
-use Rattle.node_counts.proofs.Counting.{counted, standing}
-use Rattle.node_counts.proofs.Standing.{total_at, total_less, times-flat-map}
+use Rattle.list_laws.proofs.OneOrder.{first_or_rest, in_first, nothing_in}
+use Rattle.list_laws.specs.Counts.{times, total}
+use Rattle.list_laws.proofs.Counting.{counted, standing}
+use Rattle.list_laws.proofs.Standing.{total_at, total_less, times-flat-map}
 use Rattle.graph_law.specs.Classes.{HasMember}
 use Rattle.search_stack.specs.Search.{SearchValue}
 use Rattle.blocked_table.specs.Kept.{kept_at}

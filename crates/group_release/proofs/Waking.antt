@@ -4,9 +4,9 @@ use Rattle.std.proofs.lemmas.Bool.{cases_lt}
 use Rattle.std.proofs.lemmas.List.Sorted.{Contains-permutation, IsPermutation-sym, length_permutation}
 use Rattle.std.specs.List.Sorted.{IsPermutation, IsStrictlyIncreasing}
 use Rattle.std.specs.Prelude.{Contains}
-use Rattle.node_counts.specs.Counts.{times, flat}
-use Rattle.node_counts.proofs.Counting.{counted, standing, times-append, times-flat-append, times-permutation}
-use Rattle.node_counts.proofs.Standing.{flat-map_same}
+use Rattle.list_laws.specs.Counts.{times, flat}
+use Rattle.list_laws.proofs.Counting.{counted, standing, times-append, times-flat-append, times-permutation}
+use Rattle.list_laws.proofs.Standing.{flat-map_same}
 use Rattle.graph_law.specs.Classes.{HasMember, IsClass}
 use Rattle.graph_law.specs.Graph.{Calls}
 use Rattle.graph_law.specs.LegalOrder.{IsLegalOrder}

@@ -1,6 +1,6 @@
 -- The nodes of kept searches, and those that they want, as lists.
 use Rattle.std.specs.Prelude.{ℕ, List, [], ◌∷◌, map, Option, None, Some}
-use Rattle.node_counts.specs.Counts.{flat}
+use Rattle.list_laws.specs.Counts.{flat}
 use Rattle.search_stack.specs.Stack.{Stack}
 use Rattle.search_stack.specs.Search.{SearchValue}
 use Rattle.blocked_table.specs.declared.suspended.Suspended.{Suspended}

@@ -1,5 +1,5 @@
 ghost use Rattle.std.specs.Prelude.{◌≡◌, ◌↔◌, ◌+◌, ◌<◌, ◌≤◌, ℕ, true, false, [], length, slice_get, All, IfOk, IfSome, IfNone, IsTrue};
-ghost use Rattle.node_counts.specs.Counts.{times};
+ghost use Rattle.list_laws.specs.Counts.{times};
 ghost use Rattle.graph_law.specs.Classes.{HasMember};
 ghost use Rattle.graph_law.specs.Graph.{Calls, lists_of};
 ghost use Rattle.graph_law.specs.LegalOrder.{IsLegalOrder};

@@ -1,6 +1,6 @@
 -- From how the reading of files ended to how a run ends.
 use Rattle.std.proofs.Common.{◌≡◌, ◌≢◌, ℕ, ◌⊎◌, List, [], ◌∷◌, Option, Some, None, Result, Ok, Err, Vec, Global, IsErrAnd, refl, sym, subst, inl, inr, arith, append-nil}
-use Rattle.order_law.proofs.OneOrder.{nothing_in}
+use Rattle.list_laws.proofs.OneOrder.{nothing_in}
 use Rattle.file_library.specs.declared.loaded.LoadStop.{LoadStop}
 use Rattle.file_library.specs.declared.loaded.LoadStop.TheVariants.{Faults, ReadFault, TooManyFiles, FileTooLarge, TooMuchText, NoMemory}
 use Rattle.file_library.specs.Counts.{Rose}

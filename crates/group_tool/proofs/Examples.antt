@@ -9,7 +9,7 @@ use Rattle.import_rules.specs.Program.{Seen}
 use Rattle.group_release.specs.declared.level.Level.{Level}
 use Rattle.group_words.specs.Settings.{Settings}
 use Rattle.loop_report.specs.Spelled.{spelled_name}
-use Rattle.order_law.proofs.OneOrder.{nothing_in, first_or_rest}
+use Rattle.list_laws.proofs.OneOrder.{nothing_in, first_or_rest}
 use Rattle.std.proofs.lemmas.List.Elements.{All-cons}
 use Rattle.file_library.specs.Asking.{LoadEnd, loaded, too_many, too_large, too_much, IsDecided}
 use Rattle.file_library.specs.Asking as of_load

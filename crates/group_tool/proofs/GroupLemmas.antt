@@ -4,7 +4,7 @@ use Rattle.std.proofs.lemmas.Bool.{cases_lt}
 use Rattle.std.proofs.lemmas.List.{get_or_past}
 use Rattle.std.proofs.lemmas.List.Elements.{All-contains}
 use Rattle.std.proofs.lemmas.Option.{slice_get_past}
-use Rattle.order_law.proofs.OneOrder.{nothing_in}
+use Rattle.list_laws.proofs.OneOrder.{nothing_in}
 use Rattle.graph_law.specs.LegalOrder.{IsComplete, IsLegalOrder}
 use Rattle.graph_law.specs.Reach.{Agree, IsReached}
 use Rattle.graph_law.specs.Graph.{Calls}

@@ -7,7 +7,7 @@ use Rattle.std.proofs.Math.Seq.{get_or-append_seam}
 use Rattle.std.proofs.lemmas.List.Elements.{All-contains, Contains-append_left, Contains-push, Contains-push_cases}
 use Rattle.std.proofs.lemmas.Nat.{pow_pos}
 use Rattle.std.proofs.lemmas.Nat.Bits.{and_pow, bit_at-lt, bit_at-zero, bit_at_or}
-use Rattle.order_law.proofs.OneOrder.{nothing_in}
+use Rattle.list_laws.proofs.OneOrder.{nothing_in}
 use Rattle.effect_flow.specs.Carriers.{HasKind}
 use Rattle.effect_flow.specs.Kinds.{kinds}
 use Rattle.import_rules.specs.declared.names.PredName.{PredName}

@@ -7,7 +7,7 @@ use Rattle.std.proofs.lemmas.Cmp.{nat_list_cmp_total, nat_cmp_total, on_total, t
 use Rattle.std.proofs.lemmas.List.{get_or_default, length-append}
 use Rattle.std.proofs.lemmas.List.Elements.{All-tail}
 use Rattle.std.proofs.Math.Seq.{get_or-append_seam}
-use Rattle.order_law.proofs.OneOrder.{IsStrict, same_order, less_strict, holds_of}
+use Rattle.list_laws.proofs.OneOrder.{IsStrict, same_order, less_strict, holds_of}
 use Rattle.graph_law.proofs.Increasing.{increasing_far}
 use Rattle.file_library.specs.declared.fault.Fault.{Fault}
 use Rattle.file_library.specs.Loaded.{LoadedFiles}

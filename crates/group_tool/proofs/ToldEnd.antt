@@ -4,7 +4,7 @@ use Rattle.std.proofs.lemmas.List.{length-append, get_or_append_left, append_ass
 use Rattle.std.proofs.lemmas.List.Elements.{All-map, Contains-append_left, Contains-append_cases, Contains-get_or}
 use Rattle.std.proofs.lemmas.List.Sums.{sum_by-cons}
 use Rattle.std.proofs.Math.Seq.{get_or-append_seam}
-use Rattle.order_law.proofs.OneOrder.{holds_of, in_first, in_rest, first_or_rest, nothing_in}
+use Rattle.list_laws.proofs.OneOrder.{holds_of, in_first, in_rest, first_or_rest, nothing_in}
 use Rattle.file_library.specs.declared.fault.Fault.{Fault}
 use Rattle.file_library.specs.Library.{Files}
 use Rattle.file_library.specs.Asked.{IsWave, wave_at, AreFirstWaves, AreWaves, names_in}

@@ -1,6 +1,6 @@
 -- In which order groups are found.
 use Rattle.std.specs.Prelude.{ℕ, List, Option, None, Some}
-use Rattle.search_schedule.specs.Schedule.{IsScheduled}
+use Rattle.search_machine.specs.Schedule.{IsScheduled}
 
 -- with so many searches and a seed, the groups stand in the order in which these release them, by the schedule that the seed draws; else no order is asked for
 abbrev pub AreInOrder : Option (ℕ × ℕ) → List (List ℕ) → List ℕ → List (List ℕ) → Type 0

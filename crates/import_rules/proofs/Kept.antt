@@ -1,6 +1,6 @@
 -- What a filter keeps.
 use Rattle.std.proofs.Common.{◌≡◌, Bool, true, false, List, [], ◌∷◌, Contains, inl, inr, filter, cond, sym, subst}
-use Rattle.order_law.proofs.OneOrder.{nothing_in, first_or_rest, in_first, in_rest}
+use Rattle.list_laws.proofs.OneOrder.{nothing_in, first_or_rest, in_first, in_rest}
 
 -- a member that passes is kept
 pub kept : {X : Type 0} (p : X → Bool) (xs : List X) (x : X) → Contains xs x → p x ≡ true → Contains (filter p xs) x

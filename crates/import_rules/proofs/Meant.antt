@@ -12,7 +12,7 @@ use Rattle.module_table.specs.declared.load.LoadKind.TheVariants.{UseAll, UseSom
 use Rattle.module_table.specs.Facts.{Facts}
 use Rattle.module_table.specs.Kinds.{first_of}
 use Rattle.module_table.specs.Said.{Loads}
-use Rattle.order_law.proofs.OneOrder.{nothing_in, in_first}
+use Rattle.list_laws.proofs.OneOrder.{nothing_in, in_first}
 use Rattle.import_rules.specs.declared.names.PredName.{PredName}
 use Rattle.import_rules.specs.Clashes.{Imports, items_for}
 use Rattle.import_rules.specs.Files.{is_local, file_named, has_export, AreNumbered}

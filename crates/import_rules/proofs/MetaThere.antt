@@ -2,7 +2,7 @@
 use Rattle.std.proofs.Common.{◌≡◌, ◌≢◌, ℕ, ◌+◌, ◌-◌, List, [], ◌∷◌, Option, Some, None, Contains, filter, refl, sym, ap, ◌∙◌, subst, arith}
 use Rattle.std.specs.Prelude.{slice_get}
 use Rattle.std.specs.List.{enumerate_from}
-use Rattle.order_law.proofs.OneOrder.{in_first}
+use Rattle.list_laws.proofs.OneOrder.{in_first}
 use Rattle.module_table.specs.declared.goal_arg.GoalArg.{GoalArg}
 use Rattle.module_table.specs.Metas.{Declaration}
 use Rattle.module_table.specs.Facts.{Facts}

@@ -11,7 +11,7 @@ use Rattle.std.proofs.lemmas.List.Elements.{All-map}
 use Rattle.std.proofs.lemmas.Option.{slice_get_within, get_or_from_slice_get}
 use Rattle.module_table.specs.Defined.{Predicate}
 use Rattle.module_table.specs.Facts.{Facts}
-use Rattle.order_law.proofs.OneOrder.{before_rest, rest_in_order}
+use Rattle.list_laws.proofs.OneOrder.{before_rest, rest_in_order}
 use Rattle.import_rules.specs.declared.names.PredName.{PredName}
 use Rattle.import_rules.specs.Files.{name_in, defined_in, all_defined, is_local, AreNumbered}
 use Rattle.import_rules.specs.Find.{number_of}

@@ -12,7 +12,7 @@ use Rattle.std.proofs.lemmas.List.Elements.{All-contains, All-head, All-tail}
 use Rattle.std.proofs.lemmas.List.Sorted.{ranks_by, sorted_far, sum_by-IsPermutation}
 use Rattle.std.proofs.lemmas.List.Sums.{sum_by-cons}
 use Rattle.std.proofs.lemmas.Map.Lookups.{exact_bytes}
-use Rattle.order_law.proofs.OneOrder.{less_strict, same_order}
+use Rattle.list_laws.proofs.OneOrder.{less_strict, same_order}
 use Rattle.prolog_tokens.specs.Places.{IsPlace}
 use Rattle.prolog_tokens.proofs.PlaceSteps.{place_once}
 use Rattle.clause_text.specs.Cause.{number_of}

@@ -4,7 +4,7 @@ use Rattle.std.specs.declared.cmp.Ordering.TheVariants.{Less}
 use Rattle.std.proofs.lemmas.List.Elements.{All-contains}
 use Rattle.module_table.specs.Facts.{Facts}
 use Rattle.file_library.specs.Loaded.{LoadedFiles}
-use Rattle.order_law.proofs.OneOrder.{less_strict, same_order}
+use Rattle.list_laws.proofs.OneOrder.{less_strict, same_order}
 use Rattle.import_rules.specs.declared.names.PredName.{PredName}
 use Rattle.import_rules.specs.Files.{AreNumbered, all_defined}
 use Rattle.import_rules.specs.Names.{pred_cmp}

@@ -19,7 +19,7 @@ use Rattle.std.proofs.lemmas.List.Sorted.{ranks_by, sorted_far}
 use Rattle.std.proofs.lemmas.Map.Keys.{Less-from_sorted}
 use Rattle.std.proofs.lemmas.Map.Lookups.{exact_bytes}
 use Rattle.std.proofs.lemmas.Option.{slice_get_within, get_or_from_slice_get}
-use Rattle.order_law.proofs.OneOrder.{less_strict, in_first}
+use Rattle.list_laws.proofs.OneOrder.{less_strict, in_first}
 use Rattle.prolog_tokens.specs.declared.token.Place.{Place}
 use Rattle.prolog_tokens.specs.Places.{IsOffset, ArePlaces}
 use Rattle.clause_text.specs.Cause.{number_of}

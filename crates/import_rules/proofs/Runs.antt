@@ -13,7 +13,7 @@ use Rattle.std.proofs.lemmas.List.Quantifiers.{all_pairs_push}
 use Rattle.std.proofs.lemmas.List.Sorted.{ranks_by, sorted_far}
 use Rattle.module_table.specs.Kinds.{first_of}
 use Rattle.std.proofs.lemmas.Simd.{map-map}
-use Rattle.order_law.proofs.OneOrder.{in_first}
+use Rattle.list_laws.proofs.OneOrder.{in_first}
 use Rattle.import_rules.proofs.Lists.{filter_none, filter_all, map_agrees, all_by, kept_there, agree_at}
 
 -- an order by keys, as a sort takes it

@@ -5,7 +5,7 @@ use Rattle.std.proofs.lemmas.Cmp.{nat_list_cmp_total, tied_itself}
 use Rattle.std.proofs.lemmas.List.{take_more}
 use Rattle.std.proofs.lemmas.List.Elements.{Contains-push, Contains-push_cases, Contains-append_left}
 use Rattle.std.proofs.lemmas.Option.{slice_get_within, slice_get-get_or, get_or_from_slice_get}
-use Rattle.order_law.proofs.OneOrder.{nothing_in, first_or_rest, in_first, in_rest}
+use Rattle.list_laws.proofs.OneOrder.{nothing_in, first_or_rest, in_first, in_rest}
 use Rattle.loop_report.specs.ModuleGraph.{AreRising}
 
 -- what stands among the images stands there for an element

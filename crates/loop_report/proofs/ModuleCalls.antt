@@ -10,7 +10,7 @@ use Rattle.graph_law.specs.Graph.{IsGraph}
 use Rattle.module_table.specs.declared.load.Load.{Load}
 use Rattle.module_table.specs.Said.{Loads}
 use Rattle.module_table.specs.Facts.{Facts}
-use Rattle.order_law.proofs.OneOrder.{nothing_in}
+use Rattle.list_laws.proofs.OneOrder.{nothing_in}
 use Rattle.loop_report.specs.ModuleGraph.{AreRising, AreModulePlaces, HasLoad, AddsLoads, AreLoadLists, file_names}
 use Rattle.loop_report.proofs.Lists.{there_in_map, in_map, element_at, stands, place_there, more_cases, more_old, more_new, one_place}
 

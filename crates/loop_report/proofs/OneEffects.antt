@@ -14,7 +14,7 @@ use Rattle.loop_report.specs.Effects.{AreEffectLines, effect_line, group_effects
 use Rattle.loop_report.specs.Report.{least_at}
 use Rattle.loop_report.specs.Reportable.{AreLeveled}
 use Rattle.loop_report.proofs.OneLine.{line_at, lines, same_lines}
-use Rattle.order_law.proofs.OneOrder.{order_below}
+use Rattle.list_laws.proofs.OneOrder.{order_below}
 
 -- texts that are equal place by place
 flat_same : (F G : ℕ → List ℕ) (xs ys : List ℕ) → length xs ≡ length ys → ((k : ℕ) → k < length xs → F (get_or xs k 0) ≡ G (get_or ys k 0)) → flat_map F xs ≡ flat_map G ys

@@ -8,7 +8,7 @@ use Rattle.std.proofs.lemmas.List.Sorted.{IsPermutation-refl}
 use Rattle.std.proofs.lemmas.List.Sums.{sum_by-cons, sum_by-append}
 use Rattle.group_release.specs.declared.level.Level.{Level}
 use Rattle.group_release.specs.Level.{level_at}
-use Rattle.order_law.proofs.OneOrder.{nothing_in, first_or_rest, in_first, in_rest, before_rest, rest_in_order, range_has, sum_by-map, sum_by_places, most_upto, most_each}
+use Rattle.list_laws.proofs.OneOrder.{nothing_in, first_or_rest, in_first, in_rest, before_rest, rest_in_order, range_has, sum_by-map, sum_by_places, most_upto, most_each}
 use Rattle.loop_report.specs.Reportable.{AreGroups, AreLeveled}
 use Rattle.loop_report.specs.Report.{head_line, height_count}
 use Rattle.loop_report.proofs.Printable.{one_each}

@@ -12,7 +12,7 @@ use Rattle.group_release.specs.Level.{level_at}
 use Rattle.loop_report.specs.Reportable.{AreGroups, AreLeveled}
 use Rattle.loop_report.specs.Report.{IsLineOrder}
 use Rattle.loop_report.proofs.Printable.{one_each}
-use Rattle.order_law.proofs.OneOrder.{IsStrict, same_order, holds_of, order_has, order_below}
+use Rattle.list_laws.proofs.OneOrder.{IsStrict, same_order, holds_of, order_has, order_below}
 
 -- all that is reached stands in a group
 pub reached_has : {calls : ℕ → ℕ → Type 0} {starts : List ℕ} {groups : List (List ℕ)} → AreGroups calls starts groups → (p : ℕ) → IsReached calls starts p → HasMember groups p

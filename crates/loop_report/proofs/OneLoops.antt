@@ -9,7 +9,7 @@ use Rattle.std.proofs.lemmas.List.{get_or-map, length-map}
 use Rattle.std.proofs.lemmas.List.Kept.{AllPairs-from_increasing}
 use Rattle.graph_law.specs.Classes.{least_member}
 use Rattle.module_table.specs.Facts.{Facts}
-use Rattle.order_law.proofs.OneOrder.{IsStrict, less_strict, same_order, holds_of}
+use Rattle.list_laws.proofs.OneOrder.{IsStrict, less_strict, same_order, holds_of}
 use Rattle.loop_report.specs.ImportLoops.{AreModules, IsLoop, AreImportLoops, names_at}
 
 has_module : (files : List Facts) (modules others : List (List ℕ)) → AreModules files modules → AreModules files others

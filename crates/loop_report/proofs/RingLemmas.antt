@@ -20,7 +20,7 @@ use Rattle.graph_law.specs.Classes.{IsClass, IsRecursive, HasMember, group_at, l
 use Rattle.graph_law.specs.LegalOrder.{IsLegalOrder, IsComplete}
 use Rattle.graph_law.proofs.ClassLaws.{least_is_member}
 use Rattle.graph_law.proofs.Unique.{class_unique}
-use Rattle.order_law.proofs.OneOrder.{range_has, holds_of, nothing_in}
+use Rattle.list_laws.proofs.OneOrder.{range_has, holds_of, nothing_in}
 use Rattle.loop_report.specs.ImportLoops.{names_at}
 use Rattle.loop_report.specs.ModuleGraph.{IsRing, AreRings}
 use Rattle.loop_report.specs.Reportable.{LeastDiffer}

@@ -6,7 +6,7 @@ use Rattle.std.specs.Ordering.{eq_by_cmp}
 use Rattle.std.proofs.lemmas.Cmp.{eq_by_cmp_equiv}
 use Rattle.std.proofs.lemmas.Map.Keys.{IsDistinct-from_sorted}
 use Rattle.std.proofs.lemmas.Map.Made.{length-le_from_is_member}
-use Rattle.order_law.proofs.OneOrder.{nothing_in, first_or_rest, in_rest, in_first}
+use Rattle.list_laws.proofs.OneOrder.{nothing_in, first_or_rest, in_rest, in_first}
 use Rattle.prolog_terms.specs.Tree.{Tree}
 use Rattle.clause_text.specs.Clauses.{total_weight}
 use Rattle.module_table.specs.Defined.{Defines, Predicate, AreDefined, IsDefined, predicate_cmp, key}

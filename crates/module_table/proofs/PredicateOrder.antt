@@ -15,7 +15,7 @@ use Rattle.std.proofs.lemmas.Slice.Eq.{bytes_eq-Decides}
 use Rattle.std.proofs.lemmas.List.Elements.{All-head, All-tail, All-push, All-from_recursion, recursion_from_All, All-pop}
 use Rattle.std.proofs.lemmas.List.Kept.{AllPairs-cons}
 use Rattle.std.proofs.lemmas.Map.Views.{All-before_last}
-use Rattle.order_law.proofs.OneOrder.{less_strict, same_order}
+use Rattle.list_laws.proofs.OneOrder.{less_strict, same_order}
 use Rattle.module_table.specs.Defined.{Predicate, predicate_cmp, key}
 
 pub predicate_cmp_total : IsTotalOrder predicate_cmp

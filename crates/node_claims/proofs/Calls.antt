@@ -5,8 +5,8 @@ use mathlib.Core.Option.{none}
 use prog.Atomic.{either}
 use Rattle.atomic_table.specs.Table.{Me, Allows, opening, rest, step}
 use Rattle.atomic_table.specs.Seated.{TableId}
-use Rattle.node_counts.specs.Counts.{times, flat}
-use Rattle.node_counts.proofs.Counting.{standing}
+use Rattle.list_laws.specs.Counts.{times, flat}
+use Rattle.list_laws.proofs.Counting.{standing}
 use Rattle.graph_law.specs.LegalOrder.{IsComplete}
 use Rattle.group_release.specs.Book.{BookValue}
 use Rattle.group_release.proofs.Nodes.{from_flat}

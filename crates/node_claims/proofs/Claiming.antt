@@ -6,8 +6,8 @@ use native.Mathlib.Decide.{ℕ_discrete}
 use lib.ListN.{get_elem?}
 use prog.Atomic.{either}
 use Rattle.atomic_table.specs.Table.{Me, Allows, keeps, step}
-use Rattle.node_counts.specs.Counts.{times}
-use Rattle.node_counts.proofs.Counting.{times-append, times_here, times_other}
+use Rattle.list_laws.specs.Counts.{times}
+use Rattle.list_laws.proofs.Counting.{times-append, times_here, times_other}
 use Rattle.node_claims.specs.declared.view.View.{View}
 use Rattle.node_claims.specs.Views.{claimed, looked}
 use Rattle.node_claims.specs.Rule.{Agrees, RuleHolds, Slot, WordIs, finished, standing}

@@ -3,8 +3,8 @@ use Rattle.std.proofs.Common.{◌≡◌, ◌≢◌, ℕ, zero, suc, ◌≤◌, �
 use mathlib.Core.Option.{some, some-injective, some-ne-none}
 use native.Mathlib.Decide.{ℕ_discrete}
 use lib.ListN.{get_elem?}
-use Rattle.node_counts.specs.Counts.{times, total}
-use Rattle.node_counts.proofs.Standing.{total_least}
+use Rattle.list_laws.specs.Counts.{times, total}
+use Rattle.list_laws.proofs.Standing.{total_least}
 use Rattle.node_claims.specs.declared.view.View.{View}
 use Rattle.node_claims.specs.Laws.{AreClaimedOnce, StandSomewhere}
 use Rattle.node_claims.specs.Rule.{finished, standing}

@@ -8,8 +8,8 @@ use lib.ListN.{get_elem?}
 use prog.Atomic.{either}
 use Rattle.atomic_table.specs.Table.{Act, Me, Valid, Allows, carried_after, gives, keeps, stepped, step, takes}
 use Rattle.atomic_table.proofs.Lists.{set_again}
-use Rattle.node_counts.specs.Counts.{times, flat}
-use Rattle.node_counts.proofs.Counting.{times-append, times_here, times_other}
+use Rattle.list_laws.specs.Counts.{times, flat}
+use Rattle.list_laws.proofs.Counting.{times-append, times_here, times_other}
 use Rattle.group_release.specs.Book.{BookValue}
 use Rattle.node_claims.specs.declared.view.Outline.{Outline}
 use Rattle.node_claims.specs.declared.view.Taken.{Taken}

@@ -4,9 +4,9 @@ use Rattle.std.proofs.lemmas.Bool.{cases_lt}
 use mathlib.Core.Option.{some}
 use native.Mathlib.Decide.{ℕ_discrete}
 use lib.ListN.{get_elem?}
-use Rattle.node_counts.specs.Counts.{times, flat}
-use Rattle.node_counts.proofs.Counting.{times-append, times_here, times_other}
-use Rattle.node_counts.proofs.Standing.{total_set, total_least}
+use Rattle.list_laws.specs.Counts.{times, flat}
+use Rattle.list_laws.proofs.Counting.{times-append, times_here, times_other}
+use Rattle.list_laws.proofs.Standing.{total_set, total_least}
 use Rattle.node_claims.specs.declared.view.Outline.{Outline}
 use Rattle.node_claims.specs.declared.view.View.{View}
 use Rattle.node_claims.specs.Views.{Noted, looked}

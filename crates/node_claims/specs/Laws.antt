@@ -3,7 +3,7 @@ use Rattle.std.specs.Prelude.{◌≡◌, ℕ, suc, ◌+◌, ◌<◌, true, [], �
 use mathlib.Core.Option.{some}
 use lib.ListN.{get_elem?}
 use Rattle.atomic_table.specs.Table.{State}
-use Rattle.node_counts.specs.Counts.{times, total}
+use Rattle.list_laws.specs.Counts.{times, total}
 use Rattle.group_release.specs.Book.{BookValue}
 use Rattle.node_claims.specs.declared.view.View.{View}
 use Rattle.node_claims.specs.Rule.{RuleHolds, Slot}

@@ -1,7 +1,7 @@
 -- What each kind of step tells, and when it may be made.
 use Rattle.std.specs.Prelude.{◌≡◌, ◌≢◌, ◌⊎◌, ℕ, zero, suc, ◌+◌, ◌<◌, ◌≤◌, Bool, true, false, List, [], ◌∷◌, ◌++◌, length, Option, None, Some}
 use Rattle.atomic_table.specs.Table.{Me, Step}
-use Rattle.node_counts.specs.Counts.{times, flat, IsLonger}
+use Rattle.list_laws.specs.Counts.{times, flat, IsLonger}
 use Rattle.group_release.specs.Book.{BookValue}
 use Rattle.node_claims.specs.declared.view.Outline.{Outline}
 use Rattle.node_claims.specs.declared.view.Taken.{Taken}

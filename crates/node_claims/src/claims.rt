@@ -3,7 +3,7 @@ ghost use Rattle.graph_law.specs.Classes.{HasMember};
 ghost use Rattle.graph_law.specs.Graph.{Calls, lists_of};
 ghost use Rattle.graph_law.specs.LegalOrder.{IsComplete, IsLegalOrder};
 ghost use Rattle.graph_law.specs.Reach.{IsReached};
-ghost use Rattle.node_counts.specs.Counts.{times};
+ghost use Rattle.list_laws.specs.Counts.{times};
 ghost use Rattle.node_claims.specs.Claims.{ClaimsValue, IsPassOf, claim_number, look_number};
 ghost use Rattle.node_claims.specs.Steps.{IsLater, IsLent};
 ghost use Rattle.node_claims.specs.Taking.{IsTaken};

@@ -1,7 +1,7 @@
 ghost use Rattle.std.specs.Prelude.{◌≡◌, ◌<◌, [], ◌∷◌, ◌++◌, length};
 ghost use Rattle.std.specs.Borrow.{sem};
 ghost use Rattle.graph_law.specs.Classes.{HasMember};
-ghost use Rattle.node_counts.specs.Counts.{flat};
+ghost use Rattle.list_laws.specs.Counts.{flat};
 ghost use Rattle.node_claims.specs.Claims.{nodes_with};
 ghost use Rattle.node_claims.specs.Steps.{MayClose, MayGive};
 ghost use Rattle.node_claims.specs.Views.{outline_of};

@@ -1,6 +1,6 @@
 use crate::graphs::graph_of_lists;
 use graph_law::{Graph, Opener};
-use search_schedule::drive_many;
+use search_machine::drive_many;
 use std::alloc::AllocError;
 use std::test::Fail;
 

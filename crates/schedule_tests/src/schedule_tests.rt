@@ -2,7 +2,7 @@ ghost use Rattle.std.specs.Prelude.{◌<◌, ◌≤◌};
 
 use crate::graphs::graph_of_lists;
 use graph_law::Graph;
-use search_schedule::drive_many;
+use search_machine::drive_many;
 use search_stack::groups_plain;
 use std::alloc::{AllocError, Global};
 use std::test::Fail;

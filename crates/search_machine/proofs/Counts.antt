@@ -5,9 +5,9 @@ use Rattle.std.proofs.lemmas.List.{get_or_past, map-append}
 use Rattle.std.proofs.lemmas.Map.Keys.{IsDistinct-from_apart}
 use Rattle.std.specs.List.{IsDistinct as AreDistinct}
 use Rattle.std.specs.Prelude.{nat_eq}
-use Rattle.node_counts.specs.Counts.{times, flat, total}
-use Rattle.node_counts.proofs.Counting.{times-append, times_here}
-use Rattle.node_counts.proofs.Standing.{total_at, times-flat-map}
+use Rattle.list_laws.specs.Counts.{times, flat, total}
+use Rattle.list_laws.proofs.Counting.{times-append, times_here}
+use Rattle.list_laws.proofs.Standing.{total_at, times-flat-map}
 use Rattle.search_stack.specs.Stack.{Entry, Stack, size, node, position}
 use Rattle.search_stack.specs.Search.{SearchValue, IsDistinct, below_frame, nodes_from, pushed}
 use Rattle.search_stack.proofs.UnderWay.{SameNodes}

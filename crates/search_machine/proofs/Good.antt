@@ -2,7 +2,7 @@
 use Rattle.std.proofs.Common.{◌≡◌, ◌⊎◌, inl, inr, ℕ, ◌<◌, ◌≤◌, ◌+◌, Bool, false, List, length, get_or, Option, None, Some, is_some, refl, ap, ◌∙◌, sym, subst, arith, true≢false}
 use Rattle.std.proofs.lemmas.Bool.{cases_Bool, cases_eq}
 use Rattle.std.specs.Prelude.{Contains}
-use Rattle.node_counts.specs.Counts.{times, flat}
+use Rattle.list_laws.specs.Counts.{times, flat}
 use Rattle.graph_law.specs.Classes.{HasMember}
 use Rattle.search_stack.specs.Stack.{size}
 use Rattle.search_stack.specs.GoodSearch.{IsGood}
@@ -16,7 +16,7 @@ use Rattle.group_release.specs.Outline.{kept_nodes, listed, nodes_of}
 use Rattle.group_release.proofs.Beside.{on_within}
 use Rattle.group_release.proofs.KeptCounts.{kept_change}
 use Rattle.group_release.proofs.Nodes.{in_flat, on_counted}
-use Rattle.node_counts.proofs.Counting.{counted}
+use Rattle.list_laws.proofs.Counting.{counted}
 use Rattle.search_machine.specs.Events.{SetsAt}
 use Rattle.search_machine.specs.State.{State, IsClaimed, IsGoodState, IsRunning, WaitsFor, standing, waiting_at}
 use Rattle.search_machine.proofs.Counts.{apart_counted, distinct_counted, held_counted, nodes_counted, waiting_change}

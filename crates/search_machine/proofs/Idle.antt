@@ -1,8 +1,8 @@
 -- An idle place passes over a root or takes a ready search: the state stays good.
 use Rattle.std.proofs.Common.{◌≡◌, ◌⊎◌, inl, inr, ℕ, Bool, false, List, ◌∷◌, length, Some, ap, ◌∙◌, sym, subst, arith}
 use Rattle.std.specs.Prelude.{Contains}
-use Rattle.order_law.proofs.OneOrder.{first_or_rest, in_rest}
-use Rattle.node_counts.specs.Counts.{times, flat}
+use Rattle.list_laws.proofs.OneOrder.{first_or_rest, in_rest}
+use Rattle.list_laws.specs.Counts.{times, flat}
 use Rattle.search_stack.specs.Stack.{size}
 use Rattle.search_stack.specs.GoodSearch.{IsGood}
 use Rattle.search_stack.specs.Search.{SearchValue}

@@ -15,3 +15,9 @@ pub mod Stopping
 pub mod Acting
 pub mod Pushing
 pub mod Steps
+-- schedules
+pub mod StackWork
+pub mod StateWork
+pub mod MovedWork
+pub mod Falling
+pub mod Driving

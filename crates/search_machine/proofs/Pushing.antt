@@ -2,9 +2,9 @@
 use Rattle.std.proofs.Common.{◌≡◌, ◌⊎◌, inl, inr, ℕ, ◌<◌, ◌≤◌, ◌^◌, Bool, true, List, [], ◌∷◌, length, map, get_or, set, drop, Option, None, Some, refl, ap, ◌∙◌, sym, subst, arith}
 use Rattle.std.proofs.lemmas.List.{get_or_default}
 use Rattle.std.specs.Prelude.{option_and_then}
-use Rattle.node_counts.specs.Counts.{times, flat, total}
-use Rattle.node_counts.proofs.Counting.{times_here}
-use Rattle.node_counts.proofs.Standing.{times-flat-map}
+use Rattle.list_laws.specs.Counts.{times, flat, total}
+use Rattle.list_laws.proofs.Counting.{times_here}
+use Rattle.list_laws.proofs.Standing.{times-flat-map}
 use Rattle.search_stack.specs.Stack.{Stack, size}
 use Rattle.search_stack.specs.Search.{SearchValue, IsLastBegun, IsOn, pushed}
 use Rattle.search_stack.proofs.Shapes.{empty_size}

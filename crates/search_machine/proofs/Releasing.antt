@@ -3,8 +3,8 @@ use Rattle.std.proofs.Common.{◌≡◌, inl, inr, ℕ, ◌<◌, ◌≤◌, ◌+
 use Rattle.std.proofs.lemmas.List.Elements.{All-from_get_or, Contains-append_cases}
 use Rattle.std.proofs.lemmas.List.{get_or_default}
 use Rattle.std.specs.Prelude.{Contains}
-use Rattle.node_counts.specs.Counts.{times, flat}
-use Rattle.node_counts.proofs.Counting.{counted}
+use Rattle.list_laws.specs.Counts.{times, flat}
+use Rattle.list_laws.proofs.Counting.{counted}
 use Rattle.graph_law.specs.Classes.{HasMember}
 use Rattle.search_stack.specs.Stack.{Stack, size, top}
 use Rattle.search_stack.specs.GoodSearch.{IsGood}

@@ -2,7 +2,7 @@
 use Rattle.std.proofs.Common.{◌≡◌, inl, inr, ℕ, ◌<◌, ◌≤◌, ◌+◌, ◌-◌, true, false, List, [], length, get_or, Some, refl, ◌∙◌, sym, subst, arith, ◌++◌}
 use Rattle.std.proofs.lemmas.Bool.{cases_lt}
 use Rattle.std.proofs.lemmas.List.{get_or_default}
-use Rattle.node_counts.specs.Counts.{times}
+use Rattle.list_laws.specs.Counts.{times}
 use Rattle.graph_law.specs.Graph.{Calls}
 use Rattle.graph_law.specs.Reach.{IsReached}
 use Rattle.search_stack.specs.Stack.{Stack, size, height, top, node, begun, succs, position, low}

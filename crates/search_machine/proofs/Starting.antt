@@ -2,7 +2,7 @@
 use Rattle.std.proofs.Common.{◌≡◌, inl, ℕ, zero, suc, ◌<◌, false, List, [], ◌++◌, length, map, get_or, Option, None, refl, ap, ◌∙◌, sym, arith, true≢false}
 use Rattle.std.proofs.lemmas.List.{length-replicate}
 use Rattle.std.specs.Prelude.{All, replicate}
-use Rattle.node_counts.specs.Counts.{times, flat}
+use Rattle.list_laws.specs.Counts.{times, flat}
 use Rattle.graph_law.specs.Graph.{IsClosed}
 use Rattle.search_stack.proofs.Driving.{unmarked}
 use Rattle.blocked_table.specs.Kept.{kept_at}

@@ -4,7 +4,7 @@ use Rattle.std.proofs.lemmas.Bool.{cases_lt}
 use Rattle.std.proofs.lemmas.List.{get_or_default, length-drop}
 use Rattle.std.proofs.lemmas.List.Elements.{All-contains}
 use Rattle.std.specs.List.Sorted.{IsPermutation}
-use Rattle.order_law.proofs.OneOrder.{in_first}
+use Rattle.list_laws.proofs.OneOrder.{in_first}
 use Rattle.std.specs.Prelude.{Contains}
 use Rattle.graph_law.specs.Classes.{HasMember}
 use Rattle.search_stack.specs.Stack.{Stack, IsShaped, size, top, low, position}

@@ -1,6 +1,6 @@
 -- A machine that fails keeps a good state.
 use Rattle.std.proofs.Common.{◌≡◌, inl, inr, ℕ, Bool, true, false, List, Option, None, Some, refl, ap, ◌∙◌, sym, subst, arith, true≢false}
-use Rattle.node_counts.specs.Counts.{times, flat}
+use Rattle.list_laws.specs.Counts.{times, flat}
 use Rattle.search_stack.specs.Stack.{size}
 use Rattle.search_stack.specs.GoodSearch.{IsGood}
 use Rattle.search_stack.specs.Search.{SearchValue}

@@ -3,10 +3,10 @@ use Rattle.std.proofs.Common.{◌≡◌, inl, inr, ℕ, zero, suc, ◌<◌, ◌+
 use Rattle.std.proofs.lemmas.List.{get_or_default, get_or-map, length-map}
 use Rattle.std.proofs.lemmas.List.Elements.{All-from_get_or}
 use Rattle.std.specs.Prelude.{Contains}
-use Rattle.order_law.proofs.OneOrder.{nothing_in}
-use Rattle.node_counts.specs.Counts.{times, flat}
-use Rattle.node_counts.proofs.Counting.{standing as stands_in}
-use Rattle.node_counts.proofs.Standing.{times-flat-map, total_less}
+use Rattle.list_laws.proofs.OneOrder.{nothing_in}
+use Rattle.list_laws.specs.Counts.{times, flat}
+use Rattle.list_laws.proofs.Counting.{standing as stands_in}
+use Rattle.list_laws.proofs.Standing.{times-flat-map, total_less}
 use Rattle.graph_law.specs.Classes.{HasMember}
 use Rattle.graph_law.specs.LegalOrder.{IsComplete}
 use Rattle.search_stack.specs.Search.{SearchValue}

@@ -1,9 +1,9 @@
 -- A search is kept, or goes on after a transfer: the state stays good.
 use Rattle.std.proofs.Common.{◌≡◌, inl, inr, ℕ, ◌<◌, ◌+◌, true, false, List, [], ◌∷◌, Option, None, Some, refl, ap, ◌∙◌, sym, subst, arith}
 use Rattle.std.proofs.lemmas.Bool.{cases_eq}
-use Rattle.order_law.proofs.OneOrder.{first_or_rest, nothing_in}
-use Rattle.node_counts.specs.Counts.{times, flat}
-use Rattle.node_counts.proofs.Counting.{standing as stands_in}
+use Rattle.list_laws.proofs.OneOrder.{first_or_rest, nothing_in}
+use Rattle.list_laws.specs.Counts.{times, flat}
+use Rattle.list_laws.proofs.Counting.{standing as stands_in}
 use Rattle.search_stack.specs.Stack.{Stack, size}
 use Rattle.search_stack.specs.GoodSearch.{IsGood}
 use Rattle.search_stack.specs.Search.{SearchValue, IsGoodSearch, IsLastBegun}

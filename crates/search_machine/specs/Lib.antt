@@ -3,3 +3,5 @@ pub mod Machine
 pub mod MachineFields
 pub mod Runs
 pub mod State
+pub mod Schedule
+pub mod Work

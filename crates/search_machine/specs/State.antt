@@ -1,6 +1,6 @@
 -- Many searches on one thread: what there is between two events.
 use Rattle.std.specs.Prelude.{◌≡◌, ℕ, ◌+◌, ◌<◌, ◌⊎◌, Bool, true, false, is_some, List, length, map, slice_index_or, Option, None, Some, Contains}
-use Rattle.node_counts.specs.Counts.{times, flat}
+use Rattle.list_laws.specs.Counts.{times, flat}
 use Rattle.graph_law.specs.Graph.{Calls}
 use Rattle.graph_law.specs.Reach.{IsReached}
 use Rattle.search_stack.specs.GoodSearch.{IsGood}

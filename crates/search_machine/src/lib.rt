@@ -4,13 +4,15 @@
 //! and the released groups. What one turn of a place makes of it is an event. The laws say of every
 //! graph that each event keeps a good state, whose groups are a legal order of what the roots reach, and
 //! that where no place can act every root is released. A `Machine` holds such a state, and lets a place
-//! act.
+//! act. `drive_many` lets the places act by a schedule that a seed draws, until none can.
 #![tactic(auto)]
 
 mod laws;
 mod machine;
+mod schedule;
 mod step;
 
 pub use laws::{events_keep, good_states, nothing_left, runs_keep};
 pub use machine::Machine;
+pub use schedule::{drive_many, runs_end, schedules_answer};
 pub use step::Step;

@@ -1,6 +1,6 @@
 -- Two passes that have seen each root finished are one such pass.
 use Rattle.std.proofs.Common.{◌≡◌, ℕ, List, [], ◌++◌, get_or, ap, ◌∙◌, subst, sym, arith}
-use Rattle.node_counts.proofs.Counting.{times-append}
+use Rattle.list_laws.proofs.Counting.{times-append}
 use Rattle.node_claims.specs.Claims.{ClaimsValue, PassValue}
 use Rattle.node_claims.specs.Views.{both}
 use Rattle.search_pool.specs.Driving.{IsThrough}

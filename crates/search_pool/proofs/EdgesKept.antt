@@ -4,9 +4,9 @@ use Rattle.std.proofs.lemmas.Bool.{both_ways}
 use Rattle.std.proofs.lemmas.List.{append-nil, get_or-map, length-map, map-append, same_lists}
 use Rattle.std.proofs.lemmas.List.Elements.{Contains-append_left, Contains-append_right}
 use Rattle.std.specs.Prelude.{Contains, IsTrue}
-use Rattle.order_law.proofs.OneOrder.{in_first}
-use Rattle.node_counts.specs.Counts.{times}
-use Rattle.node_counts.proofs.Counting.{times-append}
+use Rattle.list_laws.proofs.OneOrder.{in_first}
+use Rattle.list_laws.specs.Counts.{times}
+use Rattle.list_laws.proofs.Counting.{times-append}
 use Rattle.graph_law.specs.Graph.{IsClosed}
 use Rattle.search_stack.specs.Stack.{Entry, Stack, IsShaped, size, height, node, position, top}
 use Rattle.search_stack.specs.GoodSearch.{IsGood}

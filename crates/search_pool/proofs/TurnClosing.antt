@@ -3,8 +3,8 @@ use Rattle.std.proofs.Common.{◌≡◌, ℕ, zero, suc, ◌<◌, ◌≤◌, ◌
 use Rattle.std.proofs.lemmas.List.{get_or_default, take_more}
 use Rattle.std.proofs.lemmas.Option.{get_or_from_slice_get}
 use Rattle.std.specs.Prelude.{Contains, slice_get}
-use Rattle.node_counts.specs.Counts.{times}
-use Rattle.node_counts.proofs.Counting.{times-append, times_here}
+use Rattle.list_laws.specs.Counts.{times}
+use Rattle.list_laws.proofs.Counting.{times-append, times_here}
 use Rattle.graph_law.specs.Classes.{HasMember}
 use Rattle.node_claims.specs.Claims.{TurnValue}
 use Rattle.node_claims.specs.Steps.{MayClose}

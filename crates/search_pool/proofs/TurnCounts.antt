@@ -3,9 +3,9 @@ use Rattle.std.proofs.Common.{◌≡◌, ℕ, zero, suc, ◌<◌, ◌≤◌, ◌
 use Rattle.std.proofs.lemmas.Map.Keys.{IsDistinct-from_apart}
 use Rattle.std.specs.List.{IsDistinct as AreDistinct}
 use Rattle.std.specs.Prelude.{nat_eq}
-use Rattle.node_counts.specs.Counts.{times, total}
-use Rattle.node_counts.proofs.Counting.{times-append, times_here}
-use Rattle.node_counts.proofs.Standing.{times-flat-map}
+use Rattle.list_laws.specs.Counts.{times, total}
+use Rattle.list_laws.proofs.Counting.{times-append, times_here}
+use Rattle.list_laws.proofs.Standing.{times-flat-map}
 use Rattle.search_stack.specs.Stack.{Entry, Stack, position}
 use Rattle.search_stack.specs.Search.{SearchValue, below_frame, nodes_from}
 use Rattle.blocked_table.specs.Kept.{kept_at, Holds}

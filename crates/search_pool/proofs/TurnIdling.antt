@@ -4,8 +4,8 @@ use Rattle.std.proofs.lemmas.List.{append-nil, get_or-drop, length-drop, take_al
 use Rattle.std.proofs.lemmas.List.Elements.{All-contains, All-more, All-push}
 use Rattle.std.proofs.lemmas.Option.{get_or_from_slice_get, slice_get_cases}
 use Rattle.std.specs.Prelude.{All, Contains, slice_get}
-use Rattle.node_counts.specs.Counts.{times, flat}
-use Rattle.node_counts.proofs.Counting.{counted}
+use Rattle.list_laws.specs.Counts.{times, flat}
+use Rattle.list_laws.proofs.Counting.{counted}
 use Rattle.graph_law.specs.Classes.{HasMember}
 use Rattle.graph_law.specs.Graph.{Calls}
 use Rattle.graph_law.specs.Reach.{IsReached}

@@ -2,8 +2,8 @@
 use Rattle.std.proofs.Common.{◌≡◌, ◌⊎◌, inl, inr, ℕ, ◌<◌, ◌≤◌, ◌+◌, Bool, true, List, [], ◌++◌, length, take, get_or, None, refl, ap, ◌∙◌, sym, subst, arith}
 use Rattle.std.proofs.lemmas.List.{append-nil}
 use Rattle.std.specs.Prelude.{All, Contains}
-use Rattle.node_counts.specs.Counts.{times, flat}
-use Rattle.node_counts.proofs.Counting.{counted, standing, times-append}
+use Rattle.list_laws.specs.Counts.{times, flat}
+use Rattle.list_laws.proofs.Counting.{counted, standing, times-append}
 use Rattle.graph_law.specs.Classes.{HasMember}
 use Rattle.search_stack.specs.GoodSearch.{IsGood}
 use Rattle.search_stack.specs.Search.{SearchValue, IsOn}

@@ -3,7 +3,7 @@ use Rattle.std.proofs.Common.{◌≡◌, ℕ, ◌<◌, true, false, [], ◌∷�
 use Rattle.std.proofs.lemmas.List.{append-nil}
 use Rattle.std.proofs.lemmas.List.Elements.{Contains-append_left}
 use Rattle.std.specs.Prelude.{All, Contains}
-use Rattle.node_counts.specs.Counts.{times}
+use Rattle.list_laws.specs.Counts.{times}
 use Rattle.search_stack.specs.GoodSearch.{IsGood}
 use Rattle.search_stack.specs.Search.{SearchValue}
 use Rattle.search_stack.proofs.Edges.{good_more, good_open}

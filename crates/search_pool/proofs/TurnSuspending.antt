@@ -4,9 +4,9 @@ use Rattle.std.specs.Bool.{OnFalse}
 use Rattle.std.proofs.lemmas.List.Elements.{Contains-append_right}
 use Rattle.std.specs.Prelude.{Contains, IsTrue}
 use Rattle.graph_law.specs.Classes.{HasMember}
-use Rattle.order_law.proofs.OneOrder.{first_or_rest, nothing_in}
-use Rattle.node_counts.specs.Counts.{times, flat}
-use Rattle.node_counts.proofs.Counting.{standing}
+use Rattle.list_laws.proofs.OneOrder.{first_or_rest, nothing_in}
+use Rattle.list_laws.specs.Counts.{times, flat}
+use Rattle.list_laws.proofs.Counting.{standing}
 use Rattle.search_stack.specs.GoodSearch.{IsGood}
 use Rattle.search_stack.specs.Search.{SearchValue, IsOn}
 use Rattle.blocked_table.specs.declared.suspended.Suspended.{Suspended}

@@ -1,6 +1,6 @@
 -- A worker between two turns: its pass, and the search that it runs.
 use Rattle.std.specs.Prelude.{◌≡◌, ℕ, ◌<◌, Bool, true, false, [], Option, None, Some, All}
-use Rattle.node_counts.specs.Counts.{times}
+use Rattle.list_laws.specs.Counts.{times}
 use Rattle.search_stack.specs.GoodSearch.{IsGood}
 use Rattle.search_stack.specs.Search.{SearchValue, IsLastBegun, IsOn, IsRipe}
 use Rattle.search_stack.specs.Stack.{size}

@@ -1,6 +1,6 @@
 -- What a worker keeps between two turns, which roots it may pass over, and what it owes for a group that it closes.
 use Rattle.std.specs.Prelude.{◌≡◌, ◌⊎◌, ℕ, ◌-◌, ◌+◌, ◌<◌, ◌≤◌, Bool, false, List, [], ◌++◌, length, slice_index_or, slice_range, take, None, All, Contains}
-use Rattle.node_counts.specs.Counts.{times, flat}
+use Rattle.list_laws.specs.Counts.{times, flat}
 use Rattle.graph_law.specs.Classes.{HasMember}
 use Rattle.search_stack.specs.GoodSearch.{IsGood}
 use Rattle.search_stack.specs.Search.{SearchValue}

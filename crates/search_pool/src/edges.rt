@@ -3,7 +3,7 @@ ghost use Rattle.graph_law.specs.Graph.{Calls};
 ghost use Rattle.graph_law.specs.Reach.{IsReached};
 ghost use Rattle.search_stack.specs.Search.{IsLastBegun, IsOn};
 ghost use Rattle.search_stack.specs.Stack.{size};
-ghost use Rattle.node_counts.specs.Counts.{times};
+ghost use Rattle.list_laws.specs.Counts.{times};
 ghost use Rattle.search_pool.specs.Edges.{GoesOn};
 ghost use Rattle.search_pool.specs.Worker.{IsRunning, IsWorking, StopsAt};
 

@@ -1,5 +1,5 @@
 ghost use Rattle.std.specs.Prelude.{◌≡◌, ◌⊎◌, ◌+◌, ◌<◌, ◌≤◌, ℕ, true, None, Contains, IfOk, IfErr, IfSome, IfNone};
-ghost use Rattle.node_counts.specs.Counts.{times, flat};
+ghost use Rattle.list_laws.specs.Counts.{times, flat};
 ghost use Rattle.graph_law.specs.Classes.{HasMember};
 ghost use Rattle.search_stack.specs.GoodSearch.{IsGood};
 ghost use Rattle.search_stack.specs.Search.{IsLastBegun, IsOn, IsReleasable};

@@ -2,7 +2,7 @@ ghost use Rattle.std.specs.Prelude.{◌≡◌, ◌++◌, ℕ, Bool, None};
 ghost use Rattle.node_claims.specs.Claims.{ClaimsValue, nodes_with};
 ghost use Rattle.node_claims.specs.Steps.{MayGive};
 ghost use Rattle.node_claims.specs.Views.{outline_of};
-ghost use Rattle.node_counts.specs.Counts.{flat};
+ghost use Rattle.list_laws.specs.Counts.{flat};
 ghost use Rattle.search_pool.specs.Working.{IsAtWork, GoesOnWith};
 
 use super::went::Worker;

@@ -2,7 +2,7 @@ use Rattle.std.proofs.Common.{◌≡◌, ℕ, List, [], ◌++◌, None, sym, ap,
 use Rattle.graph_law.specs.Graph.{Calls}
 use Rattle.graph_law.specs.Reach.{IsReached}
 use Rattle.search_stack.specs.Search.{SearchValue}
-use Rattle.node_counts.specs.Counts.{flat}
+use Rattle.list_laws.specs.Counts.{flat}
 use Rattle.group_release.specs.Book.{BookValue}
 use Rattle.node_claims.specs.Claims.{nodes_with}
 use Rattle.node_claims.specs.Steps.{MayGive}

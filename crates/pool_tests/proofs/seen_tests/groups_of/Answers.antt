@@ -1,6 +1,6 @@
 use Rattle.std.proofs.Common.{◌<◌, get_or, subst, sym, arith}
-use Rattle.node_counts.specs.Counts.{times}
-use Rattle.node_counts.proofs.Counting.{times-append}
+use Rattle.list_laws.specs.Counts.{times}
+use Rattle.list_laws.proofs.Counting.{times-append}
 use Rattle.node_claims.specs.Claims.{PassValue}
 use Rattle.pool_tests.proofs.seen_tests.groups_of.Goals as goal
 

@@ -1,6 +1,6 @@
 use Rattle.std.proofs.Common.{◌≡◌, ℕ, List, ◌++◌, get_or, ap, subst, arith}
-use Rattle.node_counts.specs.Counts.{times}
-use Rattle.node_counts.proofs.Counting.{times-append}
+use Rattle.list_laws.specs.Counts.{times}
+use Rattle.list_laws.proofs.Counting.{times-append}
 use Rattle.node_claims.specs.Claims.{PassValue}
 use Rattle.search_pool.specs.Worker.{EndsWell}
 use Rattle.pool_tests.proofs.turn_tests.a_worker_goes_on_while_another_pass_has_the_turn.Goals as goal

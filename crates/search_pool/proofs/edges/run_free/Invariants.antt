@@ -1,5 +1,5 @@
 use Rattle.std.specs.Prelude.{ℕ, ◌<◌, false}
-use Rattle.node_counts.specs.Counts.{times}
+use Rattle.list_laws.specs.Counts.{times}
 use Rattle.search_pool.specs.Worker.{IsRunning}
 use Rattle.search_pool.proofs.edges.run_free.Given as goal
 

@@ -1,6 +1,6 @@
 use Rattle.std.proofs.Common.{subst}
 use Rattle.std.specs.Prelude.{Contains}
-use Rattle.node_counts.specs.Counts.{flat}
+use Rattle.list_laws.specs.Counts.{flat}
 use Rattle.blocked_table.specs.Blocked.{IsWoken}
 use Rattle.group_release.specs.Book.{BookValue}
 use Rattle.group_release.specs.BookFields.{value_of}

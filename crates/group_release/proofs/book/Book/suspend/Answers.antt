@@ -1,6 +1,6 @@
 use Rattle.std.proofs.Common.{◌≡◌, ◌⊎◌, ◌+◌, ℕ, ◌<◌, length, refl, sym, ap, subst, arith}
 use Rattle.std.specs.Prelude.{IfOk}
-use Rattle.node_counts.specs.Counts.{flat, times}
+use Rattle.list_laws.specs.Counts.{flat, times}
 use Rattle.blocked_table.specs.Blocked.{BlockedValue, HasRoom, IsTable}
 use Rattle.group_release.specs.Book.{BookValue, GoesOnBeside, IsGoodBook, table_of}
 use Rattle.group_release.specs.BookFields.{value_of}

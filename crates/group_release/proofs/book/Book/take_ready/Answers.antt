@@ -1,6 +1,6 @@
 use Rattle.std.proofs.Common.{◌≡◌, ◌+◌, ℕ}
 use Rattle.std.specs.Prelude.{IfSome}
-use Rattle.node_counts.specs.Counts.{times}
+use Rattle.list_laws.specs.Counts.{times}
 use Rattle.blocked_table.specs.Blocked.{IsTable}
 use Rattle.group_release.specs.Book.{BookValue, RunsBeside, table_of}
 use Rattle.group_release.specs.BookFields.{value_of}

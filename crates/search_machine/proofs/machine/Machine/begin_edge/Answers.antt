@@ -1,5 +1,5 @@
 use Rattle.std.proofs.Common.{◌∙◌, ◌<◌, true, false, length, Some, refl, sym, ap, subst, arith, length-set, true≢false}
-use Rattle.node_counts.specs.Counts.{flat}
+use Rattle.list_laws.specs.Counts.{flat}
 use Rattle.search_stack.specs.GoodSearch.{IsGood}
 use Rattle.search_stack.specs.Stack.{size}
 use Rattle.search_stack.specs.Search.{IsDone, IsOn, SearchValue}

@@ -1,7 +1,7 @@
 use Rattle.std.proofs.Common.{◌∙◌, true≢false, Some, sym, ap, subst, length-set}
 use Rattle.std.specs.Prelude.{Contains}
 use Rattle.search_stack.specs.Stack.{size}
-use Rattle.node_counts.specs.Counts.{flat}
+use Rattle.list_laws.specs.Counts.{flat}
 use Rattle.search_stack.specs.Search.{IsReleasable, SearchValue}
 use Rattle.group_release.specs.Book.{released_of}
 use Rattle.group_release.specs.Released.{IsNewGroup}

@@ -1,6 +1,6 @@
 -- The search is good for what is released and apart from the kept ones, so it may be suspended, and what goes on is good.
 use Rattle.std.proofs.Common.{true, false, ap, subst, sym}
-use Rattle.node_counts.specs.Counts.{flat}
+use Rattle.list_laws.specs.Counts.{flat}
 use Rattle.search_stack.specs.GoodSearch.{IsGood}
 use Rattle.search_stack.specs.Search.{SearchValue}
 use Rattle.graph_law.specs.Classes.{HasMember}

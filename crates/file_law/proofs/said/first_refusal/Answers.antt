@@ -1,5 +1,0 @@
-use Rattle.file_law.proofs.Turns as of_turns
-use Rattle.file_law.proofs.said.first_refusal.Goals as goal
-
-pub returns : goal.returns
-returns c = λ user trees refusal. of_turns.first_refusal user trees refusal

@@ -1,0 +1,34 @@
+//! Each text is a reading or has a fault, and each file has facts or a fault.
+
+ghost use Rattle.std.specs.Prelude.{◌≡◌, ◌⊎◌, ℕ, List, Err};
+ghost use Rattle.prolog_terms.specs.Tree.{Tree};
+ghost use Rattle.clause_text.specs.declared.fault.TextFault.{TextFault};
+ghost use Rattle.clause_text.specs.Clauses.{ReadsAs};
+ghost use Rattle.clause_text.specs.TextFault.{HasTextFault};
+ghost use Rattle.module_table.specs.Said.{Refusal};
+ghost use Rattle.module_table.specs.Facts.{Facts, AreFacts, file_said};
+ghost use Rattle.module_table.specs.FileText.{HasFacts, HasFault};
+
+use crate::clause::clause_or_fault;
+use crate::cut::cut_or_fault;
+
+/// The clauses of a file have facts, or what they say is refused.
+pub fn facts_or_refusal()
+    ensures { (name : List ℕ) (trees : List Tree) → ((facts : Facts) × AreFacts name trees facts) ⊎ ((refusal : Refusal) × (file_said name trees ≡ Err refusal)) }
+{}
+
+/// A text reads as clauses or has a fault.
+pub fn reading_or_fault()
+    ensures { (text : List ℕ) → ((trees : List Tree) × ReadsAs text trees) ⊎ ((fault : TextFault) × HasTextFault text fault) }
+{
+    cut_or_fault();
+    clause_or_fault();
+}
+
+/// A file, by its name and its text, has facts or a fault.
+pub fn file_or_fault()
+    ensures { (name text : List ℕ) → ((facts : Facts) × HasFacts name text facts) ⊎ ((refusal : Refusal) × HasFault name text refusal) }
+{
+    cut_or_fault();
+    clause_or_fault();
+}

@@ -1,9 +1,0 @@
-pub mod FaultPlaces
-pub mod FoundAt
-pub mod NextNames
-pub mod WaveCut
-pub mod Waves
-pub mod Given
-pub mod AllFaults
-pub mod AllLoaded
-pub mod LoadOrFaults

@@ -1,5 +1,0 @@
-use Rattle.load_law.proofs.LoadOrFaults as of_map
-use Rattle.load_law.proofs.laws.load_or_faults.Goals as goal
-
-pub returns : goal.returns
-returns c = of_map.load_or_faults c.file_or_fault.ensures

@@ -1,5 +1,0 @@
-use Rattle.report_law.proofs.Reports.{report_of, order_report_of}
-use Rattle.report_law.proofs.laws.reports_exist.Goals as goal
-
-pub returns : goal.returns
-returns c = record { lines = report_of c.loops_exist.ensures; order = order_report_of c.loops_exist.ensures }

@@ -1,9 +1,0 @@
-pub mod Choices
-pub mod Heights
-pub mod Cuts
-pub mod Carrying
-pub mod Waking
-pub mod Sorting
-pub mod Turning
-pub mod Actors
-pub mod Endings

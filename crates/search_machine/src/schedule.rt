@@ -1,0 +1,9 @@
+//! Runs of a machine by a schedule that a seed draws: one place acts at a time, until none can.
+
+mod actors;
+mod draw;
+mod drive;
+mod laws;
+
+pub use drive::drive_many;
+pub use laws::{runs_end, schedules_answer};

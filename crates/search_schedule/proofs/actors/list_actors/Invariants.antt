@@ -1,5 +1,0 @@
-use Rattle.search_schedule.proofs.Driving.{AreActorsBelow}
-use Rattle.search_schedule.proofs.actors.list_actors.Given as goal
-
-abbrev pub invariant-places : goal.invariant-places
-invariant-places l = AreActorsBelow l.machine.state l.place l.places.items
