@@ -32,6 +32,7 @@
     defined/3,          % Module, name, arity
     loader/2,           % Number, the module of the file that loaded it first
     told/0,             % something was left out
+    handles_rules/1,    % Number of a file that declares constraints of library(chr)
     option/1.           % libraries, expand
 
 main :-
@@ -278,6 +279,12 @@ say(reading(Number, _, _), Place, Item) :-
     assertz(item(Number, Running, Place, Item)).
 
 clause_said(Term, Place, Reading) :-
+    Reading = reading(Number, _, _),
+    handles_rules(Number),
+    rule(Term, Heads, Body),
+    !,
+    forall(member(Head, Heads), clause_said((Head :- Body), Place, Reading)).
+clause_said(Term, Place, Reading) :-
     (   plain_clause(Term, Clause)
     ->  Reading = reading(Number, _, _),
         home(Number, Home, _),
@@ -312,6 +319,25 @@ plain_clause(Term, Clause) :-
     may_define(Head).
 
 nonclause((Head :- Body), Head, Body, clause).
+
+% A rule of library(chr) is run by each constraint of its head, which then calls the guard and the body.
+rule(@(_, Rule), Heads, Body) :- !, rule(Rule, Heads, Body).
+rule(pragma(Rule, _), Heads, Body) :- !, rule(Rule, Heads, Body).
+rule(<=>(Head, Body), Heads, Goal) :- !, rule_parts(Head, Body, Heads, Goal).
+rule(==>(Head, Body), Heads, Goal) :- rule_parts(Head, Body, Heads, Goal).
+
+rule_parts(Head, Body, Heads, Goal) :-
+    phrase(constraints(Head), Heads),
+    (   nonvar(Body), Body = '|'(Guard, Rest)
+    ->  Goal = (Guard, Rest)
+    ;   Goal = Body
+    ).
+
+constraints(Head) --> { var(Head) }, !.
+constraints(\(Kept, Removed)) --> !, constraints(Kept), constraints(Removed).
+constraints((Left, Right)) --> !, constraints(Left), constraints(Right).
+constraints(#(Head, _)) --> !, constraints(Head).
+constraints(Head) --> [Head].
 
 grammar_rule((_ --> _)).
 grammar_rule((_ ==> _)).
@@ -416,6 +442,8 @@ known(_:op(Priority, Kind, Names), Place, Reading) :- !, operator(Priority, Kind
 known(dynamic(List), Place, Reading) :- !, declared(dynamic, List, Place, Reading).
 known(dynamic(List, _), Place, Reading) :- !, declared(dynamic, List, Place, Reading).
 known(thread_local(List), Place, Reading) :- !, declared(dynamic, List, Place, Reading).
+known(chr_constraint(List), Place, Reading) :- !, constraints_said(List, Place, Reading).
+known(constraints(List), Place, Reading) :- !, constraints_said(List, Place, Reading).
 known(multifile(List), Place, Reading) :- !, declared(multifile, List, Place, Reading).
 known(meta_predicate(List), Place, Reading) :- !, metas(List, Place, Reading).
 known(use_module(Files), Place, Reading) :- !, loads(Files, all, Place, Reading).
@@ -452,6 +480,22 @@ qualified(dynamic(List), Module, dynamic(Module:List)).
 qualified(multifile(List), Module, multifile(Module:List)).
 qualified(meta_predicate(List), Module, meta_predicate(Module:List)).
 qualified(thread_local(List), Module, dynamic(Module:List)).
+
+% Constraints of library(chr) are predicates, whether or not a rule has them in its head.
+constraints_said(List, Place, Reading) :-
+    Reading = reading(Number, _, _),
+    (   handles_rules(Number)
+    ->  true
+    ;   assertz(handles_rules(Number))
+    ),
+    findall(Name/Arity, constraint(List, Name/Arity), Indicators),
+    declared(dynamic, Indicators, Place, Reading).
+
+constraint(List, _) :- var(List), !, fail.
+constraint((First, Rest), Indicator) :- !, ( constraint(First, Indicator) ; constraint(Rest, Indicator) ).
+constraint([First|Rest], Indicator) :- !, ( constraint(First, Indicator) ; constraint(Rest, Indicator) ).
+constraint(Name/Arity, Name/Arity) :- !, atom(Name), integer(Arity).
+constraint(Typed, Name/Arity) :- callable(Typed), Typed \== [], head_name(Typed, Name, Arity).
 
 % Directives that say nothing of what calls what.
 silent(Directive) :-
@@ -937,12 +981,13 @@ behind_carets(V^Goal, Module, V^Carried) :- !, behind_carets(Goal, Module, Carri
 behind_carets(Goal, Module, Carried) :- carried(Goal, Module, Carried).
 
 % What the system's predicates take as goals, as they declare it, is called beside them. `call/N` and
-% `maplist/N` are known to the profile, but not what lambda terms call.
+% `maplist/N` are known to the profile, but not what lambda terms call, nor what a predicate of the
+% system does that stands there with goals of its own.
 handed_goals(Goal, Name, Arity, Module, Goals) :-
     (   memberchk(Name, [call, maplist])
     ->  arg(1, Goal, Closure),
         More is Arity - 1,
-        (   lambda(Closure)
+        (   ( lambda(Closure) ; hands_on(Closure, More, Module) )
         ->  findall(Handed, handed(More, Closure, Module, Handed), Goals0)
         ;   Goals0 = []
         )
@@ -970,6 +1015,15 @@ system_meta(Name, Arity, Specifications) :-
     ;   assertz(meta(Name, Arity, none)),
         fail
     ).
+
+hands_on(Closure, More, Module) :-
+    callable(Closure),
+    \+ is_list(Closure),
+    \+ is_dict(Closure),
+    head_name(Closure, Name, Arity0),
+    Arity is Arity0 + More,
+    \+ in_program(Module, Name, Arity),
+    system_meta(Name, Arity, _).
 
 lambda(Term) :- nonvar(Term), ( Term = _>>_ ; Term = _/Inner, nonvar(Inner), Inner = _>>_ ), !.
 
@@ -1103,8 +1157,9 @@ put_float(Float, Out) :-
     ;   format(Out, "0.0", [])
     ).
 
+% The name of a compound may be the reserved symbol [] too, which is no atom there.
 put_name(Name, Out) :-
-    atom_codes(Name, Codes),
+    format(codes(Codes), "~w", [Name]),
     (   Codes = [First|Rest], 0'a =< First, First =< 0'z, maplist(goes_on, Rest)
     ->  format(Out, "~w", [Name])
     ;   put_quoted(Codes, 0'\', Out)
