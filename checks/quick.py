@@ -1,5 +1,5 @@
 #!/usr/bin/env python3
-"""What can be known within two minutes and without the kit: rows, hostile input and workers, over the kept program or the one that `--program` names.
+"""What can be known within two minutes and without the kit: rows, hostile input, failing streams and workers, over the kept program or the one that `--program` names.
 
 Ends with status 1 where an answer is wrong."""
 
@@ -12,7 +12,7 @@ import time
 import program
 
 CHECKS = pathlib.Path(__file__).resolve().parent
-PARTS = (["rows.py"], ["hostile.py", "--quick"], ["workers.py", "--graphs", "400", "--runs", "20"])
+PARTS = (["rows.py"], ["hostile.py", "--quick"], ["streams.py"], ["workers.py", "--graphs", "400", "--runs", "20"])
 
 
 def main():

@@ -6,7 +6,7 @@
 - the same with `--order --stream`, where the lines of the groups are those of one worker in another order;
 - hard shapes: a ring of 100,000 predicates with 64 workers, from one root and from all; 200,000 predicates that
   call nothing, each a root; rings of few predicates with more workers than these. Each run ends in time, with
-  the report of one worker.
+  the report of one worker, and so do eight searches that take turns.
 
 Ends with status 1 where an answer is wrong. The whole takes at most five minutes; `--graphs N` and `--runs N` say
 how many graphs and how many runs of hard shapes there are.
@@ -34,15 +34,15 @@ wrong = []
 
 
 def run(folder, jobs, *options):
-    """The report on the file with so many workers, or None where the run ends wrong or too late."""
-    words = [chosen[0], *options, "--jobs", str(jobs), "f.pl"]
+    """The report on the file with so many workers, or by what the options say, or None where the run ends wrong or too late."""
+    words = [chosen[0], *options, *(["--jobs", str(jobs)] if jobs else []), "f.pl"]
     try:
         done = subprocess.run(words, cwd=folder, capture_output=True, timeout=MOST_SECONDS)
     except subprocess.TimeoutExpired:
-        wrong.append(f"{jobs} jobs: no answer in {MOST_SECONDS:.0f} s")
+        wrong.append(f"{jobs or options} jobs: no answer in {MOST_SECONDS:.0f} s")
         return None
     if done.returncode != 0 or done.stderr:
-        wrong.append(f"{jobs} jobs: status {done.returncode}, {done.stderr[:80]!r}")
+        wrong.append(f"{jobs or options} jobs: status {done.returncode}, {done.stderr[:80]!r}")
         return None
     return done.stdout
 
@@ -146,6 +146,7 @@ def hard_runs(folder, count):
             continue
         if group_count(expected) != groups:
             wrong.append(f"{name}: {group_count(expected)} groups for {groups}")
+        differ(f"{name}, eight searches", run(folder, None, "--searches", "8", "--seed", "1"), expected)
         for _ in range(times):
             differ(name, run(folder, MOST_JOBS), expected)
             differ_in_lines(name, run(folder, MOST_JOBS, "--order", "--stream"), expected)

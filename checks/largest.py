@@ -1,0 +1,106 @@
+#!/usr/bin/env python3
+"""Runs the built program on the largest programs that it takes, with each option, and on the next larger ones.
+
+A private limit of one of its parts, below the ones of docs/report.md, would show here: 1,048,576 predicates in two files with one worker, with many, with
+searches that take turns, with a stream, with what stands behind the report; 1,024 files; a group, and a path, of a million predicates. Ends with status 1
+where an answer is wrong; prints the seconds and the most memory of each run.
+"""
+
+import argparse
+import pathlib
+import resource
+import subprocess
+import sys
+import tempfile
+import time
+
+import program
+
+MOST = 1_048_576
+MOST_FILES = 1_024
+WAYS = ([], ["--jobs", "4"], ["--jobs", "64"], ["--searches", "3", "--seed", "1"], ["--searches", "64", "--seed", "1"])
+
+chosen = []
+wrong = []
+
+
+def run(folder, *words):
+    before = resource.getrusage(resource.RUSAGE_CHILDREN)
+    begun = time.monotonic()
+    done = subprocess.run([chosen[0], *words], cwd=folder, capture_output=True, timeout=300)
+    took = time.monotonic() - begun
+    after = resource.getrusage(resource.RUSAGE_CHILDREN)
+    print(f"  {took:6.2f} s, {after.ru_utime + after.ru_stime - before.ru_utime - before.ru_stime:6.2f} of processors: {' '.join(words)[:90]}", flush=True)
+    return done.returncode, done.stdout, done.stderr
+
+
+def expect(what, found, answer):
+    if found != answer:
+        wrong.append(f"{what}: status {found[0]}, {len(found[1])} bytes, {found[2][:80]!r}")
+
+
+def head(predicates, groups, recursive, levels):
+    return f"predicates {predicates} groups {groups} recursive {recursive} levels {levels}\n"
+
+
+def facts(folder):
+    """As many facts as a program may have, and one more."""
+    half = MOST // 2
+    for at in range(2):
+        (folder / f"f{at}.pl").write_text("".join(f"p{number}.\n" for number in range(at * half, (at + 1) * half)))
+    (folder / "g.pl").write_text("q.\n")
+    print(f"{MOST} facts in two files")
+    names = sorted(f"user:p{number}/0" for number in range(MOST))
+    report = (head(MOST, MOST, 0, 1) + "".join(f"0 plain {name}\n" for name in names)).encode()
+    for way in WAYS:
+        expect(f"facts {way}", run(folder, *way, "f0.pl", "f1.pl"), (0, report, b""))
+    expect("facts, with all that stands beside", run(folder, "--effects", "--loops", "--unreached", "f0.pl", "f1.pl"), (0, report, b""))
+    status, out, err = run(folder, "--order", "--stream", "--jobs", "4", "f0.pl", "f1.pl")
+    expect("facts, streamed", (status, b"".join(sorted(out.splitlines(True))), err), (0, b"".join(sorted(report.splitlines(True))), b""))
+    expect("one fact more", run(folder, "f0.pl", "f1.pl", "g.pl"), (6, b"", f"groups: more than {MOST} predicates\n".encode()))
+
+
+def one_group(folder):
+    """A ring of as many predicates, whose circuit and whose path are as long."""
+    size = 1_000_000
+    files = [f"r{at}.pl" for at in range(4)]
+    for at, file in enumerate(files):
+        lines = (f"p{number} :- p{(number + 1) % size}.\n" for number in range(at * size // 4, (at + 1) * size // 4))
+        (folder / file).write_text("".join(lines))
+    print(f"a ring of {size}")
+    names = sorted(f"user:p{number}/0" for number in range(size))
+    report = (head(size, 1, 1, 1) + "0 recursive " + " ".join(names) + "\n").encode()
+    for way in WAYS:
+        expect(f"a ring {way}", run(folder, *way, *files), (0, report, b""))
+    status, out, err = run(folder, "--loops", "--path", "p0/0,p999999/0", *files)
+    lines = out.decode().splitlines()
+    if (status, err) != (0, b"") or lines[:2] != report.decode().splitlines() or len(lines) != 4 or [len(it.split()) for it in lines[2:]] != [size + 1, size + 1]:
+        wrong.append(f"a ring with its circuit and a path: status {status}, lines of {[len(it.split()) for it in lines]} words")
+
+
+def many_files(folder):
+    """As many files as may be read, each loading the next, and one more."""
+    for number in range(MOST_FILES + 1):
+        is_last = number >= MOST_FILES - 1
+        (folder / f"n{number}.pl").write_text(f"p{number}.\n" if is_last else f":- ensure_loaded(n{number + 1}).\np{number} :- p{number + 1}.\n")
+    print(f"{MOST_FILES} files")
+    report = head(MOST_FILES, MOST_FILES, 0, MOST_FILES) + "".join(f"{number} plain user:p{MOST_FILES - 1 - number}/0\n" for number in range(MOST_FILES))
+    expect("files in a row", run(folder, "n0.pl"), (0, report.encode(), b""))
+    expect("one file more", run(folder, "n0.pl", f"n{MOST_FILES}.pl"), (6, b"", f"groups: more than {MOST_FILES} files\n".encode()))
+
+
+def main():
+    parser = argparse.ArgumentParser(description=__doc__.splitlines()[0])
+    program.add_option(parser)
+    chosen[:] = [program.of(parser.parse_args())]
+    with tempfile.TemporaryDirectory() as name:
+        for part in (facts, one_group, many_files):
+            part(pathlib.Path(name))
+    for line in wrong:
+        print("WRONG", line)
+    print("largest:", "wrong" if wrong else "right")
+    return 1 if wrong else 0
+
+
+if __name__ == "__main__":
+    sys.exit(main())
