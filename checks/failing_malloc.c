@@ -1,5 +1,5 @@
-/* Preloaded before a program: its allocation number FAIL_AT fails, counted from 1. When the program
-   ends, the number of its allocations is written to the file COUNT_TO. */
+/* Preloaded before a program: its allocation number FAIL_AT fails, counted from 1, and with FAIL_ON each
+   one behind it too. When the program ends, the number of its allocations is written to the file COUNT_TO. */
 #define _GNU_SOURCE
 #include <dlfcn.h>
 #include <errno.h>
@@ -11,10 +11,12 @@
 #include <unistd.h>
 
 static unsigned long asked, fail_at;
+static int fail_on;
 
 __attribute__((constructor)) static void begin(void) {
     const char *number = getenv("FAIL_AT");
     fail_at = number ? strtoul(number, NULL, 10) : 0;
+    fail_on = getenv("FAIL_ON") != NULL;
     asked = 0;
 }
 
@@ -37,7 +39,8 @@ void _exit(int status) {
 
 static int fails(void) {
     /* Threads allocate at once. */
-    if (__atomic_add_fetch(&asked, 1, __ATOMIC_SEQ_CST) != fail_at) return 0;
+    unsigned long now = __atomic_add_fetch(&asked, 1, __ATOMIC_SEQ_CST);
+    if (now != fail_at && !(fail_on && fail_at && now > fail_at)) return 0;
     errno = ENOMEM;
     return 1;
 }

@@ -100,15 +100,15 @@ def hostile_files(folder):
 
 
 def memory(folder, *options):
-    """Fails each allocation of a run with these options in turn, by a library that is loaded before the program."""
+    """Fails each allocation of a run with these options in turn, alone and with all behind it, by a library that is loaded before the program."""
     shim, count = folder / "failing_malloc.so", folder / "count"
     source = ROOT / "checks" / "failing_malloc.c"
     subprocess.run(["cc", "-O1", "-shared", "-fPIC", "-o", shim, source, "-ldl"], check=True)
     for name in ("calculator.pl", "scanner.pl", "module.pl"):
         (folder / name).write_bytes((EXAMPLES / name).read_bytes())
 
-    def answer(number):
-        env = {"LD_PRELOAD": str(shim), "FAIL_AT": str(number), "COUNT_TO": str(count)}
+    def answer(number, **more):
+        env = {"LD_PRELOAD": str(shim), "FAIL_AT": str(number), "COUNT_TO": str(count), **more}
         done = subprocess.run([chosen[0], *options, "calculator.pl", "module.pl"], cwd=folder, capture_output=True, env=env, timeout=60)
         return done.returncode, done.stdout, done.stderr
 
@@ -120,6 +120,9 @@ def memory(folder, *options):
         seen.append(answer(number))
         if seen[-1] not in (silent, wanting, whole):
             wrong.append(f"allocation {number} {options}: status {seen[-1][0]}, {len(seen[-1][1])} bytes on out")
+        on = answer(number, FAIL_ON="1")
+        if on not in (silent, wanting, whole):
+            wrong.append(f"allocations from {number} on {options}: status {on[0]}, {len(on[1])} bytes on out")
     if wanting in seen and silent in seen[seen.index(wanting) :]:
         wrong.append("no line of status 7, though the words were read")
     failed = seen.count(silent) + seen.count(wanting)
@@ -139,6 +142,8 @@ def main():
         memory(folder)
         memory(folder, "--searches", "3", "--seed", "5")
         memory(folder, "--jobs", "2")
+        memory(folder, "--jobs", "3", "--order", "--stream")
+        memory(folder, "--effects", "--loops", "--path", "calculator:value/2,scanner:digits/3")
     for line in wrong:
         print("WRONG", line)
     sys.exit(1 if wrong else 0)
