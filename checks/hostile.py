@@ -109,18 +109,25 @@ def memory(folder, *options):
 
     def answer(number, **more):
         env = {"LD_PRELOAD": str(shim), "FAIL_AT": str(number), "COUNT_TO": str(count), **more}
-        done = subprocess.run([chosen[0], *options, "calculator.pl", "module.pl"], cwd=folder, capture_output=True, env=env, timeout=60)
+        try:
+            done = subprocess.run([chosen[0], *options, "calculator.pl", "module.pl"], cwd=folder, capture_output=True, env=env, timeout=60)
+        except subprocess.TimeoutExpired:
+            return -1, b"", b"no end within 60 s"
         return done.returncode, done.stdout, done.stderr
 
-    whole = answer(0)
+    def settled(told):
+        """What is told, whatever the order of its lines where workers decide on it."""
+        return (told[0], b"".join(sorted(told[1].splitlines(True))), told[2]) if "--stream" in options else told
+
+    whole = settled(answer(0))
     total = int(count.read_text())
     silent, wanting = (7, b"", b""), (7, b"", b"groups: out of memory\n")
     seen = []
     for number in some(range(1, total + 1)):
-        seen.append(answer(number))
+        seen.append(settled(answer(number)))
         if seen[-1] not in (silent, wanting, whole):
             wrong.append(f"allocation {number} {options}: status {seen[-1][0]}, {len(seen[-1][1])} bytes on out")
-        on = answer(number, FAIL_ON="1")
+        on = settled(answer(number, FAIL_ON="1"))
         if on not in (silent, wanting, whole):
             wrong.append(f"allocations from {number} on {options}: status {on[0]}, {len(on[1])} bytes on out")
     if wanting in seen and silent in seen[seen.index(wanting) :]:
