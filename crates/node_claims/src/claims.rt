@@ -20,6 +20,7 @@ use std::alloc::{AllocError, Global};
 use std::marker::Model;
 use std::snapshot::Snapshot;
 use std::sync::Wait;
+use std::sync::atomic::{AtomicU64, Ordering};
 use std::thread;
 
 // How often a pass that waits for the turn lets other threads go on before it sleeps.
@@ -48,6 +49,8 @@ pub enum Looked {
 /// words, and the graph and the roots that its book was made with.
 #[derive(Drop)]
 pub struct Claims {
+    /// How many passes sleep, or are about to, until the turn is given back.
+    pub(crate) sleepers: AtomicU64,
     pub(crate) table: Table<Option<Book>, View, Snapshot<Book>, ClaimRule, Global>,
 }
 
@@ -82,7 +85,13 @@ impl Claims {
         let about = Snapshot::of(&book);
         slots.push_reserved(Some(book));
         match Table::new(alloc, words.as_slice(), slots, &about) {
-            Ok((table, seat)) => Ok((Claims { table }, Pass { seat })),
+            Ok((table, seat)) => Ok((
+                Claims {
+                    sleepers: AtomicU64::new(0),
+                    table,
+                },
+                Pass { seat },
+            )),
             Err(Refused { slots: _ }) => Err(AllocError),
         }
     }
@@ -203,12 +212,16 @@ impl Claims {
     }
 
     // Lets other threads go on, or sleeps until the turn is given back where it has tried often enough.
+    // It counts as a sleeper before it looks at the word for the last time, so a pass that makes the word
+    // 0 after that look finds it counted and wakes it.
     fn pause(&self, rt: &impl Wait, tries: u32) -> u32 {
         if tries < TRIES {
             thread::yield_now();
             return tries + 1;
         }
+        self.sleepers.fetch_add(1, Ordering::SeqCst);
         self.table.shared.park(rt, 0, 1);
+        self.sleepers.fetch_sub(1, Ordering::SeqCst);
         tries
     }
 }

@@ -14,6 +14,7 @@ use atomic_table::Seat;
 use group_release::Book;
 use search_stack::Search;
 use std::marker::{Brand, Model};
+use std::sync::atomic::Ordering;
 
 /// The turn: the book is out with one pass, which has to give it back. It is seen as what the pass
 /// knew, the book as it was taken with the nodes closed since, and the book as it is.
@@ -86,7 +87,9 @@ impl<'a> Turn<'a> {
         let _ = running;
         drop(claims.table.shared.exchange(&mut seat, 0, Some(book)));
         claims.table.shared.store::<Give<N>>(&mut seat, 0, 0);
-        claims.table.shared.wake_one(0);
+        if claims.sleepers.load(Ordering::SeqCst) > 0 {
+            claims.table.shared.wake_one(0);
+        }
         Pass { seat }
     }
 }
