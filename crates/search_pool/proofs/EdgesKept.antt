@@ -41,7 +41,8 @@ pub pushed_nodes : (s : Stack) (v : ℕ) (list : List ℕ) → nodes_on (pushed 
 unfolding pushed
 pushed_nodes s v list = map-append (λ entry. entry.node) s.entries ((record { node = v; succs = list; begun = 0 }) ∷ [])
 
-noted_last : (v n : ℕ) (looks : List (ℕ × ℕ)) → Noted v n (looks ++ (v, n) ∷ [])
+-- a note that was made last is there
+pub noted_last : (v n : ℕ) (looks : List (ℕ × ℕ)) → Noted v n (looks ++ (v, n) ∷ [])
 noted_last v n [] = inl (refl, refl)
 noted_last v n (p ∷ looks) = inr (noted_last v n looks)
 

@@ -1,9 +1,9 @@
 -- An idle worker takes a ready search or a root, or has seen each root finished.
-use Rattle.std.proofs.Common.{◌≡◌, inl, ℕ, ◌<◌, ◌≤◌, ◌+◌, ◌-◌, false, List, [], ◌∷◌, ◌++◌, length, map, take, drop, get_or, None, refl, ap, ◌∙◌, sym, subst, arith, inr, Some}
+use Rattle.std.proofs.Common.{◌≡◌, inl, ℕ, ◌<◌, ◌≤◌, ◌+◌, ◌-◌, false, List, [], ◌∷◌, ◌++◌, length, map, take, drop, get_or, None, refl, ap, ◌∙◌, sym, subst, arith, Some}
 use Rattle.std.proofs.lemmas.List.{append-nil, get_or-drop, length-drop, take_all, take_more}
-use Rattle.std.proofs.lemmas.List.Elements.{All-contains, All-more, All-push}
-use Rattle.std.proofs.lemmas.Option.{get_or_from_slice_get, slice_get_cases}
-use Rattle.std.specs.Prelude.{All, Contains, slice_get}
+use Rattle.std.proofs.lemmas.List.Elements.{All-contains, All-drop, All-push, All-take, Contains-get_or}
+use Rattle.std.proofs.lemmas.Option.{get_or_from_slice_get, slice_get_within}
+use Rattle.std.specs.Prelude.{All, Contains, slice_get, slice_range}
 use Rattle.list_laws.specs.Counts.{times, flat}
 use Rattle.list_laws.proofs.Counting.{counted}
 use Rattle.graph_law.specs.Classes.{HasMember}
@@ -20,7 +20,7 @@ use Rattle.node_claims.specs.Views.{outline_of}
 use Rattle.search_pool.specs.declared.ended.Ended.TheVariants.{Finished}
 use Rattle.search_pool.specs.declared.worker.went.Worker.{Worker}
 use Rattle.search_pool.specs.Worker.{EndsWell, IsWorking}
-use Rattle.search_pool.specs.Working.{AreReleasedOrKept, GoesOnWith, IsAtWork, IsReleasedOrKept}
+use Rattle.search_pool.specs.Working.{AreRootsOf, GoesOnWith, IsAtWork}
 use Rattle.search_pool.proofs.TurnLaws.{TookTurn, good_released, is_turn_of, lists_are, may_shift, released_more, roots_are}
 
 no_nodes : (es : List Entry) → length es ≡ 0 → map (λ entry. entry.node) es ≡ []
@@ -35,54 +35,55 @@ idle_nodes s none = no_nodes s.entries none
 pub idle_has : (search : SearchValue) → size search.stack ≡ 0 → nodes_with search None ≡ []
 idle_has search none = append-nil (nodes_on search.stack) ∙ idle_nodes search.stack none
 
--- one root less is still to be given out
+-- the place is one of a root
 index_within : (roots : List ℕ) (i root : ℕ) → Some root ≡ slice_get roots i → i < length roots
-index_within roots i root read =
-    elim (slice_get_cases roots i).1 as (λ _. i < length roots) [
-      | inl here ↦ here.1
-      | inr past ↦ absurd (let both : Some root ≡ None = read ∙ past.1 in cc)
-    ]
+index_within roots i root read = slice_get_within roots i root (sym read)
 
-pub one_less : (book now : BookValue) (root : ℕ) → Some root ≡ slice_get book.roots book.given → now ≡ record book { given = book.given + 1 }
-    → length now.roots - now.given < length book.roots - book.given
-one_less book now root read is =
-    let roots : length now.roots ≡ length book.roots = ap (λ (b : BookValue). length b.roots) is in
-    let given : now.given ≡ book.given + 1 = ap (λ (b : BookValue). b.given) is in
-    omega (arith, roots, given, index_within book.roots book.given root read)
+-- so many of the roots were handed out: just those from one place up to another, and nothing else of the book has changed
+pub record HandsOut (old now : BookValue) (roots : List ℕ) : Type 0 where
+  pub only : now ≡ record old { given = now.given }
+  pub on : old.given ≤ now.given
+  pub handed : roots ≡ slice_range old.roots old.given now.given
 
--- one root more is given out
-module _ (old book now : BookValue) (only : book ≡ record old { given = book.given }) (is : now ≡ record book { given = book.given + 1 }) where
+pub hands_none : (old now : BookValue) (roots : List ℕ) → now ≡ old → roots ≡ [] → HandsOut old now roots
+hands_none old now roots same none =
+    subst (λ (b : BookValue). HandsOut old b roots) (sym same)
+    (record {
+      only = refl;
+      on = omega arith;
+      handed =
+          let zero_is : old.given - old.given ≡ 0 = omega arith in
+          none ∙ ap (λ n. take n (drop old.given old.roots)) (sym zero_is);
+    })
+
+-- one more is handed out
+module _ (old book now : BookValue) (roots : List ℕ) (root : ℕ) (before : HandsOut old book roots) (read : Some root ≡ slice_get book.roots book.given)
+    (is : now ≡ record book { given = book.given + 1 }) where
   one_given : now.given ≡ book.given + 1
   one_given = ap (λ (b : BookValue). b.given) is
 
-  pub still_only : now ≡ record old { given = now.given }
-  still_only =
-      is ∙ ap (λ (b : BookValue). record b { given = book.given + 1 }) only
-      ∙ ap (λ (n : ℕ). record old { given = n }) (sym one_given)
-
-  -- and the others before it are released or on a kept search
-  pub passed_before : AreReleasedOrKept old old.given book.given → AreReleasedOrKept old old.given (now.given - 1)
-  passed_before before =
-      let last : book.given ≡ now.given - 1 = omega (arith, one_given) in
-      subst (AreReleasedOrKept old old.given) last before
-
-  -- and so is this one
-  pub one_more_passed : (root : ℕ) → old.given ≤ book.given → Some root ≡ slice_get book.roots book.given → IsReleasedOrKept now root
-      → AreReleasedOrKept old old.given book.given → AreReleasedOrKept old old.given now.given
-  one_more_passed root on read here before =
-      let roots : book.roots ≡ old.roots = ap (λ (b : BookValue). b.roots) only in
+  pub hands_more : (more : List ℕ) → more ≡ roots ++ root ∷ [] → HandsOut old now more
+  hands_more more pushed =
+      let same : book.roots ≡ old.roots = ap (λ (b : BookValue). b.roots) before.only in
       let lt : book.given < length book.roots = index_within book.roots book.given root read in
-      let place : old.given + (book.given - old.given) ≡ book.given = omega (arith, on) in
-      let count : book.given - old.given + 1 ≡ now.given - old.given = omega (arith, on, one_given) in
+      let place : old.given + (book.given - old.given) ≡ book.given = omega (arith, before.on) in
+      let count : book.given - old.given + 1 ≡ now.given - old.given = omega (arith, before.on, one_given) in
       let within : book.given - old.given < length (drop old.given old.roots) =
-      omega (arith, on, length-drop old.given old.roots, lt, ap (λ (r : List ℕ). length r) roots) in
+      omega (arith, before.on, length-drop old.given old.roots, lt, ap (λ (r : List ℕ). length r) same) in
       let at : get_or (drop old.given old.roots) (book.given - old.given) 0 ≡ root =
       get_or-drop old.given old.roots (book.given - old.given) 0 ∙ ap (λ i. get_or old.roots i 0) place
-      ∙ ap (λ r. get_or r book.given 0) (sym roots) ∙ get_or_from_slice_get book.roots book.given root 0 (sym read) in
-      let kept : IsReleasedOrKept old root = subst (λ (b : BookValue). IsReleasedOrKept b root) still_only here in
-      subst (λ n. All (IsReleasedOrKept old) (take n (drop old.given old.roots))) count
-      (All-more (IsReleasedOrKept old) (drop old.given old.roots) (book.given - old.given) 0 within before
-      (subst (IsReleasedOrKept old) (sym at) kept))
+      ∙ ap (λ r. get_or r book.given 0) (sym same) ∙ get_or_from_slice_get book.roots book.given root 0 (sym read) in
+      record {
+        only =
+            is ∙ ap (λ (b : BookValue). record b { given = book.given + 1 }) before.only
+            ∙ ap (λ (n : ℕ). record old { given = n }) (sym one_given);
+        on = omega (arith, before.on, one_given);
+        handed =
+            pushed ∙ ap (λ (l : List ℕ). l ++ root ∷ []) before.handed
+            ∙ ap (λ (r : ℕ). slice_range old.roots old.given book.given ++ r ∷ []) (sym at)
+            ∙ sym (take_more (drop old.given old.roots) (book.given - old.given) 0 within)
+            ∙ ap (λ n. take n (drop old.given old.roots)) count;
+      }
 
 -- roots that are given out release no group
 pub given_groups : (book now : BookValue) → now ≡ record book { given = now.given } → now.groups ≡ book.groups
@@ -107,18 +108,20 @@ module _ {claims : ClaimsValue} {pass : PassValue} {search : SearchValue} (work 
       (λ x. let none : times x (nodes_on search.stack) ≡ 0 = ap (times x) (idle_nodes search.stack idle) in omega (arith, none, counts x))
       (λ x some. inl (omega (arith, some, wants x)))
 
-  -- a root is a node, and is reached
+  -- each root is a node
   pub root_below : (root : ℕ) → IsGoodBook book → Contains book.roots root → root < length claims.lists
   root_below root good has =
       let lt : root < length book.lists = All-contains (λ root. root < length book.lists) book.roots root good.rooted has in
       subst (λ (lists : List (List ℕ)). root < length lists) (lists_are work took) lt
 
-  pub root_reached : (root : ℕ) → Contains book.roots root → IsReached (Calls claims.lists) claims.roots root
-  root_reached root has = record {
-    start = root;
-    is_start = subst (λ roots. Contains roots root) (roots_are work took) has;
-    reaches = record { path = []; walk = refl };
-  }
+  -- and so are those that are handed out
+  pub are_roots : (from to : ℕ) (handed : List ℕ) → IsGoodBook book → handed ≡ slice_range book.roots from to → AreRootsOf claims handed
+  are_roots from to handed good is =
+      let P : ℕ → Type 0 = λ root. (root < length claims.lists) × Contains claims.roots root in
+      let each : All P book.roots = λ k d lt.
+      let here : Contains book.roots (get_or book.roots k d) = Contains-get_or book.roots k d lt in
+      (root_below (get_or book.roots k d) good here, subst (λ roots. Contains roots (get_or book.roots k d)) (roots_are work took) here) in
+      subst (All P) (sym is) (All-take P (to - from) (drop from book.roots) (All-drop P from book.roots each))
 
   -- so many roots are released
   pub counted_on : (n : ℕ) → n ≤ length book.roots → All (HasMember book.groups) (take n book.roots)
@@ -145,3 +148,7 @@ finished {claims} {worker} search seen n work is idle seen_is all each = (
         (subst (λ seen. All (λ root. 0 < times root seen) (take n claims.roots)) (sym seen_is) each),
   ),
 )
+
+-- each root is reached
+pub root_reached : (claims : ClaimsValue) (root : ℕ) → Contains claims.roots root → IsReached (Calls claims.lists) claims.roots root
+root_reached claims root has = record { start = root; is_start = has; reaches = record { path = []; walk = refl } }

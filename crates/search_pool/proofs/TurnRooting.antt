@@ -1,5 +1,5 @@
 -- A worker has claimed a root.
-use Rattle.std.proofs.Common.{◌≡◌, ℕ, ◌<◌, true, false, [], ◌∷◌, ◌++◌, take, Some, ap, ◌∙◌, sym, subst}
+use Rattle.std.proofs.Common.{◌≡◌, ℕ, zero, suc, ◌<◌, true, false, [], ◌∷◌, ◌++◌, take, Some, ap, ◌∙◌, sym, subst}
 use Rattle.std.proofs.lemmas.List.{append-nil}
 use Rattle.std.proofs.lemmas.List.Elements.{Contains-append_left}
 use Rattle.std.specs.Prelude.{All, Contains}
@@ -9,11 +9,12 @@ use Rattle.search_stack.specs.Search.{SearchValue}
 use Rattle.search_stack.proofs.Edges.{good_more, good_open}
 use Rattle.group_release.specs.Outline.{nodes_on}
 use Rattle.node_claims.specs.Claims.{ClaimsValue, PassValue, IsPassOf}
-use Rattle.node_claims.specs.Views.{claimed}
+use Rattle.node_claims.specs.Views.{Noted, claimed}
 use Rattle.node_claims.specs.declared.view.View.{View}
 use Rattle.search_pool.specs.declared.worker.went.Worker.{Worker}
 use Rattle.search_pool.specs.Worker.{IsRunning, IsWorking}
 use Rattle.search_pool.specs.Working.{IsAtWork}
+use Rattle.search_pool.proofs.EdgesKept.{noted_last}
 use Rattle.search_pool.proofs.TurnLaws.{seen_more}
 
 module _ {claims : ClaimsValue} {worker : Worker} (work : IsAtWork claims worker false) {pass : PassValue} (of : IsPassOf claims pass) (root : ℕ) where
@@ -29,6 +30,7 @@ module _ {claims : ClaimsValue} {worker : Worker} (work : IsAtWork claims worker
               good_more pass.view.seen work.working.good
               (λ v has. subst (λ seen. Contains seen v) (sym seen) (Contains-append_left worker.pass.view.seen (root ∷ []) v has));
         };
+        handed = work.handed;
         within = work.within;
         seen =
             subst (λ seen. All (λ root. 0 < times root seen) (take worker.seen_roots claims.roots)) (sym seen)
@@ -56,6 +58,16 @@ module _ {claims : ClaimsValue} {worker : Worker} (work : IsAtWork claims worker
     pub opened_at_work : IsRunning claims pass search false → IsAtWork claims (record worker { pass = pass; search = search }) false
     opened_at_work running = record {
       working = running.working;
+      handed = work.handed;
       within = work.within;
       seen = subst (λ seen. All (λ root. 0 < times root seen) (take worker.seen_roots claims.roots)) (sym (ap (λ (v : View). v.seen) view)) work.seen;
     }
+
+-- the pass has claimed the root, whatever it found
+pub has_noted : (root n : ℕ) (before after : View) → after ≡ claimed root n before → (found : ℕ) × Noted root found after.looks
+has_noted root zero before after view =
+    (0, subst (Noted root 0) (sym (ap (λ (v : View). v.looks) view)) (noted_last root 0 before.looks))
+has_noted root (suc zero) before after view =
+    (1, subst (Noted root 1) (sym (ap (λ (v : View). v.looks) view)) (noted_last root 1 before.looks))
+has_noted root (suc (suc n)) before after view =
+    (2, subst (Noted root 2) (sym (ap (λ (v : View). v.looks) view)) (noted_last root 2 before.looks))

@@ -88,6 +88,7 @@ settled {claims} {worker} after on work away same good =
         wants_nothing = ap (λ (s : SearchValue). s.wanted) is ∙ work.working.wants_nothing;
         good = good;
       };
+      handed = work.handed;
       within = work.within;
       seen = work.seen;
     }

@@ -1,20 +1,26 @@
--- What a worker keeps between two turns, which roots it may pass over, and what it owes for a group that it closes.
-use Rattle.std.specs.Prelude.{◌≡◌, ◌⊎◌, ℕ, ◌-◌, ◌+◌, ◌<◌, ◌≤◌, Bool, false, List, [], ◌++◌, length, slice_index_or, slice_range, take, None, All, Contains}
+-- What a worker keeps between two turns, which roots it has claimed, and what it owes for a group that it closes.
+use Rattle.std.specs.Prelude.{◌≡◌, ℕ, ◌-◌, ◌+◌, ◌<◌, ◌≤◌, Bool, false, List, [], ◌++◌, length, slice_index_or, take, None, All, Contains, ⊤}
 use Rattle.list_laws.specs.Counts.{times, flat}
-use Rattle.graph_law.specs.Classes.{HasMember}
 use Rattle.search_stack.specs.GoodSearch.{IsGood}
 use Rattle.search_stack.specs.Search.{SearchValue}
-use Rattle.blocked_table.specs.Kept.{Holds}
 use Rattle.group_release.specs.Book.{BookValue}
 use Rattle.node_claims.specs.Claims.{ClaimsValue, TurnValue}
+use Rattle.node_claims.specs.Views.{Noted}
 use Rattle.search_pool.specs.Worker.{EndsWell, IsWorking}
+use Rattle.search_pool.specs.declared.worker.stretch.Stretch.{Stretch}
 use Rattle.search_pool.specs.declared.worker.went.Worker.{Worker}
 use Rattle.search_pool.specs.declared.worker.went.Went.{Went}
 use Rattle.search_pool.specs.declared.worker.went.Went.TheVariants.{On, Ended as ended_as}
 
--- the pass has just the nodes of the search, which is good for what the pass has seen finished, and so many roots were seen finished
+-- each of these is one of the roots, and a node of the graph
+abbrev pub AreRootsOf : ClaimsValue → List ℕ → Type 0
+AreRootsOf claims nodes = All (λ root. (root < length claims.lists) × Contains claims.roots root) nodes
+
+-- the pass has just the nodes of the search, which is good for what the pass has seen finished; roots were handed out to it; and so many of
+-- all roots were seen finished
 pub record IsAtWork (claims : ClaimsValue) (worker : Worker) (opened : Bool) : Type 0 where
   pub working : IsWorking claims worker.pass worker.search None opened
+  pub handed : AreRootsOf claims worker.stretch.roots.items
   pub within : worker.seen_roots ≤ length claims.roots
   pub seen : All (λ root. 0 < times root worker.pass.view.seen) (take worker.seen_roots claims.roots)
 
@@ -22,6 +28,16 @@ pub record IsAtWork (claims : ClaimsValue) (worker : Worker) (opened : Bool) : T
 abbrev pub GoesWell : ClaimsValue → Went → Type 0
 GoesWell claims (On worker) = IsAtWork claims worker false
 GoesWell claims (ended_as ended) = EndsWell claims ended
+
+-- it has claimed the node, or has ended
+abbrev pub HasClaimed : ℕ → Went → Type 0
+HasClaimed node (On worker) = (found : ℕ) × Noted node found worker.pass.view.looks
+HasClaimed node (ended_as ended) = ⊤
+
+-- it goes on with this stretch of roots, or has ended
+abbrev pub GoesOnIn : Stretch → Went → Type 0
+GoesOnIn stretch (On worker) = worker.stretch ≡ stretch
+GoesOnIn stretch (ended_as ended) = ⊤
 
 -- the turn is of these claims
 abbrev pub IsTurnOf : ClaimsValue → TurnValue → Type 0
@@ -34,14 +50,6 @@ pub record GoesOnWith (claims : ClaimsValue) (turn : TurnValue) (search : Search
   pub within : seen_roots ≤ length claims.roots
   pub roots : All (λ root. 0 < times root (turn.view.seen ++ flat turn.book.groups)) (take seen_roots claims.roots)
   pub good : IsGood claims.lists claims.roots (flat turn.book.groups) opened search.stack
-
--- the node is released, or on a kept search
-abbrev pub IsReleasedOrKept : BookValue → ℕ → Type 0
-IsReleasedOrKept book node = HasMember book.groups node ⊎ ((place : ℕ) × Holds book.kept place node)
-
--- so is each root from one place up to another
-abbrev pub AreReleasedOrKept : BookValue → ℕ → ℕ → Type 0
-AreReleasedOrKept book from to = All (IsReleasedOrKept book) (slice_range book.roots from to)
 
 -- the group that was released last
 abbrev pub last_group : BookValue → List ℕ

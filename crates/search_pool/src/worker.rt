@@ -17,10 +17,12 @@ mod releasing;
 mod rooting;
 mod running;
 mod stopping;
+mod stretch;
 mod suspending;
 mod went;
 
 use running::go_on;
+use stretch::Stretch;
 use went::{Went, Worker};
 
 /// Works until the pass has seen each root finished, or memory is wanting. It calls the gate and then
@@ -41,6 +43,10 @@ pub fn work<O: Opener, G: Gate>(
     let mut worker = Worker {
         pass,
         search: Search::empty(alloc),
+        stretch: Stretch {
+            roots: Vec::new(alloc),
+            next: 0,
+        },
         seen_roots: 0,
         waits: 0,
     };

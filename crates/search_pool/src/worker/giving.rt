@@ -3,24 +3,33 @@ ghost use Rattle.node_claims.specs.Claims.{ClaimsValue, nodes_with};
 ghost use Rattle.node_claims.specs.Steps.{MayGive};
 ghost use Rattle.node_claims.specs.Views.{outline_of};
 ghost use Rattle.list_laws.specs.Counts.{flat};
-ghost use Rattle.search_pool.specs.Working.{IsAtWork, GoesOnWith};
+ghost use Rattle.search_pool.specs.Working.{AreRootsOf, GoesOnWith, IsAtWork};
 
+use super::stretch::Stretch;
 use super::went::Worker;
 use node_claims::Turn;
 use search_stack::Search;
 
-/// Gives the turn back, and goes on with a search. So many roots, from the first on, are released or
-/// were seen finished.
-pub(crate) fn give_back(turn: Turn<'_>, search: Search, seen_roots: usize) -> Worker
+/// Gives the turn back, and goes on with a search and with the roots of a stretch. So many of all roots,
+/// from the first on, are released or were seen finished.
+pub(crate) fn give_back(
+    turn: Turn<'_>,
+    search: Search,
+    stretch: Stretch,
+    seen_roots: usize,
+) -> Worker
     requires { MayGive turn.view turn.taken (outline_of turn.book) (nodes_with search None) }
-    ensures at_work { (claims : ClaimsValue) (opened : Bool) → GoesOnWith claims turn.entry search seen_roots opened → IsAtWork claims result opened }
+    ensures at_work { (claims : ClaimsValue) (opened : Bool) → GoesOnWith claims turn.entry search seen_roots opened → AreRootsOf claims stretch.roots.items
+        → IsAtWork claims result opened }
     ensures search { result.search ≡ search }
+    ensures stretch { result.stretch ≡ stretch }
     ensures seen { result.pass.view.seen ≡ turn.entry.view.seen ++ flat turn.entry.book.groups }
 {
     let pass = turn.give(&search, None);
     Worker {
         pass,
         search,
+        stretch,
         seen_roots,
         waits: 0,
     }

@@ -1,20 +1,19 @@
-ghost use Rattle.std.specs.Prelude.{◌≡◌, ◌<◌, ◌≤◌, ◌-◌, take, slice_get, slice_index, length, All, Contains, IfNone, IfSome, Some, false};
-ghost use Rattle.std.specs.Bool.{OnFalse, OnTrue};
+ghost use Rattle.std.specs.Prelude.{◌≡◌, ◌<◌, ◌≤◌, take, slice_index, slice_range, length, All, OnOk, false};
 ghost use Rattle.graph_law.specs.Classes.{HasMember};
 ghost use Rattle.search_stack.specs.Stack.{size};
-ghost use Rattle.blocked_table.specs.Kept.{IsFree};
-ghost use Rattle.search_pool.specs.Working.{IsAtWork, GoesWell, IsReleasedOrKept, AreReleasedOrKept};
+ghost use Rattle.search_pool.specs.Working.{GoesWell, IsAtWork};
 
 use super::giving::give_back;
-use super::rooting::open_root;
+use super::rooting::open_next;
 use super::stopping::stop;
+use super::stretch::Stretch;
 use super::went::{Went, Worker};
 use crate::ended::Ended;
 use crate::gate::Gate;
 use graph_law::Opener;
 use group_release::Book;
 use node_claims::Claims;
-use std::alloc::Global;
+use std::alloc::{AllocError, Global};
 use std::sync::Wait;
 use std::sync::atomic::AtomicU64;
 use std::thread;
@@ -23,8 +22,15 @@ use std::time::Duration;
 // How often an idle worker lets other threads go on before it sleeps.
 const TRIES: u32 = 16;
 
-/// Takes a ready search, or else the next root. Where there is neither, the worker has finished if
-/// each root is released, and else waits a little.
+// In how many stretches the roots are handed out, where there are enough: four for each of 64 workers.
+const STRETCHES: usize = 256;
+
+// The most roots of a stretch. A turn for so many costs next to nothing, and no worker is left with much.
+const MOST_ROOTS: usize = 256;
+
+/// Begins at the next root that was handed out to the worker. Where it has claimed all of these, it takes
+/// a ready search, or else is handed more roots. Where there is neither, the worker has finished if each
+/// root is released, and else waits a little.
 pub(crate) fn take_up<O: Opener, G: Gate>(
     rt: &impl Wait,
     alloc: Global,
@@ -38,9 +44,13 @@ pub(crate) fn take_up<O: Opener, G: Gate>(
     requires idle { size worker.search.stack ≡ 0 }
     ensures { GoesWell claims.now result }
 {
+    if worker.stretch.next < worker.stretch.roots.len() {
+        return open_next(rt, alloc, claims, worker, opener, gate);
+    }
     let Worker {
         pass,
         search,
+        mut stretch,
         seen_roots,
         waits,
     } = worker;
@@ -50,16 +60,18 @@ pub(crate) fn take_up<O: Opener, G: Gate>(
         return Went::Ended(stop(turn, search, None));
     }
     if let Some(ready) = book.take_ready() {
-        return Went::On(give_back(turn, ready, seen_roots));
+        return Went::On(give_back(turn, ready, stretch, seen_roots));
     }
     book.keeps();
-    if let Some(root) = next_open_root(book) {
-        let worker = give_back(turn, search, seen_roots);
-        return open_root(rt, alloc, claims, worker, opener, gate, root);
+    let Ok(()) = hand_out(book, &mut stretch) else {
+        return Went::Ended(stop(turn, search, None));
+    };
+    if !stretch.roots.is_empty() {
+        return Went::On(give_back(turn, search, stretch, seen_roots));
     }
     let seen_roots = released_roots(book, seen_roots);
     let all = seen_roots == book.roots().len();
-    let mut worker = give_back(turn, search, seen_roots);
+    let mut worker = give_back(turn, search, stretch, seen_roots);
     if all {
         return Went::Ended(Ended::Finished { pass: worker.pass });
     }
@@ -68,39 +80,33 @@ pub(crate) fn take_up<O: Opener, G: Gate>(
     Went::On(worker)
 }
 
-// The next root that is neither released nor on a kept search, or none where all were given out. The
-// others on the way take no turn of their own: a kept search ends some day with its nodes released.
-fn next_open_root(book: &mut Book) -> Option<u32>
-    ensures only { book.new ≡ record book.old { given = book.new.given } }
-    ensures root { IfSome result (Contains book.old.roots) }
-    ensures last { IfSome result (λ root. slice_get book.old.roots (book.new.given - 1) ≡ Some root) }
-    ensures open { IfSome result (λ root. HasMember book.old.groups root → ⊥) }
-    ensures free { IfSome result (IsFree book.old.kept) }
-    ensures passed { IfSome result (λ _. AreReleasedOrKept book.old book.old.given (book.new.given - 1)) }
-    ensures all { IfNone result (book.new.given ≡ length book.old.roots) }
-    ensures none { IfNone result (AreReleasedOrKept book.old book.old.given (length book.old.roots)) }
+// How many roots are handed out at once: few enough that each of the workers is handed several stretches,
+// and one by one where the roots are few.
+fn stretch_len(roots: usize) -> usize
+    ensures { 0 < result }
 {
-    'roots: while let Some(root) = book.next_root() {
-        if is_loose(book, root) {
-            return Some(root);
-        }
-    }
-    None
+    (roots / STRETCHES).clamp(1, MOST_ROOTS)
 }
 
-// Whether a node is neither released nor on a kept search.
-fn is_loose(book: &Book, node: u32) -> bool
-    ensures open { OnTrue result (HasMember book.now.groups node → ⊥) }
-    ensures free { OnTrue result (IsFree book.now.kept node) }
-    ensures held { OnFalse result (IsReleasedOrKept book.now node) }
+// Hands out the next roots, where there are any that weren't handed out yet, to a worker that has claimed
+// all it was handed before.
+fn hand_out(book: &mut Book, stretch: &mut Stretch) -> Result<(), AllocError>
+    requires used { length stretch.old.roots.items ≤ stretch.old.next }
+    ensures only { book.new ≡ record book.old { given = book.new.given } }
+    ensures handed { OnOk result (stretch.new.roots.items ≡ slice_range book.old.roots book.old.given book.new.given) }
+    ensures unclaimed { stretch.new.next ≡ 0 }
+    ensures all { OnOk result (length stretch.new.roots.items ≡ 0 → book.new.given ≡ length book.old.roots) }
 {
-    if book.released().holds(node) {
-        return false;
+    let most = stretch_len(book.roots().len());
+    stretch.roots.clear();
+    stretch.next = 0;
+    for _turn in 0..most {
+        let Some(root) = book.next_root() else {
+            return Ok(());
+        };
+        stretch.roots.push(root)?;
     }
-    match book.blocked().holder(node) {
-        Some(_place) => false,
-        None => true,
-    }
+    Ok(())
 }
 
 // So many roots, from the first on, are released, where `from` of them are.

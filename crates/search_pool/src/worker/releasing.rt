@@ -18,6 +18,7 @@ pub(crate) fn release(rt: &impl Wait, claims: &Claims, worker: Worker) -> Went
     let Worker {
         pass,
         mut search,
+        stretch,
         seen_roots,
         waits: _,
     } = worker;
@@ -31,5 +32,5 @@ pub(crate) fn release(rt: &impl Wait, claims: &Claims, worker: Worker) -> Went
     };
     book.release(group);
     close_group(&mut turn);
-    Went::On(give_back(turn, search, seen_roots))
+    Went::On(give_back(turn, search, stretch, seen_roots))
 }

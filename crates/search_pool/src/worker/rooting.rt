@@ -1,8 +1,8 @@
-ghost use Rattle.std.specs.Prelude.{◌≡◌, ◌<◌, length, false};
+ghost use Rattle.std.specs.Prelude.{◌≡◌, ◌<◌, ◌+◌, slice_index, length, false};
 ghost use Rattle.graph_law.specs.Graph.{Calls};
 ghost use Rattle.graph_law.specs.Reach.{IsReached};
 ghost use Rattle.search_stack.specs.Stack.{size};
-ghost use Rattle.search_pool.specs.Working.{IsAtWork, GoesWell};
+ghost use Rattle.search_pool.specs.Working.{GoesOnIn, GoesWell, HasClaimed, IsAtWork};
 
 use super::stopping::give_up;
 use super::went::{Went, Worker};
@@ -13,9 +13,32 @@ use node_claims::{Claimed, Claims};
 use std::alloc::Global;
 use std::sync::Wait;
 
-/// Claims a root without the turn, and begins a search at it where it is won. Where another has it or
-/// it is finished, there is nothing to do.
-pub(crate) fn open_root<O: Opener, G: Gate>(
+/// Claims the next root that was handed out to the worker, without the turn, and begins a search at it
+/// where it is won.
+pub(crate) fn open_next<O: Opener, G: Gate>(
+    rt: &impl Wait,
+    alloc: Global,
+    claims: &Claims,
+    mut worker: Worker,
+    opener: &O,
+    gate: &G,
+) -> Went
+    requires made { claims.now.lists ≡ O.lists opener.now }
+    requires at_work { IsAtWork claims.now worker false }
+    requires idle { size worker.search.stack ≡ 0 }
+    requires some { worker.stretch.next < length worker.stretch.roots.items }
+    ensures well { GoesWell claims.now result }
+    ensures claimed { HasClaimed (slice_index worker.stretch.roots.items worker.stretch.next) result }
+    ensures next { GoesOnIn (record worker.stretch { next = worker.stretch.next + 1 }) result }
+{
+    let root = worker.stretch.roots[worker.stretch.next];
+    worker.stretch.next += 1;
+    open_root(rt, alloc, claims, worker, opener, gate, root)
+}
+
+// Claims a root without the turn, and begins a search at it where it is won. Where another has it or
+// it is finished, there is nothing to do.
+fn open_root<O: Opener, G: Gate>(
     rt: &impl Wait,
     alloc: Global,
     claims: &Claims,
@@ -29,7 +52,9 @@ pub(crate) fn open_root<O: Opener, G: Gate>(
     requires idle { size worker.search.stack ≡ 0 }
     requires node { root < length claims.now.lists }
     requires reached { IsReached (Calls claims.now.lists) claims.now.roots root }
-    ensures { GoesWell claims.now result }
+    ensures well { GoesWell claims.now result }
+    ensures claimed { HasClaimed root result }
+    ensures stretch { GoesOnIn worker.stretch result }
 {
     match claims.claim(&mut worker.pass, root) {
         Claimed::Won => {}

@@ -29,6 +29,7 @@ pub(crate) fn suspend(
     let Worker {
         pass,
         search,
+        stretch,
         seen_roots,
         waits: _,
     } = worker;
@@ -38,13 +39,15 @@ pub(crate) fn suspend(
         return Went::Ended(stop(turn, search, None));
     }
     if book.released().holds(node) {
-        let mut worker = give_back(turn, search, seen_roots);
+        let mut worker = give_back(turn, search, stretch, seen_roots);
         worker.search.back(node);
         return Went::On(worker);
     }
     match book.suspend(search, node) {
-        Ok(Suspended::Kept) => { Went::On(give_back(turn, Search::empty(alloc), seen_roots)) }
-        Ok(Suspended::Moved(search)) => Went::On(give_back(turn, search, seen_roots)),
+        Ok(Suspended::Kept) => {
+            Went::On(give_back(turn, Search::empty(alloc), stretch, seen_roots))
+        }
+        Ok(Suspended::Moved(search)) => Went::On(give_back(turn, search, stretch, seen_roots)),
         Err((_, search)) => Went::Ended(stop(turn, search, None)),
     }
 }

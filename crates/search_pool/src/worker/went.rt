@@ -1,3 +1,4 @@
+use super::stretch::Stretch;
 use crate::ended::Ended;
 use node_claims::Pass;
 use search_stack::Search;
@@ -8,6 +9,8 @@ pub(crate) struct Worker {
     pub(crate) pass: Pass,
     /// The search that it runs. It is empty where the worker is idle.
     pub(crate) search: Search,
+    /// The roots that were handed out to it.
+    pub(crate) stretch: Stretch,
     /// So many roots, from the first on, have been seen finished.
     pub(crate) seen_roots: usize,
     /// How often it has found nothing to do since it last had a search.

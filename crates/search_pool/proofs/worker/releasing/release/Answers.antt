@@ -82,6 +82,7 @@ returns g c =
     c.give_back.ensures.at_work c.args.claims.now false
     (closed_on c.requires.at_work.working took off released c.close_group.ensures c.args.worker.seen_roots c.requires.at_work.within
     c.requires.at_work.seen)
+    c.requires.at_work.handed
 
 pub returns-then-has_failed : goal.returns-then-has_failed
 returns-then-has_failed g c =

@@ -53,7 +53,7 @@ returns-then-holds g c =
     released_settled c.args.worker.search c.back.new.self c.back.result c.args.node c.turn-turn.result.view.seen c.book-book.result.now.groups
     (c.give_back-worker.ensures.at_work c.args.claims.now true
     (goes_on c.requires.at_work.working took c.args.worker.seen_roots c.requires.at_work.within c.requires.at_work.seen
-    c.requires.at_work.working.wants_nothing (good_released c.requires.at_work.working took)))
+    c.requires.at_work.working.wants_nothing (good_released c.requires.at_work.working took)) c.requires.at_work.handed)
     c.give_back-worker.ensures.search c.give_back-worker.ensures.seen c.requires.elsewhere.away has c.back.ensures.on.0 c.back.ensures.unchanged
     c.back.ensures.good
 
@@ -67,6 +67,7 @@ returns-in-Ok-Kept g c =
     (ap (λ (s : SearchValue). s.wanted) c.empty.ensures)
     (subst (λ (s : SearchValue). IsGood c.args.claims.now.lists c.args.claims.now.roots (flat c.suspend.new.self.groups) false s.stack)
     (sym c.empty.ensures) (good_empty c.args.claims.now.lists c.args.claims.now.roots (flat c.suspend.new.self.groups) false)))
+    c.requires.at_work.handed
 
 pub returns-in-Ok-Moved : goal.returns-in-Ok-Moved
 returns-in-Ok-Moved g c =
@@ -78,6 +79,7 @@ returns-in-Ok-Moved g c =
     c.give_back-in-Ok-Moved.ensures.at_work c.args.claims.now false
     (goes_on c.requires.at_work.working took c.args.worker.seen_roots c.requires.at_work.within c.requires.at_work.seen beside.wants_nothing
     (beside_good c.requires.at_work.working took c.suspend.new.self c.in-Ok-Moved.search c.in-Ok-Moved.ensures.only beside))
+    c.requires.at_work.handed
 
 pub returns-then-has_failed : goal.returns-then-has_failed
 returns-then-has_failed g c =
