@@ -13,9 +13,10 @@ ghost use Rattle.group_feed.specs.Ordered.{AreOrdered};
 
 use crate::copying::{copy_at, copy_new};
 use crate::line::{Graph, Line, LinePass, Parcel};
-use crate::passing::{pause, push};
+use crate::passing::push;
 use group_release::{Book, Released};
 use node_claims::{Claims, Pass};
+use search_pool::pause;
 use search_stack::Search;
 use std::alloc::{AllocError, Global};
 use std::sync::Wait;

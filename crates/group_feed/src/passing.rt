@@ -3,14 +3,9 @@ ghost use Rattle.crossbeam_queue.specs.Passes.{view, IsPassOf, ruled_capacity};
 ghost use Rattle.group_feed.specs.Line.{MayPush, Takes, after_push, feeding, newcomer, taking};
 
 use crate::line::{Ends, Graph, Line, LinePass, Parcel, Pop, Push, Total};
+use search_pool::pause;
 use std::alloc::{AllocError, Global};
 use std::sync::Wait;
-use std::sync::atomic::AtomicU64;
-use std::thread;
-use std::time::Duration;
-
-// How often one who finds nothing lets other threads go on before it sleeps.
-const TRIES: u32 = 16;
 
 /// An empty line with room for a group for each node and for the end mark, the pass that may push, and
 /// the one that may take.
@@ -79,15 +74,4 @@ pub(crate) fn meet<N: Graph>(line: &Line<N>, mut feeder: LinePass, taker: LinePa
 {
     line.absorb::<Ends>(&mut feeder, taker);
     line.learn_as::<Total>(&mut feeder);
-}
-
-/// Lets other threads go on, or sleeps where that was done often enough: longer each time, for at most
-/// a millisecond.
-pub(crate) fn pause(rt: &impl Wait, waits: u32) {
-    if waits < TRIES {
-        thread::yield_now();
-        return;
-    }
-    let micros = 10 * u64::from((waits - TRIES).min(99) + 1);
-    AtomicU64::new(0).park_timeout(rt, 0, Duration::from_micros(micros));
 }

@@ -41,8 +41,13 @@ pub fn drive_workers<R: Threads + Wait + Sync, O: Opener, G: Gate>(
     Ok(claims.finish(rt, pass))
 }
 
-/// A pass for each job.
-fn split_for(alloc: Global, claims: &Claims, pass: Pass, jobs: u32) -> Result<Vec<Pass>, AllocError>
+/// A pass for each of `jobs` workers.
+pub fn split_for(
+    alloc: Global,
+    claims: &Claims,
+    pass: Pass,
+    jobs: u32,
+) -> Result<Vec<Pass>, AllocError>
     requires idle { IsIdle claims.now pass }
     requires some { 0 < jobs }
     ensures count { IfOk result (λ passes. length passes.items ≡ jobs) }
@@ -59,8 +64,9 @@ fn split_for(alloc: Global, claims: &Claims, pass: Pass, jobs: u32) -> Result<Ve
     Ok(passes)
 }
 
-/// Each pass works in a thread of its own, where one can be made.
-fn run_all<R: Threads + Wait + Sync, O: Opener, G: Gate>(
+/// Each pass works in a thread of its own, where one can be made. It answers how each worker has ended.
+/// The promise holds if the call returns.
+pub fn run_all<R: Threads + Wait + Sync, O: Opener, G: Gate>(
     rt: &R,
     alloc: Global,
     claims: &Claims,

@@ -10,17 +10,12 @@ use super::stretch::Stretch;
 use super::went::{Went, Worker};
 use crate::ended::Ended;
 use crate::gate::Gate;
+use crate::pausing::pause;
 use graph_law::Opener;
 use group_release::Book;
 use node_claims::Claims;
 use std::alloc::{AllocError, Global};
 use std::sync::Wait;
-use std::sync::atomic::AtomicU64;
-use std::thread;
-use std::time::Duration;
-
-// How often an idle worker lets other threads go on before it sleeps.
-const TRIES: u32 = 16;
 
 // In how many stretches the roots are handed out, where there are enough: four for each of 64 workers.
 const STRETCHES: usize = 256;
@@ -124,15 +119,4 @@ fn released_roots(book: &Book, from: usize) -> usize
         }
     }
     roots.len()
-}
-
-// Lets other threads go on, or sleeps where that was done often enough: longer each time, for at most
-// a millisecond.
-fn pause(rt: &impl Wait, waits: u32) {
-    if waits < TRIES {
-        thread::yield_now();
-        return;
-    }
-    let micros = 10 * u64::from((waits - TRIES).min(99) + 1);
-    AtomicU64::new(0).park_timeout(rt, 0, Duration::from_micros(micros));
 }

@@ -1,0 +1,18 @@
+use std::sync::Wait;
+use std::sync::atomic::AtomicU64;
+use std::thread;
+use std::time::Duration;
+
+// How often one who finds nothing lets other threads go on before it sleeps.
+const TRIES: u32 = 16;
+
+/// Lets other threads go on, or sleeps where that was done often enough: longer each time, from ten
+/// microseconds up to a millisecond. `waits` says how often that was done.
+pub fn pause(rt: &impl Wait, waits: u32) {
+    if waits < TRIES {
+        thread::yield_now();
+        return;
+    }
+    let micros = 10 * u64::from((waits - TRIES).min(99) + 1);
+    AtomicU64::new(0).park_timeout(rt, 0, Duration::from_micros(micros));
+}
