@@ -3,7 +3,7 @@ use Rattle.std.proofs.Common.{inl, inr, ℕ, Bool, false, List, [], ◌∷◌, s
 use Rattle.blocked_table.specs.Kept.{IsChain}
 use Rattle.blocked_table.proofs.Chain.{no_ring}
 use Rattle.search_machine.specs.Events.{IsEvent, IsPlainEvent}
-use Rattle.search_machine.specs.Runs.{IsRun, next_number}
+use Rattle.search_machine.specs.Runs.{AreEvents, IsRun, next_number}
 use Rattle.search_machine.specs.State.{State, IsGoodState}
 use Rattle.search_machine.proofs.Claiming.{asks_keep, opens_keep}
 use Rattle.search_machine.proofs.Good.{table}
@@ -28,6 +28,12 @@ pub event_keeps : {lists : List (List ℕ)} {roots : List ℕ} {place : ℕ} {s 
     → IsGoodState lists roots false t
 event_keeps good (inl plain) = plain_keeps good plain
 event_keeps good (inr claims) = opens_keep (asks_keep good claims.asks) claims.opens
+
+-- and so does each list of events
+pub all_keep : (lists : List (List ℕ)) (roots : List ℕ) (states : List State) (s end : State) → IsGoodState lists roots false s
+    → AreEvents lists s states end → IsGoodState lists roots false end
+all_keep lists roots [] s end good run = subst (IsGoodState lists roots false) run good
+all_keep lists roots (t ∷ ts) s end good run = all_keep lists roots ts t end (event_keeps good run.0.1) run.1
 
 pub run_keeps : (lists : List (List ℕ)) (roots : List ℕ) (states : List State) (x : ℕ) (s end : State) → IsGoodState lists roots false s
     → IsRun lists x s states end → IsGoodState lists roots false end

@@ -47,6 +47,11 @@ pub record Picks (s : State) (number place : ℕ) : Type 0 where
   pub some : 0 < length places
   pub picked : slice_get places (drawn number % length places) ≡ Some place
 
+-- the states that follow, one event each, at whatever places
+abbrev pub AreEvents : List (List ℕ) → State → List State → State → Type 0
+AreEvents lists s [] end = s ≡ end
+AreEvents lists s (t ∷ ts) end = ((place : ℕ) × IsEvent lists place s t) × AreEvents lists t ts end
+
 -- the states that follow, one event a turn, where the numbers go on from x
 abbrev pub IsRun : List (List ℕ) → ℕ → State → List State → State → Type 0
 IsRun lists x s [] end = s ≡ end

@@ -7,7 +7,7 @@ ghost use Rattle.graph_law.specs.LegalOrder.{IsComplete, IsLegalOrder};
 ghost use Rattle.graph_law.specs.Reach.{IsReached};
 ghost use Rattle.blocked_table.specs.Kept.{kept_at, IsChain};
 ghost use Rattle.search_machine.specs.Events.{Asks, IsEvent, IsPlainEvent, Opens};
-ghost use Rattle.search_machine.specs.Runs.{CanAct, IsRun, opening_state};
+ghost use Rattle.search_machine.specs.Runs.{AreEvents, CanAct, IsRun, opening_state};
 ghost use Rattle.search_machine.specs.State.{State, IsGoodState, waiting_at};
 
 /// Each event keeps a good state, and so does each half of a claim.
@@ -28,6 +28,19 @@ pub fn runs_keep()
         → IsGoodState lists roots false (opening_state (length lists) roots places) }
     ensures runs { (lists : List (List ℕ)) (roots : List ℕ) (x : ℕ) (s : State) (states : List State) (end : State)
         → IsGoodState lists roots false s → IsRun lists x s states end → IsGoodState lists roots false end }
+{}
+
+/// A state that events lead to from a good one is good, whichever places made them; so from the opening
+/// state on the released groups are a legal order of nodes that the roots reach.
+pub fn any_events_keep()
+    ensures keep { (lists : List (List ℕ)) (roots : List ℕ) (s : State) (states : List State) (end : State)
+        → IsGoodState lists roots false s → AreEvents lists s states end → IsGoodState lists roots false end }
+    ensures legal { (lists : List (List ℕ)) (roots : List ℕ) (places : ℕ) (states : List State) (end : State) → IsClosed lists
+        → All (λ root. root < length lists) roots → AreEvents lists (opening_state (length lists) roots places) states end
+        → IsLegalOrder (Calls lists) end.groups }
+    ensures reached { (lists : List (List ℕ)) (roots : List ℕ) (places : ℕ) (states : List State) (end : State) → IsClosed lists
+        → All (λ root. root < length lists) roots → AreEvents lists (opening_state (length lists) roots places) states end
+        → (v : ℕ) → HasMember end.groups v → IsReached (Calls lists) roots v }
 {}
 
 /// In a good state the released groups are a legal order of nodes that the roots reach, and no kept

@@ -12,7 +12,7 @@ mod machine;
 mod schedule;
 mod step;
 
-pub use laws::{events_keep, good_states, nothing_left, runs_keep};
+pub use laws::{any_events_keep, events_keep, good_states, nothing_left, runs_keep};
 pub use machine::Machine;
 pub use schedule::{drive_many, runs_end, schedules_answer};
 pub use step::Step;
