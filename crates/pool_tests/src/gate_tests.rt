@@ -1,3 +1,4 @@
+use crate::crowd::Crowd;
 use crate::graphs::graph_of;
 use crate::meeting::Meeting;
 use search_pool::{Gate, MeetGate, OpenGate, drive_workers};
@@ -13,6 +14,16 @@ fn opens_two_nodes_at_once(rt: HostRuntime) -> Result<(), Fail> {
     assert_eq!(rt; groups.len(), 2);
     assert!(rt; meeting.met());
     assert_eq!(rt; meeting.opened(), (1, 1));
+    Ok(())
+}
+
+#[test]
+fn opens_three_nodes_at_once(rt: HostRuntime) -> Result<(), Fail> {
+    let alloc = rt.alloc();
+    let crowd = Crowd::new();
+    let groups = drive_workers(&rt, alloc, &crowd, &[0, 1, 2], 3, &OpenGate)?;
+    assert_eq!(rt; groups.len(), 3);
+    assert_eq!(rt; crowd.waited_out(), 3);
     Ok(())
 }
 

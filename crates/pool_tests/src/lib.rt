@@ -4,6 +4,8 @@
 #[cfg(test)]
 mod agree_tests;
 #[cfg(test)]
+mod crowd;
+#[cfg(test)]
 mod gate_tests;
 #[cfg(test)]
 mod graphs;
@@ -19,3 +21,5 @@ mod starved_tests;
 mod turn_tests;
 #[cfg(test)]
 mod waiting;
+#[cfg(test)]
+mod waking_tests;
