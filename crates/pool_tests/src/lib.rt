@@ -8,6 +8,8 @@ mod crowd;
 #[cfg(test)]
 mod gate_tests;
 #[cfg(test)]
+mod giant_tests;
+#[cfg(test)]
 mod graphs;
 #[cfg(test)]
 mod meeting;

@@ -9,7 +9,7 @@ use Rattle.search_pool.specs.declared.worker.stretch.Stretch.{Stretch}
 
 pub begins_at_work : (claims : ClaimsValue) (pass : PassValue) (search : SearchValue) (stretch : Stretch) → IsPassOf claims pass
     → pass.view.nodes ≡ [] → search ≡ record { stack = empty_stack; wanted = None; spare = 0 } → stretch.roots.items ≡ []
-    → IsAtWork claims (record { pass = pass; search = search; stretch = stretch; seen_roots = 0; waits = 0 }) false
+    → IsAtWork claims (record { pass = pass; search = search; stretch = stretch; seen_roots = 0; waits = 0; vain = 0; awaited = 0 }) false
 begins_at_work claims pass search stretch of nothing is none = record {
   working = record {
     has = record { pass_of = of; nodes = nothing ∙ ap (λ (s : SearchValue). nodes_with s None) (sym is) };

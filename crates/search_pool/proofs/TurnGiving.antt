@@ -13,7 +13,7 @@ use Rattle.search_pool.specs.declared.worker.stretch.Stretch.{Stretch}
 pub is_at_work : (turn : TurnValue) (pass : PassValue) (search : SearchValue) (stretch : Stretch) (n : ℕ) → pass.table ≡ turn.table
     → pass.view ≡ record turn.view { nodes = nodes_with search None; seen = turn.view.seen ++ flat turn.book.groups; told = turn.book.failed }
     → (claims : ClaimsValue) (opened : Bool) → GoesOnWith claims turn search n opened → AreRootsOf claims stretch.roots.items
-    → IsAtWork claims (record { pass = pass; search = search; stretch = stretch; seen_roots = n; waits = 0 }) opened
+    → IsAtWork claims (record { pass = pass; search = search; stretch = stretch; seen_roots = n; waits = 0; vain = 0; awaited = 0 }) opened
 is_at_work turn pass search stretch n table view claims opened on handed =
     let seen : pass.view.seen ≡ turn.view.seen ++ flat turn.book.groups = ap (λ (v : View). v.seen) view in
     record {

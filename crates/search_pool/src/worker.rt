@@ -49,6 +49,8 @@ pub fn work<O: Opener, G: Gate>(
         },
         seen_roots: 0,
         waits: 0,
+        vain: 0,
+        awaited: 0,
     };
     'turns: for _ in rt.forever() {
         match go_on(rt, alloc, claims, worker, opener, gate) {

@@ -32,5 +32,7 @@ pub(crate) fn give_back(
         stretch,
         seen_roots,
         waits: 0,
+        vain: 0,
+        awaited: 0,
     }
 }

@@ -20,6 +20,9 @@ use std::sync::Wait;
 // In how many stretches the roots are handed out, where there are enough: four for each of 64 workers.
 const STRETCHES: usize = 256;
 
+// How many searches in a row may come to few nodes and wait before the worker waits too.
+const MOST_VAIN: u32 = 4;
+
 // The most roots of a stretch. A turn for so many costs next to nothing, and no worker is left with much.
 const MOST_ROOTS: usize = 256;
 
@@ -39,6 +42,9 @@ pub(crate) fn take_up<O: Opener, G: Gate>(
     requires idle { size worker.search.stack ≡ 0 }
     ensures { GoesWell claims.now result }
 {
+    if worker.vain >= MOST_VAIN {
+        return hold_back(rt, claims, worker);
+    }
     if worker.stretch.next < worker.stretch.roots.len() {
         return open_next(rt, alloc, claims, worker, opener, gate);
     }
@@ -48,6 +54,8 @@ pub(crate) fn take_up<O: Opener, G: Gate>(
         mut stretch,
         seen_roots,
         waits,
+        vain: _,
+        awaited: _,
     } = worker;
     let mut turn = claims.turn(rt, pass);
     let book = turn.book();
@@ -72,6 +80,43 @@ pub(crate) fn take_up<O: Opener, G: Gate>(
     }
     pause(rt, waits);
     worker.waits = waits.saturating_add(1);
+    Went::On(worker)
+}
+
+// Waits a little, where the worker's last searches all had to wait at once, and begins no other until the
+// node is released that the last of them waits for. That node is on a search that runs, or on one that
+// waits for such a search or for a ready one; and a ready one it takes.
+fn hold_back(rt: &impl Wait, claims: &Claims, worker: Worker) -> Went
+    requires at_work { IsAtWork claims.now worker false }
+    requires idle { size worker.search.stack ≡ 0 }
+    ensures { GoesWell claims.now result }
+{
+    let Worker {
+        pass,
+        search,
+        stretch,
+        seen_roots,
+        waits,
+        vain,
+        awaited,
+    } = worker;
+    let mut turn = claims.turn(rt, pass);
+    let book = turn.book();
+    if book.has_failed() {
+        return Went::Ended(stop(turn, search, None));
+    }
+    if let Some(ready) = book.take_ready() {
+        return Went::On(give_back(turn, ready, stretch, seen_roots));
+    }
+    let released = book.released().holds(awaited);
+    let mut worker = give_back(turn, search, stretch, seen_roots);
+    if released {
+        return Went::On(worker);
+    }
+    pause(rt, waits);
+    worker.waits = waits.saturating_add(1);
+    worker.vain = vain;
+    worker.awaited = awaited;
     Went::On(worker)
 }
 

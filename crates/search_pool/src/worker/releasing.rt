@@ -21,6 +21,8 @@ pub(crate) fn release(rt: &impl Wait, claims: &Claims, worker: Worker) -> Went
         stretch,
         seen_roots,
         waits: _,
+        vain: _,
+        awaited: _,
     } = worker;
     let mut turn = claims.turn(rt, pass);
     let book = turn.book();

@@ -12,6 +12,9 @@ use search_stack::Search;
 use std::alloc::Global;
 use std::sync::Wait;
 
+// A search that has to wait with no more nodes than these was hardly worth its turns.
+const FEW: u32 = 8;
+
 /// Puts the search aside until the node is finished that its last edge leads to. Where the node is
 /// released by now, the search goes on; where what it waits for waits for it, that comes on top of it.
 pub(crate) fn suspend(
@@ -32,6 +35,8 @@ pub(crate) fn suspend(
         stretch,
         seen_roots,
         waits: _,
+        vain,
+        awaited: _,
     } = worker;
     let mut turn = claims.turn(rt, pass);
     let book = turn.book();
@@ -43,11 +48,23 @@ pub(crate) fn suspend(
         worker.search.back(node);
         return Went::On(worker);
     }
+    let vain = vain_with(vain, search.len());
     match book.suspend(search, node) {
         Ok(Suspended::Kept) => {
-            Went::On(give_back(turn, Search::empty(alloc), stretch, seen_roots))
+            let mut worker = give_back(turn, Search::empty(alloc), stretch, seen_roots);
+            worker.vain = vain;
+            worker.awaited = node;
+            Went::On(worker)
         }
         Ok(Suspended::Moved(search)) => Went::On(give_back(turn, search, stretch, seen_roots)),
         Err((_, search)) => Went::Ended(stop(turn, search, None)),
     }
+}
+
+// How many searches in a row were in vain, with one of so many nodes that has to wait.
+fn vain_with(vain: u32, nodes: u32) -> u32 {
+    if nodes > FEW {
+        return 0;
+    }
+    vain.saturating_add(1)
 }

@@ -15,6 +15,10 @@ pub(crate) struct Worker {
     pub(crate) seen_roots: usize,
     /// How often it has found nothing to do since it last had a search.
     pub(crate) waits: u32,
+    /// How many of its searches in a row came to few nodes and had to wait, and the node that the last
+    /// of them waits for.
+    pub(crate) vain: u32,
+    pub(crate) awaited: u32,
 }
 
 /// What a worker came to: it goes on, or has ended.

@@ -8,6 +8,7 @@ use Rattle.group_release.specs.Book.{GoesOnBeside, RunsBeside}
 use Rattle.group_release.specs.Outline.{nodes_on}
 use Rattle.group_release.specs.Released.{ReleasedGroups}
 use Rattle.search_stack.proofs.Edges.{good_empty}
+use Rattle.search_pool.specs.Working.{IsAtWork}
 use Rattle.search_pool.proofs.worker.suspending.suspend.Goals as goal
 use Rattle.search_pool.proofs.TurnLaws.{apart_kept, goes_on, good_in, good_released, is_turn_of, took_turn}
 use Rattle.search_pool.proofs.TurnSuspending.{beside_good, may_keep, may_move, released_settled}
@@ -26,8 +27,8 @@ suspend-requires-clause-good g c =
     c.turn-turn.ensures.lent in
     good_in c.requires.at_work.working took
 
-pub give_back-requires : goal.give_back-requires
-give_back-requires g c =
+pub give_back-worker-requires-in-Ok-Kept : goal.give_back-worker-requires-in-Ok-Kept
+give_back-worker-requires-in-Ok-Kept g c =
     let took =
     took_turn c.turn-turn.result c.book-book.ensures.value c.turn-turn.ensures.table c.turn-turn.ensures.view c.turn-turn.ensures.taken
     c.turn-turn.ensures.lent in
@@ -35,8 +36,8 @@ give_back-requires g c =
     (ap (λ (s : SearchValue). nodes_on s.stack) c.empty.ensures) c.requires.elsewhere.held c.in-Ok-Kept.ensures.kept_count
     c.in-Ok-Kept.ensures.wanted_count
 
-pub give_back-requires-in-Ok-Moved : goal.give_back-requires-in-Ok-Moved
-give_back-requires-in-Ok-Moved g c =
+pub give_back-requires : goal.give_back-requires
+give_back-requires g c =
     let took =
     took_turn c.turn-turn.result c.book-book.ensures.value c.turn-turn.ensures.table c.turn-turn.ensures.view c.turn-turn.ensures.taken
     c.turn-turn.ensures.lent in
@@ -62,12 +63,14 @@ returns-in-Ok-Kept g c =
     let took =
     took_turn c.turn-turn.result c.book-book.ensures.value c.turn-turn.ensures.table c.turn-turn.ensures.view c.turn-turn.ensures.taken
     c.turn-turn.ensures.lent in
-    c.give_back.ensures.at_work c.args.claims.now false
+    let work : IsAtWork c.args.claims.now c.give_back-worker-in-Ok-Kept.result false =
+    c.give_back-worker-in-Ok-Kept.ensures.at_work c.args.claims.now false
     (goes_on c.requires.at_work.working took c.args.worker.seen_roots c.requires.at_work.within c.requires.at_work.seen
     (ap (λ (s : SearchValue). s.wanted) c.empty.ensures)
     (subst (λ (s : SearchValue). IsGood c.args.claims.now.lists c.args.claims.now.roots (flat c.suspend.new.self.groups) false s.stack)
     (sym c.empty.ensures) (good_empty c.args.claims.now.lists c.args.claims.now.roots (flat c.suspend.new.self.groups) false)))
-    c.requires.at_work.handed
+    c.requires.at_work.handed in
+    record { working = work.working; handed = work.handed; within = work.within; seen = work.seen }
 
 pub returns-in-Ok-Moved : goal.returns-in-Ok-Moved
 returns-in-Ok-Moved g c =
@@ -76,7 +79,7 @@ returns-in-Ok-Moved g c =
     c.turn-turn.ensures.lent in
     let beside : RunsBeside c.suspend.new.self c.in-Ok-Moved.search =
     subst (GoesOnBeside c.suspend.new.self) c.in-Ok-Moved.field-0-is c.in-Ok-Moved.ensures.beside in
-    c.give_back-in-Ok-Moved.ensures.at_work c.args.claims.now false
+    c.give_back.ensures.at_work c.args.claims.now false
     (goes_on c.requires.at_work.working took c.args.worker.seen_roots c.requires.at_work.within c.requires.at_work.seen beside.wants_nothing
     (beside_good c.requires.at_work.working took c.suspend.new.self c.in-Ok-Moved.search c.in-Ok-Moved.ensures.only beside))
     c.requires.at_work.handed
