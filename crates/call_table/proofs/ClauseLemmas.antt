@@ -1,10 +1,9 @@
 -- Clauses of predicates: where they stand, in order and each once.
-use Rattle.std.proofs.Common.{◌≡◌, ◌↔◌, ℕ, nat_eq, ◌&&◌, Bool, true, List, [], Some, None, All, map, slice_get, ap, sym, ◌∙◌, subst}
+use Rattle.std.proofs.Common.{◌≡◌, ℕ, nat_eq, ◌&&◌, Bool, true, List, [], Some, All, map, slice_get, ap, sym, ◌∙◌, subst}
 use Rattle.std.specs.Prelude.{Contains}
 use Rattle.std.specs.List.{dedup, flat_map}
 use Rattle.std.specs.List.Retain.{IsFiltered, DiffersFromLast}
 use Rattle.std.specs.List.Sorted.{IsSorted, IsPermutation}
-use Rattle.std.specs.declared.cmp.Ordering.TheVariants.{Less}
 use Rattle.std.specs.Ordering.{is_eq}
 use Rattle.std.specs.Cmp.{IsEquivalence, IsTotalOrder, both_tied, unsigned_ties}
 use Rattle.std.proofs.lemmas.Bool.{and_parts}
@@ -16,16 +15,11 @@ use Rattle.std.proofs.lemmas.List.Kept.{Any-dedup, Contains-from_dedup, IsStrict
 use Rattle.std.proofs.lemmas.List.Sorted.{Contains-permutation, IsPermutation-sym}
 use Rattle.std.proofs.lemmas.Map.Keys.{Less-from_sorted}
 use Rattle.std.proofs.lemmas.Option.{slice_get_within, get_or_from_slice_get}
-use Rattle.prolog_tokens.specs.Places.{IsOffset}
-use Rattle.prolog_terms.specs.Tree.{Tree}
-use Rattle.prolog_terms.specs.Views.{start_of}
 use Rattle.clause_text.specs.Offsets.{HasOffsets}
 use Rattle.clause_text.proofs.TermOffsets.{start_stands}
 use Rattle.module_table.specs.Defined.{Predicate}
 use Rattle.module_table.specs.Facts.{Facts}
-use Rattle.file_library.specs.Loaded.{NamedText}
 use Rattle.import_rules.specs.Program.{Seen, places_in, IsKnown}
-use Rattle.call_edges.specs.Calls.{IsAmong}
 use Rattle.call_edges.specs.CallPlaces.{StandsInText}
 use Rattle.call_edges.proofs.AmongLemmas.{flat_has, map_has}
 use Rattle.call_edges.proofs.BodyLemmas.{places_there}

@@ -1,5 +1,5 @@
 -- Lines and columns of spots, file by file.
-use Rattle.std.proofs.Common.{◌≡◌, ◌≢◌, ◌⊎◌, inl, inr, ℕ, zero, suc, ◌+◌, ◌<◌, ◌≤◌, List, [], ◌∷◌, ◌++◌, Some, All, AllPairs, length, get_or, take, drop, map, slice_get, ap, sym, ◌∙◌, subst, refl, arith, append_assoc, append-nil}
+use Rattle.std.proofs.Common.{◌≡◌, inl, inr, ℕ, ◌+◌, ◌<◌, ◌≤◌, List, [], ◌∷◌, ◌++◌, Some, All, AllPairs, length, get_or, take, drop, map, slice_get, ap, sym, ◌∙◌, subst, refl, arith, append_assoc, append-nil}
 use Rattle.std.specs.Prelude.{Contains}
 use Rattle.std.specs.List.{AllZip}
 use Rattle.std.proofs.lemmas.List.{length-map, get_or-map, length-drop, get_or-take, get_or-drop, take-append-drop, get_or_default, length-append, length-take-le, get_or-append-add}
@@ -7,7 +7,7 @@ use Rattle.std.proofs.lemmas.List.Elements.{Contains-get_or, Contains-append_rig
 use Rattle.std.proofs.lemmas.Bool.{cases_eq}
 use Rattle.std.proofs.lemmas.Option.{same_Some, slice_get_within}
 use Rattle.prolog_tokens.specs.declared.token.Place.{Place}
-use Rattle.prolog_tokens.specs.Places.{IsOffset, IsPlace, ArePlaces, IsAscending}
+use Rattle.prolog_tokens.specs.Places.{IsOffset, ArePlaces, IsAscending}
 use Rattle.file_library.specs.Loaded.{NamedText}
 use Rattle.call_edges.specs.CallPlaces.{StandsInText}
 use Rattle.call_edges.proofs.PlacedLemmas.{IsRun}

@@ -8,9 +8,9 @@ use Rattle.std.proofs.lemmas.List.Elements.{All-map}
 use Rattle.import_rules.specs.Names.{pred_cmp}
 use Rattle.import_rules.specs.Program.{Seen}
 use Rattle.import_rules.proofs.Lists.{all_pairs_map}
-use Rattle.call_edges.specs.CallPlaces.{CallAt, AreCallsOf, StandsInText, call_cmp}
+use Rattle.call_edges.specs.CallPlaces.{CallAt, AreCallsOf, StandsInText}
 use Rattle.call_table.specs.declared.clauses.ClauseAt.{ClauseAt}
-use Rattle.call_table.specs.Clauses.{AreClausesOf, clause_cmp}
+use Rattle.call_table.specs.Clauses.{AreClausesOf}
 use Rattle.call_table.specs.Spots.{IsUpto, AreSpots}
 use Rattle.call_table.specs.Table.{clause_spot, call_spot}
 

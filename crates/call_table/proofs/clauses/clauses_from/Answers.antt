@@ -1,4 +1,4 @@
-use Rattle.std.proofs.Common.{◌≡◌, ◌++◌, take, get_or, ap, sym, ◌∙◌}
+use Rattle.std.proofs.Common.{◌++◌, get_or, ap, sym, ◌∙◌}
 use Rattle.std.specs.List.{flat_map}
 use Rattle.std.proofs.lemmas.List.{take_all}
 use Rattle.import_rules.specs.Program.{see_program}

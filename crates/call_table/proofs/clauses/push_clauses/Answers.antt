@@ -1,6 +1,5 @@
 use Rattle.std.proofs.Common.{◌≡◌, ◌+◌, ◌++◌, ◌∷◌, [], map, take, ap, sym, ◌∙◌, append_assoc}
 use Rattle.std.proofs.lemmas.List.{map-append, take_more}
-use Rattle.prolog_terms.specs.Tree.{tree_of}
 use Rattle.module_table.specs.Defined.{clause_tree}
 use Rattle.call_table.specs.Clauses.{clause_at}
 use Rattle.call_table.proofs.clauses.push_clauses.Goals as goal
