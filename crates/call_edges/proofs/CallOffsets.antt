@@ -1,9 +1,9 @@
 -- Goals stand at offsets of the text of their file.
 use Rattle.std.specs.List.{AllZip}
-use Rattle.std.proofs.Common.{◌≡◌, ℕ, zero, suc, List, [], ◌∷◌, Option, Some, None, All, slice_get, codes, map, ap, sym, ◌∙◌, subst, refl}
+use Rattle.std.proofs.Common.{◌≡◌, ℕ, zero, suc, List, [], ◌∷◌, Option, Some, None, All, slice_get, codes, ap, sym, ◌∙◌, subst, refl}
 use Rattle.std.specs.Prelude.{Contains}
 use Rattle.std.specs.Option.{option_map}
-use Rattle.std.proofs.lemmas.List.Elements.{All-contains, Contains-get_or}
+use Rattle.std.proofs.lemmas.List.Elements.{All-contains}
 use Rattle.std.proofs.lemmas.Option.{none-some, same_Some, slice_get_within, get_or_from_slice_get}
 use Rattle.prolog_tokens.specs.Places.{IsOffset}
 use Rattle.prolog_terms.specs.Tree.{Tree, span_of}
@@ -16,11 +16,11 @@ use Rattle.file_library.specs.Loaded.{NamedText}
 use Rattle.import_rules.specs.Program.{Seen, places_in, IsKnown, IsReadFrom}
 use Rattle.call_edges.specs.Goals.{Met, call, fault, Place, Rows, Leads, met_at}
 use Rattle.call_edges.specs.ProgramRows.{rows_of}
-use Rattle.call_edges.specs.Calls.{IsAmong, body_of}
-use Rattle.call_edges.specs.Bodies.{Body, body_in, clause_bodies, bodies_at, bodies_in}
-use Rattle.call_edges.specs.CallPlaces.{CallAt, Source, call_met, call_at, IsCalled, IsCalledIn, IsCallOf, AreCallsOf, StandsInText}
+use Rattle.call_edges.specs.Calls.{body_of}
+use Rattle.call_edges.specs.Bodies.{Body, body_in, clause_bodies, bodies_at}
+use Rattle.call_edges.specs.CallPlaces.{CallAt, Source, call_met, call_at, IsCalled, IsCallOf, AreCallsOf, StandsInText}
 use Rattle.call_edges.proofs.AmongLemmas.{flat_has, among_given}
-use Rattle.call_edges.proofs.BodyLemmas.{places_there, bodies_there, IsThere}
+use Rattle.call_edges.proofs.BodyLemmas.{places_there, bodies_there}
 use Rattle.call_edges.proofs.LightLemmas.{all_of}
 use Rattle.call_edges.proofs.OffsetLemmas.{part_stands, by_stands}
 

@@ -1,6 +1,5 @@
-use Rattle.std.proofs.Common.{◌≡◌, ◌<◌, ◌++◌, [], List, All, map, length, get_or, ap, sym, ◌∙◌, subst, refl, arith}
+use Rattle.std.proofs.Common.{◌≡◌, ◌++◌, [], List, All, map, get_or, ap, sym, ◌∙◌, subst, refl}
 use Rattle.import_rules.specs.Program.{see_program}
-use Rattle.call_edges.specs.ProgramRows.{rows_of}
 use Rattle.call_edges.specs.CallPlaces.{IsCallOf}
 use Rattle.call_edges.specs.Calls.{IsAmong}
 use Rattle.call_edges.specs.PlacedSeen.{see_calls}
