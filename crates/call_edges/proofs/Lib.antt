@@ -25,3 +25,7 @@ pub mod ZipLemmas
 pub mod PlacedLemmas
 pub mod GoalFaultLemmas
 pub mod UnresolvedLemmas
+pub mod PlacedMet
+pub mod PlacedWalk
+pub mod PlacedCallLemmas
+pub mod CallOffsets

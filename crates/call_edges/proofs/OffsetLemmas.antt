@@ -95,7 +95,7 @@ module _ (text : List ℕ) where
   argument_stands (with_more first args) zero tree stand is = subst (HasOffsets text) (same_Some first tree is) stand.0
   argument_stands (with_more first args) (suc i) tree stand is = argument_stands args i tree stand.1 is
 
-  part_stands : (T : Rows) (owner : List ℕ) (role : GoalArg) (tree : Tree) (q : Place) → HasOffsets text tree → IsPart T owner role tree q → HasOffsets text q.tree
+  pub part_stands : (T : Rows) (owner : List ℕ) (role : GoalArg) (tree : Tree) (q : Place) → HasOffsets text tree → IsPart T owner role tree q → HasOffsets text q.tree
   part_stands T owner role (variable span) q stands is = absurd is
   part_stands T owner role (constant kind minus value span) q stands is = absurd is
   part_stands T owner role (atom name span) q stands is = absurd is
@@ -128,7 +128,7 @@ module _ (text : List ℕ) where
   right_stands : (operator : List ℕ) (tree l r : Tree) → HasOffsets text tree → sides_of operator tree ≡ Some (l, r) → HasOffsets text r
   right_stands operator tree l r stands is = right_at operator (inside tree) l r (inside_stands text tree stands) is
 
-  by_stands : (owner : List ℕ) (clause : Tree) (rule grammar : Option (Tree × Tree)) (body : Place) → HasOffsets text clause → sides_of (codes ":-") clause ≡ rule
+  pub by_stands : (owner : List ℕ) (clause : Tree) (rule grammar : Option (Tree × Tree)) (body : Place) → HasOffsets text clause → sides_of (codes ":-") clause ≡ rule
       → sides_of (codes "-->") clause ≡ grammar → body_by owner rule grammar ≡ Some body → HasOffsets text body.tree
   by_stands owner clause (Some (left, right)) grammar body stands first second is =
       subst (HasOffsets text) (ap (λ (p : Place). p.tree) (same_Some (place owner (Goal 0) right) body is)) (right_stands (codes ":-") clause left right stands first)

@@ -13,3 +13,5 @@ pub mod Unresolved
 pub mod Called
 pub mod Placing
 pub mod CallLists
+pub mod CallPlaces
+pub mod PlacedSeen

@@ -37,7 +37,7 @@ fn constant_met<'a>(role: GoalArg, kind: ConstKind, at: u32) -> Option<Met<'a>>
 }
 
 /// What is met at an atom that stands so. `[]`, `{}` and `!` call nothing in a grammar body.
-fn atom_met<'a>(owner: &'a str, role: GoalArg, name: &'a str) -> Option<Met<'a>>
+pub fn atom_met<'a>(owner: &'a str, role: GoalArg, name: &'a str) -> Option<Met<'a>>
     ensures { option_map see_met result ≡ atom_met owner.now role name.now }
 {
     let arity = match role {
@@ -59,7 +59,7 @@ fn atom_met<'a>(owner: &'a str, role: GoalArg, name: &'a str) -> Option<Met<'a>>
 }
 
 /// How the inner term of curly brackets stands: as a goal in a grammar body.
-fn curly_role(role: GoalArg) -> GoalArg
+pub fn curly_role(role: GoalArg) -> GoalArg
     ensures { result ≡ curly_role role }
 {
     match role {
@@ -83,7 +83,7 @@ fn role_in(row: Row, at: usize) -> GoalArg
 }
 
 /// How the argument at a place stands.
-fn role_of(standing: Standing, at: usize) -> GoalArg
+pub fn role_of(standing: Standing, at: usize) -> GoalArg
     ensures { result ≡ role_at (see_standing standing.entry) at }
 {
     match standing {
@@ -97,7 +97,7 @@ fn role_of(standing: Standing, at: usize) -> GoalArg
 }
 
 /// Whether none of the arguments is a goal.
-fn is_silent(standing: Standing) -> bool
+pub fn is_silent(standing: Standing) -> bool
     ensures { result ≡ true → see_standing standing.entry ≡ no_goals }
 {
     match standing {

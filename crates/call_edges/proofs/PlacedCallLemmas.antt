@@ -1,0 +1,115 @@
+-- Calls of bodies and of predicates, in order and each once.
+use Rattle.std.proofs.Common.{◌≡◌, ◌↔◌, ℕ, nat_eq, ◌&&◌, Bool, true, List, [], map, ap, sym, ◌∙◌, subst}
+use Rattle.std.specs.Prelude.{Contains}
+use Rattle.std.specs.List.{dedup}
+use Rattle.std.specs.List.Retain.{IsFiltered, DiffersFromLast}
+use Rattle.std.specs.List.Sorted.{IsSorted, IsPermutation}
+use Rattle.std.specs.declared.cmp.Ordering.{Ordering}
+use Rattle.std.specs.declared.cmp.Ordering.TheVariants.{Less}
+use Rattle.std.specs.Ordering.{is_eq}
+use Rattle.std.specs.Cmp.{IsEquivalence, IsTotalOrder, both_tied, unsigned_ties}
+use Rattle.std.proofs.lemmas.Bool.{and_parts}
+use Rattle.std.proofs.lemmas.Bool.Decides.{Decides-eqb}
+use Rattle.std.proofs.lemmas.Cmp.{then_total, on_total, nat_cmp_total, and_equiv, on_equiv, nat_list_eq_equiv, nat_eq_equiv}
+use Rattle.std.proofs.lemmas.List.Filters.{dedup_is}
+use Rattle.std.proofs.lemmas.List.Kept.{Any-dedup, Contains-from_dedup, IsStrictlySortedBy-dedup}
+use Rattle.std.proofs.lemmas.List.Sorted.{Contains-permutation, IsPermutation-sym}
+use Rattle.std.proofs.lemmas.Map.Keys.{Less-from_sorted}
+use Rattle.import_rules.specs.declared.names.PredName.{PredName}
+use Rattle.import_rules.specs.Names.{is_same}
+use Rattle.import_rules.specs.Program.{Seen}
+use Rattle.import_rules.proofs.Lists.{all_pairs_map}
+use Rattle.import_rules.proofs.NameOrder.{pred_cmp_total, same_ties, same_parts}
+use Rattle.call_edges.specs.declared.body.Body.{Body as BodyKept}
+use Rattle.call_edges.specs.declared.placed_walk.PlacedCall.{PlacedCall}
+use Rattle.call_edges.specs.Goals.{Rows, Adds}
+use Rattle.call_edges.specs.ProgramRows.{rows_of}
+use Rattle.call_edges.specs.Calls.{IsAmong}
+use Rattle.call_edges.specs.Bodies.{Body, see_body, bodies_in}
+use Rattle.call_edges.specs.CallPlaces.{CallAt, call_cmp, IsCalledIn, IsCallOf, AreCallsOf}
+use Rattle.call_edges.specs.PlacedSeen.{see_call, see_calls}
+use Rattle.call_edges.proofs.AddsLemmas.{adds_as}
+use Rattle.call_edges.proofs.AmongLemmas.{among_map, map_has}
+
+abbrev pub IsSeenCall : Rows → ℕ → BodyKept → CallAt → Type 0
+IsSeenCall T caller body c = IsCalledIn T caller (see_body body) c
+
+pub bodies_called : (T : Rows) (caller : ℕ) (bodies : List BodyKept) (old new : List CallAt) → Adds (IsAmong (IsSeenCall T caller) bodies) old new
+    → Adds (IsAmong (IsCalledIn T caller) (map see_body bodies)) old new
+bodies_called T caller bodies old new adds =
+    adds_as (IsAmong (IsSeenCall T caller) bodies) (IsAmong (IsCalledIn T caller) (map see_body bodies)) old new
+    (λ c. (among_map (IsCalledIn T caller) see_body bodies c).1) (λ c. (among_map (IsCalledIn T caller) see_body bodies c).0) adds
+
+-- those of a predicate
+pub node_called : (seen : Seen) (caller : ℕ) (bodies : List Body) (old new : List CallAt) → bodies ≡ bodies_in seen caller
+    → Adds (IsAmong (IsCalledIn (rows_of seen) caller) bodies) old new → Adds (IsCallOf seen caller) old new
+node_called seen caller bodies old new are adds =
+    subst (λ (bs : List Body). Adds (IsAmong (IsCalledIn (rows_of seen) caller) bs) old new) are adds
+
+-- sorted, and each once
+
+abbrev pub kept_cmp : PlacedCall → PlacedCall → Ordering
+kept_cmp a b = call_cmp (see_call a) (see_call b)
+
+abbrev pub same_call : CallAt → CallAt → Bool
+same_call a b = nat_eq a.file b.file && (nat_eq a.offset b.offset && (nat_eq a.caller b.caller && is_same a.callee b.callee))
+
+abbrev pub kept_eq : PlacedCall → PlacedCall → Bool
+kept_eq a b = same_call (see_call a) (see_call b)
+
+pub call_cmp_total : IsTotalOrder call_cmp
+call_cmp_total =
+    then_total (on_total (λ (c : CallAt). c.file) nat_cmp_total)
+    (then_total (on_total (λ (c : CallAt). c.offset) nat_cmp_total)
+    (then_total (on_total (λ (c : CallAt). c.caller) nat_cmp_total) (on_total (λ (c : CallAt). c.callee) pred_cmp_total)))
+
+same_call_ties : (a b : CallAt) → same_call a b ≡ is_eq (call_cmp a b)
+same_call_ties a b =
+    both_tied _ _ _ _ (unsigned_ties a.file b.file)
+    (both_tied _ _ _ _ (unsigned_ties a.offset b.offset) (both_tied _ _ _ _ (unsigned_ties a.caller b.caller) (same_ties a.callee b.callee)))
+
+name_equiv : IsEquivalence is_same
+name_equiv =
+    and_equiv (on_equiv (λ (p : PredName). p.module) nat_list_eq_equiv)
+    (and_equiv (on_equiv (λ (p : PredName). p.name) nat_list_eq_equiv) (on_equiv (λ (p : PredName). p.arity) nat_eq_equiv))
+
+call_equiv : IsEquivalence same_call
+call_equiv =
+    and_equiv (on_equiv (λ (c : CallAt). c.file) nat_eq_equiv)
+    (and_equiv (on_equiv (λ (c : CallAt). c.offset) nat_eq_equiv)
+    (and_equiv (on_equiv (λ (c : CallAt). c.caller) nat_eq_equiv) (on_equiv (λ (c : CallAt). c.callee) name_equiv)))
+
+same_call_parts : (a b : CallAt) → same_call a b ≡ true → a ≡ b
+same_call_parts a b e =
+    let first = and_parts (nat_eq a.file b.file) (nat_eq a.offset b.offset && (nat_eq a.caller b.caller && is_same a.callee b.callee)) e in
+    let second = and_parts (nat_eq a.offset b.offset) (nat_eq a.caller b.caller && is_same a.callee b.callee) first.1 in
+    let third = and_parts (nat_eq a.caller b.caller) (is_same a.callee b.callee) second.1 in
+    let files : a.file ≡ b.file = (Decides-eqb a.file b.file).0 first.0 in
+    let offsets : a.offset ≡ b.offset = (Decides-eqb a.offset b.offset).0 second.0 in
+    let callers : a.caller ≡ b.caller = (Decides-eqb a.caller b.caller).0 third.0 in
+    let callees : a.callee ≡ b.callee = same_parts a.callee b.callee third.1 in
+    λ i. record { file = files i; offset = offsets i; caller = callers i; callee = callees i }
+
+pub all_calls : (seen : Seen) (callers : List ℕ) (calls sorted kept : List PlacedCall)
+    → ((c : CallAt) → Contains (see_calls calls) c ↔ IsAmong (IsCallOf seen) callers c)
+    → IsPermutation calls sorted → IsSorted kept_cmp sorted → IsFiltered (DiffersFromLast kept_eq) [] sorted kept → AreCallsOf seen callers (see_calls kept)
+all_calls seen callers calls sorted kept told moved in_order filtered =
+    let is = dedup_is kept_eq sorted kept filtered in
+    let once = dedup kept_eq sorted in
+    let rises = IsStrictlySortedBy-dedup (on_total see_call call_cmp_total) (λ a b. same_call_ties (see_call a) (see_call b)) sorted in_order in
+    let P : List CallAt → Type 0 = λ xs. AreCallsOf seen callers xs in
+    subst P (sym (ap (map see_call) is))
+    (record {
+      ordered = all_pairs_map (λ a b. call_cmp a b ≡ Less) see_call once (λ i j d before lt. Less-from_sorted kept_cmp once i j d rises before lt);
+      each = λ c. (
+        λ has.
+            let one = (map_has see_call once c).0 has in
+            let there = Contains-permutation sorted calls one.one (IsPermutation-sym calls sorted moved) (Contains-from_dedup kept_eq sorted one.one one.has) in
+            (told c).0 ((map_has see_call calls c).1 (record { one = one.one; has = there; is = one.is })),
+        λ among.
+            let one = (map_has see_call calls c).0 ((told c).1 among) in
+            let found_one = Any-dedup (on_equiv see_call call_equiv) sorted one.one (Contains-permutation calls sorted one.one moved one.has) in
+            let same : see_call one.one ≡ see_call found_one.1 = same_call_parts (see_call one.one) (see_call found_one.1) found_one.4 in
+            (map_has see_call once c).1 (record { one = found_one.1; has = (found_one.0, found_one.2, found_one.3); is = sym same ∙ one.is }),
+      );
+    })

@@ -1,0 +1,200 @@
+-- Calls within a place: at the place itself, or within one of its parts.
+use Rattle.std.proofs.Common.{◌≡◌, ◌⊎◌, inl, inr, ℕ, ◌+◌, ◌<◌, ◌≤◌, List, [], ◌∷◌, ◌++◌, Some, None, length, slice_get, ap, sym, ◌∙◌, subst, refl, arith}
+use Rattle.std.specs.Option.{option_to_list}
+use Rattle.std.proofs.lemmas.Bool.{cases_eq}
+use Rattle.std.proofs.lemmas.Option.{none-some, same_Some, slice_get_within}
+use Rattle.prolog_terms.specs.declared.term.Span.{Span}
+use Rattle.prolog_terms.specs.declared.term.Form.{Form}
+use Rattle.prolog_terms.specs.Tree.{Tree, variable, constant, atom, compound, listed, tailed, curly, paren}
+use Rattle.prolog_terms.proofs.ViewLemmas.{trees_back}
+use Rattle.module_table.specs.declared.goal_arg.GoalArg.{GoalArg}
+use Rattle.module_table.specs.declared.goal_arg.GoalArg.TheVariants.{Plain}
+use Rattle.call_edges.specs.CallPlaces.{CallAt, Source, call_met, call_at, IsCalled, AddsCalls}
+use Rattle.call_edges.specs.Goals.{Place, place, Rows, no_goals, Taken, taken, role_at, IsArgument, IsPart, Leads, Adds}
+use Rattle.call_edges.proofs.AddsLemmas.{adds_as, adds_option, adds_then}
+use Rattle.call_edges.proofs.MetLemmas.{argument_at, compound_at}
+
+place_same : (q : Place) (owner : List ℕ) (role : GoalArg) (tree : Tree) → q.module_ ≡ owner → q.role ≡ role → q.tree ≡ tree → q ≡ place owner role tree
+place_same q owner role tree in_module stands is = λ i. place (in_module i) (stands i) (is i)
+
+module _ (source : Source) (T : Rows) where
+  -- it is met within a part of the place
+  pub record IsWithinPart (p : Place) (m : CallAt) : Type 0 where
+    pub part : Place
+    pub is : IsPart T p.module_ p.role p.tree part
+    pub met : IsCalled source T part m
+
+  pub parted : (p : Place) (m : CallAt) → IsCalled source T p m → (call_at source T p.module_ p.role p.tree ≡ Some m) ⊎ IsWithinPart p m
+  parted p m is = by_path is.stands.path is.stands.leads
+    where
+      by_path : (path : List Place) → Leads T p path is.at → (call_at source T p.module_ p.role p.tree ≡ Some m) ⊎ IsWithinPart p m
+      by_path [] same = inl (subst (λ (q : Place). call_at source T q.module_ q.role q.tree ≡ Some m) (sym same) is.called)
+      by_path (n ∷ path) leads = inr (record { part = n; is = leads.0; met = record { at = is.at; stands = record { path = path; leads = leads.1 }; called = is.called } })
+
+  pub met_here : (p : Place) (m : CallAt) → call_at source T p.module_ p.role p.tree ≡ Some m → IsCalled source T p m
+  met_here p m is = record { at = p; stands = record { path = []; leads = refl }; called = is }
+
+  pub met_within : (p : Place) (m : CallAt) → IsWithinPart p m → IsCalled source T p m
+  met_within p m within = record {
+    at = within.met.at;
+    stands = record { path = within.part ∷ within.met.stands.path; leads = (within.is, within.met.stands.leads) };
+    called = within.met.called;
+  }
+
+  -- nothing is met within a term that is no goal
+
+  plain_met : (owner : List ℕ) (tree : Tree) (m : CallAt) → call_at source T owner Plain tree ≡ Some m → ⊥
+  plain_met owner (variable span) m is = none-some m is
+  plain_met owner (constant kind minus value span) m is = none-some m is
+  plain_met owner (atom name span) m is = none-some m is
+  plain_met owner (compound name args form span) m is = none-some m is
+  plain_met owner (listed items span) m is = none-some m is
+  plain_met owner (tailed items tail span) m is = none-some m is
+  plain_met owner (curly inner span) m is = none-some m is
+  plain_met owner (paren inner span) m is = none-some m is
+
+  plain_part : (owner : List ℕ) (tree : Tree) (q : Place) → IsPart T owner Plain tree q → q.role ≡ Plain
+  plain_part owner (variable span) q is = absurd is
+  plain_part owner (constant kind minus value span) q is = absurd is
+  plain_part owner (atom name span) q is = absurd is
+  plain_part owner (compound name args form span) q is = is.stands
+  plain_part owner (listed items span) q is = absurd is
+  plain_part owner (tailed items tail span) q is = absurd is
+  plain_part owner (curly inner span) q is = ap (λ (p : Place). p.role) is
+  plain_part owner (paren inner span) q is = ap (λ (p : Place). p.role) is
+
+  pub plain_silent : (p : Place) (m : CallAt) → p.role ≡ Plain → IsCalled source T p m → ⊥
+  plain_silent p m plain is = by_path is.stands.path p plain is.stands.leads
+    where
+      by_path : (path : List Place) (q : Place) → q.role ≡ Plain → Leads T q path is.at → ⊥
+      by_path [] q here same =
+          plain_met q.module_ q.tree m
+          (subst (λ (role : GoalArg). call_at source T q.module_ role q.tree ≡ Some m) here
+          (subst (λ (x : Place). call_at source T x.module_ x.role x.tree ≡ Some m) (sym same) is.called))
+      by_path (n ∷ path) q here leads =
+          by_path path n (plain_part q.module_ q.tree n (subst (λ (role : GoalArg). IsPart T q.module_ role q.tree n) here leads.0)) leads.1
+
+  -- a place without parts
+  pub adds_own : (p : Place) (old new : List CallAt) → ((q : Place) → IsPart T p.module_ p.role p.tree q → ⊥)
+      → new ≡ old ++ option_to_list (call_at source T p.module_ p.role p.tree) → AddsCalls source T p old new
+  adds_own p old new partless is =
+      adds_option (IsCalled source T p) (call_at source T p.module_ p.role p.tree) old new
+      (λ m met. elim (parted p m met) [ inl here ↦ here | inr within ↦ absurd (partless within.part within.is) ])
+      (met_here p) is
+
+  -- a place with one part, where nothing is met itself
+  pub adds_part : (p q : Place) (old new : List CallAt) → call_at source T p.module_ p.role p.tree ≡ None
+      → ((x : Place) → IsPart T p.module_ p.role p.tree x → x ≡ q) → IsPart T p.module_ p.role p.tree q → AddsCalls source T q old new → AddsCalls source T p old new
+  adds_part p q old new none only has adds =
+      adds_as (IsCalled source T q) (IsCalled source T p) old new
+      (λ m met. met_within p m (record { part = q; is = has; met = met }))
+      (λ m met.
+      elim (parted p m met) [
+        | inl here ↦ absurd (none-some m (sym none ∙ here))
+        | inr within ↦ subst (λ (x : Place). IsCalled source T x m) (only within.part within.is) within.met
+      ])
+      adds
+
+  -- a compound: what is met at it itself, and in its arguments below a place
+
+  pub record IsCallBelow (apart : Taken) (args : List Tree) (k : ℕ) (m : CallAt) : Type 0 where
+    pub part : Place
+    pub is : IsArgument apart args part
+    pub below : is.i < k
+    pub met : IsCalled source T part m
+
+  abbrev pub IsCallFirst : ℕ → Taken → List Tree → ℕ → CallAt → Type 0
+  IsCallFirst from apart args k m = (call_met source from apart.met ≡ Some m) ⊎ IsCallBelow apart args k m
+
+  abbrev pub AddsFirst : ℕ → Taken → List Tree → ℕ → List CallAt → List CallAt → Type 0
+  AddsFirst from apart args k old new = Adds (IsCallFirst from apart args k) old new
+
+  pub first_none : (from : ℕ) (apart : Taken) (args : List Tree) (old new : List CallAt) → new ≡ old ++ option_to_list (call_met source from apart.met) → AddsFirst from apart args 0 old new
+  first_none from apart args old new is =
+      adds_option (IsCallFirst from apart args 0) (call_met source from apart.met) old new
+      (λ m first. elim first [ inl here ↦ here | inr below ↦ absurd (omega (arith, below.below)) ])
+      (λ m here. inl here) is
+
+  pub first_more : (from : ℕ) (apart : Taken) (args : List Tree) (k : ℕ) (tree : Tree) (old mid new : List CallAt) → slice_get args k ≡ Some tree
+      → AddsFirst from apart args k old mid → AddsCalls source T (argument_at apart k tree) mid new → AddsFirst from apart args (k + 1) old new
+  first_more from apart args k tree old mid new at first adds =
+      adds_as (λ m. IsCallFirst from apart args k m ⊎ IsCalled source T (argument_at apart k tree) m) (IsCallFirst from apart args (k + 1)) old new to back
+      (adds_then (IsCallFirst from apart args k) (IsCalled source T (argument_at apart k tree)) old mid new first adds)
+    where
+      to : (m : CallAt) → IsCallFirst from apart args k m ⊎ IsCalled source T (argument_at apart k tree) m → IsCallFirst from apart args (k + 1) m
+      to m either =
+          elim either [
+            | inl before ↦
+                elim before [
+                  | inl own ↦ inl own
+                  | inr below ↦ inr (record { part = below.part; is = below.is; below = omega (arith, below.below); met = below.met })
+                ]
+            | inr met ↦
+                inr (record {
+                  part = argument_at apart k tree;
+                  is = record { i = k; argument = at; in_module = refl; stands = refl };
+                  below = omega arith;
+                  met = met;
+                })
+          ]
+
+      same : (part : Place) (is : IsArgument apart args part) → is.i ≡ k → part ≡ argument_at apart k tree
+      same part is equal =
+          place_same part apart.module_ (role_at apart.standing k) tree is.in_module (is.stands ∙ ap (role_at apart.standing) equal)
+          (same_Some part.tree tree (sym is.argument ∙ (ap (slice_get args) equal ∙ at)))
+
+      back : (m : CallAt) → IsCallFirst from apart args (k + 1) m → IsCallFirst from apart args k m ⊎ IsCalled source T (argument_at apart k tree) m
+      back m either =
+          elim either [
+            | inl own ↦ inl (inl own)
+            | inr below ↦
+                elim (cases_eq below.is.i k) [
+                  | inl equal ↦ inr (subst (λ (x : Place). IsCalled source T x m) (same below.part below.is equal) below.met)
+                  | inr other ↦ inl (inr (record { part = below.part; is = below.is; below = omega (arith, below.below, other); met = below.met }))
+                ]
+          ]
+
+  pub first_all : (owner : List ℕ) (role : GoalArg) (name : List ℕ) (args : List Tree) (form : Form) (span : Span) (k : ℕ) (old new : List CallAt)
+      → length args ≤ k → AddsFirst span.from (taken T owner role name args) args k old new → AddsCalls source T (compound_at owner role name args form span) old new
+  first_all owner role name args form span k old new all first =
+      adds_as (IsCallFirst span.from (taken T owner role name args) args k) (IsCalled source T (compound_at owner role name args form span)) old new to back first
+    where
+      to : (m : CallAt) → IsCallFirst span.from (taken T owner role name args) args k m → IsCalled source T (compound_at owner role name args form span) m
+      to m either =
+          elim either [
+            | inl own ↦
+                met_here (compound_at owner role name args form span) m
+                (subst (λ (xs : List Tree). call_met source span.from ((taken T owner role name xs).met) ≡ Some m) (sym (trees_back args)) own)
+            | inr below ↦
+                met_within (compound_at owner role name args form span) m
+                (record {
+                  part = below.part;
+                  is = subst (λ (xs : List Tree). IsArgument (taken T owner role name xs) xs below.part) (sym (trees_back args)) below.is;
+                  met = below.met;
+                })
+          ]
+
+      behind : (m : CallAt) → IsWithinPart (compound_at owner role name args form span) m → IsCallBelow (taken T owner role name args) args k m
+      behind m within =
+          let is : IsArgument (taken T owner role name args) args within.part =
+          subst (λ (xs : List Tree). IsArgument (taken T owner role name xs) xs within.part) (trees_back args) within.is in
+          record { part = within.part; is = is; below = omega (arith, slice_get_within args is.i within.part.tree is.argument, all); met = within.met }
+
+      back : (m : CallAt) → IsCalled source T (compound_at owner role name args form span) m → IsCallFirst span.from (taken T owner role name args) args k m
+      back m met =
+          elim (parted (compound_at owner role name args form span) m met) [
+            | inl own ↦ inl (subst (λ (xs : List Tree). call_met source span.from ((taken T owner role name xs).met) ≡ Some m) (trees_back args) own)
+            | inr within ↦ inr (behind m within)
+          ]
+
+  -- where none of the arguments is a goal nothing is met in them
+  pub first_rowless : (from : ℕ) (apart : Taken) (args : List Tree) (k : ℕ) (old new : List CallAt) → apart.standing ≡ no_goals → AddsFirst from apart args 0 old new → AddsFirst from apart args k old new
+  first_rowless from apart args k old new none first =
+      adds_as (IsCallFirst from apart args 0) (IsCallFirst from apart args k) old new
+      (λ m either. elim either [ inl own ↦ inl own | inr below ↦ absurd (omega (arith, below.below)) ])
+      (λ m either.
+      elim either [
+        | inl own ↦ inl own
+        | inr below ↦ absurd (plain_silent below.part m (below.is.stands ∙ ap (λ standing. role_at standing below.is.i) none) below.met)
+      ])
+      first

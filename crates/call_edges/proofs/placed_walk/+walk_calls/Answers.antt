@@ -1,0 +1,150 @@
+use Rattle.std.proofs.Common.{◌≡◌, ℕ, ◌++◌, map, length, Some, slice_get, ap, sym, ◌∙◌, subst, refl, arith}
+use Rattle.std.specs.Option.{option_to_list}
+use Rattle.std.proofs.lemmas.List.{length-map}
+use Rattle.prolog_terms.specs.Tree.{Tree, tree_of, depth, span_of}
+use Rattle.prolog_terms.specs.Weight.{weight}
+use Rattle.prolog_terms.proofs.ViewLemmas.{compound_seen}
+use Rattle.module_table.specs.declared.goal_arg.GoalArg.{GoalArg}
+use Rattle.module_table.specs.Metas.{added}
+use Rattle.call_edges.specs.CallPlaces.{call_met, AddsCalls}
+use Rattle.call_edges.specs.Goals.{atom_met, place, taken, Taken, role_at}
+use Rattle.import_rules.specs.Program.{see_program}
+use Rattle.call_edges.specs.ProgramRows.{rows_of}
+use Rattle.call_edges.specs.PlacedSeen.{see_calls, see_source}
+use Rattle.call_edges.specs.Seen.{see_taken}
+use Rattle.call_edges.proofs.AddedLemmas.{rows_within, argument_within, arguments_within}
+use Rattle.call_edges.proofs.PlacedMet.{AddsFirst, first_none, first_more, first_rowless}
+use Rattle.call_edges.proofs.WalkLemmas.{taken_is, on_ok, deepest_one, read_seen}
+use Rattle.call_edges.proofs.PlacedWalk.{variable_walked, list_walked, constant_walked, atom_walked, curly_walked, paren_walked, compound_walked}
+use Rattle.call_edges.proofs.placed_walk.+walk_calls.Goals as goal
+
+pub take_apart-taken-requires : goal.take_apart-taken-requires
+take_apart-taken-requires t c =
+    let v = c.in-Compound in
+    let parts = map tree_of v.args.items in
+    let is = compound_seen c.args.term.now v.name v.args v.form v.span v.is in
+    omega (arith, c.requires, ap weight is, arguments_within parts, length-map v.args.items tree_of, ap length c.deref.ensures.value)
+
+pub loop-at-init : goal.loop-at-init
+loop-at-init t c =
+    let v = c.in-Compound in
+    let source = see_source c.args.caller in
+    let apart = see_taken c.take_apart-taken.result in
+    let old = see_calls c.args.calls.now.items in
+    let from = (span_of (tree_of c.args.term.now)).from in
+    let same : v.span.from ≡ from = ap (λ (tree : Tree). (span_of tree).from) (sym (compound_seen c.args.term.now v.name v.args v.form v.span v.is)) in
+    first_none source (rows_of (see_program c.args.program.now)) from apart (map tree_of c.deref-arg-items.result.now) old (see_calls c.push_call-in-Compound.new.calls.items)
+    (c.in_ok-push_call-in-Compound.ensures ∙ ap (λ (at : ℕ). old ++ option_to_list (call_met source at apart.met)) same)
+
+pub walk_calls-requires : goal.walk_calls-requires
+walk_calls-requires t c =
+    let v = c.in-Compound in
+    let parts = map tree_of v.args.items in
+    let owner = c.args.owner.now in
+    let role = c.args.role in
+    let k = c.loop-at.at in
+    let tree = tree_of c.arg-item.result in
+    let is = compound_seen c.args.term.now v.name v.args v.form v.span v.is in
+    let read : slice_get parts k ≡ Some tree =
+    subst (λ xs. slice_get (map tree_of xs) k ≡ Some tree) c.deref-arg-items.ensures.value
+    (read_seen c.deref-arg-items.result.now k c.arg-item.result c.loop-at-test.true c.arg-item.is) in
+    let apart : see_taken c.take_apart-taken.result ≡ taken (rows_of (see_program c.args.program.now)) owner role v.name parts =
+    taken_is (rows_of (see_program c.args.program.now)) owner role c.as_str-in-Compound.result.now v.name c.deref.result.now v.args.items (see_taken c.take_apart-taken.result) c.take_apart-taken.ensures
+    c.as_str-in-Compound.ensures c.deref.ensures.value in
+    let stands : c.role_of.result ≡ role_at (taken (rows_of (see_program c.args.program.now)) owner role v.name parts).standing k = c.role_of.ensures ∙ ap (λ (a : Taken). role_at a.standing k) apart in (
+      omega (arith, deepest_one parts k tree read, ap depth is),
+      omega (arith, argument_within (rows_of (see_program c.args.program.now)) (rows_within (see_program c.args.program.now) c.is_known.ensures) owner role v.name parts k tree read, ap added stands, ap weight is, c.requires),
+    )
+
+pub loop-at-preserved : goal.loop-at-preserved
+loop-at-preserved t c =
+    let k = c.loop-at.at in
+    let apart = see_taken c.take_apart-taken.result in
+    let items = c.deref-arg-items.result.now in
+    let tree = tree_of c.arg-item.result in
+    let old = see_calls c.args.calls.now.items in
+    let mid = see_calls c.loop-at.calls.items in
+    let new = see_calls c.walk_calls.new.calls.items in
+    let stands : c.role_of.result ≡ role_at apart.standing k = c.role_of.ensures in
+    let P : GoalArg → Type 0 = λ role. AddsCalls (see_source c.args.caller) (rows_of (see_program c.args.program.now)) (place apart.module_ role tree) mid new in
+    first_more (see_source c.args.caller) (rows_of (see_program c.args.program.now)) (span_of (tree_of c.args.term.now)).from apart (map tree_of items) k tree old mid new (read_seen items k c.arg-item.result c.loop-at-test.true c.arg-item.is) c.loop-at.invariant
+    (subst P stands c.in_ok-walk_calls-in-Compound.ensures)
+
+pub returns-in-Var : goal.returns-in-Var
+returns-in-Var t c =
+    let old = see_calls c.args.calls.now.items in
+    variable_walked (see_source c.args.caller) (rows_of (see_program c.args.program.now)) c.args.owner.now c.args.role c.args.term.now old old c.in-Var.span c.in-Var.is refl
+
+pub returns-in-Const : goal.returns-in-Const
+returns-in-Const t c =
+    let v = c.in-Const in
+    let old = see_calls c.args.calls.now.items in
+    constant_walked (see_source c.args.caller) (rows_of (see_program c.args.program.now)) c.args.owner.now c.args.role c.args.term.now old old v.kind v.minus v.value v.span v.is refl
+
+pub returns-in-Atom : goal.returns-in-Atom
+returns-in-Atom t c =
+    let v = c.in-Atom in
+    let owner = c.args.owner.now in
+    let role = c.args.role in
+    let old = see_calls c.args.calls.now.items in
+    let new = see_calls c.push_call.new.calls.items in
+    on_ok c.push_call.result c.push_call.ensures (λ adds.
+    atom_walked (see_source c.args.caller) (rows_of (see_program c.args.program.now)) owner role c.args.term.now old new v.name v.span v.is
+    (adds ∙ (ap (λ o. old ++ option_to_list (call_met (see_source c.args.caller) v.span.from o)) c.atom_met.ensures ∙ ap (λ name. old ++ option_to_list (call_met (see_source c.args.caller) v.span.from (atom_met owner role name))) c.as_str.ensures)))
+
+pub returns-then-is_silent : goal.returns-then-is_silent
+returns-then-is_silent t c =
+    let v = c.in-Compound in
+    let parts = map tree_of v.args.items in
+    let owner = c.args.owner.now in
+    let role = c.args.role in
+    let old = see_calls c.args.calls.now.items in
+    let new = see_calls c.push_call-in-Compound.new.calls.items in
+    let here = see_taken c.take_apart-taken.result in
+    let apart : here ≡ taken (rows_of (see_program c.args.program.now)) owner role v.name parts =
+    taken_is (rows_of (see_program c.args.program.now)) owner role c.as_str-in-Compound.result.now v.name c.deref.result.now v.args.items (see_taken c.take_apart-taken.result) c.take_apart-taken.ensures
+    c.as_str-in-Compound.ensures c.deref.ensures.value in
+    compound_walked (see_source c.args.caller) (rows_of (see_program c.args.program.now)) owner role c.args.term.now old new v.name v.args v.form v.span here parts (length parts) v.is refl apart (omega arith)
+    (first_rowless (see_source c.args.caller) (rows_of (see_program c.args.program.now)) c.in-Compound.span.from here parts (length parts) old new (c.is_silent.ensures c.if-is_silent.true) (first_none (see_source c.args.caller) (rows_of (see_program c.args.program.now)) c.in-Compound.span.from here parts old new c.in_ok-push_call-in-Compound.ensures))
+
+pub returns-after-loop-at : goal.returns-after-loop-at
+returns-after-loop-at t c =
+    let v = c.in-Compound in
+    let parts = map tree_of v.args.items in
+    let owner = c.args.owner.now in
+    let role = c.args.role in
+    let old = see_calls c.args.calls.now.items in
+    let new = see_calls c.loop-at.calls.items in
+    let here = see_taken c.take_apart-taken.result in
+    let items = c.deref-arg-items.result.now in
+    let apart : here ≡ taken (rows_of (see_program c.args.program.now)) owner role v.name parts =
+    taken_is (rows_of (see_program c.args.program.now)) owner role c.as_str-in-Compound.result.now v.name c.deref.result.now v.args.items (see_taken c.take_apart-taken.result) c.take_apart-taken.ensures
+    c.as_str-in-Compound.ensures c.deref.ensures.value in
+    compound_walked (see_source c.args.caller) (rows_of (see_program c.args.program.now)) owner role c.args.term.now old new v.name v.args v.form v.span here (map tree_of items) c.loop-at.at v.is
+    (ap (map tree_of) c.deref-arg-items.ensures.value) apart (omega (arith, length-map items tree_of, c.loop-at-test.false)) (subst (λ (at : ℕ). AddsFirst (see_source c.args.caller) (rows_of (see_program c.args.program.now)) at here (map tree_of items) c.loop-at.at old new)
+    (ap (λ (tree : Tree). (span_of tree).from) (compound_seen c.args.term.now v.name v.args v.form v.span v.is)) c.loop-at.invariant)
+
+pub returns-in-List : goal.returns-in-List
+returns-in-List t c =
+    let v = c.in-List in
+    let old = see_calls c.args.calls.now.items in
+    list_walked (see_source c.args.caller) (rows_of (see_program c.args.program.now)) c.args.owner.now c.args.role c.args.term.now old old v.items v.tail v.span v.is refl
+
+pub returns-in-Curly : goal.returns-in-Curly
+returns-in-Curly t c =
+    let v = c.in-Curly in
+    let owner = c.args.owner.now in
+    let old = see_calls c.args.calls.now.items in
+    let new = see_calls c.walk_calls-in-Curly.new.calls.items in
+    on_ok c.walk_calls-in-Curly.result c.walk_calls-in-Curly.ensures (λ adds.
+    curly_walked (see_source c.args.caller) (rows_of (see_program c.args.program.now)) owner c.args.role c.args.term.now old new v.inner v.span v.is
+    (rw (c.curly_role.ensures, c.deref-in-Curly.ensures) at adds))
+
+pub returns-in-Paren : goal.returns-in-Paren
+returns-in-Paren t c =
+    let v = c.in-Paren in
+    let owner = c.args.owner.now in
+    let old = see_calls c.args.calls.now.items in
+    let new = see_calls c.walk_calls-in-Paren.new.calls.items in
+    on_ok c.walk_calls-in-Paren.result c.walk_calls-in-Paren.ensures (λ adds.
+    paren_walked (see_source c.args.caller) (rows_of (see_program c.args.program.now)) owner c.args.role c.args.term.now old new v.inner v.span v.is (rw c.deref-in-Paren.ensures at adds))

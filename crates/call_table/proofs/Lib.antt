@@ -1,0 +1,5 @@
+pub mod SpotLemmas
+pub mod SpotOrder
+pub mod ClauseLemmas
+pub mod MembershipLemmas
+pub mod ReachedLemmas

@@ -1,0 +1,5 @@
+pub mod Spots
+pub mod Clauses
+pub mod Memberships
+pub mod Reached
+pub mod Table

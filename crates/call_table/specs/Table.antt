@@ -1,0 +1,33 @@
+-- The table of a program's calls.
+use Rattle.std.specs.Prelude.{ℕ, List, length, map}
+use Rattle.std.specs.List.{AllZip}
+use Rattle.import_rules.specs.Program.{Seen}
+use Rattle.call_edges.specs.CallPlaces.{CallAt, AreCallsOf}
+use Rattle.call_edges.specs.PlacedSeen.{see_calls}
+use Rattle.call_edges.specs.declared.placed_walk.PlacedCall.{PlacedCall}
+use Rattle.call_table.specs.declared.clauses.ClauseAt.{ClauseAt}
+use Rattle.call_table.specs.declared.table.CallTable.{CallTable}
+use Rattle.call_table.specs.Clauses.{AreClausesOf}
+use Rattle.call_table.specs.Memberships.{AreGroupsOf}
+use Rattle.call_table.specs.Spots.{IsSpotPlace}
+
+-- where a clause starts
+abbrev pub clause_spot : ClauseAt → ℕ × ℕ
+clause_spot c = (c.file, c.offset)
+
+-- where the goal of a call starts
+abbrev pub call_spot : CallAt → ℕ × ℕ
+call_spot c = (c.file, c.offset)
+
+-- the same of a call that is kept
+abbrev pub kept_spot : PlacedCall → ℕ × ℕ
+kept_spot c = (c.file, c.offset)
+
+-- the table of these predicates and these groups: their clauses and their calls, each once and by file and offset, with lines and columns; and for each
+-- predicate of the program the group that it is in
+pub record IsTable (seen : Seen) (nodes : List ℕ) (groups : List (List ℕ)) (table : CallTable) : Type 0 where
+  pub clauses : AreClausesOf seen nodes table.clauses.items
+  pub clause_places : AllZip (IsSpotPlace seen.loaded.texts) (map clause_spot table.clauses.items) table.clause_places.items
+  pub calls : AreCallsOf seen nodes (see_calls table.calls.items)
+  pub call_places : AllZip (IsSpotPlace seen.loaded.texts) (map call_spot (see_calls table.calls.items)) table.call_places.items
+  pub groups_are : AreGroupsOf (length seen.predicates) groups table.groups.items

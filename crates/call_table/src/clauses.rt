@@ -1,0 +1,89 @@
+//! The clauses of predicates, each with the place at which it starts.
+
+ghost use Rattle.std.specs.Prelude.{◌≡◌, ◌<◌, ◌++◌, All, length, map, IfOk, OnOk};
+ghost use Rattle.std.specs.List.{flat_map};
+ghost use Rattle.call_edges.specs.CallPlaces.{StandsInText};
+ghost use Rattle.call_table.specs.Clauses.{AreClausesOf, clause_at, clauses_in};
+ghost use Rattle.call_table.specs.declared.clauses.ClauseAt.{ClauseAt as Clauses};
+ghost use Rattle.import_rules.specs.Program.{see_program};
+ghost use Rattle.module_table.specs.Defined.{clause_tree};
+
+use clause_text::Clause;
+use import_rules::Program;
+use prolog_terms::start_of;
+use std::alloc::{AllocError, Global};
+
+/// Where a clause starts, in whatever brackets it stands: the place of its file among the files, and
+/// the byte offset there; and the number of its predicate. Clauses are ordered by these in this order.
+#[derive(Clone, Copy, Debug, PartialEq, Eq, PartialOrd, Ord)]
+pub struct ClauseAt {
+    pub file: u32,
+    pub offset: u32,
+    pub node: u32,
+}
+
+/// Adds where these clauses start.
+fn push_clauses(
+    file: u32,
+    node: u32,
+    clauses: &[Clause],
+    out: &mut Vec<ClauseAt>,
+) -> Result<(), AllocError>
+    ensures { OnOk result (out.new.items ≡ out.old.items ++ map (clause_at file node) (map clause_tree clauses.now)) }
+{
+    for clause in clauses {
+        out.push(ClauseAt {
+            file,
+            offset: start_of(&clause.term),
+            node,
+        })?;
+    }
+    Ok(())
+}
+
+/// Adds where the clauses of a predicate start.
+fn push_clauses_of(program: &Program, node: u32, out: &mut Vec<ClauseAt>) -> Result<(), AllocError>
+    requires { node < length (see_program program.now).predicates }
+    ensures { OnOk result (out.new.items ≡ out.old.items ++ clauses_in (see_program program.now) node) }
+{
+    let files = &program.loaded().files;
+    for place in program.places_of(node) {
+        let file = &files[place.0 as usize];
+        let predicate = &file.defined[place.1 as usize];
+        push_clauses(place.0, node, &predicate.clauses, out)?;
+    }
+    Ok(())
+}
+
+/// Where the clauses of these predicates start, in the order of the predicates.
+fn clauses_from(
+    alloc: Global,
+    program: &Program,
+    nodes: &[u32],
+) -> Result<Vec<ClauseAt>, AllocError>
+    requires { All (λ p. p < length (see_program program.now).predicates) nodes.now }
+    ensures { IfOk result (λ clauses. clauses.items ≡ flat_map (clauses_in (see_program program.now)) nodes.now) }
+{
+    let mut out = Vec::new(alloc);
+    for node in nodes {
+        push_clauses_of(program, *node, &mut out)?;
+    }
+    Ok(out)
+}
+
+/// All clauses of these predicates, by file and offset and each once.
+pub fn clauses_of(
+    alloc: Global,
+    program: &Program,
+    nodes: &[u32],
+) -> Result<Vec<ClauseAt>, AllocError>
+    requires { All (λ p. p < length (see_program program.now).predicates) nodes.now }
+    ensures clauses { IfOk result (λ clauses. AreClausesOf (see_program program.now) nodes.now clauses.items) }
+    ensures stand { IfOk result (λ clauses. All (λ (c : Clauses). StandsInText (see_program program.now).loaded.texts c.file c.offset) clauses.items) }
+{
+    program.is_known();
+    let mut clauses = clauses_from(alloc, program, nodes)?;
+    clauses.sort_unstable();
+    clauses.dedup();
+    Ok(clauses)
+}

@@ -1,0 +1,41 @@
+//! The groups of what the roots reach, with their levels.
+
+ghost use Rattle.std.specs.Prelude.{◌≡◌, ◌<◌, All, IfOk, length};
+ghost use Rattle.call_edges.specs.Opened.{see_call_lists};
+ghost use Rattle.call_edges.specs.Successors.{successor_lists};
+ghost use Rattle.call_table.specs.Reached.{AreLeveled, AreNodes};
+ghost use Rattle.graph_law.specs.Graph.{Calls as ListCalls, lists_of};
+ghost use Rattle.import_rules.specs.Program.{see_program};
+
+use call_edges::CallLists;
+use group_release::{Level, levels};
+use import_rules::Program;
+use search_stack::groups_plain;
+use std::alloc::{AllocError, Global};
+
+/// Groups of predicates, each after those that it calls, with the members of each ascending; and for
+/// each group its level.
+#[derive(Drop)]
+pub struct Reached {
+    pub groups: Vec<Vec<u32>>,
+    pub levels: Vec<Level>,
+}
+
+/// The groups of all that the roots reach, found by one search, and their levels.
+pub fn groups_from(
+    alloc: Global,
+    program: &Program,
+    calls: &CallLists<'_>,
+    roots: &[u32],
+) -> Result<Reached, AllocError>
+    requires calls { see_call_lists calls.now ≡ see_program program.now }
+    requires below { All (λ q. q < length (see_program program.now).predicates) roots.now }
+    ensures groups { IfOk result (λ found. AreLeveled (ListCalls (successor_lists (see_program program.now))) roots.now (lists_of found.groups.items) found.levels.items) }
+    ensures nodes { IfOk result (λ found. AreNodes (length (see_program program.now).predicates) (lists_of found.groups.items)) }
+    ensures one_level_each { IfOk result (λ found. length found.levels.items ≡ length found.groups.items) }
+{
+    let _program = program;
+    let groups = groups_plain(alloc, calls, roots)?;
+    let levels = levels(alloc, calls, &groups)?;
+    Ok(Reached { groups, levels })
+}

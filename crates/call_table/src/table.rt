@@ -1,0 +1,76 @@
+//! The table of a program's calls.
+
+ghost use Rattle.std.specs.Prelude.{◌≡◌, ◌<◌, All, IfOk, length, map};
+ghost use Rattle.call_table.specs.Table.{IsTable, clause_spot, kept_spot};
+ghost use Rattle.graph_law.specs.Graph.{lists_of};
+ghost use Rattle.import_rules.specs.Program.{see_program};
+
+use crate::clauses::{ClauseAt, clauses_of};
+use crate::memberships::groups_of;
+use crate::spots::places_of_spots;
+use call_edges::{PlacedCall, calls_of};
+use import_rules::Program;
+use prolog_tokens::Place;
+use std::alloc::{AllocError, Global};
+
+/// The clauses and the calls of predicates with their places, and which group each predicate of the
+/// program is in.
+#[derive(Drop)]
+pub struct CallTable<'a> {
+    /// By file and offset.
+    pub clauses: Vec<ClauseAt>,
+    /// For each clause the line and the column.
+    pub clause_places: Vec<Place>,
+    /// By file and offset.
+    pub calls: Vec<PlacedCall<'a>>,
+    /// For each call the line and the column at which its goal starts.
+    pub call_places: Vec<Place>,
+    /// For each predicate of the program one more than the place of its group, or 0 where it is in
+    /// none.
+    pub groups: Vec<usize>,
+}
+
+fn clause_spots(alloc: Global, clauses: &[ClauseAt]) -> Result<Vec<(u32, u32)>, AllocError>
+    ensures { IfOk result (λ spots. spots.items ≡ map clause_spot clauses.now) }
+{
+    clauses
+        .iter()
+        .map(|clause| (clause.file, clause.offset))
+        .collect(alloc)
+}
+
+fn call_spots(alloc: Global, calls: &[PlacedCall<'_>]) -> Result<Vec<(u32, u32)>, AllocError>
+    ensures { IfOk result (λ spots. spots.items ≡ map kept_spot calls.now) }
+{
+    calls
+        .iter()
+        .map(|call| (call.file, call.offset))
+        .collect(alloc)
+}
+
+/// The table of these predicates of the program, and of these groups of its predicates.
+pub fn call_table<'a>(
+    alloc: Global,
+    program: &'a Program,
+    nodes: &[u32],
+    groups: &[Vec<u32>],
+) -> Result<CallTable<'a>, AllocError>
+    requires below { All (λ p. p < length (see_program program.now).predicates) nodes.now }
+    requires members { All (All (λ member. member < length (see_program program.now).predicates)) (lists_of groups.now) }
+    ensures { IfOk result (IsTable (see_program program.now) nodes.now (lists_of groups.now)) }
+{
+    let clauses = clauses_of(alloc, program, nodes)?;
+    let clause_spots = clause_spots(alloc, &clauses)?;
+    let clause_places = places_of_spots(alloc, program, &clause_spots)?;
+    let calls = calls_of(alloc, program, nodes)?;
+    let call_spots = call_spots(alloc, &calls)?;
+    let call_places = places_of_spots(alloc, program, &call_spots)?;
+    let groups = groups_of(alloc, program.count(), groups)?;
+    Ok(CallTable {
+        clauses,
+        clause_places,
+        calls,
+        call_places,
+        groups,
+    })
+}
