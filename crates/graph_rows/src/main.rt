@@ -1,0 +1,22 @@
+//! Reads graphs, one a line, and tells the groups of each. A line has the callees of node 0, of node 1
+//! and so on, with `;` between them, then `|` and the roots. Behind a further `|` may stand a number of
+//! searches, 1 to 64, and a seed: then it tells the groups in the order in which that schedule releases them.
+#![tactic(auto)]
+
+mod graphs;
+mod told;
+
+use crate::graphs::Row;
+use std::io;
+
+fn main(rt: HostRuntime) -> io::Result<()> {
+    let alloc = rt.alloc();
+    for line in rt.lines(alloc) {
+        let text = match Row::read(alloc, line?.as_str())? {
+            None => format!(in alloc; "no graph")?,
+            Some(row) => told::told(alloc, &row)?,
+        };
+        println!(rt; "{text}")?;
+    }
+    Ok(())
+}
