@@ -58,6 +58,12 @@ module _ (seen : Seen) where
   pub goes_as : (P Q : Met → Type 0) (q : ℕ) → ((m : Met) → P m → Q m) → GoesTo seen P q → GoesTo seen Q q
   goes_as P Q q to goes = record { met = goes.met; is = to goes.met goes.is; goes = goes.goes }
 
+  -- the calls of what is met
+  pub met_goes : (P : Met → Type 0) (met : List Met) (old new : List ℕ) → ((m : Met) → Contains met m ↔ P m) → Adds (GoesTo seen (Contains met)) old new
+      → Adds (GoesTo seen P) old new
+  met_goes P met old new are adds =
+      adds_as (GoesTo seen (Contains met)) (GoesTo seen P) old new (λ q. goes_as (Contains met) P q (λ m. (are m).0)) (λ q. goes_as P (Contains met) q (λ m. (are m).1)) adds
+
   -- the calls of a body
   pub body_goes : (body : Body) (met : List MetKept) (none : List Met) (old new : List ℕ) → none ≡ [] → AddsMet (rows_of seen) body.at none (see_mets met)
       → Adds (GoesTo seen (Contains (see_mets met))) old new → Adds (GoesTo seen ((IsMetInBody (rows_of seen)) body)) old new

@@ -12,6 +12,7 @@ pub mod PlaceLemmas
 pub mod BodyLemmas
 pub mod SuccessorLemmas
 pub mod CallLemmas
+pub mod BodyMets
 pub mod LaidOutLemmas
 pub mod LightLemmas
 pub mod RootLemmas

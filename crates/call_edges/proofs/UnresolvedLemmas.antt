@@ -1,7 +1,7 @@
 -- Calls that go to no predicate.
 use Rattle.std.proofs.Common.{◌≡◌, ◌↔◌, ℕ, Bool, List, [], Option, Some, None, map, ap, sym, ◌∙◌, subst, refl}
 use Rattle.std.specs.Prelude.{Contains}
-use Rattle.std.specs.List.{dedup}
+use Rattle.std.specs.List.{dedup, filter_map}
 use Rattle.std.specs.List.Retain.{IsFiltered, DiffersFromLast}
 use Rattle.std.specs.List.Sorted.{IsSorted, IsPermutation}
 use Rattle.std.specs.declared.cmp.Ordering.TheVariants.{Less}
@@ -19,27 +19,20 @@ use Rattle.import_rules.specs.Program.{Seen, found}
 use Rattle.import_rules.proofs.Lists.{all_pairs_map}
 use Rattle.import_rules.proofs.NameOrder.{pred_cmp_total, same_ties, same_parts}
 use Rattle.call_edges.specs.declared.role.Met.{Met as MetKept}
-use Rattle.call_edges.specs.declared.body.Body.{Body as BodyKept}
 use Rattle.call_edges.specs.declared.unresolved.Called.{Called}
-use Rattle.call_edges.specs.Goals.{Met, call, fault, Adds, AddsMet}
+use Rattle.call_edges.specs.Goals.{Met, call, fault, Adds}
 use Rattle.call_edges.specs.Seen.{see_met, see_mets}
-use Rattle.call_edges.specs.ProgramRows.{rows_of}
-use Rattle.call_edges.specs.Calls.{IsAmong}
-use Rattle.call_edges.specs.Bodies.{Body, see_body, bodies_in, IsMetInBody}
+use Rattle.call_edges.specs.Calls.{IsAmong, IsMetIn}
 use Rattle.call_edges.specs.Called.{see_called, unless_found, unresolved}
-use Rattle.call_edges.specs.Unresolved.{IsUnresolvedOf, IsUnresolvedIn, IsUnresolved, AreUnresolved}
+use Rattle.call_edges.specs.Unresolved.{IsUnresolvedOf, IsUnresolved, AreUnresolved}
 use Rattle.call_edges.proofs.AddsLemmas.{adds_as}
-use Rattle.call_edges.proofs.AmongLemmas.{among_map, map_has}
-use Rattle.call_edges.proofs.BodyLemmas.{node_met}
+use Rattle.call_edges.proofs.AmongLemmas.{among_given, map_has}
 use Rattle.call_edges.proofs.CallLemmas.{adds_from_none}
 use Rattle.call_edges.proofs.LightLemmas.{all_of}
 
 module _ (seen : Seen) where
   abbrev pub IsKeptName : MetKept → PredName → Type 0
   IsKeptName one name = unresolved seen (see_met one) ≡ Some name
-
-  abbrev pub IsSeenName : BodyKept → PredName → Type 0
-  IsSeenName body name = IsUnresolvedIn seen (see_body body) name
 
   call_found : (owner name : List ℕ) (arity : ℕ) (wanted : PredName) (o : Option ℕ) → found seen owner name arity ≡ o → unless_found (pred_name owner name arity) o ≡ Some wanted
       → (call owner name arity ≡ call wanted.module wanted.name wanted.arity) × (found seen wanted.module wanted.name wanted.arity ≡ None)
@@ -74,34 +67,30 @@ module _ (seen : Seen) where
       record { one = kept.one; has = kept.has; is = name_kept (see_met kept.one) name kept.is is.means_none })
       adds
 
-  -- the names of a body
-  pub body_names : (body : Body) (met : List MetKept) (none : List Met) (old new : List PredName) → none ≡ [] → AddsMet (rows_of seen) body.at none (see_mets met)
-      → Adds (IsUnresolvedOf seen (Contains (see_mets met))) old new → Adds (IsUnresolvedIn seen body) old new
-  body_names body met none old new empty walked adds =
-      let has = adds_from_none ((IsMetInBody (rows_of seen)) body) none (see_mets met) empty walked in
-      adds_as (IsUnresolvedOf seen (Contains (see_mets met))) (IsUnresolvedIn seen body) old new
-      (λ name is. record { met = (has (call name.module name.name name.arity)).0 is.met; means_none = is.means_none })
-      (λ name is. record { met = (has (call name.module name.name name.arity)).1 is.met; means_none = is.means_none }) adds
+  -- those of what is met in a predicate
+  pub node_names : (node : ℕ) (met : List Met) (old new : List PredName) → ((m : Met) → Contains met m ↔ IsMetIn seen node m) → old ≡ []
+      → Adds (IsUnresolvedOf seen (Contains met)) old new → (name : PredName) → Contains new name ↔ IsUnresolved seen node name
+  node_names node met old new are none adds name =
+      let has = adds_from_none (IsUnresolvedOf seen (Contains met)) old new none adds name in
+      let here = are (call name.module name.name name.arity) in (
+        λ there. let un = has.0 there in record { met = here.0 un.met; means_none = un.means_none },
+        λ un. has.1 (record { met = here.1 un.met; means_none = un.means_none }),
+      )
 
-  pub bodies_names : (bodies : List BodyKept) (new : List PredName) → Adds (IsAmong IsSeenName bodies) [] new
-      → (name : PredName) → Contains new name ↔ IsAmong (IsUnresolvedIn seen) (map see_body bodies) name
-  bodies_names bodies new adds name =
-      let has = adds_from_none (IsAmong IsSeenName bodies) [] new refl adds name in
-      let among = among_map (IsUnresolvedIn seen) see_body bodies name in
-      (λ there. among.1 (has.0 there), λ is. has.1 (among.0 is))
-
-  -- those of a predicate
-  pub node_names : (node : ℕ) (bodies : List Body) (name : PredName) → bodies ≡ bodies_in seen node → IsAmong (IsUnresolvedIn seen) bodies name ↔ IsUnresolved seen node name
-  node_names node bodies name are =
-      let m = call name.module name.name name.arity in
-      let met = node_met seen node m in
-      let P : List Body → Type 0 = λ bs. IsAmong (IsUnresolvedIn seen) bs name in (
-        λ among.
-            let here = subst P are among in
-            record { met = met.0 (record { one = here.one; has = here.has; is = here.is.met }); means_none = here.is.means_none },
-        λ is.
-            let here = met.1 is.met in
-            subst P (sym are) (record { one = here.one; has = here.has; is = record { met = here.is; means_none = is.means_none } }),
+  -- the names that are met in a predicate and mean none
+  pub met_unresolved : (node : ℕ) (met : List Met) → ((m : Met) → Contains met m ↔ IsMetIn seen node m)
+      → (name : PredName) → Contains (filter_map (unresolved seen) met) name ↔ IsUnresolved seen node name
+  met_unresolved node met are name =
+      let given = among_given (λ (x : PredName) (y : PredName). x ≡ y) (unresolved seen) met name in (
+        λ has.
+            let one = given.0 (record { one = name; has = has; is = refl }) in
+            let both = kept_name one.one name (one.is.is ∙ ap (λ n. Some n) one.is.holds) in
+            record { met = subst (IsMetIn seen node) both.0 ((are one.one).0 one.has); means_none = both.1 },
+        λ un.
+            let m = call name.module name.name name.arity in
+            let back =
+            given.1 (record { one = m; has = (are m).1 un.met; is = record { one = name; is = name_kept m name refl un.means_none; holds = refl } }) in
+            subst (Contains (filter_map (unresolved seen) met)) back.is back.has,
       )
 
 -- names that are called, sorted and each once

@@ -5,17 +5,12 @@ use Rattle.import_rules.specs.declared.names.PredName.{PredName}
 use Rattle.import_rules.specs.Names.{pred_cmp}
 use Rattle.import_rules.specs.Program.{Seen, found}
 use Rattle.call_edges.specs.Goals.{Met, call}
-use Rattle.call_edges.specs.ProgramRows.{rows_of}
 use Rattle.call_edges.specs.Calls.{IsMetIn}
-use Rattle.call_edges.specs.Bodies.{Body, IsMetInBody}
 
 -- a call for which this holds has the name, which means no predicate
 pub record IsUnresolvedOf (seen : Seen) (P : Met → Type 0) (name : PredName) : Type 0 where
   pub met : P (call name.module name.name name.arity)
   pub means_none : found seen name.module name.name name.arity ≡ None
-
-abbrev pub IsUnresolvedIn : Seen → Body → PredName → Type 0
-IsUnresolvedIn seen body name = IsUnresolvedOf seen (IsMetInBody (rows_of seen) body) name
 
 -- the predicate of that number calls the name, and it means none
 abbrev pub IsUnresolved : Seen → ℕ → PredName → Type 0

@@ -9,9 +9,9 @@ ghost use Rattle.call_edges.specs.Seen.{see_met, see_mets};
 ghost use Rattle.call_edges.specs.Calls.{GoesTo, IsAmong, NodeCalls, target};
 ghost use Rattle.call_edges.specs.Bodies.{see_body, IsMetInBody, IsLight};
 
-use crate::body::{Body, bodies_of};
+use crate::body::Body;
+use crate::met::{met_in, push_met};
 use crate::role::Met;
-use crate::walking::walk;
 use graph_law::Opener;
 use import_rules::Program;
 use std::alloc::AllocError;
@@ -44,19 +44,19 @@ pub fn push_targets(program: &Program, met: &[Met], out: &mut Vec<u32>) -> Resul
 }
 
 /// Adds the predicates that are called in bodies.
-pub fn push_called(program: &Program, bodies: &[Body], out: &mut Vec<u32>) -> Result<(), AllocError>
+pub fn push_called<'a>(
+    program: &'a Program,
+    bodies: &[Body<'a>],
+    out: &mut Vec<u32>,
+) -> Result<(), AllocError>
     requires { All IsLight (map see_body bodies.now) }
     ensures { OnOk result (Adds
         (GoesTo (see_program program.now) (IsAmong (IsMetInBody (rows_of (see_program program.now))) (map see_body bodies.now)))
         out.old.items out.new.items) }
 {
     let mut met = Vec::new(*out.allocator());
-    for body in bodies {
-        met.clear();
-        walk(program, body.term, body.owner, body.role, &mut met)?;
-        push_targets(program, &met, out)?;
-    }
-    Ok(())
+    push_met(program, bodies, &mut met)?;
+    push_targets(program, &met, out)
 }
 
 /// Adds the predicates that a predicate calls to `out`, which is empty.
@@ -65,9 +65,8 @@ fn push_callees(program: &Program, node: u32, out: &mut Vec<u32>) -> Result<(), 
     requires empty { out.old.items ≡ [] }
     ensures { OnOk result ((q : ℕ) → Contains out.new.items q ↔ NodeCalls (see_program program.now) node q) }
 {
-    program.is_known();
-    let bodies = bodies_of(*out.allocator(), program, node)?;
-    push_called(program, &bodies, out)
+    let met = met_in(*out.allocator(), program, node)?;
+    push_targets(program, &met, out)
 }
 
 /// Puts the predicates that a predicate calls into `out`, which is empty, ascending and each once.

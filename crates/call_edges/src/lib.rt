@@ -3,11 +3,14 @@
 //! A goal is a call, a control construct over goals, a goal of another module, or an argument of a
 //! predicate that takes goals: in `p :- maplist(q, [a]), \+ m:s.` the goals call `maplist/2`, `q/1`
 //! and `m:s/0`. Which arguments are goals a program declares, as by `:- meta_predicate each(1, ?).`;
-//! of a predicate that it doesn't declare a table says it. `Calls` is the graph of what the
-//! predicates of a program call; it opens a predicate at a time, and gives each callee once and
-//! ascending. `roots_of` are the predicates at which reach begins, and `unresolved_of` are the names
-//! that a predicate calls and that mean none. `check_goals` tells the goals that aren't callable, as
-//! the `3` of `p :- q, 3.`, with their places.
+//! of a predicate that it doesn't declare a table says it.
+//!
+//! `call_lists` walks the whole program once, side by side, and answers what each predicate calls, as a
+//! graph in memory; where goals aren't callable, as the `3` of `p :- q, 3.`, it answers these with
+//! their places, and `check_goals` does that alone. `roots_of` are the predicates at which reach
+//! begins. `met_in` is what is met in the clauses of one predicate, by the names that stand there, and
+//! `unresolved_of` are those of the names that mean no predicate. `Calls` is the same graph as that of
+//! `call_lists` without its memory: it walks a predicate each time that it is opened.
 //!
 //! Which predicate a name means in a module is for the layer below, and whom the predicates reach for
 //! the one above.
@@ -21,6 +24,7 @@ mod faults;
 mod goal_stop;
 mod laid_out;
 mod laws;
+mod met;
 mod opened;
 mod piece;
 mod placed;
@@ -37,7 +41,9 @@ pub use check::{call_lists, check_goals};
 pub use goal_stop::GoalStop;
 pub use laid_out::CallLists;
 pub use laws::{calls_told, one_list_of_faults, roots_below};
+pub use met::met_in;
 pub use placed_calls::calls_of;
 pub use placed_walk::PlacedCall;
+pub use role::Met;
 pub use roots::roots_of;
 pub use unresolved::unresolved_of;

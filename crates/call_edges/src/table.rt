@@ -8,7 +8,9 @@ ghost use Rattle.call_edges.specs.Goals.{first_only, second_only, first_two, fir
 use crate::role::Row;
 use module_table::GoalArg;
 
-/// Whether the name is one of the words.
+/// Whether the name is one of the words. They are known where it is called, and there mostly their
+/// lengths decide.
+#[inline(always)]
 pub fn is_one_of(words: &[&str], name: &str) -> bool
     ensures { result ≡ list_any (λ word. bytes_eq word.now name.now) words.now }
 {

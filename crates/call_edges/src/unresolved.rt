@@ -1,18 +1,14 @@
 //! Calls that go to no predicate.
 
-ghost use Rattle.std.specs.Prelude.{◌≡◌, ◌<◌, ◌↔◌, All, Contains, length, map, option_map, IfOk, OnOk};
-ghost use Rattle.import_rules.specs.declared.names.PredName.{PredName as Name};
+ghost use Rattle.std.specs.Prelude.{◌≡◌, ◌<◌, Contains, length, map, option_map, IfOk, OnOk};
 ghost use Rattle.import_rules.specs.Program.{see_program};
 ghost use Rattle.call_edges.specs.Goals.{Adds};
 ghost use Rattle.call_edges.specs.Seen.{see_met, see_mets};
-ghost use Rattle.call_edges.specs.Calls.{IsAmong};
-ghost use Rattle.call_edges.specs.Bodies.{see_body, IsLight};
 ghost use Rattle.call_edges.specs.Called.{see_called, unresolved};
-ghost use Rattle.call_edges.specs.Unresolved.{AreUnresolved, IsUnresolvedIn, IsUnresolvedOf};
+ghost use Rattle.call_edges.specs.Unresolved.{AreUnresolved, IsUnresolvedOf};
 
-use crate::body::{Body, bodies_of};
+use crate::met::met_in;
 use crate::role::Met;
-use crate::walking::walk;
 use import_rules::{PredName, Program};
 use prolog_tokens::Text;
 use std::alloc::{AllocError, Global};
@@ -64,25 +60,6 @@ fn push_unresolved<'a>(
     Ok(())
 }
 
-/// The names of calls in bodies that go to no predicate.
-fn unresolved_in<'a>(
-    alloc: Global,
-    program: &'a Program,
-    bodies: &[Body<'a>],
-) -> Result<Vec<Called<'a>>, AllocError>
-    requires { All IsLight (map see_body bodies.now) }
-    ensures { IfOk result (λ names. (name : Name) → Contains (map see_called names.items) name ↔ IsAmong (IsUnresolvedIn (see_program program.now)) (map see_body bodies.now) name) }
-{
-    let mut met = Vec::new(alloc);
-    let mut names = Vec::new(alloc);
-    for body in bodies {
-        met.clear();
-        walk(program, body.term, body.owner, body.role, &mut met)?;
-        push_unresolved(program, &met, &mut names)?;
-    }
-    Ok(names)
-}
-
 /// The names, as texts of their own.
 fn owned(alloc: Global, called: &[Called]) -> Result<Vec<PredName>, AllocError>
     ensures { IfOk result (λ names. names.items ≡ map see_called called.now) }
@@ -108,9 +85,9 @@ pub fn unresolved_of(
     requires { node < length (see_program program.now).predicates }
     ensures { IfOk result (λ names. AreUnresolved (see_program program.now) node names.items) }
 {
-    program.is_known();
-    let bodies = bodies_of(alloc, program, node)?;
-    let mut called = unresolved_in(alloc, program, &bodies)?;
+    let met = met_in(alloc, program, node)?;
+    let mut called = Vec::new(alloc);
+    push_unresolved(program, &met, &mut called)?;
     called.sort_unstable();
     called.dedup();
     owned(alloc, &called)

@@ -2,7 +2,9 @@ ghost use Rattle.std.specs.Prelude.{◌≡◌, ℕ, ◌<◌, ◌≤◌, length, 
 ghost use Rattle.effect_flow.specs.Heights.{AreByHeight, height_at};
 
 use group_release::Level;
+use rayon::prelude::*;
 use std::alloc::{AllocError, Global};
+use std::thread::Threads;
 
 /// A group's place, and its height, by which it is ordered.
 #[derive(Clone, Copy, PartialEq, Eq, PartialOrd, Ord)]
@@ -11,8 +13,12 @@ struct Stand {
     place: usize,
 }
 
-/// The places of the groups, lower ones first.
-pub fn height_order(alloc: Global, levels: &[Level]) -> Result<Vec<usize>, AllocError>
+/// The places of the groups, lower ones first. They are sorted side by side.
+pub fn height_order<R: Threads + Sync>(
+    rt: &R,
+    alloc: Global,
+    levels: &[Level],
+) -> Result<Vec<usize>, AllocError>
     ensures { IfOk result (λ order. AreByHeight levels.now order.items) }
 {
     let mut stands = Vec::with_capacity(alloc, levels.len())?;
@@ -22,7 +28,7 @@ pub fn height_order(alloc: Global, levels: &[Level]) -> Result<Vec<usize>, Alloc
             place,
         })?;
     }
-    stands.sort_unstable();
+    par_sort_unstable(rt, &mut stands);
     places_in(alloc, &stands)
 }
 

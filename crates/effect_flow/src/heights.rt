@@ -191,7 +191,7 @@ pub fn flow<R: Threads + Sync, O: Opener>(
         own,
         places: &places,
     };
-    let order = height_order(alloc, levels)?;
+    let order = height_order(rt, alloc, levels)?;
     let mut flows = vec![in alloc; Flow::none(); groups.len()]?;
     let mut callees = Vec::new(alloc);
     let mut found = Vec::new(alloc);

@@ -19,7 +19,9 @@ const HALT: u64 = 32;
 
 const FLAGS: u64 = 64;
 
-/// Whether the name is one of the words.
+/// Whether the name is one of the words. They are known where it is called, and there mostly their
+/// lengths decide.
+#[inline(always)]
 fn is_one_of(words: &[&str], name: &str) -> bool
     ensures { result ≡ list_any (λ word. bytes_eq word.now name.now) words.now }
 {

@@ -1,0 +1,48 @@
+//! What is met in the clauses of a predicate.
+
+ghost use Rattle.std.specs.Prelude.{◌≡◌, ◌<◌, ◌↔◌, All, Contains, length, map, IfOk, OnOk};
+ghost use Rattle.import_rules.specs.Program.{see_program};
+ghost use Rattle.call_edges.specs.Goals.{Adds, Met as Seen};
+ghost use Rattle.call_edges.specs.ProgramRows.{rows_of};
+ghost use Rattle.call_edges.specs.Seen.{see_mets};
+ghost use Rattle.call_edges.specs.Calls.{IsAmong, IsMetIn};
+ghost use Rattle.call_edges.specs.Bodies.{see_body, IsLight, IsMetInBody};
+
+use crate::body::{Body, bodies_of};
+use crate::role::Met;
+use crate::walking::walk;
+use import_rules::Program;
+use std::alloc::{AllocError, Global};
+
+/// Adds what is met in bodies, one after another.
+pub fn push_met<'a>(
+    program: &'a Program,
+    bodies: &[Body<'a>],
+    met: &mut Vec<Met<'a>>,
+) -> Result<(), AllocError>
+    requires { All IsLight (map see_body bodies.now) }
+    ensures { OnOk result (Adds (IsAmong (IsMetInBody (rows_of (see_program program.now))) (map see_body bodies.now))
+        (see_mets met.old.items) (see_mets met.new.items)) }
+{
+    for body in bodies {
+        walk(program, body.term, body.owner, body.role, met)?;
+    }
+    Ok(())
+}
+
+/// What is met in the clauses of the predicate of that number: what it calls, by the names that stand
+/// there, and where goals aren't callable.
+pub fn met_in<'a>(
+    alloc: Global,
+    program: &'a Program,
+    node: u32,
+) -> Result<Vec<Met<'a>>, AllocError>
+    requires { node < length (see_program program.now).predicates }
+    ensures { IfOk result (λ met. (m : Seen) → Contains (see_mets met.items) m ↔ IsMetIn (see_program program.now) node m) }
+{
+    program.is_known();
+    let bodies = bodies_of(alloc, program, node)?;
+    let mut met = Vec::new(alloc);
+    push_met(program, &bodies, &mut met)?;
+    Ok(met)
+}
