@@ -84,8 +84,11 @@ module _ (told : Option Files) (roots asked asked' : List (List ℕ)) (misses mi
   at_end too_much is = absurd is
   at_end no_memory is =
       ends_by no_memory (inl refl)
-      (first_names told roots asked asked' misses misses' answers all.waves all.answers (λ files agree n less. all.are files agree n) few own agrees (names_of answers) []
-      (sym all.names ∙ sym (append-nil (names_of answers))))
+      (record {
+        first = first_names told roots asked asked' misses misses' answers all.waves all.answers (λ files agree n less. all.are files agree n) few own agrees (names_of answers) []
+        (sym all.names ∙ sym (append-nil (names_of answers)));
+        within = inl are_all.within;
+      })
 
   -- how the asking ended, what the files come to being so for every map
   pub all_ended : (result : Result Loaded LoadStop) → ((seen : Files) → Agrees seen answers → AreJustAsked seen roots (names_of answers) → FinishIs seen roots (end_of result))

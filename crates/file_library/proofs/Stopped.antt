@@ -227,16 +227,25 @@ stop_ended told roots asked asked' faults faults' misses misses' NoMemory stoppe
       | inl between ↦
           let agrees = map_agrees answers (apart_from answers between.rest (subst (AllPairs (λ a b. a ≡ b → ⊥)) between.is stopped.once)) in
           ended_behind told roots asked asked' misses misses' answers stopped.waves stopped.are_answers stopped.are stopped.few own agrees (end_of_stop NoMemory) between.put (inl refl)
-          (first_names told roots asked asked' misses misses' answers stopped.waves stopped.are_answers stopped.are stopped.few own agrees (names_of answers) between.rest between.is)
+          (record {
+            first = first_names told roots asked asked' misses misses' answers stopped.waves stopped.are_answers stopped.are stopped.few own agrees (names_of answers) between.rest between.is;
+            within = inl (within told roots asked asked' misses misses' answers stopped.waves stopped.are_answers stopped.are stopped.few own agrees);
+          })
       | inr at ↦
           let agrees = map_agrees answers (apart_from answers (at.next ∷ at.rest) (subst (AllPairs (λ a b. a ≡ b → ⊥)) at.is stopped.once)) in
           elim at.put [
             | inl same ↦
                 ended_behind told roots asked asked' misses misses' answers stopped.waves stopped.are_answers stopped.are stopped.few own agrees (end_of_stop NoMemory) same (inl refl)
-                (first_names told roots asked asked' misses misses' answers stopped.waves stopped.are_answers stopped.are stopped.few own agrees (names_of answers) (at.next ∷ at.rest) at.is)
+                (record {
+                  first = first_names told roots asked asked' misses misses' answers stopped.waves stopped.are_answers stopped.are stopped.few own agrees (names_of answers) (at.next ∷ at.rest) at.is;
+                  within = inl (within told roots asked asked' misses misses' answers stopped.waves stopped.are_answers stopped.are stopped.few own agrees);
+                })
             | inr more ↦
                 ended_at told roots asked asked' misses misses' answers stopped.waves stopped.are_answers stopped.are stopped.few own agrees at.next (end_of_stop NoMemory) more (inr (at.next, refl))
-                (with_next told roots asked asked' misses misses' answers stopped.waves stopped.are_answers stopped.are stopped.few own agrees at.next at.rest at.is)
+                (record {
+                  first = with_next told roots asked asked' misses misses' answers stopped.waves stopped.are_answers stopped.are stopped.few own agrees at.next at.rest at.is;
+                  within = inr (at.next, leads_to told roots asked asked' misses misses' answers stopped.waves stopped.are_answers stopped.are stopped.few own agrees at.next at.rest at.is);
+                })
           ]
     ]
   where

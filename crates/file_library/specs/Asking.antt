@@ -42,6 +42,11 @@ pub record LeadTo (files : Files) (roots names : List (List ℕ)) (last : List �
   pub first : AreFirst files roots names
   pub within : AreWithin files before
 
+-- the names are asked for first, and they are within the limits, but for the last of them
+pub record AreFirstWithin (files : Files) (roots names : List (List ℕ)) : Type 0 where
+  pub first : AreFirst files roots names
+  pub within : AreWithin files names ⊎ ((last : List ℕ) × LeadTo files roots names last)
+
 pub record IsTooMuch (files : Files) (roots names : List (List ℕ)) : Type 0 where
   pub last : List ℕ
   pub leads : LeadTo files roots names last
@@ -72,7 +77,7 @@ LoadEndIs files roots names (unread name) = LeadTo files roots names name
 LoadEndIs files roots names too_many = AreTooMany files roots names
 LoadEndIs files roots names (too_large name) = LeadTo files roots names name × (most_bytes < size_of files name)
 LoadEndIs files roots names too_much = IsTooMuch files roots names
-LoadEndIs files roots names no_memory = AreFirst files roots names
+LoadEndIs files roots names no_memory = AreFirstWithin files roots names
 
 -- what is seen of a map when no file is read further than one byte past the limit
 abbrev pub seen_of : Files → Files

@@ -40,7 +40,7 @@ end_first files roots names (unread name) is = is.first
 end_first files roots names too_many is = many_first files roots names is
 end_first files roots names (too_large name) is = is.0.first
 end_first files roots names too_much is = is.leads.first
-end_first files roots names no_memory is = is
+end_first files roots names no_memory is = is.first
 
 -- and no name is put twice
 first_once : (files : Files) (roots names : List (List ℕ)) → AreFirst files roots names → AllPairs (λ a b. a ≡ b → ⊥) names

@@ -154,11 +154,17 @@ asks_nothing told roots asked misses = record {
   agrees = λ files tells name has. absurd (nothing_in name has);
   missed = λ name has none. absurd (nothing_in name has);
   is = record {
-    waves = [];
-    are = λ n less. let none : ⊥ = omega (arith, less) in absurd none;
-    rest = [];
-    is = refl;
-    few = omega arith;
+    first = record {
+      waves = [];
+      are = λ n less. let none : ⊥ = omega (arith, less) in absurd none;
+      rest = [];
+      is = refl;
+      few = omega arith;
+    };
+    within = inl (record {
+      each = λ k d less. let none : ⊥ = omega (arith, less) in absurd none;
+      together = omega arith;
+    });
   };
 }
 
