@@ -120,7 +120,7 @@ asked_unread None names library name reading = reading
 asked_unread (Some count) names library name reading = elim reading.1 [ inl none ↦ absurd (subst IsUnreadEnd none tt) | inr made ↦ absurd made.decided ]
 
 -- a name that could not be read is the last one, and that was counted
-unread_last : (wanted : Settings → Type 0) (library : Asking) (name : List ℕ) → IsLawfulEnd wanted library (unread name) → IsUnread wanted library.asked' library.faults library.faults' name
+unread_last : (wanted : Settings → Type 0) (library : Asking) (name : List ℕ) → IsLawfulEnd wanted library (unread name) → IsUnread wanted library name
 unread_last wanted library name is =
     let reading : EndsReading is.settings.make is.settings.files library (of_load.unread name) =
     subst (λ load. EndsReading is.settings.make is.settings.files library load) (unread_load is.settings is.load name is.comes) is.reading in
@@ -128,16 +128,16 @@ unread_last wanted library name is =
     record {
       settings = is.settings;
       lawful = is.lawful;
-      before = library.asked ++ asking.ended.is.before;
+      before = library.0.asked ++ asking.ended.is.before;
       last =
           asking.ended.put
-          ∙ (ap (λ names. library.asked ++ names) asking.ended.is.is ∙ sym (append_assoc library.asked asking.ended.is.before (name ∷ [])));
+          ∙ (ap (λ names. library.0.asked ++ names) asking.ended.is.is ∙ sym (append_assoc library.0.asked asking.ended.is.before (name ∷ [])));
       rose = asking.counted;
     }
 
 module _ (wanted : Settings → Type 0) (library : Asking) where
   -- over the library's map the end is the answer
-  right : (files : Files) → library.told ≡ Some files → (Rose library.faults library.faults' → ⊥) → (end : End) → end ≢ no_memory → EndIs wanted library end → IsAnswer wanted files end
+  right : (files : Files) → library.0.told ≡ Some files → (Rose library.0.faults library.1.faults → ⊥) → (end : End) → end ≢ no_memory → EndIs wanted library end → IsAnswer wanted files end
   right files tells quiet usage some cause = cause.0
   right files tells quiet (faults found) some cause =
       cause.told_too files tells (comes_decided cause.settings cause.load (faults found) cause.comes (λ name e. cc) (λ e. cc))
@@ -160,7 +160,7 @@ module _ (wanted : Settings → Type 0) (library : Asking) where
   wanting_or no_memory = inl refl
 
   module _ (out err : Taking) (result : ℕ) (run : IsRun wanted library out err result) where
-    pub answered : (files : Files) → library.told ≡ Some files → (Rose library.faults library.faults' → ⊥) → (Rose out.faults out.faults' → ⊥) → (Rose err.faults err.faults' → ⊥)
+    pub answered : (files : Files) → library.0.told ≡ Some files → (Rose library.0.faults library.1.faults → ⊥) → (Rose out.faults out.faults' → ⊥) → (Rose err.faults err.faults' → ⊥)
         → SaysAnswer wanted files out.taken err.taken out.taken' err.taken' result ⊎ SaysNoMemory out.taken err.taken out.taken' err.taken' result
     answered files tells read_quiet out_quiet err_quiet = elim (said_or_cut result out err run.end run.written) [
       | inl said ↦
@@ -187,53 +187,53 @@ module _ (wanted : Settings → Type 0) (library : Asking) where
     apart {X} m n here there differ = absurd (differ (sym here ∙ there))
 
     reported_by : result ≡ 0 → (end : End) → EndIs wanted library end → IsSaid result out err end
-        → HasReported wanted library.told out.taken err.taken out.taken' err.taken'
+        → HasReported wanted library out.taken err.taken out.taken' err.taken'
     reported_by is usage cause said = apart 0 2 is said.status (λ e. omega (arith, e))
     reported_by is (faults found) cause said = apart 0 3 is said.status (λ e. omega (arith, e))
     reported_by is (missing root) cause said = apart 0 2 is said.status (λ e. omega (arith, e))
     reported_by is (unread name) cause said = apart 0 4 is said.status (λ e. omega (arith, e))
     reported_by is (limit passed) cause said = apart 0 6 is said.status (λ e. omega (arith, e))
-    reported_by is (report bytes) cause said = record { bytes = bytes; library = library; cause = cause; on_out = said.on_out; on_err = said.on_err ∙ more_none err.taken }
+    reported_by is (report bytes) cause said = record { bytes = bytes; cause = cause; on_out = said.on_out; on_err = said.on_err ∙ more_none err.taken }
     reported_by is no_memory cause said = apart 0 7 is said.status (λ e. omega (arith, e))
 
-    pub reported : result ≡ 0 → HasReported wanted library.told out.taken err.taken out.taken' err.taken'
+    pub reported : result ≡ 0 → HasReported wanted library out.taken err.taken out.taken' err.taken'
     reported is = reported_by is run.end run.cause (is_said result out err run.end run.written (λ five. let both : 0 ≡ 5 = sym is ∙ five in omega (arith, both)))
 
     refused_by : result ≡ 2 → (end : End) → EndIs wanted library end → IsSaid result out err end
-        → (HasUsage wanted err.taken err.taken' ⊎ HasNoRoot wanted library.told library.misses library.misses' err.taken err.taken') × (out.taken' ≡ out.taken)
+        → (HasUsage wanted err.taken err.taken' ⊎ HasNoRoot wanted library err.taken err.taken') × (out.taken' ≡ out.taken)
     refused_by is usage cause said = (inl (record { none = cause.0; on_err = said.on_err }), said.on_out ∙ more_none out.taken)
     refused_by is (faults found) cause said = apart 2 3 is said.status (λ e. omega (arith, e))
-    refused_by is (missing root) cause said = (inr (record { root = root; library = library; cause = cause; on_err = said.on_err }), said.on_out ∙ more_none out.taken)
+    refused_by is (missing root) cause said = (inr (record { root = root; cause = cause; on_err = said.on_err }), said.on_out ∙ more_none out.taken)
     refused_by is (unread name) cause said = apart 2 4 is said.status (λ e. omega (arith, e))
     refused_by is (limit passed) cause said = apart 2 6 is said.status (λ e. omega (arith, e))
     refused_by is (report bytes) cause said = apart 2 0 is said.status (λ e. omega (arith, e))
     refused_by is no_memory cause said = apart 2 7 is said.status (λ e. omega (arith, e))
 
-    pub refused : result ≡ 2 → (HasUsage wanted err.taken err.taken' ⊎ HasNoRoot wanted library.told library.misses library.misses' err.taken err.taken') × (out.taken' ≡ out.taken)
+    pub refused : result ≡ 2 → (HasUsage wanted err.taken err.taken' ⊎ HasNoRoot wanted library err.taken err.taken') × (out.taken' ≡ out.taken)
     refused is = refused_by is run.end run.cause (is_said result out err run.end run.written (λ five. let both : 2 ≡ 5 = sym is ∙ five in omega (arith, both)))
 
     -- where settings are wanted, it is a root that is missing
     pub refused_lawful : (settings : Settings) → wanted settings → result ≡ 2
-        → HasNoRoot wanted library.told library.misses library.misses' err.taken err.taken' × (out.taken' ≡ out.taken)
+        → HasNoRoot wanted library err.taken err.taken' × (out.taken' ≡ out.taken)
     refused_lawful settings lawful is =
         let both = refused is in
         elim both.0 [ inl none ↦ absurd (none.none settings lawful) | inr missing_too ↦ (missing_too, both.1) ]
 
     faults_by : result ≡ 3 → (end : End) → EndIs wanted library end → IsSaid result out err end
-        → HasFaults wanted library.told library.misses library.misses' err.taken err.taken' × (out.taken' ≡ out.taken)
+        → HasFaults wanted library err.taken err.taken' × (out.taken' ≡ out.taken)
     faults_by is usage cause said = apart 3 2 is said.status (λ e. omega (arith, e))
-    faults_by is (faults found) cause said = (record { found = found; library = library; cause = cause; on_err = said.on_err }, said.on_out ∙ more_none out.taken)
+    faults_by is (faults found) cause said = (record { found = found; cause = cause; on_err = said.on_err }, said.on_out ∙ more_none out.taken)
     faults_by is (missing root) cause said = apart 3 2 is said.status (λ e. omega (arith, e))
     faults_by is (unread name) cause said = apart 3 4 is said.status (λ e. omega (arith, e))
     faults_by is (limit passed) cause said = apart 3 6 is said.status (λ e. omega (arith, e))
     faults_by is (report bytes) cause said = apart 3 0 is said.status (λ e. omega (arith, e))
     faults_by is no_memory cause said = apart 3 7 is said.status (λ e. omega (arith, e))
 
-    pub faults_said : result ≡ 3 → HasFaults wanted library.told library.misses library.misses' err.taken err.taken' × (out.taken' ≡ out.taken)
+    pub faults_said : result ≡ 3 → HasFaults wanted library err.taken err.taken' × (out.taken' ≡ out.taken)
     faults_said is = faults_by is run.end run.cause (is_said result out err run.end run.written (λ five. let both : 3 ≡ 5 = sym is ∙ five in omega (arith, both)))
 
     unread_by : result ≡ 4 → (end : End) → EndIs wanted library end → IsSaid result out err end
-        → HasUnread wanted library.asked' library.faults library.faults' err.taken err.taken' × (out.taken' ≡ out.taken)
+        → HasUnread wanted library err.taken err.taken' × (out.taken' ≡ out.taken)
     unread_by is usage cause said = apart 4 2 is said.status (λ e. omega (arith, e))
     unread_by is (faults found) cause said = apart 4 3 is said.status (λ e. omega (arith, e))
     unread_by is (missing root) cause said = apart 4 2 is said.status (λ e. omega (arith, e))
@@ -242,7 +242,7 @@ module _ (wanted : Settings → Type 0) (library : Asking) where
     unread_by is (report bytes) cause said = apart 4 0 is said.status (λ e. omega (arith, e))
     unread_by is no_memory cause said = apart 4 7 is said.status (λ e. omega (arith, e))
 
-    pub unread_said : result ≡ 4 → HasUnread wanted library.asked' library.faults library.faults' err.taken err.taken' × (out.taken' ≡ out.taken)
+    pub unread_said : result ≡ 4 → HasUnread wanted library err.taken err.taken' × (out.taken' ≡ out.taken)
     unread_said is = unread_by is run.end run.cause (is_said result out err run.end run.written (λ five. let both : 4 ≡ 5 = sym is ∙ five in omega (arith, both)))
 
     passed_by : result ≡ 6 → (end : End) → EndIs wanted library end → IsSaid result out err end
@@ -289,10 +289,10 @@ module _ (wanted : Settings → Type 0) (library : Asking) where
     statuses = elim (said_or_cut result out err run.end run.written) [ inl said ↦ status_said run.end said.status | inr cut ↦ inr (inr (inr (inr (inl cut.0)))) ]
 
     -- where the status is that of a sink that failed, the run was cut off
-    pub cut_off : result ≡ 5 → IsCutOff wanted library.told library.asked' library.faults library.faults' library.misses library.misses' out err
+    pub cut_off : result ≡ 5 → IsCutOff wanted library out err
     cut_off is = elim (said_or_cut result out err run.end run.written) [
       | inl said ↦ absurd (never_five run.end (sym said.status ∙ is))
-      | inr cut ↦ record { end = run.end; asked = library.asked; cause = run.cause; cut = cut.1 }
+      | inr cut ↦ record { end = run.end; cause = run.cause; cut = cut.1 }
     ]
       where
         never_five : (end : End) → status_of end ≡ 5 → ⊥
@@ -345,10 +345,10 @@ module _ (wanted : Settings → Type 0) (library : Asking) where
     settled whole = settled_by run.end run.written whole
 
     -- where no library is asked, its names are as before
-    pub unasked : AskForNone wanted → library.asked' ≡ library.asked
+    pub unasked : AskForNone wanted → library.1.asked ≡ library.0.asked
     unasked none = asked_none run.end run.cause
       where
-        asked_none : (end : End) → EndIs wanted library end → library.asked' ≡ library.asked
+        asked_none : (end : End) → EndIs wanted library end → library.1.asked ≡ library.0.asked
         asked_none usage cause = cause.1
         asked_none (faults found) cause = lawful_left wanted library (faults found) none cause
         asked_none (missing root) cause = lawful_left wanted library (missing root) none cause

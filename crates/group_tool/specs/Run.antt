@@ -3,7 +3,7 @@ use Rattle.std.specs.Prelude.{◌≡◌, ◌≢◌, ℕ, ◌⊎◌, List, [], �
 use Rattle.import_rules.specs.declared.names.PredName.{PredName}
 use Rattle.file_library.specs.declared.fault.Fault.{Fault}
 use Rattle.file_library.specs.Counts.{Rose}
-use Rattle.file_library.specs.Library.{Files}
+use Rattle.file_library.specs.Library.{Files, LibrarySeen}
 use Rattle.file_library.specs.Asking.{LoadEnd, LoadEndIs, HasEnded, IsDecided, AreFirst, AreAll}
 use Rattle.file_library.specs.Asking as of_load
 use Rattle.group_words.specs.Made.{made_text}
@@ -16,15 +16,9 @@ use Rattle.group_tool.specs.Answer.{IsLawfulAnswer, IsAnswer, ComesTo}
 use Rattle.group_tool.specs.Say.{TookAll, TookPart}
 use Rattle.group_tool.specs.Sink.{more_taken}
 
--- how a library was asked in a run: its map, where it tells that, and its names, faults and misses before and after
-pub record Asking : Type 0 where
-  pub told : Option Files
-  pub asked : List (List ℕ)
-  pub asked' : List (List ℕ)
-  pub faults : ℕ
-  pub faults' : ℕ
-  pub misses : ℕ
-  pub misses' : ℕ
+-- how a library was asked in a run: what is seen of it before and after
+abbrev pub Asking : Type 0
+Asking = LibrarySeen × LibrarySeen
 
 -- where a file could not be read, the count of faults rose
 abbrev pub IsCounted : ℕ → ℕ → LoadEnd → Type 0
@@ -33,8 +27,8 @@ IsCounted before after end = Unit {0}
 
 -- the asking for these files ended so
 pub record EndsAsking (library : Asking) (roots : List (List ℕ)) (load : LoadEnd) : Type 0 where
-  pub ended : HasEnded library.told roots library.asked library.asked' library.misses library.misses' load
-  pub counted : IsCounted library.faults library.faults' load
+  pub ended : HasEnded library.0 library.1 roots load
+  pub counted : IsCounted library.0.faults library.1.faults load
 
 -- the run ends by what the asking for these files comes to, unless memory was wanting behind it
 pub record IsReadEnd (settings : Settings) (names : List (List ℕ)) (library : Asking) (end : End) : Type 0 where
@@ -42,11 +36,9 @@ pub record IsReadEnd (settings : Settings) (names : List (List ℕ)) (library : 
   pub asking : EndsAsking library names load
   pub comes : (end ≡ no_memory) ⊎ ComesTo settings load end
 
--- the library was not asked, and counted nothing
-pub record IsLeft (library : Asking) : Type 0 where
-  pub same_asked : library.asked' ≡ library.asked
-  pub same_faults : library.faults' ≡ library.faults
-  pub same_misses : library.misses' ≡ library.misses
+-- the library was not asked
+abbrev pub IsLeft : Asking → Type 0
+IsLeft library = library.1 ≡ library.0
 
 -- the map alone decided how the asking for these files ended
 pub record IsDecidedEnd (files : Files) (roots : List (List ℕ)) (load : LoadEnd) : Type 0 where
@@ -67,16 +59,16 @@ pub record IsLawfulEnd (wanted : Settings → Type 0) (library : Asking) (end : 
   pub load : LoadEnd
   pub reading : EndsReading settings.make settings.files library load
   pub comes : ComesTo settings load end
-  pub told_too : (files : Files) → library.told ≡ Some files → IsDecided load → IsLawfulAnswer wanted files end
+  pub told_too : (files : Files) → library.0.told ≡ Some files → IsDecided load → IsLawfulAnswer wanted files end
 
 -- what was asked for where memory was wanting: files of the wanted settings as far as the reading went, and else nothing
 pub record IsAsked (wanted : Settings → Type 0) (library : Asking) : Type 0 where
   pub lawful : (settings : Settings) → wanted settings → (load : LoadEnd) × EndsReading settings.make settings.files library load
-  pub none : AskForNone wanted → library.asked' ≡ library.asked
+  pub none : AskForNone wanted → library.1.asked ≡ library.0.asked
 
 -- why a run ends so
 abbrev pub EndIs : (Settings → Type 0) → Asking → End → Type 0
-EndIs wanted library usage = HasNoOptions wanted × (library.asked' ≡ library.asked)
+EndIs wanted library usage = HasNoOptions wanted × (library.1.asked ≡ library.0.asked)
 EndIs wanted library no_memory = IsAsked wanted library
 EndIs wanted library end = IsLawfulEnd wanted library end
 
@@ -137,10 +129,9 @@ pub record SaysNoMemory (before_out before_err after_out after_err : Option (Lis
   pub on_err : after_err ≡ more_taken before_err memory_line
 
 -- the report of the files is on `out`, and nothing on `err`
-pub record HasReported (wanted : Settings → Type 0) (told : Option Files) (before_out before_err after_out after_err : Option (List ℕ)) : Type 0 where
+pub record HasReported (wanted : Settings → Type 0) (library : Asking) (before_out before_err after_out after_err : Option (List ℕ)) : Type 0 where
   pub bytes : List ℕ
-  pub library : Asking
-  pub cause : IsLawfulEnd wanted (record library { told = told }) (report bytes)
+  pub cause : IsLawfulEnd wanted library (report bytes)
   pub on_out : after_out ≡ more_taken before_out bytes
   pub on_err : after_err ≡ before_err
 
@@ -150,17 +141,15 @@ pub record HasUsage (wanted : Settings → Type 0) (before_err after_err : Optio
   pub on_err : after_err ≡ more_taken before_err usage_line
 
 -- the program of the files lacks a predicate that the words name, and the line on `err` says so
-pub record HasNoRoot (wanted : Settings → Type 0) (told : Option Files) (misses misses' : ℕ) (before_err after_err : Option (List ℕ)) : Type 0 where
+pub record HasNoRoot (wanted : Settings → Type 0) (library : Asking) (before_err after_err : Option (List ℕ)) : Type 0 where
   pub root : PredName
-  pub library : Asking
-  pub cause : IsLawfulEnd wanted (record library { told = told; misses = misses; misses' = misses' }) (missing root)
+  pub cause : IsLawfulEnd wanted library (missing root)
   pub on_err : after_err ≡ more_taken before_err (missing_line root)
 
 -- the files have no report, and the lines on `err` say why
-pub record HasFaults (wanted : Settings → Type 0) (told : Option Files) (misses misses' : ℕ) (before_err after_err : Option (List ℕ)) : Type 0 where
+pub record HasFaults (wanted : Settings → Type 0) (library : Asking) (before_err after_err : Option (List ℕ)) : Type 0 where
   pub found : List Fault
-  pub library : Asking
-  pub cause : IsLawfulEnd wanted (record library { told = told; misses = misses; misses' = misses' }) (faults found)
+  pub cause : IsLawfulEnd wanted library (faults found)
   pub on_err : after_err ≡ more_taken before_err (fault_lines found)
 
 -- the files pass a limit, and the line on `err` says which
@@ -170,31 +159,30 @@ pub record HasPassed (wanted : Settings → Type 0) (library : Asking) (before_e
   pub on_err : after_err ≡ more_taken before_err (limit_line passed)
 
 -- a read failed, and it is the last that the library was asked for
-pub record IsUnread (wanted : Settings → Type 0) (asked' : List (List ℕ)) (faults faults' : ℕ) (name : List ℕ) : Type 0 where
+pub record IsUnread (wanted : Settings → Type 0) (library : Asking) (name : List ℕ) : Type 0 where
   pub settings : Settings
   pub lawful : wanted settings
   pub before : List (List ℕ)
-  pub last : asked' ≡ before ++ name ∷ []
-  pub rose : Rose faults faults'
+  pub last : library.1.asked ≡ before ++ name ∷ []
+  pub rose : Rose library.0.faults library.1.faults
 
 -- a read of the library failed
-pub record HasUnread (wanted : Settings → Type 0) (asked' : List (List ℕ)) (faults_before faults_after : ℕ) (before_err after_err : Option (List ℕ)) : Type 0 where
+pub record HasUnread (wanted : Settings → Type 0) (library : Asking) (before_err after_err : Option (List ℕ)) : Type 0 where
   pub name : List ℕ
-  pub cause : IsUnread wanted asked' faults_before faults_after name
+  pub cause : IsUnread wanted library name
   pub on_err : after_err ≡ more_taken before_err (unread_line name)
 
 -- the sink to which the run's bytes go took a part of them, and its count of faults rose; the other took nothing
-pub record IsCutOff (wanted : Settings → Type 0) (told : Option Files) (asked' : List (List ℕ)) (f f' m m' : ℕ) (out err : Taking) : Type 0 where
+pub record IsCutOff (wanted : Settings → Type 0) (library : Asking) (out err : Taking) : Type 0 where
   pub end : End
-  pub asked : List (List ℕ)
-  pub cause : EndIs wanted (record { told = told; asked = asked; asked' = asked'; faults = f; faults' = f'; misses = m; misses' = m' }) end
+  pub cause : EndIs wanted library end
   pub cut : CutBy out err end
 
 -- the library was asked for the first of the names that these files lead to over some map, each once; for all of them where there is a report, or a fault, or a name that is missing
-pub record AreAskedFor (roots asked asked' : List (List ℕ)) (result : ℕ) : Type 0 where
+pub record AreAskedFor (roots : List (List ℕ)) (library : Asking) (result : ℕ) : Type 0 where
   pub seen : Files
   pub names : List (List ℕ)
-  pub put : asked' ≡ asked ++ names
+  pub put : library.1.asked ≡ library.0.asked ++ names
   pub first : AreFirst seen roots names
   pub once : AllPairs (λ a b. a ≡ b → ⊥) names
   pub whole : (result ≡ 0) ⊎ ((result ≡ 2) ⊎ (result ≡ 3)) → AreAll seen roots names

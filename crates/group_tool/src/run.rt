@@ -74,7 +74,7 @@ fn run_on_one_thread<R: Threads + Sync, L: Library, O: Sink, E: Sink>(
 ) -> u8
     requires { (words : List (List ℕ)) × AreLawful words (see_options options.now) }
     ensures run { IsRun (AreJust (see_options options.now))
-        (record { told = L.files library.old; asked = L.asked library.old; asked' = L.asked library.new; faults = L.faults library.old; faults' = L.faults library.new; misses = L.misses library.old; misses' = L.misses library.new })
+        (L.seen library.old, L.seen library.new)
         (record { taken = O.taken out.old; taken' = O.taken out.new; faults = O.faults out.old; faults' = O.faults out.new; settled' = O.settled out.new })
         (record { taken = E.taken err.old; taken' = E.taken err.new; faults = E.faults err.old; faults' = E.faults err.new; settled' = E.settled err.new })
         result }
@@ -101,7 +101,7 @@ fn run_with_workers<R: Threads + Wait + Sync, L: Library, O: Sink, E: Sink, G: G
     requires lawful { (words : List (List ℕ)) × AreLawful words (see_options options.now) }
     requires workers { (see_options options.now).searches ≡ None }
     ensures run { IsRun (AreJust (see_options options.now))
-        (record { told = L.files library.old; asked = L.asked library.old; asked' = L.asked library.new; faults = L.faults library.old; faults' = L.faults library.new; misses = L.misses library.old; misses' = L.misses library.new })
+        (L.seen library.old, L.seen library.new)
         (record { taken = O.taken out.old; taken' = O.taken out.new; faults = O.faults out.old; faults' = O.faults out.new; settled' = O.settled out.new })
         (record { taken = E.taken err.old; taken' = E.taken err.new; faults = E.faults err.old; faults' = E.faults err.new; settled' = E.settled err.new })
         result }
@@ -128,7 +128,7 @@ fn run_streaming<R: Threads + Wait + Sync, L: Library, O: Sink, E: Sink, G: Gate
     requires lawful { (words : List (List ℕ)) × AreLawful words (see_options options.now) }
     requires workers { (see_options options.now).searches ≡ None }
     ensures run { IsRun (AreJust (see_options options.now))
-        (record { told = L.files library.old; asked = L.asked library.old; asked' = L.asked library.new; faults = L.faults library.old; faults' = L.faults library.new; misses = L.misses library.old; misses' = L.misses library.new })
+        (L.seen library.old, L.seen library.new)
         (record { taken = O.taken out.old; taken' = O.taken out.new; faults = O.faults out.old; faults' = O.faults out.new; settled' = O.settled out.new })
         (record { taken = E.taken err.old; taken' = E.taken err.new; faults = E.faults err.old; faults' = E.faults err.new; settled' = E.settled err.new })
         result }
@@ -155,7 +155,7 @@ fn run_lawful<R: Threads + Wait + Sync, L: Library, O: Sink, E: Sink, G: Gate>(
 ) -> u8
     requires { (words : List (List ℕ)) × AreLawful words (see_options options.now) }
     ensures run { IsRun (AreJust (see_options options.now))
-        (record { told = L.files library.old; asked = L.asked library.old; asked' = L.asked library.new; faults = L.faults library.old; faults' = L.faults library.new; misses = L.misses library.old; misses' = L.misses library.new })
+        (L.seen library.old, L.seen library.new)
         (record { taken = O.taken out.old; taken' = O.taken out.new; faults = O.faults out.old; faults' = O.faults out.new; settled' = O.settled out.new })
         (record { taken = E.taken err.old; taken' = E.taken err.new; faults = E.faults err.old; faults' = E.faults err.new; settled' = E.settled err.new })
         result }
@@ -187,7 +187,7 @@ fn run<R: Threads + Wait + Sync, L: Library, O: Sink, E: Sink, G: Gate>(
     gate: &G,
 ) -> u8
     ensures run { IsRun (AreLawful words.now)
-        (record { told = L.files library.old; asked = L.asked library.old; asked' = L.asked library.new; faults = L.faults library.old; faults' = L.faults library.new; misses = L.misses library.old; misses' = L.misses library.new })
+        (L.seen library.old, L.seen library.new)
         (record { taken = O.taken out.old; taken' = O.taken out.new; faults = O.faults out.old; faults' = O.faults out.new; settled' = O.settled out.new })
         (record { taken = E.taken err.old; taken' = E.taken err.new; faults = E.faults err.old; faults' = E.faults err.new; settled' = E.settled err.new })
         result }
@@ -217,22 +217,22 @@ pub fn run_groups<R: Threads + Wait + Sync, L: Library, O: Sink, E: Sink, G: Gat
 ) -> u8
     // Over a library and sinks that tell what they hold, and where no count of faults rose, the
     // sinks have taken the bytes of the right answer, or memory was wanting.
-    ensures answered { (files : Files) → L.files library.old ≡ Some files
-        → ¬ Rose (L.faults library.old) (L.faults library.new) → ¬ Rose (O.faults out.old) (O.faults out.new) → ¬ Rose (E.faults err.old) (E.faults err.new)
+    ensures answered { (files : Files) → (L.seen library.old).told ≡ Some files
+        → ¬ Rose (L.seen library.old).faults (L.seen library.new).faults → ¬ Rose (O.faults out.old) (O.faults out.new) → ¬ Rose (E.faults err.old) (E.faults err.new)
         → SaysAnswer (AreLawful words.now) files (O.taken out.old) (E.taken err.old) (O.taken out.new) (E.taken err.new) result
         ⊎ SaysNoMemory (O.taken out.old) (E.taken err.old) (O.taken out.new) (E.taken err.new) result }
 
     // Over any library and sinks, what each status says.
     ensures statuses { (result ≡ 0) ⊎ ((result ≡ 2) ⊎ ((result ≡ 3) ⊎ ((result ≡ 4) ⊎ ((result ≡ 5) ⊎ ((result ≡ 6) ⊎ (result ≡ 7)))))) }
-    ensures report { result ≡ 0 → HasReported (AreLawful words.now) (L.files library.old) (O.taken out.old) (E.taken err.old) (O.taken out.new) (E.taken err.new) }
-    ensures usage { result ≡ 2 → (HasUsage (AreLawful words.now) (E.taken err.old) (E.taken err.new) ⊎ HasNoRoot (AreLawful words.now) (L.files library.old) (L.misses library.old) (L.misses library.new) (E.taken err.old) (E.taken err.new)) × (O.taken out.new ≡ O.taken out.old) }
+    ensures report { result ≡ 0 → HasReported (AreLawful words.now) (L.seen library.old, L.seen library.new) (O.taken out.old) (E.taken err.old) (O.taken out.new) (E.taken err.new) }
+    ensures usage { result ≡ 2 → (HasUsage (AreLawful words.now) (E.taken err.old) (E.taken err.new) ⊎ HasNoRoot (AreLawful words.now) (L.seen library.old, L.seen library.new) (E.taken err.old) (E.taken err.new)) × (O.taken out.new ≡ O.taken out.old) }
     ensures lawful { HasNoOptions (AreLawful words.now) → (result ≡ 2) ⊎ ((result ≡ 5) ⊎ (result ≡ 7)) }
-    ensures faults { result ≡ 3 → HasFaults (AreLawful words.now) (L.files library.old) (L.misses library.old) (L.misses library.new) (E.taken err.old) (E.taken err.new) × (O.taken out.new ≡ O.taken out.old) }
-    ensures unread { result ≡ 4 → HasUnread (AreLawful words.now) (L.asked library.new) (L.faults library.old) (L.faults library.new) (E.taken err.old) (E.taken err.new) × (O.taken out.new ≡ O.taken out.old) }
+    ensures faults { result ≡ 3 → HasFaults (AreLawful words.now) (L.seen library.old, L.seen library.new) (E.taken err.old) (E.taken err.new) × (O.taken out.new ≡ O.taken out.old) }
+    ensures unread { result ≡ 4 → HasUnread (AreLawful words.now) (L.seen library.old, L.seen library.new) (E.taken err.old) (E.taken err.new) × (O.taken out.new ≡ O.taken out.old) }
     ensures limit { result ≡ 6 → HasPassed (AreLawful words.now)
-        (record { told = L.files library.old; asked = L.asked library.old; asked' = L.asked library.new; faults = L.faults library.old; faults' = L.faults library.new; misses = L.misses library.old; misses' = L.misses library.new })
+        (L.seen library.old, L.seen library.new)
         (E.taken err.old) (E.taken err.new) × (O.taken out.new ≡ O.taken out.old) }
-    ensures cut_off { result ≡ 5 → IsCutOff (AreLawful words.now) (L.files library.old) (L.asked library.new) (L.faults library.old) (L.faults library.new) (L.misses library.old) (L.misses library.new)
+    ensures cut_off { result ≡ 5 → IsCutOff (AreLawful words.now) (L.seen library.old, L.seen library.new)
         (record { taken = O.taken out.old; taken' = O.taken out.new; faults = O.faults out.old; faults' = O.faults out.new; settled' = O.settled out.new })
         (record { taken = E.taken err.old; taken' = E.taken err.new; faults = E.faults err.old; faults' = E.faults err.new; settled' = E.settled err.new }) }
     ensures no_memory { result ≡ 7 → SaysNoMemory (O.taken out.old) (E.taken err.old) (O.taken out.new) (E.taken err.new) result }
@@ -240,18 +240,18 @@ pub fn run_groups<R: Threads + Wait + Sync, L: Library, O: Sink, E: Sink, G: Gat
 
     // How the run ends, why, and what the sinks have taken: the other clauses follow from it.
     ensures run { IsRun (AreLawful words.now)
-        (record { told = L.files library.old; asked = L.asked library.old; asked' = L.asked library.new; faults = L.faults library.old; faults' = L.faults library.new; misses = L.misses library.old; misses' = L.misses library.new })
+        (L.seen library.old, L.seen library.new)
         (record { taken = O.taken out.old; taken' = O.taken out.new; faults = O.faults out.old; faults' = O.faults out.new; settled' = O.settled out.new })
         (record { taken = E.taken err.old; taken' = E.taken err.new; faults = E.faults err.old; faults' = E.faults err.new; settled' = E.settled err.new })
         result }
 
     // The library is asked for the files of the words and those that they lead to, each once, until
     // that ends; with wrong words, and where the file is made, for none.
-    ensures asked { (options : Settings) → AreLawful words.now options → options.make ≡ None → AreAskedFor options.files (L.asked library.old) (L.asked library.new) result }
+    ensures asked { (options : Settings) → AreLawful words.now options → options.make ≡ None → AreAskedFor options.files (L.seen library.old, L.seen library.new) result }
     ensures asking { (options : Settings) → AreLawful words.now options → (load : LoadEnd) × EndsReading options.make options.files
-        (record { told = L.files library.old; asked = L.asked library.old; asked' = L.asked library.new; faults = L.faults library.old; faults' = L.faults library.new; misses = L.misses library.old; misses' = L.misses library.new })
+        (L.seen library.old, L.seen library.new)
         load }
-    ensures unasked { AskForNone (AreLawful words.now) → L.asked library.new ≡ L.asked library.old }
+    ensures unasked { AskForNone (AreLawful words.now) → (L.seen library.new).asked ≡ (L.seen library.old).asked }
 
     // The sink that the run's bytes don't go to is left as it was.
     ensures err_left { result ≡ 0 → err.new ≡ err.old }
@@ -277,21 +277,21 @@ pub fn run_alone<R: Threads + Sync, L: Library, O: Sink, E: Sink>(
     requires alone { (is_some (see_options options.now).searches ≡ true) ⊎ ((see_options options.now).jobs ≡ 1) }
     // Over a library and sinks that tell what they hold, and where no count of faults rose, the
     // sinks have taken the bytes of the right answer, or memory was wanting.
-    ensures answered { (files : Files) → L.files library.old ≡ Some files
-        → ¬ Rose (L.faults library.old) (L.faults library.new) → ¬ Rose (O.faults out.old) (O.faults out.new) → ¬ Rose (E.faults err.old) (E.faults err.new)
+    ensures answered { (files : Files) → (L.seen library.old).told ≡ Some files
+        → ¬ Rose (L.seen library.old).faults (L.seen library.new).faults → ¬ Rose (O.faults out.old) (O.faults out.new) → ¬ Rose (E.faults err.old) (E.faults err.new)
         → SaysAnswer (AreJust (see_options options.now)) files (O.taken out.old) (E.taken err.old) (O.taken out.new) (E.taken err.new) result
         ⊎ SaysNoMemory (O.taken out.old) (E.taken err.old) (O.taken out.new) (E.taken err.new) result }
 
     // Over any library and sinks, what each status says.
     ensures statuses { (result ≡ 0) ⊎ ((result ≡ 2) ⊎ ((result ≡ 3) ⊎ ((result ≡ 4) ⊎ ((result ≡ 5) ⊎ ((result ≡ 6) ⊎ (result ≡ 7)))))) }
-    ensures report { result ≡ 0 → HasReported (AreJust (see_options options.now)) (L.files library.old) (O.taken out.old) (E.taken err.old) (O.taken out.new) (E.taken err.new) }
-    ensures missing { result ≡ 2 → HasNoRoot (AreJust (see_options options.now)) (L.files library.old) (L.misses library.old) (L.misses library.new) (E.taken err.old) (E.taken err.new) × (O.taken out.new ≡ O.taken out.old) }
-    ensures faults { result ≡ 3 → HasFaults (AreJust (see_options options.now)) (L.files library.old) (L.misses library.old) (L.misses library.new) (E.taken err.old) (E.taken err.new) × (O.taken out.new ≡ O.taken out.old) }
-    ensures unread { result ≡ 4 → HasUnread (AreJust (see_options options.now)) (L.asked library.new) (L.faults library.old) (L.faults library.new) (E.taken err.old) (E.taken err.new) × (O.taken out.new ≡ O.taken out.old) }
+    ensures report { result ≡ 0 → HasReported (AreJust (see_options options.now)) (L.seen library.old, L.seen library.new) (O.taken out.old) (E.taken err.old) (O.taken out.new) (E.taken err.new) }
+    ensures missing { result ≡ 2 → HasNoRoot (AreJust (see_options options.now)) (L.seen library.old, L.seen library.new) (E.taken err.old) (E.taken err.new) × (O.taken out.new ≡ O.taken out.old) }
+    ensures faults { result ≡ 3 → HasFaults (AreJust (see_options options.now)) (L.seen library.old, L.seen library.new) (E.taken err.old) (E.taken err.new) × (O.taken out.new ≡ O.taken out.old) }
+    ensures unread { result ≡ 4 → HasUnread (AreJust (see_options options.now)) (L.seen library.old, L.seen library.new) (E.taken err.old) (E.taken err.new) × (O.taken out.new ≡ O.taken out.old) }
     ensures limit { result ≡ 6 → HasPassed (AreJust (see_options options.now))
-        (record { told = L.files library.old; asked = L.asked library.old; asked' = L.asked library.new; faults = L.faults library.old; faults' = L.faults library.new; misses = L.misses library.old; misses' = L.misses library.new })
+        (L.seen library.old, L.seen library.new)
         (E.taken err.old) (E.taken err.new) × (O.taken out.new ≡ O.taken out.old) }
-    ensures cut_off { result ≡ 5 → IsCutOff (AreJust (see_options options.now)) (L.files library.old) (L.asked library.new) (L.faults library.old) (L.faults library.new) (L.misses library.old) (L.misses library.new)
+    ensures cut_off { result ≡ 5 → IsCutOff (AreJust (see_options options.now)) (L.seen library.old, L.seen library.new)
         (record { taken = O.taken out.old; taken' = O.taken out.new; faults = O.faults out.old; faults' = O.faults out.new; settled' = O.settled out.new })
         (record { taken = E.taken err.old; taken' = E.taken err.new; faults = E.faults err.old; faults' = E.faults err.new; settled' = E.settled err.new }) }
     ensures no_memory { result ≡ 7 → SaysNoMemory (O.taken out.old) (E.taken err.old) (O.taken out.new) (E.taken err.new) result }
@@ -299,18 +299,18 @@ pub fn run_alone<R: Threads + Sync, L: Library, O: Sink, E: Sink>(
 
     // How the run ends, why, and what the sinks have taken: the other clauses follow from it.
     ensures run { IsRun (AreJust (see_options options.now))
-        (record { told = L.files library.old; asked = L.asked library.old; asked' = L.asked library.new; faults = L.faults library.old; faults' = L.faults library.new; misses = L.misses library.old; misses' = L.misses library.new })
+        (L.seen library.old, L.seen library.new)
         (record { taken = O.taken out.old; taken' = O.taken out.new; faults = O.faults out.old; faults' = O.faults out.new; settled' = O.settled out.new })
         (record { taken = E.taken err.old; taken' = E.taken err.new; faults = E.faults err.old; faults' = E.faults err.new; settled' = E.settled err.new })
         result }
 
     // The library is asked for the files of the options and those that they lead to, each once, until
     // that ends; where the file is made, for none.
-    ensures asked { (see_options options.now).make ≡ None → AreAskedFor (see_options options.now).files (L.asked library.old) (L.asked library.new) result }
+    ensures asked { (see_options options.now).make ≡ None → AreAskedFor (see_options options.now).files (L.seen library.old, L.seen library.new) result }
     ensures asking { (load : LoadEnd) × EndsReading (see_options options.now).make (see_options options.now).files
-        (record { told = L.files library.old; asked = L.asked library.old; asked' = L.asked library.new; faults = L.faults library.old; faults' = L.faults library.new; misses = L.misses library.old; misses' = L.misses library.new })
+        (L.seen library.old, L.seen library.new)
         load }
-    ensures unasked { (see_options options.now).make ≢ None → L.asked library.new ≡ L.asked library.old }
+    ensures unasked { (see_options options.now).make ≢ None → (L.seen library.new).asked ≡ (L.seen library.old).asked }
 
     // The sink that the run's bytes don't go to is left as it was.
     ensures err_left { result ≡ 0 → err.new ≡ err.old }
