@@ -1,15 +1,16 @@
 -- What files that were all asked for come to.
-use Rattle.std.proofs.Common.{ℕ, ◌≤◌, List, [], Option, Result, Ok, Err, IfErr, Contains, length, refl, sym, subst, ap, ◌∙◌, inl, inr, arith, append-nil}
+use Rattle.std.proofs.Common.{ℕ, ◌≤◌, List, [], Option, Result, Ok, Err, IfOk, IfErr, Contains, length, refl, sym, subst, ap, ◌∙◌, inl, inr, arith, append-nil}
 use Rattle.std.specs.BTreeSet.{BTreeSet}
 use Rattle.list_laws.proofs.OneOrder.{nothing_in}
 use Rattle.file_library.specs.Asked.{AreInOrder, names_in}
 use Rattle.file_library.specs.FileLoads.{FileLoads}
+use Rattle.file_library.specs.Loaded.{WasLoaded}
 use Rattle.file_library.specs.Library.{Files, LibrarySeen, Answered, names_of, map_of}
 use Rattle.file_library.specs.NextWave.{AddsFiles}
 use Rattle.file_library.specs.AskedFile.{FileFound}
 use Rattle.file_library.specs.AskAll.{answers_of, Agrees, HasAskedAll}
 use Rattle.file_library.specs.Asking.{AreAll, LoadEnd, loaded, faults, unread, too_many, too_large, too_much, no_memory, LoadEndIs, AreAnswered, AreGiven, HasEnded}
-use Rattle.file_library.specs.SortedOut.{AreRoots, AreJustAsked, FinishIs, HasFailed, end_of}
+use Rattle.file_library.specs.SortedOut.{AreRoots, AreJustAsked, FinishIs, HasFailed, end_of, see_loaded}
 use Rattle.file_library.specs.declared.loaded.Loaded.{Loaded}
 use Rattle.file_library.specs.declared.loaded.LoadStop.{LoadStop}
 use Rattle.file_library.specs.declared.loaded.LoadStop.TheVariants.{Faults, ReadFault, TooManyFiles, FileTooLarge, TooMuchText, NoMemory}
@@ -39,6 +40,12 @@ none_unread seen roots before after (Err TooManyFiles) is = tt
 none_unread seen roots before after (Err (FileTooLarge name)) is = tt
 none_unread seen roots before after (Err TooMuchText) is = tt
 none_unread seen roots before after (Err NoMemory) is = tt
+
+-- where the asking ended with what was loaded, that was loaded
+pub was_loaded : (before after : LibrarySeen) (roots : List (List ℕ)) (result : Result Loaded LoadStop) → HasEnded before after roots (end_of result)
+    → IfOk result (λ found. WasLoaded (see_loaded found))
+was_loaded before after roots (Ok found) ended = record { files = map_of ended.answers; roots = roots; is = ended.is.1 }
+was_loaded before after roots (Err stop) ended = tt
 
 -- the asking ended over the map of the answers, over which these files are asked for and no others
 

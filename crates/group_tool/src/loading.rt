@@ -1,6 +1,6 @@
 ghost use Rattle.std.specs.Prelude.{◌≡◌, ◌≤◌, ℕ, List, [], ◌∷◌, IfOk, Some};
 ghost use Rattle.file_library.specs.SortedOut.{see_loaded};
-ghost use Rattle.import_rules.specs.Loaded.{WasLoaded};
+ghost use Rattle.file_library.specs.Loaded.{WasLoaded};
 ghost use Rattle.group_words.specs.Made.{made_text};
 ghost use Rattle.group_words.specs.Settings.{Settings, AreLawful, see_options};
 ghost use Rattle.group_tool.specs.Answer.{IsLoadedEnd};

@@ -2,7 +2,7 @@
 use Rattle.std.proofs.Common.{map}
 use Rattle.file_library.specs.AskedFile.{see_file}
 use Rattle.file_library.proofs.Stopped.{stop_ended}
-use Rattle.file_library.proofs.Finished.{all_ended, all_read}
+use Rattle.file_library.proofs.Finished.{was_loaded, all_ended, all_read}
 use Rattle.file_library.proofs.loading.load_all.Goals as goal
 
 pub returns-in-Err-clause-ended : goal.returns-in-Err-clause-ended
@@ -18,3 +18,9 @@ pub returns-clause-failed : goal.returns-clause-failed
 returns-clause-failed g c =
     all_read (g.L.Library.seen c.args.library.now) (g.L.Library.seen c.ask_all.new.library) c.args.roots.now (map see_file c.in-Ok.files.items) c.in-Ok.ensures.asked
     (g.L.Library.seen c.args.library.now).faults (g.L.Library.seen c.ask_all.new.library).faults c.finish.result c.finish.ensures
+
+pub returns-clause-loaded : goal.returns-clause-loaded
+returns-clause-loaded g c =
+    was_loaded (g.L.Library.seen c.args.library.now) (g.L.Library.seen c.ask_all.new.library) c.args.roots.now c.finish.result
+    (all_ended (g.L.Library.seen c.args.library.now) (g.L.Library.seen c.ask_all.new.library) c.args.roots.now
+    (map see_file c.in-Ok.files.items) c.in-Ok.ensures.asked c.finish.result c.finish.ensures)
