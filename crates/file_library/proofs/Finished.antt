@@ -101,6 +101,6 @@ module _ (before after : LibrarySeen) (roots : List (List ℕ)) (found : List Fi
       → HasEnded before after roots (end_of result)
   all_ended result finished = at_end (end_of result) (finished own agrees just_asked)
 
-  pub all_read : (faults faults' : ℕ) (result : Result Loaded LoadStop)
-      → ((seen : Files) → Agrees seen answers → AreJustAsked seen roots (names_of answers) → FinishIs seen roots (end_of result)) → IfErr result (HasFailed faults faults')
-  all_read faults faults' result finished = none_unread own roots faults faults' result (finished own agrees just_asked)
+  pub all_read : (low high : ℕ) (result : Result Loaded LoadStop)
+      → ((seen : Files) → Agrees seen answers → AreJustAsked seen roots (names_of answers) → FinishIs seen roots (end_of result)) → IfErr result (HasFailed low high)
+  all_read low high result finished = none_unread own roots low high result (finished own agrees just_asked)
