@@ -79,7 +79,7 @@ asked_for library roots load result asking whole =
     }
 
 -- a status that is none of these
-not_these : (bytes : List ℕ) (status result : ℕ) (sink : Taking) → SaidWith bytes status result sink.taken sink.taken' sink.faults sink.faults' sink.settled' → 3 < status
+not_these : (bytes : List ℕ) (status result : ℕ) (sink : Taking) → SaidWith bytes status result sink → 3 < status
     → IsWhole result → ⊥
 not_these bytes status result sink said high is =
     elim said [

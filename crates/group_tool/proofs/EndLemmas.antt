@@ -219,7 +219,7 @@ wanting wanted one library no_memory is = is
 
 -- a run that stops says why, or that there was no memory for that
 pub stop_run : (wanted : Settings → Type 0) → ((settings other : Settings) → wanted settings → wanted other → settings ≡ other) → (library : Asking) (out err : Taking) (result : ℕ) (stop : Stop)
-    → EndIs wanted library (end_of_stop stop) → SaidEnd (end_of_stop stop) result err.taken err.taken' err.faults err.faults' err.settled' → out.taken' ≡ out.taken
+    → EndIs wanted library (end_of_stop stop) → SaidEnd (end_of_stop stop) result err → out.1.taken ≡ out.0.taken
     → IsRun wanted library out err result
 stop_run wanted one library out err result of_stop.Usage cause said left = elim said [
   | inl own ↦ record { end = usage; cause = cause; written = (own, left) }
@@ -298,7 +298,7 @@ run_wanted wanted settings library out err result lawful only run = record {
 
 -- a run whose words have no options
 pub words_run : (words : List (List ℕ)) (library : Asking) (out err : Taking) (result : ℕ) (fault : WordFault) (stop : Stop) → stop ≡ of_words fault → IsLeft library
-    → (fault ≡ of_word.Usage → HasNoOptions (AreLawful words)) → SaidEnd (end_of_stop stop) result err.taken err.taken' err.faults err.faults' err.settled' → out.taken' ≡ out.taken
+    → (fault ≡ of_word.Usage → HasNoOptions (AreLawful words)) → SaidEnd (end_of_stop stop) result err → out.1.taken ≡ out.0.taken
     → IsRun (AreLawful words) library out err result
 words_run words library out err result fault stop is left none said kept =
     stop_run (AreLawful words) (one_settings words) library out err result stop (subst (λ s. EndIs (AreLawful words) library (end_of_stop s)) (sym is) (words_end fault none)) said kept

@@ -20,24 +20,24 @@ more_none (Some before) = ap Some (append-nil before)
 -- what both sinks have taken where the run was not cut off
 pub record IsSaid (result : ℕ) (out err : Taking) (end : End) : Type 0 where
   pub status : result ≡ status_of end
-  pub on_out : out.taken' ≡ more_taken out.taken (out_of end)
-  pub on_err : err.taken' ≡ more_taken err.taken (err_of end)
+  pub on_out : out.1.taken ≡ more_taken out.0.taken (out_of end)
+  pub on_err : err.1.taken ≡ more_taken err.0.taken (err_of end)
 
 -- a sink took all bytes, or a part of them, and the other took nothing
 pub record TookWhole (bytes : List ℕ) (status result : ℕ) (sink other : Taking) : Type 0 where
   pub is_status : result ≡ status
-  pub all : TookAll bytes sink.taken sink.taken' sink.settled'
-  pub nothing : other.taken' ≡ more_taken other.taken []
+  pub all : TookAll bytes sink.0 sink.1
+  pub nothing : other.1.taken ≡ more_taken other.0.taken []
 
 pub record TookSome (bytes : List ℕ) (result : ℕ) (sink other : Taking) : Type 0 where
   pub is_five : result ≡ 5
-  pub part : TookPart bytes sink.taken sink.taken' sink.faults sink.faults'
-  pub nothing : other.taken' ≡ other.taken
+  pub part : TookPart bytes sink.0 sink.1
+  pub nothing : other.1.taken ≡ other.0.taken
 
 whole_or_some : (bytes : List ℕ) (status result : ℕ) (sink other : Taking) → IsWritten bytes status result sink other
     → TookWhole bytes status result sink other ⊎ TookSome bytes result sink other
 whole_or_some bytes status result sink other written = elim written.0 [
-  | inl all ↦ inl (record { is_status = all.0; all = all.1; nothing = written.1 ∙ sym (more_none other.taken) })
+  | inl all ↦ inl (record { is_status = all.0; all = all.1; nothing = written.1 ∙ sym (more_none other.0.taken) })
   | inr part ↦ inr (record { is_five = part.0; part = part.1; nothing = written.1 })
 ]
 
@@ -47,7 +47,7 @@ lines_said result out err end none written = elim (whole_or_some (err_of end) (s
   | inl whole ↦
       inl (record {
         status = whole.is_status;
-        on_out = subst (λ bytes. out.taken' ≡ more_taken out.taken bytes) (sym none) whole.nothing;
+        on_out = subst (λ bytes. out.1.taken ≡ more_taken out.0.taken bytes) (sym none) whole.nothing;
         on_err = whole.all.is;
       })
   | inr part ↦ inr part
@@ -55,7 +55,7 @@ lines_said result out err end none written = elim (whole_or_some (err_of end) (s
 
 -- a run is said, or cut off
 said_or_cut : (result : ℕ) (out err : Taking) (end : End) → EndsBy result out err end
-    → IsSaid result out err end ⊎ ((result ≡ 5) × CutBy out err end × (Rose err.faults err.faults' ⊎ Rose out.faults out.faults'))
+    → IsSaid result out err end ⊎ ((result ≡ 5) × CutBy out err end × (Rose err.0.faults err.1.faults ⊎ Rose out.0.faults out.1.faults))
 said_or_cut result out err usage written = elim (lines_said result out err usage refl written) [
   | inl said ↦ inl said
   | inr part ↦ inr (part.is_five, (part.part, part.nothing), inl part.part.rose)
@@ -160,8 +160,8 @@ module _ (wanted : Settings → Type 0) (library : Asking) where
   wanting_or no_memory = inl refl
 
   module _ (out err : Taking) (result : ℕ) (run : IsRun wanted library out err result) where
-    pub answered : (files : Files) → library.0.told ≡ Some files → (Rose library.0.faults library.1.faults → ⊥) → (Rose out.faults out.faults' → ⊥) → (Rose err.faults err.faults' → ⊥)
-        → SaysAnswer wanted files out.taken err.taken out.taken' err.taken' result ⊎ SaysNoMemory out.taken err.taken out.taken' err.taken' result
+    pub answered : (files : Files) → library.0.told ≡ Some files → (Rose library.0.faults library.1.faults → ⊥) → (Rose out.0.faults out.1.faults → ⊥) → (Rose err.0.faults err.1.faults → ⊥)
+        → SaysAnswer wanted files out err result ⊎ SaysNoMemory out err result
     answered files tells read_quiet out_quiet err_quiet = elim (said_or_cut result out err run.end run.written) [
       | inl said ↦
           elim (wanting_or run.end) [
@@ -178,8 +178,8 @@ module _ (wanted : Settings → Type 0) (library : Asking) where
       | inr cut ↦ elim cut.2 [ inl rose ↦ absurd (err_quiet rose) | inr rose ↦ absurd (out_quiet rose) ]
     ]
       where
-        no_memory_of : IsSaid result out err no_memory → SaysNoMemory out.taken err.taken out.taken' err.taken' result
-        no_memory_of said = record { status = said.status; on_out = said.on_out ∙ more_none out.taken; on_err = said.on_err }
+        no_memory_of : IsSaid result out err no_memory → SaysNoMemory out err result
+        no_memory_of said = record { status = said.status; on_out = said.on_out ∙ more_none out.0.taken; on_err = said.on_err }
 
     -- no status but its own
 
@@ -187,88 +187,88 @@ module _ (wanted : Settings → Type 0) (library : Asking) where
     apart {X} m n here there differ = absurd (differ (sym here ∙ there))
 
     reported_by : result ≡ 0 → (end : End) → EndIs wanted library end → IsSaid result out err end
-        → HasReported wanted library out.taken err.taken out.taken' err.taken'
+        → HasReported wanted library out err
     reported_by is usage cause said = apart 0 2 is said.status (λ e. omega (arith, e))
     reported_by is (faults found) cause said = apart 0 3 is said.status (λ e. omega (arith, e))
     reported_by is (missing root) cause said = apart 0 2 is said.status (λ e. omega (arith, e))
     reported_by is (unread name) cause said = apart 0 4 is said.status (λ e. omega (arith, e))
     reported_by is (limit passed) cause said = apart 0 6 is said.status (λ e. omega (arith, e))
-    reported_by is (report bytes) cause said = record { bytes = bytes; cause = cause; on_out = said.on_out; on_err = said.on_err ∙ more_none err.taken }
+    reported_by is (report bytes) cause said = record { bytes = bytes; cause = cause; on_out = said.on_out; on_err = said.on_err ∙ more_none err.0.taken }
     reported_by is no_memory cause said = apart 0 7 is said.status (λ e. omega (arith, e))
 
-    pub reported : result ≡ 0 → HasReported wanted library out.taken err.taken out.taken' err.taken'
+    pub reported : result ≡ 0 → HasReported wanted library out err
     reported is = reported_by is run.end run.cause (is_said result out err run.end run.written (λ five. let both : 0 ≡ 5 = sym is ∙ five in omega (arith, both)))
 
     refused_by : result ≡ 2 → (end : End) → EndIs wanted library end → IsSaid result out err end
-        → (HasUsage wanted err.taken err.taken' ⊎ HasNoRoot wanted library err.taken err.taken') × (out.taken' ≡ out.taken)
-    refused_by is usage cause said = (inl (record { none = cause.0; on_err = said.on_err }), said.on_out ∙ more_none out.taken)
+        → (HasUsage wanted err ⊎ HasNoRoot wanted library err) × (out.1.taken ≡ out.0.taken)
+    refused_by is usage cause said = (inl (record { none = cause.0; on_err = said.on_err }), said.on_out ∙ more_none out.0.taken)
     refused_by is (faults found) cause said = apart 2 3 is said.status (λ e. omega (arith, e))
-    refused_by is (missing root) cause said = (inr (record { root = root; cause = cause; on_err = said.on_err }), said.on_out ∙ more_none out.taken)
+    refused_by is (missing root) cause said = (inr (record { root = root; cause = cause; on_err = said.on_err }), said.on_out ∙ more_none out.0.taken)
     refused_by is (unread name) cause said = apart 2 4 is said.status (λ e. omega (arith, e))
     refused_by is (limit passed) cause said = apart 2 6 is said.status (λ e. omega (arith, e))
     refused_by is (report bytes) cause said = apart 2 0 is said.status (λ e. omega (arith, e))
     refused_by is no_memory cause said = apart 2 7 is said.status (λ e. omega (arith, e))
 
-    pub refused : result ≡ 2 → (HasUsage wanted err.taken err.taken' ⊎ HasNoRoot wanted library err.taken err.taken') × (out.taken' ≡ out.taken)
+    pub refused : result ≡ 2 → (HasUsage wanted err ⊎ HasNoRoot wanted library err) × (out.1.taken ≡ out.0.taken)
     refused is = refused_by is run.end run.cause (is_said result out err run.end run.written (λ five. let both : 2 ≡ 5 = sym is ∙ five in omega (arith, both)))
 
     -- where settings are wanted, it is a root that is missing
     pub refused_lawful : (settings : Settings) → wanted settings → result ≡ 2
-        → HasNoRoot wanted library err.taken err.taken' × (out.taken' ≡ out.taken)
+        → HasNoRoot wanted library err × (out.1.taken ≡ out.0.taken)
     refused_lawful settings lawful is =
         let both = refused is in
         elim both.0 [ inl none ↦ absurd (none.none settings lawful) | inr missing_too ↦ (missing_too, both.1) ]
 
     faults_by : result ≡ 3 → (end : End) → EndIs wanted library end → IsSaid result out err end
-        → HasFaults wanted library err.taken err.taken' × (out.taken' ≡ out.taken)
+        → HasFaults wanted library err × (out.1.taken ≡ out.0.taken)
     faults_by is usage cause said = apart 3 2 is said.status (λ e. omega (arith, e))
-    faults_by is (faults found) cause said = (record { found = found; cause = cause; on_err = said.on_err }, said.on_out ∙ more_none out.taken)
+    faults_by is (faults found) cause said = (record { found = found; cause = cause; on_err = said.on_err }, said.on_out ∙ more_none out.0.taken)
     faults_by is (missing root) cause said = apart 3 2 is said.status (λ e. omega (arith, e))
     faults_by is (unread name) cause said = apart 3 4 is said.status (λ e. omega (arith, e))
     faults_by is (limit passed) cause said = apart 3 6 is said.status (λ e. omega (arith, e))
     faults_by is (report bytes) cause said = apart 3 0 is said.status (λ e. omega (arith, e))
     faults_by is no_memory cause said = apart 3 7 is said.status (λ e. omega (arith, e))
 
-    pub faults_said : result ≡ 3 → HasFaults wanted library err.taken err.taken' × (out.taken' ≡ out.taken)
+    pub faults_said : result ≡ 3 → HasFaults wanted library err × (out.1.taken ≡ out.0.taken)
     faults_said is = faults_by is run.end run.cause (is_said result out err run.end run.written (λ five. let both : 3 ≡ 5 = sym is ∙ five in omega (arith, both)))
 
     unread_by : result ≡ 4 → (end : End) → EndIs wanted library end → IsSaid result out err end
-        → HasUnread wanted library err.taken err.taken' × (out.taken' ≡ out.taken)
+        → HasUnread wanted library err × (out.1.taken ≡ out.0.taken)
     unread_by is usage cause said = apart 4 2 is said.status (λ e. omega (arith, e))
     unread_by is (faults found) cause said = apart 4 3 is said.status (λ e. omega (arith, e))
     unread_by is (missing root) cause said = apart 4 2 is said.status (λ e. omega (arith, e))
-    unread_by is (unread name) cause said = (record { name = name; cause = unread_last wanted library name cause; on_err = said.on_err }, said.on_out ∙ more_none out.taken)
+    unread_by is (unread name) cause said = (record { name = name; cause = unread_last wanted library name cause; on_err = said.on_err }, said.on_out ∙ more_none out.0.taken)
     unread_by is (limit passed) cause said = apart 4 6 is said.status (λ e. omega (arith, e))
     unread_by is (report bytes) cause said = apart 4 0 is said.status (λ e. omega (arith, e))
     unread_by is no_memory cause said = apart 4 7 is said.status (λ e. omega (arith, e))
 
-    pub unread_said : result ≡ 4 → HasUnread wanted library err.taken err.taken' × (out.taken' ≡ out.taken)
+    pub unread_said : result ≡ 4 → HasUnread wanted library err × (out.1.taken ≡ out.0.taken)
     unread_said is = unread_by is run.end run.cause (is_said result out err run.end run.written (λ five. let both : 4 ≡ 5 = sym is ∙ five in omega (arith, both)))
 
     passed_by : result ≡ 6 → (end : End) → EndIs wanted library end → IsSaid result out err end
-        → HasPassed wanted library err.taken err.taken' × (out.taken' ≡ out.taken)
+        → HasPassed wanted library err × (out.1.taken ≡ out.0.taken)
     passed_by is usage cause said = apart 6 2 is said.status (λ e. omega (arith, e))
     passed_by is (faults found) cause said = apart 6 3 is said.status (λ e. omega (arith, e))
     passed_by is (missing root) cause said = apart 6 2 is said.status (λ e. omega (arith, e))
     passed_by is (unread name) cause said = apart 6 4 is said.status (λ e. omega (arith, e))
-    passed_by is (limit passed) cause said = (record { passed = passed; cause = cause; on_err = said.on_err }, said.on_out ∙ more_none out.taken)
+    passed_by is (limit passed) cause said = (record { passed = passed; cause = cause; on_err = said.on_err }, said.on_out ∙ more_none out.0.taken)
     passed_by is (report bytes) cause said = apart 6 0 is said.status (λ e. omega (arith, e))
     passed_by is no_memory cause said = apart 6 7 is said.status (λ e. omega (arith, e))
 
-    pub passed_said : result ≡ 6 → HasPassed wanted library err.taken err.taken' × (out.taken' ≡ out.taken)
+    pub passed_said : result ≡ 6 → HasPassed wanted library err × (out.1.taken ≡ out.0.taken)
     passed_said is = passed_by is run.end run.cause (is_said result out err run.end run.written (λ five. let both : 6 ≡ 5 = sym is ∙ five in omega (arith, both)))
 
     wanting_by : result ≡ 7 → (end : End) → EndIs wanted library end → IsSaid result out err end
-        → SaysNoMemory out.taken err.taken out.taken' err.taken' result
+        → SaysNoMemory out err result
     wanting_by is usage cause said = apart 7 2 is said.status (λ e. omega (arith, e))
     wanting_by is (faults found) cause said = apart 7 3 is said.status (λ e. omega (arith, e))
     wanting_by is (missing root) cause said = apart 7 2 is said.status (λ e. omega (arith, e))
     wanting_by is (unread name) cause said = apart 7 4 is said.status (λ e. omega (arith, e))
     wanting_by is (limit passed) cause said = apart 7 6 is said.status (λ e. omega (arith, e))
     wanting_by is (report bytes) cause said = apart 7 0 is said.status (λ e. omega (arith, e))
-    wanting_by is no_memory cause said = record { status = said.status; on_out = said.on_out ∙ more_none out.taken; on_err = said.on_err }
+    wanting_by is no_memory cause said = record { status = said.status; on_out = said.on_out ∙ more_none out.0.taken; on_err = said.on_err }
 
-    pub wanting_said : result ≡ 7 → SaysNoMemory out.taken err.taken out.taken' err.taken' result
+    pub wanting_said : result ≡ 7 → SaysNoMemory out err result
     wanting_said is = wanting_by is run.end run.cause (is_said result out err run.end run.written (λ five. let both : 7 ≡ 5 = sym is ∙ five in omega (arith, both)))
 
     -- each run has one of the statuses
@@ -323,16 +323,16 @@ module _ (wanted : Settings → Type 0) (library : Asking) where
 
     -- the sink of the bytes is settled
 
-    settled_all : (bytes : List ℕ) (status : ℕ) (sink other : Taking) → IsWritten bytes status result sink other → result ≢ 5 → (result ≡ status) × (sink.settled' ≡ true)
+    settled_all : (bytes : List ℕ) (status : ℕ) (sink other : Taking) → IsWritten bytes status result sink other → result ≢ 5 → (result ≡ status) × (sink.1.settled ≡ true)
     settled_all bytes status sink other written whole = elim (whole_or_some bytes status result sink other written) [
       | inl all ↦ (all.is_status, all.all.is_settled)
       | inr part ↦ absurd (whole part.is_five)
     ]
 
-    settled_err : (bytes : List ℕ) (status : ℕ) → (status ≡ 0 → ⊥) → IsWritten bytes status result err out → result ≢ 5 → IsSettled result out.settled' err.settled'
+    settled_err : (bytes : List ℕ) (status : ℕ) → (status ≡ 0 → ⊥) → IsWritten bytes status result err out → result ≢ 5 → IsSettled result out.1 err.1
     settled_err bytes status some written whole = let all = settled_all bytes status err out written whole in inr ((λ zero. some (sym all.0 ∙ zero)), all.1)
 
-    settled_by : (end : End) → EndsBy result out err end → result ≢ 5 → IsSettled result out.settled' err.settled'
+    settled_by : (end : End) → EndsBy result out err end → result ≢ 5 → IsSettled result out.1 err.1
     settled_by usage written whole = settled_err (err_of usage) 2 (λ e. omega (arith, e)) written whole
     settled_by (faults found) written whole = settled_err (err_of (faults found)) 3 (λ e. omega (arith, e)) written whole
     settled_by (missing root) written whole = settled_err (err_of (missing root)) 2 (λ e. omega (arith, e)) written whole
@@ -341,7 +341,7 @@ module _ (wanted : Settings → Type 0) (library : Asking) where
     settled_by (report bytes) written whole = inl (settled_all bytes 0 out err written whole)
     settled_by no_memory written whole = settled_err (err_of no_memory) 7 (λ e. omega (arith, e)) written whole
 
-    pub settled : result ≢ 5 → IsSettled result out.settled' err.settled'
+    pub settled : result ≢ 5 → IsSettled result out.1 err.1
     settled whole = settled_by run.end run.written whole
 
     -- where no library is asked, its names are as before
