@@ -1,12 +1,12 @@
 -- From how the reading of files ended to how a run ends.
-use Rattle.std.proofs.Common.{◌≡◌, ◌≢◌, ℕ, ◌⊎◌, List, [], ◌∷◌, Option, Some, None, Result, Ok, Err, Vec, Global, IsErrAnd, refl, sym, subst, ap, inl, inr, arith, append-nil}
+use Rattle.std.proofs.Common.{◌≡◌, ◌≢◌, ℕ, ◌⊎◌, List, [], ◌∷◌, ◌++◌, Option, Some, None, Result, Ok, Err, Vec, Global, IsErrAnd, refl, sym, subst, ◌∙◌, ap, inl, inr, arith, append-nil}
 use Rattle.list_laws.proofs.OneOrder.{nothing_in}
 use Rattle.file_library.specs.declared.loaded.LoadStop.{LoadStop}
 use Rattle.file_library.specs.declared.loaded.LoadStop.TheVariants.{Faults, ReadFault, TooManyFiles, FileTooLarge, TooMuchText, NoMemory}
 use Rattle.file_library.specs.Counts.{Rose}
-use Rattle.file_library.specs.Library.{Files, LibrarySeen}
+use Rattle.file_library.specs.Library.{Files, Answered, map_of, LibrarySeen}
 use Rattle.file_library.specs.Loaded.{LoadedFiles}
-use Rattle.file_library.specs.Asking.{LoadEnd, LoadEndIs, loaded, too_many, too_large, too_much, HasEnded, IsDecided}
+use Rattle.file_library.specs.Asking.{LoadEnd, LoadEndIs, loaded, too_many, too_large, too_much, AreGiven, HasEnded, IsDecided}
 use Rattle.file_library.specs.Asking as of_load
 use Rattle.file_library.specs.SortedOut as of_library
 use Rattle.import_rules.specs.Program.{Seen, IsProgram}
@@ -38,6 +38,28 @@ reads_over None names library load reading files tells decided = (
 reads_over (Some count) names library load reading files tells decided = elim reading.1 [
   | inl none ↦ absurd (subst IsDecided none decided)
   | inr made ↦ (made.asked, made.ends)
+]
+
+-- where the map decided, the library gave just these answers
+given_all : (before after answers : List Answered) (load : LoadEnd) → IsDecided load → AreGiven before after answers load → after ≡ before ++ answers
+given_all before after answers (loaded found) decided is = is
+given_all before after answers (of_load.faults found) decided is = is
+given_all before after answers (of_load.unread name) decided is = absurd decided
+given_all before after answers too_many decided is = is
+given_all before after answers (too_large name) decided is = is
+given_all before after answers too_much decided is = is
+given_all before after answers of_load.no_memory decided is = absurd decided
+
+-- over the map of what the library handed over the reading ends so
+pub reads_handed : (make : Option ℕ) (names : List (List ℕ)) (library : Asking) (load : LoadEnd) → EndsReading make names library load → IsDecided load
+    → (answers : List Answered) × ((library.1.answers ≡ library.0.answers ++ answers) × ((asked : List (List ℕ)) × LoadEndIs (files_read make (map_of answers)) (names_read make names) asked load))
+reads_handed None names library load reading decided = (
+  reading.ended.answers,
+  (given_all library.0.answers library.1.answers reading.ended.answers load decided reading.ended.given, (reading.ended.names, reading.ended.is)),
+)
+reads_handed (Some count) names library load reading decided = elim reading.1 [
+  | inl none ↦ absurd (subst IsDecided none decided)
+  | inr made ↦ ([], (ap (λ (seen : LibrarySeen). seen.answers) reading.0 ∙ sym (append-nil library.0.answers), (made.asked, made.ends)))
 ]
 
 -- and this is the answer
@@ -209,7 +231,7 @@ lawful_wanting wanted one library end is = record {
 
 pub wanting : (wanted : Settings → Type 0) → ((settings other : Settings) → wanted settings → wanted other → settings ≡ other) → (library : Asking) (end : End) → EndIs wanted library end
     → IsAsked wanted library
-wanting wanted one library usage is = record { lawful = λ settings lawful. absurd (is.0 settings lawful); none = λ none. is.1 }
+wanting wanted one library usage is = record { lawful = λ settings lawful. absurd (is.0 settings lawful); none = λ none. ap (λ (seen : LibrarySeen). seen.asked) is.1 }
 wanting wanted one library (faults found) is = lawful_wanting wanted one library (faults found) is
 wanting wanted one library (missing root) is = lawful_wanting wanted one library (missing root) is
 wanting wanted one library (unread name) is = lawful_wanting wanted one library (unread name) is
@@ -304,5 +326,5 @@ words_run words library out err result fault stop is left none said kept =
     stop_run (AreLawful words) (one_settings words) library out err result stop (subst (λ s. EndIs (AreLawful words) library (end_of_stop s)) (sym is) (words_end fault none)) said kept
   where
     words_end : (fault : WordFault) → (fault ≡ of_word.Usage → HasNoOptions (AreLawful words)) → EndIs (AreLawful words) library (end_of_stop (of_words fault))
-    words_end of_word.Usage none = (none refl, ap (λ (seen : LibrarySeen). seen.asked) left)
+    words_end of_word.Usage none = (none refl, left)
     words_end of_word.NoMemory none = nothing_read (AreLawful words) library left

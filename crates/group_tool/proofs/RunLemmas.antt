@@ -1,17 +1,17 @@
 -- What the ways in which a run ends say.
 use Rattle.std.proofs.Common.{◌≡◌, ◌≢◌, ℕ, ◌⊎◌, List, [], ◌∷◌, ◌++◌, Option, Some, None, true, ap, sym, subst, ◌∙◌, refl, inl, inr, append-nil, append_assoc, arith}
 use Rattle.file_library.specs.Counts.{Rose}
-use Rattle.file_library.specs.Library.{Files}
+use Rattle.file_library.specs.Library.{Files, map_of, LibrarySeen}
 use Rattle.file_library.specs.Asking.{LoadEnd, loaded, too_many, too_large, too_much, HasEnded, IsDecided}
 use Rattle.file_library.specs.Asking as of_load
 use Rattle.group_words.specs.Settings.{Settings}
 use Rattle.group_tool.specs.Wanted.{AskForNone, HasNoOptions}
-use Rattle.group_tool.specs.Answer.{ComesTo, IsAnswer}
+use Rattle.group_tool.specs.Answer.{ComesTo, IsLawfulAnswer, IsAnswer}
 use Rattle.group_tool.specs.End.{End, usage, faults, missing, unread, limit, report, no_memory, status_of, out_of, err_of}
 use Rattle.group_tool.specs.Say.{TookAll, TookPart}
 use Rattle.group_tool.specs.Sink.{more_taken}
-use Rattle.group_tool.specs.Run.{Asking, EndsAsking, EndsReading, IsLawfulEnd, EndIs, EndsBy, CutBy, Taking, IsRun, IsWritten, SaysAnswer, SaysNoMemory, IsUnread, HasReported, HasUsage, HasNoRoot, HasFaults, HasPassed, HasUnread, IsCutOff, IsSettled}
-use Rattle.group_tool.proofs.EndLemmas.{lawful_left}
+use Rattle.group_tool.specs.Run.{Asking, EndsAsking, EndsReading, IsLawfulEnd, EndIs, EndsBy, CutBy, Taking, IsRun, IsWritten, SaysAnswer, SaysHandedOver, SaysNoMemory, IsUnread, HasReported, HasUsage, HasNoRoot, HasFaults, HasPassed, HasUnread, IsCutOff, IsSettled}
+use Rattle.group_tool.proofs.EndLemmas.{lawful_left, reads_handed}
 
 pub more_none : (taken : Option (List ℕ)) → more_taken taken [] ≡ taken
 more_none None = refl
@@ -186,6 +186,52 @@ module _ (wanted : Settings → Type 0) (library : Asking) where
     apart : {X : Type 0} (m n : ℕ) → result ≡ m → result ≡ n → (m ≡ n → ⊥) → X
     apart {X} m n here there differ = absurd (differ (sym here ∙ there))
 
+    -- what was said is the answer over the files that were handed over
+
+    handed_lawful : (end : End) (cause : IsLawfulEnd wanted library end) → IsDecided cause.load → ((files : Files) → IsLawfulAnswer wanted files end → IsAnswer wanted files end)
+        → IsSaid result out err end → SaysHandedOver wanted library out err result
+    handed_lawful end cause decided is_answer said =
+        let handed = reads_handed cause.settings.make cause.settings.files library cause.load cause.reading decided in
+        record {
+          answers = handed.0;
+          given = handed.1.0;
+          says = record {
+            answer = end;
+            is_right = is_answer (map_of handed.0) (record {
+              settings = cause.settings;
+              lawful = cause.lawful;
+              asked = handed.1.1.0;
+              load = cause.load;
+              decided = decided;
+              ends = handed.1.1.1;
+              comes = cause.comes;
+            });
+            status = said.status;
+            on_out = said.on_out;
+            on_err = said.on_err;
+          };
+        }
+
+    handed_by : result ≢ 4 → result ≢ 7 → (end : End) → EndIs wanted library end → IsSaid result out err end → SaysHandedOver wanted library out err result
+    handed_by read memory usage cause said = record {
+      answers = [];
+      given = ap (λ (seen : LibrarySeen). seen.answers) cause.1 ∙ sym (append-nil library.0.answers);
+      says = record { answer = usage; is_right = cause.0; status = said.status; on_out = said.on_out; on_err = said.on_err };
+    }
+    handed_by read memory (faults found) cause said =
+        handed_lawful (faults found) cause (comes_decided cause.settings cause.load (faults found) cause.comes (λ name e. cc) (λ e. cc)) (λ files is. is) said
+    handed_by read memory (missing root) cause said =
+        handed_lawful (missing root) cause (comes_decided cause.settings cause.load (missing root) cause.comes (λ name e. cc) (λ e. cc)) (λ files is. is) said
+    handed_by read memory (unread name) cause said = absurd (read said.status)
+    handed_by read memory (limit passed) cause said =
+        handed_lawful (limit passed) cause (comes_decided cause.settings cause.load (limit passed) cause.comes (λ name e. cc) (λ e. cc)) (λ files is. is) said
+    handed_by read memory (report bytes) cause said =
+        handed_lawful (report bytes) cause (comes_decided cause.settings cause.load (report bytes) cause.comes (λ name e. cc) (λ e. cc)) (λ files is. is) said
+    handed_by read memory no_memory cause said = absurd (memory said.status)
+
+    pub handed_over : result ≢ 4 → result ≢ 5 → result ≢ 7 → SaysHandedOver wanted library out err result
+    handed_over read sink memory = handed_by read memory run.end run.cause (is_said result out err run.end run.written sink)
+
     reported_by : result ≡ 0 → (end : End) → EndIs wanted library end → IsSaid result out err end
         → HasReported wanted library out err
     reported_by is usage cause said = apart 0 2 is said.status (λ e. omega (arith, e))
@@ -349,7 +395,7 @@ module _ (wanted : Settings → Type 0) (library : Asking) where
     unasked none = asked_none run.end run.cause
       where
         asked_none : (end : End) → EndIs wanted library end → library.1.asked ≡ library.0.asked
-        asked_none usage cause = cause.1
+        asked_none usage cause = ap (λ (seen : LibrarySeen). seen.asked) cause.1
         asked_none (faults found) cause = lawful_left wanted library (faults found) none cause
         asked_none (missing root) cause = lawful_left wanted library (missing root) none cause
         asked_none (unread name) cause = lawful_left wanted library (unread name) none cause

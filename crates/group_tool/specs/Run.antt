@@ -3,7 +3,7 @@ use Rattle.std.specs.Prelude.{◌≡◌, ◌≢◌, ℕ, ◌⊎◌, List, [], �
 use Rattle.import_rules.specs.declared.names.PredName.{PredName}
 use Rattle.file_library.specs.declared.fault.Fault.{Fault}
 use Rattle.file_library.specs.Counts.{Rose}
-use Rattle.file_library.specs.Library.{Files, LibrarySeen}
+use Rattle.file_library.specs.Library.{Files, Answered, map_of, LibrarySeen}
 use Rattle.file_library.specs.Asking.{LoadEnd, LoadEndIs, HasEnded, IsDecided, AreFirst, AreAll}
 use Rattle.file_library.specs.Asking as of_load
 use Rattle.group_words.specs.Made.{made_text}
@@ -68,7 +68,7 @@ pub record IsAsked (wanted : Settings → Type 0) (library : Asking) : Type 0 wh
 
 -- why a run ends so
 abbrev pub EndIs : (Settings → Type 0) → Asking → End → Type 0
-EndIs wanted library usage = HasNoOptions wanted × (library.1.asked ≡ library.0.asked)
+EndIs wanted library usage = HasNoOptions wanted × IsLeft library
 EndIs wanted library no_memory = IsAsked wanted library
 EndIs wanted library end = IsLawfulEnd wanted library end
 
@@ -122,6 +122,12 @@ pub record SaysAnswer (wanted : Settings → Type 0) (files : Files) (out err : 
   pub status : result ≡ status_of answer
   pub on_out : Took (out_of answer) out
   pub on_err : Took (err_of answer) err
+
+-- the answer is the right one for just the files that the library handed over, and for none besides
+pub record SaysHandedOver (wanted : Settings → Type 0) (library : Asking) (out err : Taking) (result : ℕ) : Type 0 where
+  pub answers : List Answered
+  pub given : library.1.answers ≡ library.0.answers ++ answers
+  pub says : SaysAnswer wanted (map_of answers) out err result
 
 -- or memory was wanting, and they say that
 pub record SaysNoMemory (out err : Taking) (result : ℕ) : Type 0 where

@@ -7,7 +7,8 @@ ghost use Rattle.group_words.specs.Settings.{Settings, AreLawful, see_options};
 ghost use Rattle.group_tool.specs.End.{err_of, status_of, memory_line};
 ghost use Rattle.group_tool.specs.Stop.{end_of_stop};
 ghost use Rattle.group_tool.specs.Wanted.{AreJust, AskForNone, HasNoOptions};
-ghost use Rattle.group_tool.specs.Run.{EndsReading, IsRun, IsSettled, AreAskedFor, SaysAnswer, SaysNoMemory, TookNone, SaidWith, SaidEnd, HasReported, HasUsage, HasNoRoot, HasFaults, HasPassed, HasUnread, IsCutOff};
+ghost use Rattle.group_tool.specs.Run.{EndsReading, IsRun, IsSettled, AreAskedFor, SaysAnswer, SaysHandedOver, SaysNoMemory, TookNone, SaidWith, SaidEnd};
+ghost use Rattle.group_tool.specs.Run.{HasReported, HasUsage, HasNoRoot, HasFaults, HasPassed, HasUnread, IsCutOff};
 
 use crate::answer::{report_alone, report_by_stream, report_by_workers};
 use crate::lines::{fault_lines, limit_line, missing_line, unread_line};
@@ -73,11 +74,8 @@ fn run_on_one_thread<R: Threads + Sync, L: Library, O: Sink, E: Sink>(
     err: &mut E,
 ) -> u8
     requires { (words : List (List ℕ)) × AreLawful words (see_options options.now) }
-    ensures run { IsRun (AreJust (see_options options.now))
-        (L.seen library.old, L.seen library.new)
-        (O.seen out.old, O.seen out.new)
-        (E.seen err.old, E.seen err.new)
-        result }
+    ensures run { IsRun (AreJust (see_options options.now)) (L.seen library.old, L.seen library.new)
+        (O.seen out.old, O.seen out.new) (E.seen err.old, E.seen err.new) result }
     ensures err_left { result ≡ 0 → err.new ≡ err.old }
     ensures out_left { result ≢ 0 → result ≢ 5 → out.new ≡ out.old }
     ensures one_left { (out.new ≡ out.old) ⊎ (err.new ≡ err.old) }
@@ -100,11 +98,8 @@ fn run_with_workers<R: Threads + Wait + Sync, L: Library, O: Sink, E: Sink, G: G
 ) -> u8
     requires lawful { (words : List (List ℕ)) × AreLawful words (see_options options.now) }
     requires workers { (see_options options.now).searches ≡ None }
-    ensures run { IsRun (AreJust (see_options options.now))
-        (L.seen library.old, L.seen library.new)
-        (O.seen out.old, O.seen out.new)
-        (E.seen err.old, E.seen err.new)
-        result }
+    ensures run { IsRun (AreJust (see_options options.now)) (L.seen library.old, L.seen library.new)
+        (O.seen out.old, O.seen out.new) (E.seen err.old, E.seen err.new) result }
     ensures err_left { result ≡ 0 → err.new ≡ err.old }
     ensures out_left { result ≢ 0 → result ≢ 5 → out.new ≡ out.old }
     ensures one_left { (out.new ≡ out.old) ⊎ (err.new ≡ err.old) }
@@ -127,11 +122,8 @@ fn run_streaming<R: Threads + Wait + Sync, L: Library, O: Sink, E: Sink, G: Gate
 ) -> u8
     requires lawful { (words : List (List ℕ)) × AreLawful words (see_options options.now) }
     requires workers { (see_options options.now).searches ≡ None }
-    ensures run { IsRun (AreJust (see_options options.now))
-        (L.seen library.old, L.seen library.new)
-        (O.seen out.old, O.seen out.new)
-        (E.seen err.old, E.seen err.new)
-        result }
+    ensures run { IsRun (AreJust (see_options options.now)) (L.seen library.old, L.seen library.new)
+        (O.seen out.old, O.seen out.new) (E.seen err.old, E.seen err.new) result }
     ensures err_left { result ≡ 0 → err.new ≡ err.old }
     ensures out_left { result ≢ 0 → result ≢ 5 → out.new ≡ out.old }
     ensures one_left { (out.new ≡ out.old) ⊎ (err.new ≡ err.old) }
@@ -154,11 +146,8 @@ fn run_lawful<R: Threads + Wait + Sync, L: Library, O: Sink, E: Sink, G: Gate>(
     gate: &G,
 ) -> u8
     requires { (words : List (List ℕ)) × AreLawful words (see_options options.now) }
-    ensures run { IsRun (AreJust (see_options options.now))
-        (L.seen library.old, L.seen library.new)
-        (O.seen out.old, O.seen out.new)
-        (E.seen err.old, E.seen err.new)
-        result }
+    ensures run { IsRun (AreJust (see_options options.now)) (L.seen library.old, L.seen library.new)
+        (O.seen out.old, O.seen out.new) (E.seen err.old, E.seen err.new) result }
     ensures err_left { result ≡ 0 → err.new ≡ err.old }
     ensures out_left { result ≢ 0 → result ≢ 5 → out.new ≡ out.old }
     ensures one_left { (out.new ≡ out.old) ⊎ (err.new ≡ err.old) }
@@ -186,11 +175,8 @@ fn run<R: Threads + Wait + Sync, L: Library, O: Sink, E: Sink, G: Gate>(
     err: &mut E,
     gate: &G,
 ) -> u8
-    ensures run { IsRun (AreLawful words.now)
-        (L.seen library.old, L.seen library.new)
-        (O.seen out.old, O.seen out.new)
-        (E.seen err.old, E.seen err.new)
-        result }
+    ensures run { IsRun (AreLawful words.now) (L.seen library.old, L.seen library.new)
+        (O.seen out.old, O.seen out.new) (E.seen err.old, E.seen err.new) result }
     ensures err_left { result ≡ 0 → err.new ≡ err.old }
     ensures out_left { result ≢ 0 → result ≢ 5 → out.new ≡ out.old }
     ensures one_left { (out.new ≡ out.old) ⊎ (err.new ≡ err.old) }
@@ -218,39 +204,50 @@ pub fn run_groups<R: Threads + Wait + Sync, L: Library, O: Sink, E: Sink, G: Gat
     // Over a library and sinks that tell what they hold, and where no count of faults rose, the
     // sinks have taken the bytes of the right answer, or memory was wanting.
     ensures answered { (files : Files) → (L.seen library.old).told ≡ Some files
-        → ¬ Rose (L.seen library.old).faults (L.seen library.new).faults → ¬ Rose (O.seen out.old).faults (O.seen out.new).faults → ¬ Rose (E.seen err.old).faults (E.seen err.new).faults
+        → ¬ Rose (L.seen library.old).faults (L.seen library.new).faults
+        → ¬ Rose (O.seen out.old).faults (O.seen out.new).faults → ¬ Rose (E.seen err.old).faults (E.seen err.new).faults
         → SaysAnswer (AreLawful words.now) files (O.seen out.old, O.seen out.new) (E.seen err.old, E.seen err.new) result
         ⊎ SaysNoMemory (O.seen out.old, O.seen out.new) (E.seen err.old, E.seen err.new) result }
 
+    // Over any library and sinks, where no read and no sink failed and memory was ample, the sinks have
+    // taken the bytes of the right answer to just the files that the library handed over.
+    ensures handed_over { result ≢ 4 → result ≢ 5 → result ≢ 7
+        → SaysHandedOver (AreLawful words.now) (L.seen library.old, L.seen library.new)
+        (O.seen out.old, O.seen out.new) (E.seen err.old, E.seen err.new) result }
+
     // Over any library and sinks, what each status says.
     ensures statuses { (result ≡ 0) ⊎ ((result ≡ 2) ⊎ ((result ≡ 3) ⊎ ((result ≡ 4) ⊎ ((result ≡ 5) ⊎ ((result ≡ 6) ⊎ (result ≡ 7)))))) }
-    ensures report { result ≡ 0 → HasReported (AreLawful words.now) (L.seen library.old, L.seen library.new) (O.seen out.old, O.seen out.new) (E.seen err.old, E.seen err.new) }
-    ensures usage { result ≡ 2 → (HasUsage (AreLawful words.now) (E.seen err.old, E.seen err.new) ⊎ HasNoRoot (AreLawful words.now) (L.seen library.old, L.seen library.new) (E.seen err.old, E.seen err.new)) × TookNone (O.seen out.old, O.seen out.new) }
+    ensures report { result ≡ 0
+        → HasReported (AreLawful words.now) (L.seen library.old, L.seen library.new) (O.seen out.old, O.seen out.new) (E.seen err.old, E.seen err.new) }
+    ensures usage { result ≡ 2
+        → (HasUsage (AreLawful words.now) (E.seen err.old, E.seen err.new)
+        ⊎ HasNoRoot (AreLawful words.now) (L.seen library.old, L.seen library.new) (E.seen err.old, E.seen err.new))
+        × TookNone (O.seen out.old, O.seen out.new) }
     ensures lawful { HasNoOptions (AreLawful words.now) → (result ≡ 2) ⊎ ((result ≡ 5) ⊎ (result ≡ 7)) }
-    ensures faults { result ≡ 3 → HasFaults (AreLawful words.now) (L.seen library.old, L.seen library.new) (E.seen err.old, E.seen err.new) × TookNone (O.seen out.old, O.seen out.new) }
-    ensures unread { result ≡ 4 → HasUnread (AreLawful words.now) (L.seen library.old, L.seen library.new) (E.seen err.old, E.seen err.new) × TookNone (O.seen out.old, O.seen out.new) }
-    ensures limit { result ≡ 6 → HasPassed (AreLawful words.now)
-        (L.seen library.old, L.seen library.new)
-        (E.seen err.old, E.seen err.new) × TookNone (O.seen out.old, O.seen out.new) }
-    ensures cut_off { result ≡ 5 → IsCutOff (AreLawful words.now) (L.seen library.old, L.seen library.new)
-        (O.seen out.old, O.seen out.new)
-        (E.seen err.old, E.seen err.new) }
+    ensures faults { result ≡ 3
+        → HasFaults (AreLawful words.now) (L.seen library.old, L.seen library.new) (E.seen err.old, E.seen err.new)
+        × TookNone (O.seen out.old, O.seen out.new) }
+    ensures unread { result ≡ 4
+        → HasUnread (AreLawful words.now) (L.seen library.old, L.seen library.new) (E.seen err.old, E.seen err.new)
+        × TookNone (O.seen out.old, O.seen out.new) }
+    ensures limit { result ≡ 6
+        → HasPassed (AreLawful words.now) (L.seen library.old, L.seen library.new) (E.seen err.old, E.seen err.new)
+        × TookNone (O.seen out.old, O.seen out.new) }
+    ensures cut_off { result ≡ 5
+        → IsCutOff (AreLawful words.now) (L.seen library.old, L.seen library.new) (O.seen out.old, O.seen out.new) (E.seen err.old, E.seen err.new) }
     ensures no_memory { result ≡ 7 → SaysNoMemory (O.seen out.old, O.seen out.new) (E.seen err.old, E.seen err.new) result }
     ensures settled { result ≢ 5 → IsSettled result (O.seen out.new) (E.seen err.new) }
 
     // How the run ends, why, and what the sinks have taken: the other clauses follow from it.
-    ensures run { IsRun (AreLawful words.now)
-        (L.seen library.old, L.seen library.new)
-        (O.seen out.old, O.seen out.new)
-        (E.seen err.old, E.seen err.new)
-        result }
+    ensures run { IsRun (AreLawful words.now) (L.seen library.old, L.seen library.new)
+        (O.seen out.old, O.seen out.new) (E.seen err.old, E.seen err.new) result }
 
     // The library is asked for the files of the words and those that they lead to, each once, until
     // that ends; with wrong words, and where the file is made, for none.
-    ensures asked { (options : Settings) → AreLawful words.now options → options.make ≡ None → AreAskedFor options.files (L.seen library.old, L.seen library.new) result }
-    ensures asking { (options : Settings) → AreLawful words.now options → (load : LoadEnd) × EndsReading options.make options.files
-        (L.seen library.old, L.seen library.new)
-        load }
+    ensures asked { (options : Settings) → AreLawful words.now options → options.make ≡ None
+        → AreAskedFor options.files (L.seen library.old, L.seen library.new) result }
+    ensures asking { (options : Settings) → AreLawful words.now options
+        → (load : LoadEnd) × EndsReading options.make options.files (L.seen library.old, L.seen library.new) load }
     ensures unasked { AskForNone (AreLawful words.now) → (L.seen library.new).asked ≡ (L.seen library.old).asked }
 
     // The sink that the run's bytes don't go to is left as it was.
@@ -278,38 +275,49 @@ pub fn run_alone<R: Threads + Sync, L: Library, O: Sink, E: Sink>(
     // Over a library and sinks that tell what they hold, and where no count of faults rose, the
     // sinks have taken the bytes of the right answer, or memory was wanting.
     ensures answered { (files : Files) → (L.seen library.old).told ≡ Some files
-        → ¬ Rose (L.seen library.old).faults (L.seen library.new).faults → ¬ Rose (O.seen out.old).faults (O.seen out.new).faults → ¬ Rose (E.seen err.old).faults (E.seen err.new).faults
+        → ¬ Rose (L.seen library.old).faults (L.seen library.new).faults
+        → ¬ Rose (O.seen out.old).faults (O.seen out.new).faults → ¬ Rose (E.seen err.old).faults (E.seen err.new).faults
         → SaysAnswer (AreJust (see_options options.now)) files (O.seen out.old, O.seen out.new) (E.seen err.old, E.seen err.new) result
         ⊎ SaysNoMemory (O.seen out.old, O.seen out.new) (E.seen err.old, E.seen err.new) result }
 
+    // Over any library and sinks, where no read and no sink failed and memory was ample, the sinks have
+    // taken the bytes of the right answer to just the files that the library handed over.
+    ensures handed_over { result ≢ 4 → result ≢ 5 → result ≢ 7
+        → SaysHandedOver (AreJust (see_options options.now)) (L.seen library.old, L.seen library.new)
+        (O.seen out.old, O.seen out.new) (E.seen err.old, E.seen err.new) result }
+
     // Over any library and sinks, what each status says.
     ensures statuses { (result ≡ 0) ⊎ ((result ≡ 2) ⊎ ((result ≡ 3) ⊎ ((result ≡ 4) ⊎ ((result ≡ 5) ⊎ ((result ≡ 6) ⊎ (result ≡ 7)))))) }
-    ensures report { result ≡ 0 → HasReported (AreJust (see_options options.now)) (L.seen library.old, L.seen library.new) (O.seen out.old, O.seen out.new) (E.seen err.old, E.seen err.new) }
-    ensures missing { result ≡ 2 → HasNoRoot (AreJust (see_options options.now)) (L.seen library.old, L.seen library.new) (E.seen err.old, E.seen err.new) × TookNone (O.seen out.old, O.seen out.new) }
-    ensures faults { result ≡ 3 → HasFaults (AreJust (see_options options.now)) (L.seen library.old, L.seen library.new) (E.seen err.old, E.seen err.new) × TookNone (O.seen out.old, O.seen out.new) }
-    ensures unread { result ≡ 4 → HasUnread (AreJust (see_options options.now)) (L.seen library.old, L.seen library.new) (E.seen err.old, E.seen err.new) × TookNone (O.seen out.old, O.seen out.new) }
-    ensures limit { result ≡ 6 → HasPassed (AreJust (see_options options.now))
-        (L.seen library.old, L.seen library.new)
-        (E.seen err.old, E.seen err.new) × TookNone (O.seen out.old, O.seen out.new) }
-    ensures cut_off { result ≡ 5 → IsCutOff (AreJust (see_options options.now)) (L.seen library.old, L.seen library.new)
-        (O.seen out.old, O.seen out.new)
-        (E.seen err.old, E.seen err.new) }
+    ensures report { result ≡ 0
+        → HasReported (AreJust (see_options options.now)) (L.seen library.old, L.seen library.new)
+        (O.seen out.old, O.seen out.new) (E.seen err.old, E.seen err.new) }
+    ensures missing { result ≡ 2
+        → HasNoRoot (AreJust (see_options options.now)) (L.seen library.old, L.seen library.new) (E.seen err.old, E.seen err.new)
+        × TookNone (O.seen out.old, O.seen out.new) }
+    ensures faults { result ≡ 3
+        → HasFaults (AreJust (see_options options.now)) (L.seen library.old, L.seen library.new) (E.seen err.old, E.seen err.new)
+        × TookNone (O.seen out.old, O.seen out.new) }
+    ensures unread { result ≡ 4
+        → HasUnread (AreJust (see_options options.now)) (L.seen library.old, L.seen library.new) (E.seen err.old, E.seen err.new)
+        × TookNone (O.seen out.old, O.seen out.new) }
+    ensures limit { result ≡ 6
+        → HasPassed (AreJust (see_options options.now)) (L.seen library.old, L.seen library.new) (E.seen err.old, E.seen err.new)
+        × TookNone (O.seen out.old, O.seen out.new) }
+    ensures cut_off { result ≡ 5
+        → IsCutOff (AreJust (see_options options.now)) (L.seen library.old, L.seen library.new)
+        (O.seen out.old, O.seen out.new) (E.seen err.old, E.seen err.new) }
     ensures no_memory { result ≡ 7 → SaysNoMemory (O.seen out.old, O.seen out.new) (E.seen err.old, E.seen err.new) result }
     ensures settled { result ≢ 5 → IsSettled result (O.seen out.new) (E.seen err.new) }
 
     // How the run ends, why, and what the sinks have taken: the other clauses follow from it.
-    ensures run { IsRun (AreJust (see_options options.now))
-        (L.seen library.old, L.seen library.new)
-        (O.seen out.old, O.seen out.new)
-        (E.seen err.old, E.seen err.new)
-        result }
+    ensures run { IsRun (AreJust (see_options options.now)) (L.seen library.old, L.seen library.new)
+        (O.seen out.old, O.seen out.new) (E.seen err.old, E.seen err.new) result }
 
     // The library is asked for the files of the options and those that they lead to, each once, until
     // that ends; where the file is made, for none.
     ensures asked { (see_options options.now).make ≡ None → AreAskedFor (see_options options.now).files (L.seen library.old, L.seen library.new) result }
-    ensures asking { (load : LoadEnd) × EndsReading (see_options options.now).make (see_options options.now).files
-        (L.seen library.old, L.seen library.new)
-        load }
+    ensures asking { (load : LoadEnd)
+        × EndsReading (see_options options.now).make (see_options options.now).files (L.seen library.old, L.seen library.new) load }
     ensures unasked { (see_options options.now).make ≢ None → (L.seen library.new).asked ≡ (L.seen library.old).asked }
 
     // The sink that the run's bytes don't go to is left as it was.
