@@ -66,9 +66,9 @@ impl Library for OneFile {
             self.misses = self.misses.saturating_add(1);
             return Read::Absent;
         }
-        if copy_start(&self.text, limit, room).is_err() {
+        let Ok(()) = copy_start(&self.text, limit, room) else {
             return Read::NoMemory;
-        }
+        };
         if note_found(&mut self.notes, key, room).is_err() {
             room.clear();
             return Read::NoMemory;
