@@ -89,8 +89,8 @@ abbrev pub TookNone : Taking → Type 0
 TookNone sink = sink.1.taken ≡ sink.0.taken
 
 -- a sink took just these bytes, where it tells what it took
-abbrev pub Took : List ℕ → Taking → Type 0
-Took bytes sink = sink.1.taken ≡ more_taken sink.0.taken bytes
+abbrev pub TookJust : List ℕ → Taking → Type 0
+TookJust bytes sink = sink.1.taken ≡ more_taken sink.0.taken bytes
 
 -- one sink took the bytes, the other took nothing
 abbrev pub IsWritten : List ℕ → ℕ → ℕ → Taking → Taking → Type 0
@@ -120,8 +120,8 @@ pub record SaysAnswer (wanted : Settings → Type 0) (files : Files) (out err : 
   pub answer : End
   pub is_right : IsAnswer wanted files answer
   pub status : result ≡ status_of answer
-  pub on_out : Took (out_of answer) out
-  pub on_err : Took (err_of answer) err
+  pub on_out : TookJust (out_of answer) out
+  pub on_err : TookJust (err_of answer) err
 
 -- the answer is the right one for just the files that the library handed over, and for none besides
 pub record SaysHandedOver (wanted : Settings → Type 0) (library : Asking) (out err : Taking) (result : ℕ) : Type 0 where
@@ -133,37 +133,37 @@ pub record SaysHandedOver (wanted : Settings → Type 0) (library : Asking) (out
 pub record SaysNoMemory (out err : Taking) (result : ℕ) : Type 0 where
   pub status : result ≡ 7
   pub on_out : TookNone out
-  pub on_err : Took memory_line err
+  pub on_err : TookJust memory_line err
 
 -- the report of the files is on `out`, and nothing on `err`
 pub record HasReported (wanted : Settings → Type 0) (library : Asking) (out err : Taking) : Type 0 where
   pub bytes : List ℕ
   pub cause : IsLawfulEnd wanted library (report bytes)
-  pub on_out : Took bytes out
+  pub on_out : TookJust bytes out
   pub on_err : TookNone err
 
 -- no settings are wanted, and the line on `err` says the usage
 pub record HasUsage (wanted : Settings → Type 0) (err : Taking) : Type 0 where
   pub none : HasNoOptions wanted
-  pub on_err : Took usage_line err
+  pub on_err : TookJust usage_line err
 
 -- the program of the files lacks a predicate that the words name, and the line on `err` says so
 pub record HasNoRoot (wanted : Settings → Type 0) (library : Asking) (err : Taking) : Type 0 where
   pub root : PredName
   pub cause : IsLawfulEnd wanted library (missing root)
-  pub on_err : Took (missing_line root) err
+  pub on_err : TookJust (missing_line root) err
 
 -- the files have no report, and the lines on `err` say why
 pub record HasFaults (wanted : Settings → Type 0) (library : Asking) (err : Taking) : Type 0 where
   pub found : List Fault
   pub cause : IsLawfulEnd wanted library (faults found)
-  pub on_err : Took (fault_lines found) err
+  pub on_err : TookJust (fault_lines found) err
 
 -- the files pass a limit, and the line on `err` says which
 pub record HasPassed (wanted : Settings → Type 0) (library : Asking) (err : Taking) : Type 0 where
   pub passed : Limit
   pub cause : IsLawfulEnd wanted library (limit passed)
-  pub on_err : Took (limit_line passed) err
+  pub on_err : TookJust (limit_line passed) err
 
 -- a read failed, and it is the last that the library was asked for
 pub record IsUnread (wanted : Settings → Type 0) (library : Asking) (name : List ℕ) : Type 0 where
@@ -177,7 +177,7 @@ pub record IsUnread (wanted : Settings → Type 0) (library : Asking) (name : Li
 pub record HasUnread (wanted : Settings → Type 0) (library : Asking) (err : Taking) : Type 0 where
   pub name : List ℕ
   pub cause : IsUnread wanted library name
-  pub on_err : Took (unread_line name) err
+  pub on_err : TookJust (unread_line name) err
 
 -- the sink to which the run's bytes go took a part of them, and its count of faults rose; the other took nothing
 pub record IsCutOff (wanted : Settings → Type 0) (library : Asking) (out err : Taking) : Type 0 where
