@@ -6,9 +6,9 @@ use Rattle.std.proofs.lemmas.List.Elements.{All-append, All-nil}
 use Rattle.std.proofs.lemmas.List.Sums.{sum_by-append, sum_by-cons}
 use Rattle.std.proofs.Math.Seq.{take-length}
 use Rattle.file_library.specs.Counts.{Rose}
-use Rattle.file_library.specs.Library.{Files}
+use Rattle.file_library.specs.Library.{Files, Answered, names_of, LibrarySeen, IsLater}
 use Rattle.file_library.specs.Loaded.{most_bytes}
-use Rattle.file_library.specs.Answers.{Answered, names_of, bytes_of, IsTrueAnswer, AreAnswers, StopsAt, IsPut, StopsWave}
+use Rattle.file_library.specs.Answers.{bytes_of, IsTrueAnswer, AreAnswers, GivesText, HasGiven, StopsAt, IsPut, StopsWave}
 use Rattle.file_library.specs.declared.loaded.LoadStop.{LoadStop}
 use Rattle.file_library.specs.declared.loaded.LoadStop.TheVariants.{Faults, ReadFault, TooManyFiles, FileTooLarge, TooMuchText, NoMemory}
 
@@ -21,69 +21,99 @@ rose_within a b c d before kept after (inr full) = at (cases_lt a b)
     at (inl less) = inl (omega (arith, less, kept, after))
     at (inr over) = inr (omega (arith, full, over))
 
-module _ (told : Option Files) where
-  true_within : (a b c d : ℕ) → a ≤ b → b ≤ c → c ≤ d → (answer : Answered) → IsTrueAnswer told b c answer → IsTrueAnswer told a d answer
-  true_within a b c d before kept after answer is = record { seen = is.seen; missed = λ none. rose_within a b c d before kept after (is.missed none) }
+-- a library later on is one still later on
+pub later_on : (a b c : LibrarySeen) → IsLater a b → IsLater b c → IsLater a c
+later_on a b c first second = record {
+  same_files = second.same_files ∙ first.same_files;
+  faults_kept = omega (arith, first.faults_kept, second.faults_kept);
+  misses_kept = omega (arith, first.misses_kept, second.misses_kept);
+}
 
-  all_true : (a b c d : ℕ) → a ≤ b → b ≤ c → c ≤ d → (answers : List Answered) → All (IsTrueAnswer told b c) answers → All (IsTrueAnswer told a d) answers
-  all_true a b c d before kept after answers are k answer less = true_within a b c d before kept after (get_or answers k answer) (are k answer less)
+pub not_later : (a : LibrarySeen) → IsLater a a
+not_later a = record { same_files = refl; faults_kept = omega arith; misses_kept = omega arith }
 
-  pub no_answers : (misses total : ℕ) → total ≤ 33554432 → AreAnswers told misses misses total []
-  no_answers misses total fits = record {
-    are_true = All-nil (IsTrueAnswer told misses misses);
-    small = All-nil (λ answer. bytes_of answer ≤ most_bytes);
-    together = omega (arith, fits);
-  }
+pub none_given : (a : LibrarySeen) → HasGiven a a [] []
+none_given a = record { put = sym (append-nil a.asked); given = sym (append-nil a.answers) }
 
-  -- answers that stay true for longer, and more behind them
-  pub answers_joined : (a b c total : ℕ) (answers more : List Answered) → a ≤ b → b ≤ c → AreAnswers told a b total answers
-      → AreAnswers told b c (total + sum_by bytes_of answers) more → AreAnswers told a c total (answers ++ more)
-  answers_joined a b c total answers more first second are then = record {
-    are_true =
-        All-append (IsTrueAnswer told a c) answers more
-        (all_true a a b c (omega arith) first second answers are.are_true)
-        (all_true a b c c first second (omega arith) more then.are_true);
-    small = All-append (λ answer. bytes_of answer ≤ most_bytes) answers more are.small then.small;
-    together = omega (arith, then.together, sum_by-append bytes_of answers more);
-  }
+pub given_joined : (a b c : LibrarySeen) (names more : List (List ℕ)) (answers then : List Answered) → HasGiven a b names answers → HasGiven b c more then
+    → HasGiven a c (names ++ more) (answers ++ then)
+given_joined a b c names more answers then first second = record {
+  put = second.put ∙ (ap (λ n. n ++ more) first.put ∙ append_assoc a.asked names more);
+  given = second.given ∙ (ap (λ n. n ++ then) first.given ∙ append_assoc a.answers answers then);
+}
 
-pub answers_later : (told : Option Files) (a b c total : ℕ) (answers : List Answered) → a ≤ b → b ≤ c → AreAnswers told a b total answers → AreAnswers told a c total answers
-answers_later told a b c total answers first second are = record {
-  are_true = all_true told a a b c (omega arith) first second answers are.are_true;
+-- answers are true for a longer time too
+
+true_within : (a b c d : LibrarySeen) → IsLater a b → IsLater b c → IsLater c d → (answer : Answered) → IsTrueAnswer b c answer → IsTrueAnswer a d answer
+true_within a b c d before kept after answer is = record {
+  seen = λ files told. is.seen files (before.same_files ∙ told);
+  missed = λ none. rose_within a.misses b.misses c.misses d.misses before.misses_kept kept.misses_kept after.misses_kept (is.missed none);
+}
+
+all_true : (a b c d : LibrarySeen) → IsLater a b → IsLater b c → IsLater c d → (answers : List Answered) → All (IsTrueAnswer b c) answers → All (IsTrueAnswer a d) answers
+all_true a b c d before kept after answers are k answer less = true_within a b c d before kept after (get_or answers k answer) (are k answer less)
+
+pub no_answers : (a : LibrarySeen) (total : ℕ) → total ≤ 33554432 → AreAnswers a a total []
+no_answers a total fits = record {
+  are_true = All-nil (IsTrueAnswer a a);
+  small = All-nil (λ answer. bytes_of answer ≤ most_bytes);
+  together = omega (arith, fits);
+}
+
+-- answers that stay true for longer, and more behind them
+pub answers_joined : (a b c : LibrarySeen) (total : ℕ) (answers more : List Answered) → IsLater a b → IsLater b c → AreAnswers a b total answers
+    → AreAnswers b c (total + sum_by bytes_of answers) more → AreAnswers a c total (answers ++ more)
+answers_joined a b c total answers more first second are then = record {
+  are_true =
+      All-append (IsTrueAnswer a c) answers more
+      (all_true a a b c (not_later a) first second answers are.are_true)
+      (all_true a b c c first second (not_later c) more then.are_true);
+  small = All-append (λ answer. bytes_of answer ≤ most_bytes) answers more are.small then.small;
+  together = omega (arith, then.together, sum_by-append bytes_of answers more);
+}
+
+pub answers_later : (a b c : LibrarySeen) (total : ℕ) (answers : List Answered) → IsLater a b → IsLater b c → AreAnswers a b total answers → AreAnswers a c total answers
+answers_later a b c total answers first second are = record {
+  are_true = all_true a a b c (not_later a) first second answers are.are_true;
   small = are.small;
   together = are.together;
 }
 
--- why a name stops is why it does for counts that stood lower before
-pub stops_within : (told : Option Files) (name : List ℕ) (total a b c : ℕ) (stop : LoadStop) → a ≤ b → b ≤ c → StopsAt told name total b c stop → StopsAt told name total a c stop
-stops_within told name total a b c (ReadFault file) before kept why = (why.0, rose_within a b c c before kept (omega arith) why.1)
-stops_within told name total a b c (FileTooLarge file) before kept why = why
-stops_within told name total a b c TooMuchText before kept why = why
-stops_within told name total a b c NoMemory before kept why = why
-stops_within told name total a b c (Faults list) before kept why = why
-stops_within told name total a b c TooManyFiles before kept why = why
+text_given : (a b c : LibrarySeen) (given : List Answered) (name text : List ℕ) → IsLater a b → GivesText b c given name text → GivesText a c given name text
+text_given a b c given name text before is = record { given_last = is.given_last; seen = λ files told. is.seen files (before.same_files ∙ told) }
+
+-- why a name stops is why it does for a library that was seen before
+pub stops_within : (a b c : LibrarySeen) (given : List Answered) (name : List ℕ) (total : ℕ) (stop : LoadStop) → IsLater a b → IsLater b c → StopsAt b c given name total stop
+    → StopsAt a c given name total stop
+stops_within a b c given name total (ReadFault file) before kept why =
+    (why.0, rose_within a.faults b.faults c.faults c.faults before.faults_kept kept.faults_kept (omega arith) why.1, why.2)
+stops_within a b c given name total (FileTooLarge file) before kept why = (why.0, (why.1.0, why.1.1, text_given a b c given name why.1.0 before why.1.2))
+stops_within a b c given name total TooMuchText before kept why = (why.0, why.1, why.2, text_given a b c given name why.0 before why.3)
+stops_within a b c given name total NoMemory before kept why = why
+stops_within a b c given name total (Faults list) before kept why = why
+stops_within a b c given name total TooManyFiles before kept why = why
 
 -- what was read of a wave so far
-pub record ReadSoFar (told : Option Files) (wave : List (List ℕ)) (total count : ℕ) (asked asked' : List (List ℕ)) (misses misses' : ℕ) (answers : List Answered) (index : ℕ) : Type 0 where
+pub record ReadSoFar (before after : LibrarySeen) (wave : List (List ℕ)) (total count : ℕ) (answers : List Answered) (index : ℕ) : Type 0 where
   pub names : names_of answers ≡ take index wave
-  pub are : AreAnswers told misses misses' total answers
-  pub put : asked' ≡ asked ++ names_of answers
+  pub are : AreAnswers before after total answers
+  pub gained : HasGiven before after (names_of answers) answers
   pub counted : count ≡ total + sum_by bytes_of answers
 
-module _ (told : Option Files) (wave : List (List ℕ)) (total : ℕ) (asked : List (List ℕ)) (misses : ℕ) where
-  pub read_starts : total ≤ 33554432 → ReadSoFar told wave total total asked asked misses misses [] 0
+module _ (before : LibrarySeen) (wave : List (List ℕ)) (total : ℕ) where
+  pub read_starts : total ≤ 33554432 → ReadSoFar before before wave total total [] 0
   read_starts fits = record {
     names = refl;
-    are = no_answers told misses total fits;
-    put = sym (append-nil asked);
+    are = no_answers before total fits;
+    gained = none_given before;
     counted = omega arith;
   }
 
-  pub read_more : (count index : ℕ) (asked' asked'' : List (List ℕ)) (misses' misses'' : ℕ) (answers : List Answered) (answer : Answered) (name : List ℕ)
-      → ReadSoFar told wave total count asked asked' misses misses' answers index → index < length wave → name ≡ get_or wave index name
-      → misses ≤ misses' → misses' ≤ misses'' → answer.name ≡ name → asked'' ≡ asked' ++ name ∷ [] → AreAnswers told misses' misses'' count (answer ∷ [])
-      → ReadSoFar told wave total (count + bytes_of answer) asked asked'' misses misses'' (answers ++ answer ∷ []) (index + 1)
-  read_more count index asked' asked'' misses' misses'' answers answer name so_far less at first second named put is =
+  pub read_more : (mid after : LibrarySeen) (count index : ℕ) (answers : List Answered) (answer : Answered) (name : List ℕ)
+      → ReadSoFar before mid wave total count answers index → index < length wave → name ≡ get_or wave index name
+      → IsLater before mid → IsLater mid after → answer.name ≡ name → HasGiven mid after (name ∷ []) (answer ∷ []) → AreAnswers mid after count (answer ∷ [])
+      → ReadSoFar before after wave total (count + bytes_of answer) (answers ++ answer ∷ []) (index + 1)
+  read_more mid after count index answers answer name so_far less at first second named given is =
       let gained : names_of (answers ++ answer ∷ []) ≡ names_of answers ++ name ∷ [] =
       map-append (λ (a : Answered). a.name) answers (answer ∷ []) ∙ ap (λ n. names_of answers ++ n ∷ []) named in
       record {
@@ -92,33 +122,34 @@ module _ (told : Option Files) (wave : List (List ℕ)) (total : ℕ) (asked : L
             ∙ (ap (λ names. names ++ name ∷ []) so_far.names
             ∙ (ap (λ n. take index wave ++ n ∷ []) at ∙ sym (take_more wave index name less)));
         are =
-            answers_joined told misses misses' misses'' total answers (answer ∷ []) first second so_far.are
-            (subst (λ n. AreAnswers told misses' misses'' n (answer ∷ [])) so_far.counted is);
-        put =
-            put
-            ∙ (ap (λ names. names ++ name ∷ []) so_far.put
-            ∙ (append_assoc asked (names_of answers) (name ∷ []) ∙ ap (λ names. asked ++ names) (sym gained)));
+            answers_joined before mid after total answers (answer ∷ []) first second so_far.are
+            (subst (λ n. AreAnswers mid after n (answer ∷ [])) so_far.counted is);
+        gained =
+            subst (λ names. HasGiven before after names (answers ++ answer ∷ [])) (sym gained)
+            (given_joined before mid after (names_of answers) (name ∷ []) answers (answer ∷ []) so_far.gained given);
         counted = omega (arith, so_far.counted, sum_by-append bytes_of answers (answer ∷ []), sum_by-cons bytes_of answer []);
       }
 
-  pub read_stops : (count index : ℕ) (asked' asked'' : List (List ℕ)) (faults faults' faults'' misses' misses'' : ℕ) (answers : List Answered) (name : List ℕ) (stop : LoadStop)
-      → ReadSoFar told wave total count asked asked' misses misses' answers index → index < length wave → name ≡ get_or wave index name
-      → misses ≤ misses' → misses' ≤ misses'' → faults ≤ faults' → faults' ≤ faults'' → IsPut asked' asked'' name stop → StopsAt told name count faults' faults'' stop
-      → StopsWave told wave total asked asked'' faults faults'' misses misses'' stop
-  read_stops count index asked' asked'' faults faults' faults'' misses' misses'' answers name stop so_far less at first second before kept put why = record {
+  pub read_stops : (mid after : LibrarySeen) (count index : ℕ) (answers : List Answered) (name : List ℕ) (stop : LoadStop)
+      → ReadSoFar before mid wave total count answers index → index < length wave → name ≡ get_or wave index name
+      → IsLater before mid → IsLater mid after → IsPut mid.asked after.asked name stop → StopsAt mid after mid.answers name count stop
+      → StopsWave before after wave total stop
+  read_stops mid after count index answers name stop so_far less at first second put why = record {
     answers = answers;
-    are = answers_later told misses misses' misses'' total answers first second so_far.are;
+    are = answers_later before mid after total answers first second so_far.are;
     next = name;
     rest = drop (index + 1) wave;
     is =
         sym (take-append-drop index wave)
         ∙ (ap (λ rest. take index wave ++ rest) (drop_more wave index name less ∙ ap (λ n. n ∷ drop (index + 1) wave) (sym at))
         ∙ ap (λ names. names ++ name ∷ drop (index + 1) wave) (sym so_far.names));
-    put = subst (λ names. IsPut names asked'' name stop) so_far.put put;
-    why = subst (λ n. StopsAt told name n faults faults'' stop) so_far.counted (stops_within told name count faults faults' faults'' stop before kept why);
+    put = subst (λ names. IsPut names after.asked name stop) so_far.gained.put put;
+    why =
+        subst (λ given. StopsAt before after given name (total + sum_by bytes_of answers) stop) so_far.gained.given
+        (subst (λ n. StopsAt before after mid.answers name n stop) so_far.counted (stops_within before mid after mid.answers name count stop first second why));
   }
 
-  pub read_all : (count : ℕ) (asked' : List (List ℕ)) (misses' : ℕ) (answers : List Answered) → ReadSoFar told wave total count asked asked' misses misses' answers (length wave)
-      → (names_of answers ≡ wave) × (asked' ≡ asked ++ wave)
-  read_all count asked' misses' answers so_far =
-      let whole : names_of answers ≡ wave = so_far.names ∙ take-length wave in (whole, so_far.put ∙ ap (λ names. asked ++ names) whole)
+  pub read_all : (after : LibrarySeen) (count : ℕ) (answers : List Answered) → ReadSoFar before after wave total count answers (length wave)
+      → (names_of answers ≡ wave) × HasGiven before after wave answers
+  read_all after count answers so_far =
+      let whole : names_of answers ≡ wave = so_far.names ∙ take-length wave in (whole, subst (λ names. HasGiven before after names answers) whole so_far.gained)

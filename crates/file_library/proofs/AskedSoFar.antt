@@ -5,23 +5,23 @@ use Rattle.std.proofs.lemmas.List.{map-append, append_assoc, flat_map_more, leng
 use Rattle.std.proofs.lemmas.List.Elements.{Contains-append_left, All-append, All-nil}
 use Rattle.std.proofs.lemmas.List.Sums.{sum_by-append}
 use Rattle.list_laws.proofs.OneOrder.{nothing_in}
-use Rattle.file_library.specs.Library.{Files}
+use Rattle.file_library.specs.Library.{Files, LibrarySeen, IsLater, Answered, names_of, map_of}
 use Rattle.file_library.specs.Asked.{IsInWave, AreInOrder, IsWave, AreFirstWaves, names_in}
 use Rattle.file_library.specs.FileLoads.{FileLoads}
 use Rattle.file_library.specs.NextWave.{AddsFiles}
-use Rattle.file_library.specs.Answers.{Answered, names_of, bytes_of, map_of, AreAnswers}
+use Rattle.file_library.specs.Answers.{bytes_of, AreAnswers, HasGiven}
 use Rattle.file_library.specs.AskedFile.{FileFound, answered_of, IsOfText}
 use Rattle.file_library.specs.AskAll.{answers_of, Agrees, AreApart, HasAskedWave, HasAskedAll}
-use Rattle.file_library.proofs.AnswersJoined.{no_answers, answers_joined}
+use Rattle.file_library.proofs.AnswersJoined.{none_given, given_joined, no_answers, answers_joined}
 use Rattle.file_library.proofs.Lookups.{all_pairs_append, apart_in_order, map_agrees, name_in}
 use Rattle.file_library.proofs.WaveLaws.{Names, more_waves, all_waves, waves_apart}
 
 -- these waves were asked for whole
-pub record AskedWaves (told : Option Files) (roots asked asked' : Names) (misses misses' total : ℕ) (found : List FileFound) (waves : List Names) : Type 0 where
+pub record AskedWaves (before after : LibrarySeen) (roots : Names) (total : ℕ) (found : List FileFound) (waves : List Names) : Type 0 where
   pub are : (files : Files) → Agrees files (answers_of found) → AreFirstWaves (FileLoads files) roots waves
   pub names : names_of (answers_of found) ≡ names_in waves
-  pub put : asked' ≡ asked ++ names_of (answers_of found)
-  pub answers : AreAnswers told misses misses' 0 (answers_of found)
+  pub gained : HasGiven before after (names_of (answers_of found)) (answers_of found)
+  pub answers : AreAnswers before after 0 (answers_of found)
   pub counted : total ≡ sum_by bytes_of (answers_of found)
   pub few : length found ≤ 1024
   pub apart : AreApart (answers_of found)
@@ -38,9 +38,9 @@ pub record AreKnown (waves : List Names) (known : Names) : Type 0 where
   pub sound : (name : List ℕ) → Contains known name → Contains (names_in waves) name
   pub all : (name : List ℕ) → Contains (names_in waves) name → Contains known name
 
-pub record AskedSoFar (told : Option Files) (roots asked asked' : Names) (misses misses' total : ℕ) (found : List FileFound) (known wave : Names) : Type 0 where
+pub record AskedSoFar (before after : LibrarySeen) (roots : Names) (total : ℕ) (found : List FileFound) (known wave : Names) : Type 0 where
   pub waves : List Names
-  pub past : AskedWaves told roots asked asked' misses misses' total found waves
+  pub past : AskedWaves before after roots total found waves
   pub next : IsNextFor roots found waves wave
   pub are_known : AreKnown waves known
 
@@ -50,15 +50,15 @@ found_count found = length-map (answers_of found) (λ (a : Answered). a.name) �
 pub agrees_first : (files : Files) (answers more : List Answered) → Agrees files (answers ++ more) → Agrees files answers
 agrees_first files answers more agrees answer has = agrees answer (Contains-append_left answers more answer has)
 
-module _ (told : Option Files) (roots asked : Names) (misses : ℕ) where
-  pub asking_starts : (known wave : Names) → known ≡ [] → AddsFiles [] 1024 [] roots wave → AskedSoFar told roots asked asked misses misses 0 [] known wave
+module _ (before : LibrarySeen) (roots : Names) where
+  pub asking_starts : (known wave : Names) → known ≡ [] → AddsFiles [] 1024 [] roots wave → AskedSoFar before before roots 0 [] known wave
   asking_starts known wave none adds = record {
     waves = [];
     past = record {
       are = λ files agrees n less. let no : ⊥ = omega (arith, less) in absurd no;
       names = refl;
-      put = sym (append-nil asked);
-      answers = no_answers told misses 0 (omega arith);
+      gained = none_given before;
+      answers = no_answers before 0 (omega arith);
       counted = refl;
       few = omega arith;
       apart = λ i j d lt within. let no : ⊥ = omega (arith, within) in absurd no;
@@ -90,11 +90,11 @@ module _ (told : Option Files) (roots asked : Names) (misses : ℕ) where
       root_of name has = elim (adds.sound name has) [ inl old ↦ absurd (nothing_in name old) | inr new ↦ new.0 ]
 
   -- a wave that was asked for whole comes behind the others
-  pub wave_joined : (asked' asked'' : Names) (misses' misses'' total : ℕ) (found new : List FileFound) (waves : List Names) (wave : Names)
-      → AskedWaves told roots asked asked' misses misses' total found waves → IsNextFor roots found waves wave → HasAskedWave told wave total asked' asked'' misses' misses'' new
-      → misses ≤ misses' → misses' ≤ misses'' → length found + length wave ≤ 1024
-      → AskedWaves told roots asked asked'' misses misses'' (total + sum_by bytes_of (answers_of new)) (found ++ new) (waves ++ wave ∷ [])
-  wave_joined asked' asked'' misses' misses'' total found new waves wave past next more first second few =
+  pub wave_joined : (mid after : LibrarySeen) (total : ℕ) (found new : List FileFound) (waves : List Names) (wave : Names)
+      → AskedWaves before mid roots total found waves → IsNextFor roots found waves wave → HasAskedWave mid after wave total new
+      → IsLater before mid → IsLater mid after → length found + length wave ≤ 1024
+      → AskedWaves before after roots (total + sum_by bytes_of (answers_of new)) (found ++ new) (waves ++ wave ∷ [])
+  wave_joined mid after total found new waves wave past next more first second few =
       let both : answers_of (found ++ new) ≡ answers_of found ++ answers_of new = map-append answered_of found new in
       let named : names_of (answers_of (found ++ new)) ≡ names_of (answers_of found) ++ wave =
       ap names_of both ∙ (map-append (λ (a : Answered). a.name) (answers_of found) (answers_of new) ∙ ap (λ n. names_of (answers_of found) ++ n) more.names) in
@@ -105,11 +105,14 @@ module _ (told : Option Files) (roots asked : Names) (misses : ℕ) where
             let old = agrees_first files (answers_of found) (answers_of new) (subst (Agrees files) both agrees) in
             more_waves (FileLoads files) roots waves wave (past.are files old) (one_wave files old);
         names = named ∙ (ap (λ n. n ++ wave) past.names ∙ flat_map_more (λ (w : Names). w) [] waves wave);
-        put = more.put ∙ (ap (λ n. n ++ wave) past.put ∙ (append_assoc asked (names_of (answers_of found)) wave ∙ ap (λ n. asked ++ n) (sym named)));
+        gained =
+            subst (λ names. HasGiven before after names (answers_of (found ++ new))) (sym named)
+            (subst (HasGiven before after (names_of (answers_of found) ++ wave)) (sym both)
+            (given_joined before mid after (names_of (answers_of found)) wave (answers_of found) (answers_of new) past.gained more.gained));
         answers =
-            subst (AreAnswers told misses misses'' 0) (sym both)
-            (answers_joined told misses misses' misses'' 0 (answers_of found) (answers_of new) first second past.answers
-            (subst (λ n. AreAnswers told misses' misses'' n (answers_of new)) past_total more.answers));
+            subst (AreAnswers before after 0) (sym both)
+            (answers_joined before mid after 0 (answers_of found) (answers_of new) first second past.answers
+            (subst (λ n. AreAnswers mid after n (answers_of new)) past_total more.answers));
         counted = omega (arith, past.counted, ap (sum_by bytes_of) both, sum_by-append bytes_of (answers_of found) (answers_of new));
         few = omega (arith, few, length-append found new, found_count new, ap (λ (n : Names). length n) more.names);
         apart =
@@ -131,15 +134,15 @@ module _ (told : Option Files) (roots asked : Names) (misses : ℕ) where
       whole_all = elim next.whole [ inl all ↦ all | inr many ↦ let no : ⊥ = omega (arith, many, few) in absurd no ]
 
   -- where the next wave is empty all was asked for
-  pub asking_ends : (asked' : Names) (misses' total : ℕ) (found : List FileFound) (known wave : Names) → AskedSoFar told roots asked asked' misses misses' total found known wave
-      → AreInOrder wave → length wave ≡ 0 → HasAskedAll told roots asked asked' misses misses' found
-  asking_ends asked' misses' total found known wave so_far ordered none = record {
+  pub asking_ends : (after : LibrarySeen) (total : ℕ) (found : List FileFound) (known wave : Names) → AskedSoFar before after roots total found known wave
+      → AreInOrder wave → length wave ≡ 0 → HasAskedAll before after roots found
+  asking_ends after total found known wave so_far ordered none = record {
     waves = so_far.waves;
     are = λ files agrees.
         all_waves (FileLoads files) roots so_far.waves (so_far.past.are files agrees)
         (subst (IsWave (FileLoads files) roots (length so_far.waves)) (empty wave none) (record { ordered = ordered; sound = so_far.next.sound files agrees; all = whole_all files agrees }));
     names = so_far.past.names;
-    put = so_far.past.put;
+    gained = so_far.past.gained;
     answers = so_far.past.answers;
     few = so_far.past.few;
     apart = so_far.past.apart;

@@ -8,7 +8,7 @@ use Rattle.std.proofs.lemmas.Map.Lookups.{exact_bytes}
 use Rattle.std.proofs.lemmas.Map.Views.{btree_set_contains_iff}
 use Rattle.std.proofs.lemmas.List.{flat_map_more}
 use Rattle.std.proofs.lemmas.List.Elements.{Contains-append_left, Contains-append_right, Contains-append_cases}
-use Rattle.file_library.specs.Library.{Files}
+use Rattle.file_library.specs.Library.{LibrarySeen, IsLater}
 use Rattle.file_library.specs.Asked.{names_in}
 use Rattle.file_library.specs.Answers.{bytes_of}
 use Rattle.file_library.specs.AskedFile.{FileFound}
@@ -44,15 +44,15 @@ module _ (known wave known' : BTreeSet (List ℕ)) (union : (name : List ℕ) �
       at true b is = refl
       at false b is = is
 
-module _ (told : Option Files) (roots asked : Names) (misses : ℕ) where
-  pub kept_on : (asked' asked'' : Names) (misses' misses'' total : ℕ) (found new files : List FileFound) (known known' wave next : Names)
-      → AskedSoFar told roots asked asked' misses misses' total found known wave → HasAskedWave told wave total asked' asked'' misses' misses'' new
-      → misses ≤ misses' → misses' ≤ misses'' → length found + length wave ≤ 1024 → IsKept known wave known' found new files next
-      → AskedSoFar told roots asked asked'' misses misses'' (total + sum_by bytes_of (answers_of new)) files known' next
-  kept_on asked' asked'' misses' misses'' total found new files known known' wave next so_far more first second few kept =
-      let past = wave_joined told roots asked misses asked' asked'' misses' misses'' total found new so_far.waves wave so_far.past so_far.next more first second few in
-      subst (λ fs. AskedSoFar told roots asked asked'' misses misses'' (total + sum_by bytes_of (answers_of new)) fs known' next) (sym kept.joined)
-      (asking_goes_on told roots asked misses asked'' misses'' (total + sum_by bytes_of (answers_of new)) found new so_far.waves wave known' next past more.names are_known kept.adds)
+module _ (before : LibrarySeen) (roots : Names) where
+  pub kept_on : (mid after : LibrarySeen) (total : ℕ) (found new files : List FileFound) (known known' wave next : Names)
+      → AskedSoFar before mid roots total found known wave → HasAskedWave mid after wave total new
+      → IsLater before mid → IsLater mid after → length found + length wave ≤ 1024 → IsKept known wave known' found new files next
+      → AskedSoFar before after roots (total + sum_by bytes_of (answers_of new)) files known' next
+  kept_on mid after total found new files known known' wave next so_far more first second few kept =
+      let past = wave_joined before roots mid after total found new so_far.waves wave so_far.past so_far.next more first second few in
+      subst (λ fs. AskedSoFar before after roots (total + sum_by bytes_of (answers_of new)) fs known' next) (sym kept.joined)
+      (asking_goes_on before roots after (total + sum_by bytes_of (answers_of new)) found new so_far.waves wave known' next past more.names are_known kept.adds)
     where
       gained : names_in so_far.waves ++ wave ≡ names_in (so_far.waves ++ wave ∷ [])
       gained = flat_map_more (λ (w : Names). w) [] so_far.waves wave

@@ -7,27 +7,27 @@ use Rattle.std.proofs.lemmas.List.Elements.{Contains-append_right}
 use Rattle.std.proofs.lemmas.List.Sums.{sum_by-append}
 use Rattle.std.proofs.Math.Seq.{get_or-append_seam}
 use Rattle.list_laws.proofs.OneOrder.{nothing_in, holds_of}
-use Rattle.file_library.specs.Library.{Files}
+use Rattle.file_library.specs.Library.{Files, LibrarySeen, IsLater, Answered, names_of, map_of}
 use Rattle.file_library.specs.Asked.{IsInWave, wave_at, AreInOrder, AreFirstWaves, names_in}
 use Rattle.file_library.specs.FileLoads.{FileLoads}
 use Rattle.file_library.specs.NextWave.{AddsFiles}
-use Rattle.file_library.specs.Answers.{Answered, names_of, bytes_of, map_of, AreAnswers, StopsAt, IsPut}
+use Rattle.file_library.specs.Answers.{bytes_of, AreAnswers, HasGiven, StopsAt, IsPut}
 use Rattle.file_library.specs.AskedFile.{FileFound, answered_of, text_of, loads_in, IsOfText}
 use Rattle.file_library.specs.AskAll.{answers_of, Agrees, StopsInWave, StopsAtName, StopsBetween, StopsBy, HasStopped}
 use Rattle.file_library.specs.declared.loaded.LoadStop.{LoadStop}
 use Rattle.file_library.specs.declared.loaded.LoadStop.TheVariants.{Faults, ReadFault, TooManyFiles, FileTooLarge, TooMuchText, NoMemory}
-use Rattle.file_library.proofs.AnswersJoined.{answers_joined, no_answers, stops_within}
+use Rattle.file_library.proofs.AnswersJoined.{answers_joined, no_answers, none_given, stops_within}
 use Rattle.file_library.proofs.AskedSoFar.{AskedWaves, AreKnown, AskedSoFar, found_count, agrees_first}
 use Rattle.file_library.proofs.LoadsFound.{loads_from, loads_into, answer_in, named_file, file_loads, loads_file}
 use Rattle.file_library.proofs.Lookups.{all_pairs_append, map_agrees, name_in, names_apart, order_once}
 use Rattle.file_library.proofs.WaveLaws.{Names, next_sound, next_all, more_waves, waves_apart}
 
-module _ (told : Option Files) (roots asked : Names) (misses : ℕ) where
-  pub asking_goes_on : (asked' : Names) (misses' total : ℕ) (found new : List FileFound) (waves : List Names) (wave known next : Names)
-      → AskedWaves told roots asked asked' misses misses' total (found ++ new) (waves ++ wave ∷ []) → names_of (answers_of new) ≡ wave → AreKnown (waves ++ wave ∷ []) known
+module _ (before : LibrarySeen) (roots : Names) where
+  pub asking_goes_on : (after : LibrarySeen) (total : ℕ) (found new : List FileFound) (waves : List Names) (wave known next : Names)
+      → AskedWaves before after roots total (found ++ new) (waves ++ wave ∷ []) → names_of (answers_of new) ≡ wave → AreKnown (waves ++ wave ∷ []) known
       → AddsFiles known (1024 - (length found + length new)) [] (loads_in new) next
-      → AskedSoFar told roots asked asked' misses misses' total (found ++ new) known next
-  asking_goes_on asked' misses' total found new waves wave known next past named are_known adds = record {
+      → AskedSoFar before after roots total (found ++ new) known next
+  asking_goes_on after total found new waves wave known next past named are_known adds = record {
     waves = ws;
     past = past;
     next = record {
@@ -77,9 +77,9 @@ module _ (told : Option Files) (roots asked : Names) (misses : ℕ) where
       told_of file has = holds_of IsOfText (found ++ new) file past.of_texts (Contains-append_right found new file has)
 
   -- more names are in the next wave than may be asked for
-  pub stops_many : (asked' : Names) (faults faults' misses' total : ℕ) (found : List FileFound) (known wave : Names) → AskedSoFar told roots asked asked' misses misses' total found known wave
-      → AreInOrder wave → 1024 < length found + length wave → HasStopped told roots asked asked' faults faults' misses misses' TooManyFiles
-  stops_many asked' faults faults' misses' total found known wave so_far ordered many = record {
+  pub stops_many : (after : LibrarySeen) (total : ℕ) (found : List FileFound) (known wave : Names) → AskedSoFar before after roots total found known wave
+      → AreInOrder wave → 1024 < length found + length wave → HasStopped before after roots TooManyFiles
+  stops_many after total found known wave so_far ordered many = record {
     answers = answers_of found;
     are_answers = so_far.past.answers;
     waves = so_far.waves;
@@ -88,7 +88,7 @@ module _ (told : Option Files) (roots asked : Names) (misses : ℕ) where
     once = subst (AllPairs (λ a b. a ≡ b → ⊥)) so_far.past.names (names_apart (answers_of found) so_far.past.apart);
     why = record {
       is = sym so_far.past.names;
-      put = so_far.past.put;
+      gained = so_far.past.gained;
       next = wave;
       ordered = ordered;
       in_wave = so_far.next.sound;
@@ -101,61 +101,59 @@ module _ (told : Option Files) (roots asked : Names) (misses : ℕ) where
       names_count (answer ∷ answers) = omega (arith, names_count answers)
 
   -- memory was wanting behind whole waves
-  pub stops_behind : (asked' : Names) (faults faults' misses' total : ℕ) (found : List FileFound) (waves : List Names) → AskedWaves told roots asked asked' misses misses' total found waves
-      → HasStopped told roots asked asked' faults faults' misses misses' NoMemory
-  stops_behind asked' faults faults' misses' total found waves past = record {
+  pub stops_behind : (after : LibrarySeen) (total : ℕ) (found : List FileFound) (waves : List Names) → AskedWaves before after roots total found waves
+      → HasStopped before after roots NoMemory
+  stops_behind after total found waves past = record {
     answers = answers_of found;
     are_answers = past.answers;
     waves = waves;
     are = past.are;
     few = omega (arith, past.few, found_count found, ap (λ (names : Names). length names) past.names);
     once = subst (AllPairs (λ a b. a ≡ b → ⊥)) past.names (names_apart (answers_of found) past.apart);
-    why = inl (record { rest = []; is = sym past.names ∙ sym (append-nil (names_of (answers_of found))); put = past.put });
+    why = inl (record { rest = []; is = sym past.names ∙ sym (append-nil (names_of (answers_of found))); gained = past.gained });
   }
 
-  pub stops_at_once : (faults faults' : ℕ) → HasStopped told roots asked asked faults faults' misses misses NoMemory
-  stops_at_once faults faults' = record {
+  pub stops_at_once : HasStopped before before roots NoMemory
+  stops_at_once = record {
     answers = [];
-    are_answers = no_answers told misses 0 (omega arith);
+    are_answers = no_answers before 0 (omega arith);
     waves = [];
     are = λ files agrees n less. let no : ⊥ = omega (arith, less) in absurd no;
     few = omega arith;
     once = λ i j d lt within. let no : ⊥ = omega (arith, within) in absurd no;
-    why = inl (record { rest = []; is = refl; put = sym (append-nil asked) });
+    why = inl (record { rest = []; is = refl; gained = none_given before });
   }
 
-  by_stop : (answers : List Answered) (waves : List Names) (asked' : Names) (faults faults' : ℕ) (stop : LoadStop) → StopsAtName told answers waves asked asked' faults faults' stop
-      → StopsBy told roots answers waves asked asked' faults faults' stop
-  by_stop answers waves asked' faults faults' (Faults list) at = at
-  by_stop answers waves asked' faults faults' (ReadFault file) at = at
-  by_stop answers waves asked' faults faults' TooManyFiles at = absurd at.why
-  by_stop answers waves asked' faults faults' (FileTooLarge file) at = at
-  by_stop answers waves asked' faults faults' TooMuchText at = at
-  by_stop answers waves asked' faults faults' NoMemory at = inr at
+  by_stop : (after : LibrarySeen) (answers : List Answered) (waves : List Names) (stop : LoadStop) → StopsAtName before after answers waves stop → StopsBy before after roots answers waves stop
+  by_stop after answers waves (Faults list) at = at
+  by_stop after answers waves (ReadFault file) at = at
+  by_stop after answers waves TooManyFiles at = absurd at.why
+  by_stop after answers waves (FileTooLarge file) at = at
+  by_stop after answers waves TooMuchText at = at
+  by_stop after answers waves NoMemory at = inr at
 
   -- the asking stopped within a wave
-  pub stops_in_wave : (asked' asked'' : Names) (faults faults' faults'' misses' misses'' total : ℕ) (found : List FileFound) (known wave : Names) (stop : LoadStop)
-      → AskedSoFar told roots asked asked' misses misses' total found known wave → AreInOrder wave → length found + length wave ≤ 1024
-      → misses ≤ misses' → misses' ≤ misses'' → faults ≤ faults' → faults' ≤ faults''
-      → StopsInWave told wave total asked' asked'' faults' faults'' misses' misses'' stop
-      → HasStopped told roots asked asked'' faults faults'' misses misses'' stop
-  stops_in_wave asked' asked'' faults faults' faults'' misses' misses'' total found known wave stop so_far ordered fits first second before kept stops =
+  pub stops_in_wave : (mid after : LibrarySeen) (total : ℕ) (found : List FileFound) (known wave : Names) (stop : LoadStop)
+      → AskedSoFar before mid roots total found known wave → AreInOrder wave → length found + length wave ≤ 1024
+      → IsLater before mid → IsLater mid after → StopsInWave mid after wave total stop → HasStopped before after roots stop
+  stops_in_wave mid after total found known wave stop so_far ordered fits first second stops =
       elim stops [
-        | inl at ↦ stopped at.answers at.are (by_stop (answers_of found ++ at.answers) ws asked'' faults faults'' stop (record {
+        | inl at ↦ stopped at.answers at.are (by_stop after (answers_of found ++ at.answers) ws stop (record {
           next = at.next;
           rest = at.rest;
           is = names_more at.answers (at.next ∷ at.rest) at.is;
-          put = subst (λ names. IsPut names asked'' at.next stop) (put_more at.answers) at.put;
+          put = subst (λ names. IsPut names after.asked at.next stop) (put_more at.answers) at.put;
           why =
-              subst (λ n. StopsAt told at.next n faults faults'' stop) (total_more at.answers)
-              (stops_within told at.next (total + sum_by bytes_of at.answers) faults faults' faults'' stop before kept at.why);
+              subst (λ given. StopsAt before after given at.next (sum_by bytes_of (answers_of found ++ at.answers)) stop) (given_more at.answers)
+              (subst (λ n. StopsAt before after (mid.answers ++ at.answers) at.next n stop) (total_more at.answers)
+              (stops_within before mid after (mid.answers ++ at.answers) at.next (total + sum_by bytes_of at.answers) stop first second at.why));
         }))
         | inr some ↦
-            subst (λ s. HasStopped told roots asked asked'' faults faults'' misses misses'' s) (sym some.wanting)
+            subst (HasStopped before after roots) (sym some.wanting)
             (stopped_wanting some.answers some.are (record {
               rest = some.rest;
               is = names_more some.answers some.rest some.is;
-              put = some.put ∙ put_more some.answers;
+              gained = all_given some.answers some.gained;
             }))
       ]
     where
@@ -170,11 +168,17 @@ module _ (told : Option Files) (roots asked : Names) (misses : ℕ) where
           ∙ (sym (append_assoc (names_of (answers_of found)) (names_of answers) rest)
           ∙ ap (λ names. names ++ rest) (sym (map-append (λ (a : Answered). a.name) (answers_of found) answers)))))
 
-      put_more : (answers : List Answered) → asked' ++ names_of answers ≡ asked ++ names_of (answers_of found ++ answers)
+      put_more : (answers : List Answered) → mid.asked ++ names_of answers ≡ before.asked ++ names_of (answers_of found ++ answers)
       put_more answers =
-          ap (λ names. names ++ names_of answers) so_far.past.put
-          ∙ (append_assoc asked (names_of (answers_of found)) (names_of answers)
-          ∙ ap (λ names. asked ++ names) (sym (map-append (λ (a : Answered). a.name) (answers_of found) answers)))
+          ap (λ names. names ++ names_of answers) so_far.past.gained.put
+          ∙ (append_assoc before.asked (names_of (answers_of found)) (names_of answers)
+          ∙ ap (λ names. before.asked ++ names) (sym (map-append (λ (a : Answered). a.name) (answers_of found) answers)))
+
+      given_more : (answers : List Answered) → mid.answers ++ answers ≡ before.answers ++ (answers_of found ++ answers)
+      given_more answers = ap (λ given. given ++ answers) so_far.past.gained.given ∙ append_assoc before.answers (answers_of found) answers
+
+      all_given : (answers : List Answered) → HasGiven mid after (names_of answers) answers → HasGiven before after (names_of (answers_of found ++ answers)) (answers_of found ++ answers)
+      all_given answers gained = record { put = gained.put ∙ put_more answers; given = gained.given ∙ given_more answers }
 
       total_more : (answers : List Answered) → total + sum_by bytes_of answers ≡ sum_by bytes_of (answers_of found ++ answers)
       total_more answers = omega (arith, so_far.past.counted, sum_by-append bytes_of (answers_of found) answers)
@@ -206,15 +210,14 @@ module _ (told : Option Files) (roots asked : Names) (misses : ℕ) where
           waves_apart (FileLoads own) roots so_far.waves wave (so_far.past.are own agrees) (record { ordered = ordered; sound = so_far.next.sound own agrees; all = whole_all own agrees }) b has_b
           (subst (Contains (names_in so_far.waves)) same has_a)))
 
-      all_answers : (answers : List Answered) → AreAnswers told misses' misses'' total answers → AreAnswers told misses misses'' 0 (answers_of found ++ answers)
+      all_answers : (answers : List Answered) → AreAnswers mid after total answers → AreAnswers before after 0 (answers_of found ++ answers)
       all_answers answers are =
-          answers_joined told misses misses' misses'' 0 (answers_of found) answers first second so_far.past.answers
-          (subst (λ n. AreAnswers told misses' misses'' n answers) past_total are)
+          answers_joined before mid after 0 (answers_of found) answers first second so_far.past.answers
+          (subst (λ n. AreAnswers mid after n answers) past_total are)
 
-      stopped : (answers : List Answered) → AreAnswers told misses' misses'' total answers → StopsBy told roots (answers_of found ++ answers) ws asked asked'' faults faults'' stop
-          → HasStopped told roots asked asked'' faults faults'' misses misses'' stop
+      stopped : (answers : List Answered) → AreAnswers mid after total answers → StopsBy before after roots (answers_of found ++ answers) ws stop → HasStopped before after roots stop
       stopped answers are why = record { answers = answers_of found ++ answers; are_answers = all_answers answers are; waves = ws; are = are_waves answers; few = few_names; once = names_once; why = why }
 
-      stopped_wanting : (answers : List Answered) → AreAnswers told misses' misses'' total answers → StopsBetween (answers_of found ++ answers) ws asked asked''
-          → HasStopped told roots asked asked'' faults faults'' misses misses'' NoMemory
+      stopped_wanting : (answers : List Answered) → AreAnswers mid after total answers → StopsBetween before after (answers_of found ++ answers) ws
+          → HasStopped before after roots NoMemory
       stopped_wanting answers are why = record { answers = answers_of found ++ answers; are_answers = all_answers answers are; waves = ws; are = are_waves answers; few = few_names; once = names_once; why = inl why }

@@ -4,7 +4,7 @@ use Rattle.std.proofs.lemmas.List.{length-take}
 use Rattle.std.specs.Prelude.{take}
 use Rattle.std.specs.Str.{bytes_eq}
 use Rattle.file_library.specs.Counts.{Rose, CountsAre}
-use Rattle.file_library.specs.Library.{Files, IsFound, ReadIs, AskedIs}
+use Rattle.file_library.specs.Library.{Files, Answered, LibrarySeen, library_seen, IsFound, ReadIs, AskedIs, AnsweredIs}
 use Rattle.file_library.specs.declared.library.Read.TheVariants.{Found, Absent, Failed, NoMemory}
 
 -- a count rises by one, or stands at its end; but not elsewhere
@@ -49,27 +49,31 @@ short bytes three one = omega (arith, one ∙ length-take 2 bytes, three)
 as_told : (P : Files → Type 0) → P one_file → (files : Files) → Some one_file ≡ Some files → P files
 as_told P holds files told = let Q : Option Files → Type 0 = λ some. elim some [ Some map ↦ P map | None ↦ Unit {0} ] in subst Q told holds
 
-whole_file : ReadIs (Some one_file) (codes "f") 3 (codes "abc") 0 0 0 0 Found
+-- a library that has counted so many faults and misses
+abbrev counted : Option Files → ℕ → ℕ → LibrarySeen
+counted told faults misses = library_seen told [] [] faults misses
+
+whole_file : ReadIs (counted (Some one_file) 0 0) (counted (Some one_file) 0 0) (codes "f") 3 (codes "abc") Found
 whole_file =
     (omega arith, as_told (λ files. IsFound files (codes "f") 3 (codes "abc")) (record { bytes = codes "abc"; has = refl; is = refl }))
 
 -- a longer one is read to one byte past the limit
-first_bytes : ReadIs (Some one_file) (codes "f") 1 (codes "ab") 0 0 0 0 Found
+first_bytes : ReadIs (counted (Some one_file) 0 0) (counted (Some one_file) 0 0) (codes "f") 1 (codes "ab") Found
 first_bytes =
     (omega arith, as_told (λ files. IsFound files (codes "f") 1 (codes "ab")) (record { bytes = codes "abc"; has = refl; is = refl }))
 
-no_such_file : ReadIs (Some one_file) (codes "g") 3 [] 0 0 0 1 Absent
+no_such_file : ReadIs (counted (Some one_file) 0 0) (counted (Some one_file) 0 1) (codes "g") 3 [] Absent
 no_such_file = (refl, inl (omega arith), as_told (λ files. files (codes "g") ≡ None) refl)
 
-there_all_the_same : ReadIs (Some one_file) (codes "f") 3 [] 0 0 0 1 Absent → ⊥
+there_all_the_same : ReadIs (counted (Some one_file) 0 0) (counted (Some one_file) 0 1) (codes "f") 3 [] Absent → ⊥
 there_all_the_same is = omega (arith, ap held (is.2 one_file refl))
 
-cut_at_the_limit : ReadIs (Some one_file) (codes "f") 1 (codes "a") 0 0 0 0 Found → ⊥
+cut_at_the_limit : ReadIs (counted (Some one_file) 0 0) (counted (Some one_file) 0 0) (codes "f") 1 (codes "a") Found → ⊥
 cut_at_the_limit is =
     let found : IsFound one_file (codes "f") 1 (codes "a") = is.1 one_file refl in
     omega (arith, short found.bytes (ap held found.has) (ap length found.is))
 
-failed_for_nothing : ReadIs None (codes "f") 3 [] 5 5 0 0 Failed → ⊥
+failed_for_nothing : ReadIs (counted None 5 0) (counted None 5 0) (codes "f") 3 [] Failed → ⊥
 failed_for_nothing is = elim is.1 [ inl more ↦ omega (arith, more) | inr end ↦ omega (arith, end) ]
 
 -- the name stands last among those that were asked for
@@ -82,3 +86,14 @@ not_asked is = omega (arith, ap length is)
 
 as_before : AskedIs (codes "a" ∷ []) (codes "a" ∷ []) (codes "f") NoMemory
 as_before = inl refl
+
+-- an absent name is an answer too, and a read that failed is none
+
+absent_told : AnsweredIs [] (record { name = codes "g"; text = None } ∷ []) (codes "g") [] Absent
+absent_told = refl
+
+absent_forgotten : AnsweredIs [] [] (codes "g") [] Absent → ⊥
+absent_forgotten is = omega (arith, ap length is)
+
+failed_told : AnsweredIs [] (record { name = codes "g"; text = None } ∷ []) (codes "g") [] Failed → ⊥
+failed_told is = omega (arith, ap length is)

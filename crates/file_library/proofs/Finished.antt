@@ -1,22 +1,22 @@
 -- What files that were all asked for come to.
-use Rattle.std.proofs.Common.{ℕ, ◌≤◌, List, [], Option, Result, Ok, Err, IfErr, Contains, length, refl, sym, subst, ap, ◌∙◌, inl, inr, arith, append-nil}
+use Rattle.std.proofs.Common.{ℕ, ◌≤◌, List, [], Option, Result, Ok, Err, IfOk, IfErr, Contains, length, refl, sym, subst, ap, ◌∙◌, inl, inr, arith, append-nil}
 use Rattle.std.specs.BTreeSet.{BTreeSet}
 use Rattle.list_laws.proofs.OneOrder.{nothing_in}
 use Rattle.file_library.specs.Asked.{AreInOrder, names_in}
 use Rattle.file_library.specs.FileLoads.{FileLoads}
-use Rattle.file_library.specs.Library.{Files}
+use Rattle.file_library.specs.Loaded.{WasLoaded}
+use Rattle.file_library.specs.Library.{Files, LibrarySeen, Answered, names_of, map_of}
 use Rattle.file_library.specs.NextWave.{AddsFiles}
-use Rattle.file_library.specs.Answers.{Answered, names_of, map_of}
 use Rattle.file_library.specs.AskedFile.{FileFound}
 use Rattle.file_library.specs.AskAll.{answers_of, Agrees, HasAskedAll}
-use Rattle.file_library.specs.Asking.{AreAll, LoadEnd, loaded, faults, unread, too_many, too_large, too_much, no_memory, LoadEndIs, AreAnswered, HasEnded}
-use Rattle.file_library.specs.SortedOut.{AreRoots, AreJustAsked, FinishIs, HasFailed, end_of}
+use Rattle.file_library.specs.Asking.{AreAll, LoadEnd, loaded, faults, unread, too_many, too_large, too_much, no_memory, LoadEndIs, AreAnswered, AreGiven, HasEnded}
+use Rattle.file_library.specs.SortedOut.{AreRoots, AreJustAsked, FinishIs, HasFailed, end_of, see_loaded}
 use Rattle.file_library.specs.declared.loaded.Loaded.{Loaded}
 use Rattle.file_library.specs.declared.loaded.LoadStop.{LoadStop}
 use Rattle.file_library.specs.declared.loaded.LoadStop.TheVariants.{Faults, ReadFault, TooManyFiles, FileTooLarge, TooMuchText, NoMemory}
 use Rattle.file_library.proofs.AskedSoFar.{found_count}
 use Rattle.file_library.proofs.Lookups.{map_agrees}
-use Rattle.file_library.proofs.Stopped.{ended_behind, within, first_names}
+use Rattle.file_library.proofs.Stopped.{answers_end, within, first_names}
 use Rattle.file_library.proofs.WaveLaws.{waves_asked, asked_waves}
 
 -- the set of the roots
@@ -41,9 +41,15 @@ none_unread seen roots before after (Err (FileTooLarge name)) is = tt
 none_unread seen roots before after (Err TooMuchText) is = tt
 none_unread seen roots before after (Err NoMemory) is = tt
 
+-- where the asking ended with what was loaded, that was loaded
+pub was_loaded : (before after : LibrarySeen) (roots : List (List ℕ)) (result : Result Loaded LoadStop) → HasEnded before after roots (end_of result)
+    → IfOk result (λ found. WasLoaded (see_loaded found))
+was_loaded before after roots (Ok found) ended = record { files = map_of ended.answers; roots = roots; is = ended.is.1 }
+was_loaded before after roots (Err stop) ended = tt
+
 -- the asking ended over the map of the answers, over which these files are asked for and no others
 
-module _ (told : Option Files) (roots asked asked' : List (List ℕ)) (misses misses' : ℕ) (found : List FileFound) (all : HasAskedAll told roots asked asked' misses misses' found) where
+module _ (before after : LibrarySeen) (roots : List (List ℕ)) (found : List FileFound) (all : HasAskedAll before after roots found) where
   abbrev answers : List Answered
   answers = answers_of found
 
@@ -68,30 +74,33 @@ module _ (told : Option Files) (roots asked asked' : List (List ℕ)) (misses mi
     are = all.are own agrees;
     is = all.names;
     few = omega (arith, all.few, found_count found);
-    within = within told roots asked asked' misses misses' answers all.waves all.answers (λ files agree n less. all.are files agree n) few own agrees;
+    within = within before after roots answers all.waves all.answers (λ files agree n less. all.are files agree n) few own agrees;
   }
 
-  ends_by : (end : LoadEnd) → AreAnswered (names_of answers) (names_of answers) end → LoadEndIs own roots (names_of answers) end → HasEnded told roots asked asked' misses misses' end
-  ends_by end answered is =
-      ended_behind told roots asked asked' misses misses' answers all.waves all.answers (λ files agree n less. all.are files agree n) few own agrees end all.put answered is
+  ends_by : (end : LoadEnd) → AreGiven before.answers after.answers answers end → AreAnswered (names_of answers) (names_of answers) end → LoadEndIs own roots (names_of answers) end
+      → HasEnded before after roots end
+  ends_by end given answered is = answers_end before after roots (names_of answers) answers end all.gained.put given answered all.apart all.answers.are_true is
 
-  at_end : (end : LoadEnd) → FinishIs own roots end → HasEnded told roots asked asked' misses misses' end
-  at_end (loaded given) is = ends_by (loaded given) refl (are_all, is)
-  at_end (faults given) is = ends_by (faults given) refl (are_all, is.0, is.1)
+  at_end : (end : LoadEnd) → FinishIs own roots end → HasEnded before after roots end
+  at_end (loaded given) is = ends_by (loaded given) all.gained.given refl (are_all, is)
+  at_end (faults given) is = ends_by (faults given) all.gained.given refl (are_all, is.0, is.1)
   at_end (unread name) is = absurd is
   at_end too_many is = absurd is
   at_end (too_large name) is = absurd is
   at_end too_much is = absurd is
   at_end no_memory is =
-      ends_by no_memory (inl refl)
-      (first_names told roots asked asked' misses misses' answers all.waves all.answers (λ files agree n less. all.are files agree n) few own agrees (names_of answers) []
-      (sym all.names ∙ sym (append-nil (names_of answers))))
+      ends_by no_memory (inl all.gained.given) (inl refl)
+      (record {
+        first = first_names before after roots answers all.waves all.answers (λ files agree n less. all.are files agree n) few own agrees (names_of answers) []
+        (sym all.names ∙ sym (append-nil (names_of answers)));
+        within = inl are_all.within;
+      })
 
   -- how the asking ended, what the files come to being so for every map
   pub all_ended : (result : Result Loaded LoadStop) → ((seen : Files) → Agrees seen answers → AreJustAsked seen roots (names_of answers) → FinishIs seen roots (end_of result))
-      → HasEnded told roots asked asked' misses misses' (end_of result)
+      → HasEnded before after roots (end_of result)
   all_ended result finished = at_end (end_of result) (finished own agrees just_asked)
 
-  pub all_read : (before after : ℕ) (result : Result Loaded LoadStop)
-      → ((seen : Files) → Agrees seen answers → AreJustAsked seen roots (names_of answers) → FinishIs seen roots (end_of result)) → IfErr result (HasFailed before after)
-  all_read before after result finished = none_unread own roots before after result (finished own agrees just_asked)
+  pub all_read : (low high : ℕ) (result : Result Loaded LoadStop)
+      → ((seen : Files) → Agrees seen answers → AreJustAsked seen roots (names_of answers) → FinishIs seen roots (end_of result)) → IfErr result (HasFailed low high)
+  all_read low high result finished = none_unread own roots low high result (finished own agrees just_asked)

@@ -16,10 +16,9 @@ use Rattle.clause_text.specs.declared.cause.Cause.TheVariants.{NoRoot}
 use Rattle.module_table.specs.FileText.{HasFault}
 use Rattle.module_table.specs.Said.{Refusal}
 use Rattle.module_table.proofs.OneText.{same_fault, faulty_no_facts}
-use Rattle.file_library.specs.Library.{Files}
+use Rattle.file_library.specs.Library.{Files, names_of}
 use Rattle.file_library.specs.Loaded.{IsAskedIn, IsLoadFault, AreLoadFaults}
 use Rattle.file_library.specs.Asked.{AreInOrder}
-use Rattle.file_library.specs.Answers.{names_of}
 use Rattle.file_library.specs.AskedFile.{Found, absent, sound, faulty, FileFound, text_of, answered_of, IsTold, IsOfText}
 use Rattle.file_library.specs.AskAll.{answers_of, Agrees}
 use Rattle.file_library.specs.SortedOut.{AreRising, fault_at, has_fault, IsFaultAt, IsFaultFor, AreSortedOut, AreOrdered, AreRoots, AreJustAsked}

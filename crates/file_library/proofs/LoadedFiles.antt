@@ -15,9 +15,9 @@ use Rattle.list_laws.proofs.OneOrder.{nothing_in, first_or_rest, in_rest, in_fir
 use Rattle.module_table.specs.Facts.{Facts, see_facts}
 use Rattle.module_table.specs.FileText.{HasFacts}
 use Rattle.file_library.specs.Asked.{AreInOrder}
-use Rattle.file_library.specs.Library.{Files}
+use Rattle.file_library.specs.Library.{Files, names_of}
 use Rattle.file_library.specs.Loaded.{NamedText, LoadedFiles, AreThose, IsAskedIn, size_of, AreWithin, IsTextOf, IsLoaded}
-use Rattle.file_library.specs.Answers.{names_of, bytes_of}
+use Rattle.file_library.specs.Answers.{bytes_of}
 use Rattle.file_library.specs.AskedFile.{Found, absent, sound, faulty, FileFound, text_of, answered_of, IsTold, IsOfText}
 use Rattle.file_library.specs.AskAll.{answers_of, Agrees}
 use Rattle.file_library.specs.SortedOut.{AreRising, facts_at, text_at, absent_at, fault_at, sound_facts, sound_text, absent_name, has_fault, IsFaultFor, AreSortedOut, AreOrdered, AreRoots, AreJustAsked}

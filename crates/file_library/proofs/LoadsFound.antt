@@ -7,9 +7,8 @@ use Rattle.module_table.specs.Facts.{Facts}
 use Rattle.module_table.specs.FileText.{HasFacts}
 use Rattle.module_table.specs.Said.{Loads}
 use Rattle.module_table.proofs.OneText.{same_facts, faulty_no_facts}
-use Rattle.file_library.specs.Library.{Files}
+use Rattle.file_library.specs.Library.{Files, names_of}
 use Rattle.file_library.specs.FileLoads.{FileLoads}
-use Rattle.file_library.specs.Answers.{names_of}
 use Rattle.file_library.specs.AskedFile.{Found, absent, sound, faulty, FileFound, text_of, answered_of, loads_of, loads_in, IsTold}
 use Rattle.file_library.specs.AskAll.{answers_of}
 

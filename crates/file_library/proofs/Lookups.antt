@@ -15,7 +15,7 @@ use Rattle.std.proofs.lemmas.Slice.Eq.{bytes_eq-Decides}
 use Rattle.std.proofs.Math.Seq.{get_or-append_right}
 use Rattle.list_laws.proofs.OneOrder.{nothing_in, first_or_rest, in_rest, in_first, before_rest, rest_in_order, less_strict}
 use Rattle.file_library.specs.Asked.{AreInOrder}
-use Rattle.file_library.specs.Answers.{Answered, names_of, map_of}
+use Rattle.file_library.specs.Library.{Answered, names_of, map_of}
 use Rattle.file_library.specs.AskAll.{Agrees, AreApart}
 
 -- what holds of each pair of a list holds of those of two lists one after another, where it holds between them

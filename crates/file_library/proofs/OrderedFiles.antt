@@ -21,7 +21,7 @@ use Rattle.list_laws.proofs.OneOrder.{nothing_in, first_or_rest, in_rest, in_fir
 use Rattle.module_table.specs.declared.file_facts.FileFacts.{FileFacts}
 use Rattle.module_table.specs.Facts.{see_facts}
 use Rattle.module_table.specs.Said.{Refusal}
-use Rattle.file_library.specs.Answers.{names_of}
+use Rattle.file_library.specs.Library.{names_of}
 use Rattle.file_library.specs.AskedFile.{absent, sound, faulty, FileFound, see_file}
 use Rattle.file_library.specs.AskAll.{answers_of, AreApart}
 use Rattle.file_library.specs.SortedOut.{sound_facts, sound_text, absent_name, has_fault, IsFaultFor, AreSortedOut, AreOrdered}

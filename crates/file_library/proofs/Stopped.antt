@@ -1,23 +1,21 @@
 -- An asking that stopped is one that ended, over the map that its answers are.
-use Rattle.std.proofs.Common.{◌≡◌, ℕ, ◌+◌, ◌<◌, ◌≤◌, List, [], ◌∷◌, ◌++◌, Option, Some, None, Contains, length, sum_by, get_or, refl, sym, subst, ◌∙◌, ap, inl, inr, arith, append-nil, option_map, unwrap_or}
+use Rattle.std.proofs.Common.{◌≡◌, ℕ, ◌+◌, ◌<◌, ◌≤◌, List, [], ◌∷◌, ◌++◌, Option, Some, None, All, Contains, length, sum_by, get_or, refl, sym, subst, ◌∙◌, ap, inl, inr, arith, append-nil, option_map, unwrap_or}
 use Rattle.std.specs.List.{AllPairs}
-use Rattle.std.proofs.lemmas.List.{append_assoc, length-append, length-map, get_or_append_left}
-use Rattle.std.proofs.lemmas.List.Elements.{Contains-get_or, Contains-append_cases}
+use Rattle.std.proofs.lemmas.List.{append_assoc, length-map, map-append}
+use Rattle.std.proofs.lemmas.List.Elements.{All-append, All-cons, All-nil, Contains-get_or, Contains-append_left, Contains-append_right}
 use Rattle.std.proofs.lemmas.List.Sums.{sum_by-append, sum_by-cons}
-use Rattle.std.proofs.Math.Seq.{get_or-append_seam}
 use Rattle.list_laws.proofs.OneOrder.{nothing_in, first_or_rest, in_rest, in_first, holds_of}
-use Rattle.file_library.specs.Counts.{Rose}
-use Rattle.file_library.specs.Library.{Files}
+use Rattle.file_library.specs.Library.{Files, LibrarySeen, Answered, names_of, map_of}
 use Rattle.file_library.specs.Loaded.{AreWithin, size_of, most_bytes, most_text}
 use Rattle.file_library.specs.Asked.{AreFirstWaves, names_in}
 use Rattle.file_library.specs.FileLoads.{FileLoads}
-use Rattle.file_library.specs.Asking.{AreFirst, AreTooMany, LeadTo, IsTooMuch, LoadEnd, LoadEndIs, AreAnswered, HasEnded, seen_of}
-use Rattle.file_library.specs.Answers.{Answered, names_of, bytes_of, map_of, IsTrueAnswer, AreAnswers}
+use Rattle.file_library.specs.Asking.{AreFirst, AreTooMany, LeadTo, IsTooMuch, LoadEnd, LoadEndIs, AreAnswered, AreGiven, HasEnded, seen_of}
+use Rattle.file_library.specs.Answers.{bytes_of, IsTrueAnswer, AreAnswers, GivesText}
 use Rattle.file_library.specs.AskAll.{Agrees, AreApart, HasTooMany, HasStopped}
 use Rattle.file_library.specs.SortedOut.{end_of_stop}
 use Rattle.file_library.specs.declared.loaded.LoadStop.{LoadStop}
 use Rattle.file_library.specs.declared.loaded.LoadStop.TheVariants.{Faults, ReadFault, TooManyFiles, FileTooLarge, TooMuchText, NoMemory}
-use Rattle.file_library.proofs.Lookups.{all_pairs_append, apart_from, map_agrees, name_in}
+use Rattle.file_library.proofs.Lookups.{apart_from, map_agrees}
 use Rattle.file_library.proofs.WaveLaws.{Names}
 
 -- what is in a list of one is that one
@@ -33,21 +31,12 @@ answer_named (first ∷ rest) name has =
       | inr later ↦ let from = answer_named rest name later in (from.0, in_rest first from.0 rest from.1, from.2)
     ]
 
--- a name that stands behind others, all of them different, is none of them
-not_before : (names : Names) (next : List ℕ) (rest : Names) → AllPairs (λ a b. a ≡ b → ⊥) (names ++ next ∷ rest) → Contains names next → ⊥
-not_before names next rest once has =
-    once has.0 (length names) next has.1 (omega (arith, length-append names (next ∷ rest)))
-    (get_or_append_left names (next ∷ rest) next has.0 has.1 ∙ (has.2 ∙ sym (get_or-append_seam names next rest next)))
-
--- one more answer in front, for such a name
-one_more_apart : (answers : List Answered) (last : Answered) (rest : Names) → AllPairs (λ a b. a ≡ b → ⊥) (names_of answers ++ last.name ∷ rest) → AreApart (last ∷ answers)
-one_more_apart answers last rest once =
-    all_pairs_append (λ a b. a.name ≡ b.name → ⊥) (last ∷ []) answers
-    (λ i j d lt within. let none : ⊥ = omega (arith, lt, within) in absurd none)
-    (apart_from answers (last.name ∷ rest) once)
-    (λ a b has_a has_b same.
-    let is : last.name ≡ b.name = elim (first_or_rest last a [] has_a) [ inl is ↦ ap (λ (n : Answered). n.name) is ∙ same | inr later ↦ absurd (nothing_in a later) ] in
-    not_before (names_of answers) last.name rest once (subst (Contains (names_of answers)) (sym is) (name_in answers b has_b)))
+-- answers for the names before a next one, and one for that, are for different names
+with_last_apart : (answers : List Answered) (last : Answered) (rest : Names) → AllPairs (λ a b. a ≡ b → ⊥) (names_of answers ++ last.name ∷ rest) → AreApart (answers ++ last ∷ [])
+with_last_apart answers last rest once =
+    apart_from (answers ++ last ∷ []) rest
+    (subst (AllPairs (λ a b. a ≡ b → ⊥))
+    (sym (append_assoc (names_of answers) (last.name ∷ []) rest) ∙ ap (λ names. names ++ rest) (sym (map-append (λ (a : Answered). a.name) answers (last ∷ [])))) once)
 
 -- sizes in a map are those of the answers with which it agrees
 
@@ -65,7 +54,7 @@ sizes_are seen (first ∷ rest) agrees =
       sizes_are seen rest (λ answer has. agrees answer (in_rest first answer rest has)),
     )
 
-module _ (told : Option Files) (roots asked asked' : Names) (misses misses' : ℕ) (answers : List Answered) (waves : List Names) (are_answers : AreAnswers told misses misses' 0 answers)
+module _ (before after : LibrarySeen) (roots : Names) (answers : List Answered) (waves : List Names) (are_answers : AreAnswers before after 0 answers)
     (are : (files : Files) → Agrees files answers → AreFirstWaves (FileLoads files) roots waves) (few : length (names_in waves) ≤ 1024) (seen : Files) (agrees : Agrees seen answers) where
   -- the answered names are within the limits
   pub within : AreWithin seen (names_of answers)
@@ -78,72 +67,9 @@ module _ (told : Option Files) (roots asked asked' : Names) (misses misses' : �
     together = omega (arith, sizes_are seen answers agrees, are_answers.together);
   }
 
-  seen_true : (files : Files) → told ≡ Some files → (name : List ℕ) → Contains (names_of answers) name → seen name ≡ seen_of files name
-  seen_true files is name has =
-      let from = answer_named answers name has in
-      let true_one = holds_of (IsTrueAnswer told misses misses') answers from.0 are_answers.are_true from.1 in
-      subst (λ n. seen n ≡ seen_of files n) from.2 (agrees from.0 from.1 ∙ true_one.seen files is)
-
-  seen_none : (name : List ℕ) → Contains (names_of answers) name → seen name ≡ None → Rose misses misses'
-  seen_none name has none =
-      let from = answer_named answers name has in
-      let true_one = holds_of (IsTrueAnswer told misses misses') answers from.0 are_answers.are_true from.1 in
-      true_one.missed (sym (agrees from.0 from.1) ∙ (ap seen from.2 ∙ none))
-
   -- names that come first in the waves are asked for first
   pub first_names : (names rest : Names) → names_in waves ≡ names ++ rest → AreFirst seen roots names
   first_names names rest is = record { waves = waves; are = are seen agrees; rest = rest; is = is; few = few }
-
-  -- the asking ended behind the answered names
-  pub ended_behind : (end : LoadEnd) → asked' ≡ asked ++ names_of answers → AreAnswered (names_of answers) (names_of answers) end → LoadEndIs seen roots (names_of answers) end
-      → HasEnded told roots asked asked' misses misses' end
-  ended_behind end put all is = record {
-    seen = seen;
-    names = names_of answers;
-    put = put;
-    answered = names_of answers;
-    answers_are = all;
-    agrees = seen_true;
-    missed = seen_none;
-    is = is;
-  }
-
-  -- or with one more, that has no answer
-  ended_at : (next : List ℕ) (end : LoadEnd) → asked' ≡ (asked ++ names_of answers) ++ next ∷ [] → AreAnswered (names_of answers ++ next ∷ []) (names_of answers) end
-      → LoadEndIs seen roots (names_of answers ++ next ∷ []) end → HasEnded told roots asked asked' misses misses' end
-  ended_at next end put all is = record {
-    seen = seen;
-    names = names_of answers ++ next ∷ [];
-    put = put ∙ append_assoc asked (names_of answers) (next ∷ []);
-    answered = names_of answers;
-    answers_are = all;
-    agrees = seen_true;
-    missed = seen_none;
-    is = is;
-  }
-
-  -- or with one more, whose text was the answer
-  ended_with : (next : List ℕ) (end : LoadEnd) (text : List ℕ) → seen next ≡ Some text → ((files : Files) → told ≡ Some files → Some text ≡ seen_of files next)
-      → asked' ≡ (asked ++ names_of answers) ++ next ∷ [] → AreAnswered (names_of answers ++ next ∷ []) (names_of answers ++ next ∷ []) end
-      → LoadEndIs seen roots (names_of answers ++ next ∷ []) end → HasEnded told roots asked asked' misses misses' end
-  ended_with next end text there tells put all is = record {
-    seen = seen;
-    names = names_of answers ++ next ∷ [];
-    put = put ∙ append_assoc asked (names_of answers) (next ∷ []);
-    answered = names_of answers ++ next ∷ [];
-    answers_are = all;
-    agrees = λ files told_is name has.
-        elim (Contains-append_cases (names_of answers) (next ∷ []) name has) [
-          | inl before ↦ seen_true files told_is name before
-          | inr at ↦ subst (λ n. seen n ≡ seen_of files n) (only_one next name at) (there ∙ tells files told_is)
-        ];
-    missed = λ name has none.
-        elim (Contains-append_cases (names_of answers) (next ∷ []) name has) [
-          | inl before ↦ seen_none name before none
-          | inr at ↦ let both : Some text ≡ None = sym there ∙ (ap seen (only_one next name at) ∙ none) in absurd (cc)
-        ];
-    is = is;
-  }
 
   with_next : (next : List ℕ) (rest : Names) → names_in waves ≡ names_of answers ++ next ∷ rest → AreFirst seen roots (names_of answers ++ next ∷ [])
   with_next next rest is = first_names (names_of answers ++ next ∷ []) rest (is ∙ sym (append_assoc (names_of answers) (next ∷ []) rest))
@@ -151,7 +77,7 @@ module _ (told : Option Files) (roots asked asked' : Names) (misses misses' : �
   leads_to : (next : List ℕ) (rest : Names) → names_in waves ≡ names_of answers ++ next ∷ rest → LeadTo seen roots (names_of answers ++ next ∷ []) next
   leads_to next rest is = record { before = names_of answers; is = refl; first = with_next next rest is; within = within }
 
-  too_many_names : HasTooMany roots answers waves asked asked' → AreTooMany seen roots (names_of answers)
+  too_many_names : HasTooMany before after roots answers waves → AreTooMany seen roots (names_of answers)
   too_many_names many = record {
     waves = waves;
     are = are seen agrees;
@@ -175,68 +101,134 @@ module _ (told : Option Files) (roots asked asked' : Names) (misses misses' : �
         much = omega (arith, size, much, sizes_are seen answers agrees, sum_by-append (size_of seen) (names_of answers) (next ∷ []), sum_by-cons (size_of seen) next []);
       }
 
+-- the asking ended so over the map that the answers are
+pub answers_end : (before after : LibrarySeen) (roots names : Names) (answers : List Answered) (end : LoadEnd) → after.asked ≡ before.asked ++ names
+    → AreGiven before.answers after.answers answers end → AreAnswered names (names_of answers) end → AreApart answers → All (IsTrueAnswer before after) answers
+    → LoadEndIs (map_of answers) roots names end → HasEnded before after roots end
+answers_end before after roots names answers end put given answered apart are_true is = record {
+  names = names;
+  put = put;
+  answers = answers;
+  given = given;
+  answers_are = answered;
+  as_told = λ files told name has.
+      let from = answer_named answers name has in
+      let true_one = holds_of (IsTrueAnswer before after) answers from.0 are_true from.1 in
+      subst (λ n. map_of answers n ≡ seen_of files n) from.2 (map_agrees answers apart from.0 from.1 ∙ true_one.seen files told);
+  missed = λ name has none.
+      let from = answer_named answers name has in
+      let true_one = holds_of (IsTrueAnswer before after) answers from.0 are_true from.1 in
+      true_one.missed (sym (map_agrees answers apart from.0 from.1) ∙ (ap (map_of answers) from.2 ∙ none));
+  is = is;
+}
+
+-- and one more answer, whose text is too long
+module _ (before after : LibrarySeen) (roots : Names) (answers : List Answered) (are_answers : AreAnswers before after 0 answers) (next : List ℕ) (rest : Names)
+    (once : AllPairs (λ a b. a ≡ b → ⊥) (names_of answers ++ next ∷ rest)) (text : List ℕ) (gives : GivesText before after (before.answers ++ answers) next text) where
+  abbrev last : Answered
+  last = record { name = next; text = Some text }
+
+  abbrev with_last : List Answered
+  with_last = answers ++ last ∷ []
+
+  apart : AreApart with_last
+  apart = with_last_apart answers last rest once
+
+  last_agrees : Agrees (map_of with_last) answers
+  last_agrees answer has = map_agrees with_last apart answer (Contains-append_left answers (last ∷ []) answer has)
+
+  last_there : map_of with_last next ≡ Some text
+  last_there = map_agrees with_last apart last (Contains-append_right answers (last ∷ []) last (in_first last []))
+
+  last_true : IsTrueAnswer before after last
+  last_true = record { seen = gives.seen; missed = λ none. let both : Some text ≡ None = none in absurd (cc) }
+
+  last_named : names_of with_last ≡ names_of answers ++ next ∷ []
+  last_named = map-append (λ (a : Answered). a.name) answers (last ∷ [])
+
+  last_given : after.answers ≡ before.answers ++ with_last
+  last_given = gives.given_last ∙ append_assoc before.answers answers (last ∷ [])
+
+  ended_with : (end : LoadEnd) → after.asked ≡ (before.asked ++ names_of answers) ++ next ∷ [] → AreGiven before.answers after.answers with_last end
+      → AreAnswered (names_of answers ++ next ∷ []) (names_of with_last) end
+      → LoadEndIs (map_of with_last) roots (names_of answers ++ next ∷ []) end → HasEnded before after roots end
+  ended_with end put given answered is =
+      answers_end before after roots (names_of answers ++ next ∷ []) with_last end (put ∙ append_assoc before.asked (names_of answers) (next ∷ [])) given answered apart
+      (All-append (IsTrueAnswer before after) answers (last ∷ []) are_answers.are_true (All-cons (IsTrueAnswer before after) last [] last_true (All-nil (IsTrueAnswer before after)))) is
+
 -- an asking that stopped ended so
-pub stop_ended : (told : Option Files) (roots asked asked' : List (List ℕ)) (faults faults' misses misses' : ℕ) (stop : LoadStop)
-    → HasStopped told roots asked asked' faults faults' misses misses' stop → HasEnded told roots asked asked' misses misses' (end_of_stop stop)
-stop_ended told roots asked asked' faults faults' misses misses' (Faults list) stopped = absurd stopped.why.why
-stop_ended told roots asked asked' faults faults' misses misses' (ReadFault file) stopped =
+pub stop_ended : (before after : LibrarySeen) (roots : List (List ℕ)) (stop : LoadStop) → HasStopped before after roots stop → HasEnded before after roots (end_of_stop stop)
+stop_ended before after roots (Faults list) stopped = absurd stopped.why.why
+stop_ended before after roots (ReadFault file) stopped =
     let answers = stopped.answers in
     let at = stopped.why in
     let own = map_of answers in
-    let agrees = map_agrees answers (apart_from answers (at.next ∷ at.rest) (subst (AllPairs (λ a b. a ≡ b → ⊥)) at.is stopped.once)) in
-    ended_at told roots asked asked' misses misses' answers stopped.waves stopped.are_answers stopped.are stopped.few own agrees at.next (end_of_stop (ReadFault file)) at.put
-    (ap (λ name. names_of answers ++ name ∷ []) (sym at.why.0))
+    let apart = apart_from answers (at.next ∷ at.rest) (subst (AllPairs (λ a b. a ≡ b → ⊥)) at.is stopped.once) in
+    answers_end before after roots (names_of answers ++ at.next ∷ []) answers (end_of_stop (ReadFault file))
+    (at.put ∙ append_assoc before.asked (names_of answers) (at.next ∷ [])) at.why.2
+    (ap (λ name. names_of answers ++ name ∷ []) (sym at.why.0)) apart stopped.are_answers.are_true
     (subst (LeadTo own roots (names_of answers ++ at.next ∷ [])) (sym at.why.0)
-    (leads_to told roots asked asked' misses misses' answers stopped.waves stopped.are_answers stopped.are stopped.few own agrees at.next at.rest at.is))
-stop_ended told roots asked asked' faults faults' misses misses' TooManyFiles stopped =
+    (leads_to before after roots answers stopped.waves stopped.are_answers stopped.are stopped.few own (map_agrees answers apart) at.next at.rest at.is))
+stop_ended before after roots TooManyFiles stopped =
     let answers = stopped.answers in
     let many = stopped.why in
-    let own = map_of answers in
-    let agrees = map_agrees answers (apart_from answers [] (subst (AllPairs (λ a b. a ≡ b → ⊥)) (many.is ∙ sym (append-nil (names_of answers))) stopped.once)) in
-    ended_behind told roots asked asked' misses misses' answers stopped.waves stopped.are_answers stopped.are stopped.few own agrees (end_of_stop TooManyFiles) many.put refl
-    (too_many_names told roots asked asked' misses misses' answers stopped.waves stopped.are_answers stopped.are stopped.few own agrees many)
-stop_ended told roots asked asked' faults faults' misses misses' (FileTooLarge file) stopped =
+    let apart = apart_from answers [] (subst (AllPairs (λ a b. a ≡ b → ⊥)) (many.is ∙ sym (append-nil (names_of answers))) stopped.once) in
+    answers_end before after roots (names_of answers) answers (end_of_stop TooManyFiles) many.gained.put many.gained.given refl apart stopped.are_answers.are_true
+    (too_many_names before after roots answers stopped.waves stopped.are_answers stopped.are stopped.few (map_of answers) (map_agrees answers apart) many)
+stop_ended before after roots (FileTooLarge file) stopped =
     let answers = stopped.answers in
     let at = stopped.why in
     let text = at.why.1.0 in
-    let last : Answered = record { name = at.next; text = Some text } in
-    let own = map_of (last ∷ answers) in
-    let all = map_agrees (last ∷ answers) (one_more_apart answers last at.rest (subst (AllPairs (λ a b. a ≡ b → ⊥)) at.is stopped.once)) in
-    let agrees : Agrees own answers = λ answer has. all answer (in_rest last answer answers has) in
-    let there : own at.next ≡ Some text = all last (in_first last answers) in
-    let size : size_of own at.next ≡ length text = size_is own at.next last there in
+    let gives = at.why.1.2 in
+    let once = subst (AllPairs (λ a b. a ≡ b → ⊥)) at.is stopped.once in
+    let own = map_of (with_last before after roots answers stopped.are_answers at.next at.rest once text gives) in
+    let agrees = last_agrees before after roots answers stopped.are_answers at.next at.rest once text gives in
+    let there = last_there before after roots answers stopped.are_answers at.next at.rest once text gives in
+    let size : size_of own at.next ≡ length text = size_is own at.next (record { name = at.next; text = Some text }) there in
     let large : most_bytes < size_of own at.next = omega (arith, size, at.why.1.1) in
-    ended_with told roots asked asked' misses misses' answers stopped.waves stopped.are_answers stopped.are stopped.few own agrees at.next (end_of_stop (FileTooLarge file))
-    text there at.why.1.2 at.put refl
+    ended_with before after roots answers stopped.are_answers at.next at.rest once text gives (end_of_stop (FileTooLarge file)) at.put
+    (last_given before after roots answers stopped.are_answers at.next at.rest once text gives)
+    (sym (last_named before after roots answers stopped.are_answers at.next at.rest once text gives))
     (subst (λ name. LeadTo own roots (names_of answers ++ at.next ∷ []) name × (most_bytes < size_of own name)) (sym at.why.0)
-    (leads_to told roots asked asked' misses misses' answers stopped.waves stopped.are_answers stopped.are stopped.few own agrees at.next at.rest at.is, large))
-stop_ended told roots asked asked' faults faults' misses misses' TooMuchText stopped =
+    (leads_to before after roots answers stopped.waves stopped.are_answers stopped.are stopped.few own agrees at.next at.rest at.is, large))
+stop_ended before after roots TooMuchText stopped =
     let answers = stopped.answers in
     let at = stopped.why in
     let text = at.why.0 in
-    let last : Answered = record { name = at.next; text = Some text } in
-    let own = map_of (last ∷ answers) in
-    let all = map_agrees (last ∷ answers) (one_more_apart answers last at.rest (subst (AllPairs (λ a b. a ≡ b → ⊥)) at.is stopped.once)) in
-    let agrees : Agrees own answers = λ answer has. all answer (in_rest last answer answers has) in
-    let there : own at.next ≡ Some text = all last (in_first last answers) in
-    ended_with told roots asked asked' misses misses' answers stopped.waves stopped.are_answers stopped.are stopped.few own agrees at.next (end_of_stop TooMuchText)
-    text there at.why.3 at.put refl
-    (too_much_text told roots asked asked' misses misses' answers stopped.waves stopped.are_answers stopped.are stopped.few own agrees at.next at.rest text at.is there at.why.1 at.why.2)
-stop_ended told roots asked asked' faults faults' misses misses' NoMemory stopped =
+    let gives = at.why.3 in
+    let once = subst (AllPairs (λ a b. a ≡ b → ⊥)) at.is stopped.once in
+    let own = map_of (with_last before after roots answers stopped.are_answers at.next at.rest once text gives) in
+    let agrees = last_agrees before after roots answers stopped.are_answers at.next at.rest once text gives in
+    let there = last_there before after roots answers stopped.are_answers at.next at.rest once text gives in
+    ended_with before after roots answers stopped.are_answers at.next at.rest once text gives (end_of_stop TooMuchText) at.put
+    (last_given before after roots answers stopped.are_answers at.next at.rest once text gives)
+    (sym (last_named before after roots answers stopped.are_answers at.next at.rest once text gives))
+    (too_much_text before after roots answers stopped.waves stopped.are_answers stopped.are stopped.few own agrees at.next at.rest text at.is there at.why.1 at.why.2)
+stop_ended before after roots NoMemory stopped =
     elim stopped.why [
       | inl between ↦
-          let agrees = map_agrees answers (apart_from answers between.rest (subst (AllPairs (λ a b. a ≡ b → ⊥)) between.is stopped.once)) in
-          ended_behind told roots asked asked' misses misses' answers stopped.waves stopped.are_answers stopped.are stopped.few own agrees (end_of_stop NoMemory) between.put (inl refl)
-          (first_names told roots asked asked' misses misses' answers stopped.waves stopped.are_answers stopped.are stopped.few own agrees (names_of answers) between.rest between.is)
+          let apart = apart_from answers between.rest (subst (AllPairs (λ a b. a ≡ b → ⊥)) between.is stopped.once) in
+          answers_end before after roots (names_of answers) answers (end_of_stop NoMemory) between.gained.put (inl between.gained.given) (inl refl) apart stopped.are_answers.are_true
+          (record {
+            first = first_names before after roots answers stopped.waves stopped.are_answers stopped.are stopped.few own (map_agrees answers apart) (names_of answers) between.rest between.is;
+            within = inl (within before after roots answers stopped.waves stopped.are_answers stopped.are stopped.few own (map_agrees answers apart));
+          })
       | inr at ↦
-          let agrees = map_agrees answers (apart_from answers (at.next ∷ at.rest) (subst (AllPairs (λ a b. a ≡ b → ⊥)) at.is stopped.once)) in
+          let apart = apart_from answers (at.next ∷ at.rest) (subst (AllPairs (λ a b. a ≡ b → ⊥)) at.is stopped.once) in
           elim at.put [
             | inl same ↦
-                ended_behind told roots asked asked' misses misses' answers stopped.waves stopped.are_answers stopped.are stopped.few own agrees (end_of_stop NoMemory) same (inl refl)
-                (first_names told roots asked asked' misses misses' answers stopped.waves stopped.are_answers stopped.are stopped.few own agrees (names_of answers) (at.next ∷ at.rest) at.is)
+                answers_end before after roots (names_of answers) answers (end_of_stop NoMemory) same at.why (inl refl) apart stopped.are_answers.are_true
+                (record {
+                  first = first_names before after roots answers stopped.waves stopped.are_answers stopped.are stopped.few own (map_agrees answers apart) (names_of answers) (at.next ∷ at.rest) at.is;
+                  within = inl (within before after roots answers stopped.waves stopped.are_answers stopped.are stopped.few own (map_agrees answers apart));
+                })
             | inr more ↦
-                ended_at told roots asked asked' misses misses' answers stopped.waves stopped.are_answers stopped.are stopped.few own agrees at.next (end_of_stop NoMemory) more (inr (at.next, refl))
-                (with_next told roots asked asked' misses misses' answers stopped.waves stopped.are_answers stopped.are stopped.few own agrees at.next at.rest at.is)
+                answers_end before after roots (names_of answers ++ at.next ∷ []) answers (end_of_stop NoMemory) (more ∙ append_assoc before.asked (names_of answers) (at.next ∷ [])) at.why
+                (inr (at.next, refl)) apart stopped.are_answers.are_true
+                (record {
+                  first = with_next before after roots answers stopped.waves stopped.are_answers stopped.are stopped.few own (map_agrees answers apart) at.next at.rest at.is;
+                  within = inr (at.next, leads_to before after roots answers stopped.waves stopped.are_answers stopped.are stopped.few own (map_agrees answers apart) at.next at.rest at.is);
+                })
           ]
     ]
   where

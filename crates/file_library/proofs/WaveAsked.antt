@@ -2,16 +2,16 @@
 use Rattle.std.proofs.Common.{◌≡◌, ℕ, zero, suc, ◌<◌, ◌≤◌, List, [], ◌∷◌, ◌++◌, Option, All, length, map, get_or, refl, sym, subst, ◌∙◌, ap, arith, append-nil}
 use Rattle.std.specs.List.{AllZip}
 use Rattle.std.proofs.lemmas.List.{get_or-map, length-map}
-use Rattle.file_library.specs.Library.{Files}
+use Rattle.file_library.specs.Library.{Answered, names_of, LibrarySeen}
 use Rattle.file_library.specs.Asked.{AreInOrder}
-use Rattle.file_library.specs.Answers.{Answered, see_answer, names_of, bytes_of, AreAnswers}
+use Rattle.file_library.specs.Answers.{see_answer, bytes_of, AreAnswers, HasGiven}
 use Rattle.file_library.specs.Loaded.{most_bytes}
 use Rattle.file_library.specs.AskedFile.{FileFound, see_file, IsOfText, IsParsed, IsSmall}
 use Rattle.file_library.specs.AskAll.{answers_of, HasAskedWave, HasAskedSome}
 use Rattle.file_library.specs.declared.answer.Answer.{Answer}
 use Rattle.file_library.specs.declared.asked_file.AskedFile.{AskedFile}
 use Rattle.file_library.specs.declared.loaded.LoadStop.TheVariants.{NoMemory}
-use Rattle.file_library.proofs.AnswersJoined.{no_answers}
+use Rattle.file_library.proofs.AnswersJoined.{no_answers, none_given}
 
 pub parsed_answers : (answers : List Answer) (files : List AskedFile) → AllZip IsParsed answers files → answers_of (map see_file files) ≡ map see_answer answers
 parsed_answers [] [] zip = refl
@@ -31,31 +31,30 @@ pub small_answers : (answers : List Answer) → All (λ (answer : Answered). byt
 small_answers answers small k d less =
     subst (λ answer. bytes_of answer ≤ most_bytes) (get_or-map see_answer answers k d (see_answer d) less) (small k (see_answer d) (omega (arith, less, length-map answers see_answer)))
 
-pub wave_asked : (told : Option Files) (wave : List (List ℕ)) (total : ℕ) (asked asked' : List (List ℕ)) (misses misses' : ℕ) (answers : List Answer) (files : List AskedFile)
-    → AreInOrder wave → names_of (map see_answer answers) ≡ wave → asked' ≡ asked ++ wave → AreAnswers told misses misses' total (map see_answer answers) → AllZip IsParsed answers files
-    → HasAskedWave told wave total asked asked' misses misses' (map see_file files)
-wave_asked told wave total asked asked' misses misses' answers files ordered names put are zip =
+pub wave_asked : (before after : LibrarySeen) (wave : List (List ℕ)) (total : ℕ) (answers : List Answer) (files : List AskedFile)
+    → AreInOrder wave → names_of (map see_answer answers) ≡ wave → HasGiven before after wave (map see_answer answers) → AreAnswers before after total (map see_answer answers)
+    → AllZip IsParsed answers files → HasAskedWave before after wave total (map see_file files)
+wave_asked before after wave total answers files ordered names gained are zip =
     let same : map see_answer answers ≡ answers_of (map see_file files) = sym (parsed_answers answers files zip) in
     record {
       ordered = ordered;
       names = ap names_of (sym same) ∙ names;
-      put = put;
-      answers = subst (AreAnswers told misses misses' total) same are;
+      gained = subst (HasGiven before after wave) same gained;
+      answers = subst (AreAnswers before after total) same are;
       of_texts = parsed_one answers files zip;
     }
 
 -- memory was wanting before a wave, or behind it
-pub none_asked : (told : Option Files) (wave : List (List ℕ)) (total : ℕ) (asked : List (List ℕ)) (misses : ℕ) → total ≤ 33554432
-    → HasAskedSome told wave total asked asked misses misses NoMemory
-none_asked told wave total asked misses fits = record { wanting = refl; answers = []; are = no_answers told misses total fits; rest = wave; is = refl; put = sym (append-nil asked) }
+pub none_asked : (before : LibrarySeen) (wave : List (List ℕ)) (total : ℕ) → total ≤ 33554432 → HasAskedSome before before wave total NoMemory
+none_asked before wave total fits = record { wanting = refl; answers = []; are = no_answers before total fits; rest = wave; is = refl; gained = none_given before }
 
-pub wave_read : (told : Option Files) (wave : List (List ℕ)) (total : ℕ) (asked asked' : List (List ℕ)) (misses misses' : ℕ) (answers : List Answered)
-    → names_of answers ≡ wave → asked' ≡ asked ++ wave → AreAnswers told misses misses' total answers → HasAskedSome told wave total asked asked' misses misses' NoMemory
-wave_read told wave total asked asked' misses misses' answers names put are = record {
+pub wave_read : (before after : LibrarySeen) (wave : List (List ℕ)) (total : ℕ) (answers : List Answered)
+    → names_of answers ≡ wave → HasGiven before after wave answers → AreAnswers before after total answers → HasAskedSome before after wave total NoMemory
+wave_read before after wave total answers names gained are = record {
   wanting = refl;
   answers = answers;
   are = are;
   rest = [];
   is = sym names ∙ sym (append-nil (names_of answers));
-  put = put ∙ ap (λ n. asked ++ n) (sym names);
+  gained = subst (λ n. HasGiven before after n answers) (sym names) gained;
 }

@@ -9,7 +9,8 @@ use Rattle.module_table.specs.FileText.{HasFacts, HasFault}
 use Rattle.module_table.specs.Said.{Loads, Refusal}
 use Rattle.module_table.specs.declared.said.FactFault.{FactFault}
 use Rattle.module_table.specs.declared.said.FactFault.TheVariants.{At, NoMemory}
-use Rattle.file_library.specs.Answers.{Answered, see_answer, bytes_of}
+use Rattle.file_library.specs.Library.{Answered}
+use Rattle.file_library.specs.Answers.{see_answer, bytes_of}
 use Rattle.file_library.specs.Loaded.{most_bytes}
 use Rattle.file_library.specs.declared.answer.Answer.{Answer}
 use Rattle.file_library.specs.declared.asked_file.AskedFile.{AskedFile}

@@ -2,7 +2,7 @@
 use Rattle.std.specs.Prelude.{◌≡◌, ℕ, ◌+◌, ◌<◌, ◌≤◌, ◌⊎◌, List, [], ◌∷◌, ◌++◌, Option, Some, None, Contains, length, take, sum_by, option_map, ⊤}
 use Rattle.file_library.specs.Counts.{Rose}
 use Rattle.file_library.specs.declared.fault.Fault.{Fault}
-use Rattle.file_library.specs.Library.{Files}
+use Rattle.file_library.specs.Library.{Files, Answered, names_of, map_of, LibrarySeen}
 use Rattle.file_library.specs.Asked.{AreInOrder, IsInWave, AreFirstWaves, AreWaves, names_in}
 use Rattle.file_library.specs.FileLoads.{FileLoads}
 use Rattle.file_library.specs.Loaded.{LoadedFiles, IsLoaded, AreLoadFaults, AreWithin, size_of, most_files, most_bytes, most_text}
@@ -42,6 +42,11 @@ pub record LeadTo (files : Files) (roots names : List (List ℕ)) (last : List �
   pub first : AreFirst files roots names
   pub within : AreWithin files before
 
+-- the names are asked for first, and they are within the limits, but for the last of them
+pub record AreFirstWithin (files : Files) (roots names : List (List ℕ)) : Type 0 where
+  pub first : AreFirst files roots names
+  pub within : AreWithin files names ⊎ ((last : List ℕ) × LeadTo files roots names last)
+
 pub record IsTooMuch (files : Files) (roots names : List (List ℕ)) : Type 0 where
   pub last : List ℕ
   pub leads : LeadTo files roots names last
@@ -72,7 +77,7 @@ LoadEndIs files roots names (unread name) = LeadTo files roots names name
 LoadEndIs files roots names too_many = AreTooMany files roots names
 LoadEndIs files roots names (too_large name) = LeadTo files roots names name × (most_bytes < size_of files name)
 LoadEndIs files roots names too_much = IsTooMuch files roots names
-LoadEndIs files roots names no_memory = AreFirst files roots names
+LoadEndIs files roots names no_memory = AreFirstWithin files roots names
 
 -- what is seen of a map when no file is read further than one byte past the limit
 abbrev pub seen_of : Files → Files
@@ -84,13 +89,18 @@ AreAnswered names answered (unread name) = names ≡ answered ++ name ∷ []
 AreAnswered names answered no_memory = (names ≡ answered) ⊎ ((last : List ℕ) × (names ≡ answered ++ last ∷ []))
 AreAnswered names answered end = names ≡ answered
 
--- the asking ended so over some map that the library's answers are, which is what is seen of its own, where it tells that; only a last name that could not be read, or for which memory was wanting, is without an answer
-pub record HasEnded (told : Option Files) (roots before now : List (List ℕ)) (misses misses' : ℕ) (end : LoadEnd) : Type 0 where
-  pub seen : Files
+-- the library gave just these answers; where memory was wanting it may have given one more
+abbrev pub AreGiven : List Answered → List Answered → List Answered → LoadEnd → Type 0
+AreGiven before after answers no_memory = (after ≡ before ++ answers) ⊎ ((last : Answered) × (after ≡ (before ++ answers) ++ last ∷ []))
+AreGiven before after answers end = after ≡ before ++ answers
+
+-- the asking for the roots ended so over the map that the library's answers are, which is what is seen of its own, where it tells that; only a last name that could not be read, or for which memory was wanting, is without an answer
+pub record HasEnded (before after : LibrarySeen) (roots : List (List ℕ)) (end : LoadEnd) : Type 0 where
   pub names : List (List ℕ)
-  pub put : now ≡ before ++ names
-  pub answered : List (List ℕ)
-  pub answers_are : AreAnswered names answered end
-  pub agrees : (files : Files) → told ≡ Some files → (name : List ℕ) → Contains answered name → seen name ≡ seen_of files name
-  pub missed : (name : List ℕ) → Contains answered name → seen name ≡ None → Rose misses misses'
-  pub is : LoadEndIs seen roots names end
+  pub put : after.asked ≡ before.asked ++ names
+  pub answers : List Answered
+  pub given : AreGiven before.answers after.answers answers end
+  pub answers_are : AreAnswered names (names_of answers) end
+  pub as_told : (files : Files) → before.told ≡ Some files → (name : List ℕ) → Contains (names_of answers) name → map_of answers name ≡ seen_of files name
+  pub missed : (name : List ℕ) → Contains (names_of answers) name → map_of answers name ≡ None → Rose before.misses after.misses
+  pub is : LoadEndIs (map_of answers) roots names end

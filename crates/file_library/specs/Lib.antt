@@ -1,5 +1,6 @@
 pub mod Counts
 pub mod Library
+pub mod Notes
 pub mod MemoryLibrary
 pub mod Copied
 pub mod Asked

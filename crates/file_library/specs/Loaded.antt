@@ -66,6 +66,12 @@ pub record IsLoaded (files : Files) (roots : List (List ℕ)) (loaded : LoadedFi
   pub few : length loaded.texts + length loaded.absent ≤ most_files
   pub within : AreWithin files (map (λ (text : NamedText). text.0) loaded.texts)
 
+-- over some map of files and for some roots this is what was loaded
+pub record WasLoaded (loaded : LoadedFiles) : Type 0 where
+  pub files : Files
+  pub roots : List (List ℕ)
+  pub is : IsLoaded files roots loaded
+
 -- a root that isn't there
 pub record IsNoRoot (files : Files) (roots : List (List ℕ)) (fault : Fault) : Type 0 where
   pub root : Contains roots fault.file

@@ -18,6 +18,7 @@ pub record IsNewLibrary (files : Files) (failing : List ℕ) (library : MemoryLi
   pub files_are : files_of library.files ≡ files
   pub failing_are : library.failing.items ≡ failing
   pub none_asked : library.asked.items ≡ []
+  pub none_answered : library.notes.items ≡ []
   pub no_faults : library.faults ≡ 0
   pub no_misses : library.misses ≡ 0
 

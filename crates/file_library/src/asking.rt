@@ -1,5 +1,6 @@
 ghost use Rattle.std.specs.Prelude.{◌≡◌, ◌≤◌, ◌+◌, length, map, sum_by, IfOk, IfErr};
 ghost use Rattle.file_library.specs.AskedFile.{see_file, answered_of};
+ghost use Rattle.file_library.specs.Library.{IsLater};
 ghost use Rattle.file_library.specs.Answers.{bytes_of};
 ghost use Rattle.file_library.specs.AskAll.{answers_of, HasAskedWave, StopsInWave, HasAskedAll, HasStopped, IsKept};
 
@@ -25,13 +26,9 @@ pub(crate) fn ask_all<R: Threads + Sync, L: Library>(
     roots: &[Text],
     library: &mut L,
 ) -> Result<Vec<AskedFile>, LoadStop>
-    ensures same_files { L.files library.new ≡ L.files library.old }
-    ensures faults_kept { L.faults library.old ≤ L.faults library.new }
-    ensures misses_kept { L.misses library.old ≤ L.misses library.new }
-    ensures asked { IfOk result (λ files. HasAskedAll (L.files library.old) roots.now (L.asked library.old) (L.asked library.new)
-        (L.misses library.old) (L.misses library.new) (map see_file files.items)) }
-    ensures stops { IfErr result (HasStopped (L.files library.old) roots.now (L.asked library.old) (L.asked library.new)
-        (L.faults library.old) (L.faults library.new) (L.misses library.old) (L.misses library.new)) }
+    ensures later { IsLater (L.seen library.old) (L.seen library.new) }
+    ensures asked { IfOk result (λ files. HasAskedAll (L.seen library.old) (L.seen library.new) roots.now (map see_file files.items)) }
+    ensures stops { IfErr result (HasStopped (L.seen library.old) (L.seen library.new) roots.now) }
 {
     let mut known = BTreeSet::new(alloc);
     let mut files = Vec::new(alloc);
@@ -106,13 +103,9 @@ fn ask_wave<R: Threads + Sync, L: Library>(
     library: &mut L,
 ) -> Result<Vec<AskedFile>, LoadStop>
     requires { total ≤ 33554432 }
-    ensures same_files { L.files library.new ≡ L.files library.old }
-    ensures faults_kept { L.faults library.old ≤ L.faults library.new }
-    ensures misses_kept { L.misses library.old ≤ L.misses library.new }
-    ensures asked { IfOk result (λ files. HasAskedWave (L.files library.old) wave.now.keys total (L.asked library.old) (L.asked library.new)
-        (L.misses library.old) (L.misses library.new) (map see_file files.items)) }
-    ensures stops { IfErr result (StopsInWave (L.files library.old) wave.now.keys total (L.asked library.old) (L.asked library.new)
-        (L.faults library.old) (L.faults library.new) (L.misses library.old) (L.misses library.new)) }
+    ensures later { IsLater (L.seen library.old) (L.seen library.new) }
+    ensures asked { IfOk result (λ files. HasAskedWave (L.seen library.old) (L.seen library.new) wave.now.keys total (map see_file files.items)) }
+    ensures stops { IfErr result (StopsInWave (L.seen library.old) (L.seen library.new) wave.now.keys total) }
 {
     let Ok(names) = in_order(alloc, wave) else {
         return Err(LoadStop::NoMemory);

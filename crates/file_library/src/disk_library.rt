@@ -1,21 +1,25 @@
 ghost use Rattle.std.specs.Prelude.{◌≡◌, ◌≤◌, ◌⊎◌, ◌+◌, [], None, OnOk, length};
 ghost use Rattle.std.specs.Io.KnownBytes.{Consumes, IsAtEnd};
 ghost use Rattle.file_library.specs.Counts.{CountsAre};
-ghost use Rattle.file_library.specs.Library.{ReadIs, AskedIs};
+ghost use Rattle.file_library.specs.Library.{library_seen, IsLater, ReadIs, AskedIs, AnsweredIs};
+ghost use Rattle.file_library.specs.Notes.{noted};
 
 use crate::library::{Library, Read};
+use crate::note::{Note, note_absent, note_found};
 use prolog_tokens::Text;
 use std::alloc::Global;
 use std::io::ErrorKind;
 use std::rt::Files;
+use std::snapshot::Snapshot;
 use std::{fs, io};
 
-/// The files of the disk. What the disk holds isn't told.
+/// The files of the disk. What the disk holds isn't told, but what was read of it is.
 #[derive(Drop)]
 pub struct DiskLibrary<'a, R: Files> {
     rt: &'a R,
     alloc: Global,
     asked: Vec<Text>,
+    notes: Vec<Note>,
     faults: u64,
     misses: u64,
 }
@@ -24,6 +28,7 @@ impl<'a, R: Files> DiskLibrary<'a, R> {
     /// The disk, with nothing asked yet.
     pub fn new(rt: &'a R, alloc: Global) -> DiskLibrary<'a, R>
         ensures asked { result.asked.items ≡ [] }
+        ensures notes { result.notes.items ≡ [] }
         ensures faults { result.faults ≡ 0 }
         ensures misses { result.misses ≡ 0 }
     {
@@ -31,6 +36,7 @@ impl<'a, R: Files> DiskLibrary<'a, R> {
             rt,
             alloc,
             asked: Vec::new(alloc),
+            notes: Vec::new(alloc),
             faults: 0,
             misses: 0,
         }
@@ -68,34 +74,40 @@ fn read_first<S: io::Read>(source: &mut S, limit: u32, room: &mut Vec<u8>) -> io
 }
 
 impl<'a, R: Files> Library for DiskLibrary<'a, R> {
-    ghost files = { λ _. None };
-
-    ghost asked = { λ l. l.asked.items };
-
-    ghost faults = { λ l. l.faults };
-
-    ghost misses = { λ l. l.misses };
+    ghost seen = { λ l. library_seen None l.asked.items (noted l.notes.items) l.faults l.misses };
 
     fn read(&mut self, name: &str, limit: u32, room: &mut Vec<u8>) -> Read
         requires { room.old.items ≡ [] }
-        ensures answer { ReadIs None name.now limit room.new.items self.old.faults self.new.faults self.old.misses self.new.misses result }
+        ensures answer { ReadIs (library_seen None self.old.asked.items (noted self.old.notes.items) self.old.faults self.old.misses)
+            (library_seen None self.new.asked.items (noted self.new.notes.items) self.new.faults self.new.misses) name.now limit room.new.items result }
         ensures asked { AskedIs self.old.asked.items self.new.asked.items name.now result }
+        ensures answered { AnsweredIs (noted self.old.notes.items) (noted self.new.notes.items) name.now room.new.items result }
+        ensures later { IsLater (library_seen None self.old.asked.items (noted self.old.notes.items) self.old.faults self.old.misses)
+            (library_seen None self.new.asked.items (noted self.new.notes.items) self.new.faults self.new.misses) }
         ensures counts { CountsAre self.old.faults self.new.faults self.old.misses self.new.misses result }
-        ensures faults_kept { self.old.faults ≤ self.new.faults }
-        ensures misses_kept { self.old.misses ≤ self.new.misses }
     {
         let Ok(asked) = Text::new(self.alloc, name) else {
             return Read::NoMemory;
         };
+        let key = Snapshot::of(&asked);
         if self.asked.push(asked).is_err() {
             return Read::NoMemory;
         }
         match read_file(self.rt, name, limit, room) {
-            Ok(()) => Read::Found,
+            Ok(()) => {
+                if note_found(&mut self.notes, key, room).is_err() {
+                    room.clear();
+                    return Read::NoMemory;
+                }
+                Read::Found
+            }
             Err(error) => {
                 room.clear();
                 match error.kind() {
                     ErrorKind::NotFound => {
+                        if note_absent(&mut self.notes, key).is_err() {
+                            return Read::NoMemory;
+                        }
                         self.misses = self.misses.saturating_add(1);
                         Read::Absent
                     }

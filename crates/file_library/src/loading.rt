@@ -1,10 +1,11 @@
-ghost use Rattle.std.specs.Prelude.{◌≡◌, ◌≤◌, List, All, IfErr, length, map, sum_by};
-ghost use Rattle.file_library.specs.Library.{Files};
-ghost use Rattle.file_library.specs.Answers.{names_of, bytes_of};
+ghost use Rattle.std.specs.Prelude.{◌≡◌, ◌≤◌, List, All, IfOk, IfErr, length, map, sum_by};
+ghost use Rattle.file_library.specs.Library.{Files, IsLater, names_of};
+ghost use Rattle.file_library.specs.Answers.{bytes_of};
 ghost use Rattle.file_library.specs.AskedFile.{see_file, IsOfText};
 ghost use Rattle.file_library.specs.AskAll.{answers_of, Agrees, AreApart};
 ghost use Rattle.file_library.specs.Asking.{HasEnded};
-ghost use Rattle.file_library.specs.SortedOut.{AreJustAsked, FinishIs, HasFailed, end_of};
+ghost use Rattle.file_library.specs.Loaded.{WasLoaded};
+ghost use Rattle.file_library.specs.SortedOut.{AreJustAsked, FinishIs, HasFailed, end_of, see_loaded};
 
 use crate::asked_file::AskedFile;
 use crate::asking::ask_all;
@@ -24,11 +25,10 @@ pub fn load_all<R: Threads + Sync, L: Library>(
     roots: &[Text],
     library: &mut L,
 ) -> Result<Loaded, LoadStop>
-    ensures same_files { L.files library.new ≡ L.files library.old }
-    ensures faults_kept { L.faults library.old ≤ L.faults library.new }
-    ensures misses_kept { L.misses library.old ≤ L.misses library.new }
-    ensures ended { HasEnded (L.files library.old) roots.now (L.asked library.old) (L.asked library.new) (L.misses library.old) (L.misses library.new) (end_of result) }
-    ensures failed { IfErr result (HasFailed (L.faults library.old) (L.faults library.new)) }
+    ensures later { IsLater (L.seen library.old) (L.seen library.new) }
+    ensures ended { HasEnded (L.seen library.old) (L.seen library.new) roots.now (end_of result) }
+    ensures loaded { IfOk result (λ loaded. WasLoaded (see_loaded loaded)) }
+    ensures failed { IfErr result (HasFailed (L.seen library.old).faults (L.seen library.new).faults) }
 {
     let files = match ask_all(rt, alloc, roots, library) {
         Ok(files) => files,

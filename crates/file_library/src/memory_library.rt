@@ -1,12 +1,15 @@
-ghost use Rattle.std.specs.Prelude.{◌≡◌, ◌≤◌, ◌↔◌, ℕ, [], Some, Contains, IsTrue, IfOk};
+ghost use Rattle.std.specs.Prelude.{◌≡◌, ◌↔◌, ℕ, [], Some, Contains, IsTrue, IfOk};
 ghost use Rattle.file_library.specs.Counts.{CountsAre};
-ghost use Rattle.file_library.specs.Library.{ReadIs, AskedIs};
+ghost use Rattle.file_library.specs.Library.{library_seen, IsLater, ReadIs, AskedIs, AnsweredIs};
+ghost use Rattle.file_library.specs.Notes.{noted};
 ghost use Rattle.file_library.specs.Copied.{CopiedIs};
 
 use crate::library::{Library, Read};
+use crate::note::{Note, note_absent, note_found};
 use prolog_tokens::Text;
 use std::alloc::{AllocError, Global};
 use std::collections::BTreeMap;
+use std::snapshot::Snapshot;
 
 /// Files in memory. The reads whose numbers, from 1, were ordered to fail answer `Failed`.
 #[derive(Drop)]
@@ -15,6 +18,7 @@ pub struct MemoryLibrary {
     files: BTreeMap<Text, Vec<u8>>,
     failing: Vec<u32>,
     asked: Vec<Text>,
+    notes: Vec<Note>,
     faults: u64,
     misses: u64,
 }
@@ -64,6 +68,7 @@ impl MemoryLibrary {
             files,
             failing,
             asked: Vec::new(alloc),
+            notes: Vec::new(alloc),
             faults: 0,
             misses: 0,
         })
@@ -80,22 +85,17 @@ impl MemoryLibrary {
 impl Library for MemoryLibrary {
     ghost use Rattle.file_library.specs.MemoryLibrary.{files_of, ReadsByOrder};
 
-    ghost files = { λ l. Some (files_of l.files) };
-
-    ghost asked = { λ l. l.asked.items };
-
-    ghost faults = { λ l. l.faults };
-
-    ghost misses = { λ l. l.misses };
+    ghost seen = { λ l. library_seen (Some (files_of l.files)) l.asked.items (noted l.notes.items) l.faults l.misses };
 
     fn read(&mut self, name: &str, limit: u32, room: &mut Vec<u8>) -> Read
         requires { room.old.items ≡ [] }
-        ensures answer { ReadIs (Some (files_of self.old.files)) name.now limit room.new.items self.old.faults self.new.faults self.old.misses self.new.misses result }
+        ensures answer { ReadIs (library_seen (Some (files_of self.old.files)) self.old.asked.items (noted self.old.notes.items) self.old.faults self.old.misses)
+            (library_seen (Some (files_of self.new.files)) self.new.asked.items (noted self.new.notes.items) self.new.faults self.new.misses) name.now limit room.new.items result }
         ensures asked { AskedIs self.old.asked.items self.new.asked.items name.now result }
+        ensures answered { AnsweredIs (noted self.old.notes.items) (noted self.new.notes.items) name.now room.new.items result }
+        ensures later { IsLater (library_seen (Some (files_of self.old.files)) self.old.asked.items (noted self.old.notes.items) self.old.faults self.old.misses)
+            (library_seen (Some (files_of self.new.files)) self.new.asked.items (noted self.new.notes.items) self.new.faults self.new.misses) }
         ensures counts { CountsAre self.old.faults self.new.faults self.old.misses self.new.misses result }
-        ensures same_files { Some (files_of self.new.files) ≡ Some (files_of self.old.files) }
-        ensures faults_kept { self.old.faults ≤ self.new.faults }
-        ensures misses_kept { self.old.misses ≤ self.new.misses }
         ensures by_order { ReadsByOrder self.old self.new result }
     {
         let Ok(key) = Text::new(self.alloc, name) else {
@@ -104,6 +104,7 @@ impl Library for MemoryLibrary {
         let Ok(asked) = Text::new(self.alloc, name) else {
             return Read::NoMemory;
         };
+        let noted = Snapshot::of(&asked);
         if self.asked.push(asked).is_err() {
             return Read::NoMemory;
         }
@@ -112,8 +113,17 @@ impl Library for MemoryLibrary {
             return Read::Failed;
         }
         match copy_file(&self.files, &key, limit, room) {
-            Copied::Whole => Read::Found,
+            Copied::Whole => {
+                if note_found(&mut self.notes, noted, room).is_err() {
+                    room.clear();
+                    return Read::NoMemory;
+                }
+                Read::Found
+            }
             Copied::Missing => {
+                if note_absent(&mut self.notes, noted).is_err() {
+                    return Read::NoMemory;
+                }
                 self.misses = self.misses.saturating_add(1);
                 Read::Absent
             }

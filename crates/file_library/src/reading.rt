@@ -1,5 +1,6 @@
 ghost use Rattle.std.specs.Prelude.{◌≡◌, ◌≤◌, ◌+◌, ◌++◌, ◌∷◌, [], Some, length, map, IfOk, IfErr, OnOk};
-ghost use Rattle.file_library.specs.Answers.{see_answer, names_of, bytes_of, AreAnswers, StopsAt, IsPut, IsTooLong, StopsWave};
+ghost use Rattle.file_library.specs.Library.{IsLater, names_of};
+ghost use Rattle.file_library.specs.Answers.{see_answer, bytes_of, AreAnswers, HasGiven, StopsAt, IsPut, IsTooLong, StopsWave};
 
 use crate::answer::Answer;
 use crate::library::{Library, Read};
@@ -21,14 +22,11 @@ pub(crate) fn read_wave<L: Library>(
     library: &mut L,
 ) -> Result<Vec<Answer>, LoadStop>
     requires { total ≤ 33554432 }
-    ensures same_files { L.files library.new ≡ L.files library.old }
-    ensures faults_kept { L.faults library.old ≤ L.faults library.new }
-    ensures misses_kept { L.misses library.old ≤ L.misses library.new }
+    ensures later { IsLater (L.seen library.old) (L.seen library.new) }
     ensures names { IfOk result (λ answers. names_of (map see_answer answers.items) ≡ wave.now) }
-    ensures answers { IfOk result (λ answers. AreAnswers (L.files library.old) (L.misses library.old) (L.misses library.new) total (map see_answer answers.items)) }
-    ensures asked { OnOk result (L.asked library.new ≡ L.asked library.old ++ wave.now) }
-    ensures stops { IfErr result (StopsWave (L.files library.old) wave.now total (L.asked library.old) (L.asked library.new)
-        (L.faults library.old) (L.faults library.new) (L.misses library.old) (L.misses library.new)) }
+    ensures answers { IfOk result (λ answers. AreAnswers (L.seen library.old) (L.seen library.new) total (map see_answer answers.items)) }
+    ensures gained { IfOk result (λ answers. HasGiven (L.seen library.old) (L.seen library.new) wave.now (map see_answer answers.items)) }
+    ensures stops { IfErr result (StopsWave (L.seen library.old) (L.seen library.new) wave.now total) }
 {
     let mut answers = Vec::new(alloc);
     let mut read = total;
@@ -71,22 +69,22 @@ fn read_one<L: Library>(
     library: &mut L,
 ) -> Result<Answer, LoadStop>
     requires { total ≤ 33554432 }
-    ensures same_files { L.files library.new ≡ L.files library.old }
-    ensures faults_kept { L.faults library.old ≤ L.faults library.new }
-    ensures misses_kept { L.misses library.old ≤ L.misses library.new }
+    ensures later { IsLater (L.seen library.old) (L.seen library.new) }
     ensures name { IfOk result (λ answer. (see_answer answer).name ≡ name.now) }
-    ensures answers { IfOk result (λ answer. AreAnswers (L.files library.old) (L.misses library.old) (L.misses library.new) total (see_answer answer ∷ [])) }
-    ensures asked { OnOk result (L.asked library.new ≡ L.asked library.old ++ name.now ∷ []) }
-    ensures put { IfErr result (IsPut (L.asked library.old) (L.asked library.new) name.now) }
-    ensures stops { IfErr result (StopsAt (L.files library.old) name.now total (L.faults library.old) (L.faults library.new)) }
+    ensures answers { IfOk result (λ answer. AreAnswers (L.seen library.old) (L.seen library.new) total (see_answer answer ∷ [])) }
+    ensures gained { IfOk result (λ answer. HasGiven (L.seen library.old) (L.seen library.new) (name.now ∷ []) (see_answer answer ∷ [])) }
+    ensures put { IfErr result (IsPut (L.seen library.old).asked (L.seen library.new).asked name.now) }
+    ensures stops { IfErr result (StopsAt (L.seen library.old) (L.seen library.new) (L.seen library.old).answers name.now total) }
 {
+    let key = Text::new(alloc, name.as_str())?;
     let mut room = Vec::new(alloc);
-    let read = library.read(name.as_str(), MOST_BYTES, &mut room);
-    let name = Text::new(alloc, name.as_str())?;
-    match read {
-        Read::Found => found(name, room, total),
-        Read::Absent => Ok(Answer { name, bytes: None }),
-        Read::Failed => Err(LoadStop::ReadFault(name)),
+    match library.read(name.as_str(), MOST_BYTES, &mut room) {
+        Read::Found => found(key, room, total),
+        Read::Absent => Ok(Answer {
+            name: key,
+            bytes: None,
+        }),
+        Read::Failed => Err(LoadStop::ReadFault(key)),
         Read::NoMemory => Err(LoadStop::NoMemory),
     }
 }

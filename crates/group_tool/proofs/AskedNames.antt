@@ -2,7 +2,7 @@
 use Rattle.std.proofs.Common.{◌≡◌, ◌≢◌, ℕ, ◌<◌, ◌⊎◌, List, [], ◌++◌, Option, None, AllPairs, length, sym, subst, ap, ◌∙◌, inl, inr, arith, append-nil}
 use Rattle.std.proofs.lemmas.List.{length-append, get_or_append_left}
 use Rattle.file_library.specs.FileLoads.{FileLoads}
-use Rattle.file_library.specs.Library.{Files}
+use Rattle.file_library.specs.Library.{Files, map_of}
 use Rattle.file_library.specs.Asked.{names_in}
 use Rattle.file_library.specs.Asking.{AreFirst, AreAll, AreTooMany, LoadEnd, loaded, faults, unread, too_many, too_large, too_much, no_memory, LoadEndIs}
 use Rattle.group_words.specs.Settings.{Settings}
@@ -40,7 +40,7 @@ end_first files roots names (unread name) is = is.first
 end_first files roots names too_many is = many_first files roots names is
 end_first files roots names (too_large name) is = is.0.first
 end_first files roots names too_much is = is.leads.first
-end_first files roots names no_memory is = is
+end_first files roots names no_memory is = is.first
 
 -- and no name is put twice
 first_once : (files : Files) (roots names : List (List ℕ)) → AreFirst files roots names → AllPairs (λ a b. a ≡ b → ⊥) names
@@ -66,20 +66,20 @@ load_whole settings files roots names too_much end comes not_unread not_wanting 
 load_whole settings files roots names no_memory end comes not_unread not_wanting not_passed is = absurd (not_wanting comes)
 
 asked_for : (library : Asking) (roots : List (List ℕ)) (load : LoadEnd) (result : ℕ) (asking : EndsAsking library roots load)
-    → (IsWhole result → (files : Files) (names : List (List ℕ)) → LoadEndIs files roots names load → AreAll files roots names) → AreAskedFor roots library.asked library.asked' result
+    → (IsWhole result → (files : Files) (names : List (List ℕ)) → LoadEndIs files roots names load → AreAll files roots names) → AreAskedFor roots library result
 asked_for library roots load result asking whole =
-    let first = end_first asking.ended.seen roots asking.ended.names load asking.ended.is in
+    let first = end_first (map_of asking.ended.answers) roots asking.ended.names load asking.ended.is in
     record {
-      seen = asking.ended.seen;
+      seen = map_of asking.ended.answers;
       names = asking.ended.names;
       put = asking.ended.put;
       first = first;
-      once = first_once asking.ended.seen roots asking.ended.names first;
-      whole = λ status. whole status asking.ended.seen asking.ended.names asking.ended.is;
+      once = first_once (map_of asking.ended.answers) roots asking.ended.names first;
+      whole = λ status. whole status (map_of asking.ended.answers) asking.ended.names asking.ended.is;
     }
 
 -- a status that is none of these
-not_these : (bytes : List ℕ) (status result : ℕ) (sink : Taking) → SaidWith bytes status result sink.taken sink.taken' sink.faults sink.faults' sink.settled' → 3 < status
+not_these : (bytes : List ℕ) (status result : ℕ) (sink : Taking) → SaidWith bytes status result sink → 3 < status
     → IsWhole result → ⊥
 not_these bytes status result sink said high is =
     elim said [
@@ -94,23 +94,23 @@ asked_reading make names library load none reading = subst (λ m. EndsReading m 
 module _ (wanted : Settings → Type 0) (one : (settings other : Settings) → wanted settings → wanted other → settings ≡ other) (library : Asking) (settings : Settings) (lawful : wanted settings) (reads : settings.make ≡ None) where
   reading_asked : (other : Settings) → wanted other → (load : LoadEnd) (result : ℕ) → EndsReading other.make other.files library load
       → (IsWhole result → (files : Files) (names : List (List ℕ)) → LoadEndIs files settings.files names load → AreAll files settings.files names)
-      → AreAskedFor settings.files library.asked library.asked' result
+      → AreAskedFor settings.files library result
   reading_asked other also load result reading whole =
       asked_for library settings.files load result
       (asked_reading settings.make settings.files library load reads (subst (λ (s : Settings). EndsReading s.make s.files library load) (one other settings also lawful) reading)) whole
 
   lawful_asked_for : (result : ℕ) (end : End) (is : IsLawfulEnd wanted library end)
       → (IsWhole result → (files : Files) (names : List (List ℕ)) → LoadEndIs files settings.files names is.load → AreAll files settings.files names)
-      → AreAskedFor settings.files library.asked library.asked' result
+      → AreAskedFor settings.files library result
   lawful_asked_for result end is whole = reading_asked is.settings is.lawful is.load result is.reading whole
 
   decided_for : (result : ℕ) (end : End) → IsLawfulEnd wanted library end → ((name : List ℕ) → end ≢ of_run.unread name) → end ≢ of_run.no_memory → ((passed : Limit) → end ≢ limit passed)
-      → AreAskedFor settings.files library.asked library.asked' result
+      → AreAskedFor settings.files library result
   decided_for result end is not_unread not_wanting not_passed =
       lawful_asked_for result end is
       (λ status files names ends. load_whole is.settings files settings.files names is.load end is.comes not_unread not_wanting not_passed ends)
 
-  asked_by : (out err : Taking) (result : ℕ) (end : End) → EndIs wanted library end → EndsBy result out err end → AreAskedFor settings.files library.asked library.asked' result
+  asked_by : (out err : Taking) (result : ℕ) (end : End) → EndIs wanted library end → EndsBy result out err end → AreAskedFor settings.files library result
   asked_by out err result usage cause written = absurd (cause.0 settings lawful)
   asked_by out err result (of_run.faults found) cause written = decided_for result (of_run.faults found) cause (λ name e. cc) (λ e. cc) (λ passed e. cc)
   asked_by out err result (missing root) cause written = decided_for result (missing root) cause (λ name e. cc) (λ e. cc) (λ passed e. cc)
@@ -123,5 +123,5 @@ module _ (wanted : Settings → Type 0) (one : (settings other : Settings) → w
       let asked = cause.lawful settings lawful in
       reading_asked settings lawful asked.0 result asked.1 (λ status files names ends. absurd (not_these memory_line 7 result err written.0 (omega arith) status))
 
-  pub asked_said : (out err : Taking) (result : ℕ) → IsRun wanted library out err result → AreAskedFor settings.files library.asked library.asked' result
+  pub asked_said : (out err : Taking) (result : ℕ) → IsRun wanted library out err result → AreAskedFor settings.files library result
   asked_said out err result run = asked_by out err result run.end run.cause run.written

@@ -1,12 +1,12 @@
 -- From how the reading of files ended to how a run ends.
-use Rattle.std.proofs.Common.{◌≡◌, ◌≢◌, ℕ, ◌⊎◌, List, [], ◌∷◌, Option, Some, None, Result, Ok, Err, Vec, Global, IsErrAnd, refl, sym, subst, inl, inr, arith, append-nil}
+use Rattle.std.proofs.Common.{◌≡◌, ◌≢◌, ℕ, ◌⊎◌, List, [], ◌∷◌, ◌++◌, Option, Some, None, Result, Ok, Err, Vec, Global, IsErrAnd, refl, sym, subst, ◌∙◌, ap, inl, inr, arith, append-nil}
 use Rattle.list_laws.proofs.OneOrder.{nothing_in}
 use Rattle.file_library.specs.declared.loaded.LoadStop.{LoadStop}
 use Rattle.file_library.specs.declared.loaded.LoadStop.TheVariants.{Faults, ReadFault, TooManyFiles, FileTooLarge, TooMuchText, NoMemory}
 use Rattle.file_library.specs.Counts.{Rose}
-use Rattle.file_library.specs.Library.{Files}
+use Rattle.file_library.specs.Library.{Files, Answered, map_of, LibrarySeen}
 use Rattle.file_library.specs.Loaded.{LoadedFiles}
-use Rattle.file_library.specs.Asking.{LoadEnd, LoadEndIs, loaded, too_many, too_large, too_much, HasEnded, IsDecided}
+use Rattle.file_library.specs.Asking.{LoadEnd, LoadEndIs, loaded, too_many, too_large, too_much, AreGiven, HasEnded, IsDecided}
 use Rattle.file_library.specs.Asking as of_load
 use Rattle.file_library.specs.SortedOut as of_library
 use Rattle.import_rules.specs.Program.{Seen, IsProgram}
@@ -29,20 +29,42 @@ use Rattle.group_tool.specs.Stop.{of_words, of_loading, of_checking, end_of_stop
 use Rattle.group_tool.proofs.ToldEnd.{told_end}
 
 -- over the library's map the reading ends so
-reads_over : (make : Option ℕ) (names : List (List ℕ)) (library : Asking) (load : LoadEnd) → EndsReading make names library load → (files : Files) → library.told ≡ Some files → IsDecided load
+reads_over : (make : Option ℕ) (names : List (List ℕ)) (library : Asking) (load : LoadEnd) → EndsReading make names library load → (files : Files) → library.0.told ≡ Some files → IsDecided load
     → (asked : List (List ℕ)) × LoadEndIs (files_read make files) (names_read make names) asked load
 reads_over None names library load reading files tells decided = (
   reading.ended.names,
-  told_end library.told names library.asked library.asked' library.misses library.misses' load reading.ended files tells decided,
+  told_end library.0 library.1 names load reading.ended files tells decided,
 )
 reads_over (Some count) names library load reading files tells decided = elim reading.1 [
   | inl none ↦ absurd (subst IsDecided none decided)
   | inr made ↦ (made.asked, made.ends)
 ]
 
+-- where the map decided, the library gave just these answers
+given_all : (before after answers : List Answered) (load : LoadEnd) → IsDecided load → AreGiven before after answers load → after ≡ before ++ answers
+given_all before after answers (loaded found) decided is = is
+given_all before after answers (of_load.faults found) decided is = is
+given_all before after answers (of_load.unread name) decided is = absurd decided
+given_all before after answers too_many decided is = is
+given_all before after answers (too_large name) decided is = is
+given_all before after answers too_much decided is = is
+given_all before after answers of_load.no_memory decided is = absurd decided
+
+-- over the map of what the library handed over the reading ends so
+pub reads_handed : (make : Option ℕ) (names : List (List ℕ)) (library : Asking) (load : LoadEnd) → EndsReading make names library load → IsDecided load
+    → (answers : List Answered) × ((library.1.answers ≡ library.0.answers ++ answers) × ((asked : List (List ℕ)) × LoadEndIs (files_read make (map_of answers)) (names_read make names) asked load))
+reads_handed None names library load reading decided = (
+  reading.ended.answers,
+  (given_all library.0.answers library.1.answers reading.ended.answers load decided reading.ended.given, (reading.ended.names, reading.ended.is)),
+)
+reads_handed (Some count) names library load reading decided = elim reading.1 [
+  | inl none ↦ absurd (subst IsDecided none decided)
+  | inr made ↦ ([], (ap (λ (seen : LibrarySeen). seen.answers) reading.0 ∙ sym (append-nil library.0.answers), (made.asked, made.ends)))
+]
+
 -- and this is the answer
 told_answer : (wanted : Settings → Type 0) (library : Asking) (settings : Settings) (load : LoadEnd) (end : End) → wanted settings
-    → EndsReading settings.make settings.files library load → ComesTo settings load end → (files : Files) → library.told ≡ Some files → IsDecided load → IsLawfulAnswer wanted files end
+    → EndsReading settings.make settings.files library load → ComesTo settings load end → (files : Files) → library.0.told ≡ Some files → IsDecided load → IsLawfulAnswer wanted files end
 told_answer wanted library settings load end lawful reading comes files tells decided =
     let over = reads_over settings.make settings.files library load reading files tells decided in
     record {
@@ -67,11 +89,11 @@ lawful_end wanted library settings load end lawful reading comes = record {
 }
 
 -- where the file is made, the library is left
-pub left_by : (make : Option ℕ) (names : List (List ℕ)) (library : Asking) (load : LoadEnd) → make ≢ None → EndsReading make names library load → library.asked' ≡ library.asked
+pub left_by : (make : Option ℕ) (names : List (List ℕ)) (library : Asking) (load : LoadEnd) → make ≢ None → EndsReading make names library load → library.1.asked ≡ library.0.asked
 left_by None names library load some reading = absurd (some refl)
-left_by (Some count) names library load some reading = reading.0.same_asked
+left_by (Some count) names library load some reading = ap (λ (seen : LibrarySeen). seen.asked) reading.0
 
-pub lawful_left : (wanted : Settings → Type 0) (library : Asking) (end : End) → AskForNone wanted → IsLawfulEnd wanted library end → library.asked' ≡ library.asked
+pub lawful_left : (wanted : Settings → Type 0) (library : Asking) (end : End) → AskForNone wanted → IsLawfulEnd wanted library end → library.1.asked ≡ library.0.asked
 lawful_left wanted library end none is = left_by is.settings.make is.settings.files library is.load (none is.settings is.lawful) is.reading
 
 -- files of the settings were read
@@ -117,14 +139,14 @@ files_end settings library names end none same is =
 
 -- or the one file is made, of which no read fails
 
-decided_end : (made : Asking) (files : Files) (roots : List (List ℕ)) (load : LoadEnd) → made.told ≡ Some files → IsDecided load → EndsAsking made roots load → IsDecidedEnd files roots load
+decided_end : (made : Asking) (files : Files) (roots : List (List ℕ)) (load : LoadEnd) → made.0.told ≡ Some files → IsDecided load → EndsAsking made roots load → IsDecidedEnd files roots load
 decided_end made files roots load tells decided asking = record {
   decided = decided;
   asked = asking.ended.names;
-  ends = told_end made.told roots made.asked made.asked' made.misses made.misses' load asking.ended files tells decided;
+  ends = told_end made.0 made.1 roots load asking.ended files tells decided;
 }
 
-made_reading : (made : Asking) (files : Files) (roots : List (List ℕ)) (load : LoadEnd) → made.told ≡ Some files → (Rose made.faults made.faults' → ⊥) → EndsAsking made roots load
+made_reading : (made : Asking) (files : Files) (roots : List (List ℕ)) (load : LoadEnd) → made.0.told ≡ Some files → (Rose made.0.faults made.1.faults → ⊥) → EndsAsking made roots load
     → (load ≡ of_load.no_memory) ⊎ IsDecidedEnd files roots load
 made_reading made files roots (loaded found) tells quiet asking = inr (decided_end made files roots (loaded found) tells tt asking)
 made_reading made files roots (of_load.faults found) tells quiet asking = inr (decided_end made files roots (of_load.faults found) tells tt asking)
@@ -135,7 +157,7 @@ made_reading made files roots too_much tells quiet asking = inr (decided_end mad
 made_reading made files roots of_load.no_memory tells quiet asking = inl refl
 
 pub made_end : (settings : Settings) (count : ℕ) (made library : Asking) (names : List (List ℕ)) (end : End) → settings.make ≡ Some count → names ≡ made_name ∷ []
-    → IsReadEnd settings names made end → made.told ≡ Some (one_file made_name (made_text count)) → (Rose made.faults made.faults' → ⊥) → IsLeft library
+    → IsReadEnd settings names made end → made.0.told ≡ Some (one_file made_name (made_text count)) → (Rose made.0.faults made.1.faults → ⊥) → IsLeft library
     → EndIs (AreJust settings) library end
 made_end settings count made library names end is same read tells quiet left =
     let asking : EndsAsking made (made_name ∷ []) read.load = subst (λ files. EndsAsking made files read.load) same read.asking in
@@ -144,30 +166,33 @@ made_end settings count made library names end is same read tells quiet left =
 
 -- where memory was wanting before the first name, nothing was asked for
 
-asks_nothing : (told : Option Files) (roots asked : List (List ℕ)) (misses : ℕ) → HasEnded told roots asked asked misses misses of_load.no_memory
-asks_nothing told roots asked misses = record {
-  seen = λ name. None;
+asks_nothing : (before : LibrarySeen) (roots : List (List ℕ)) → HasEnded before before roots of_load.no_memory
+asks_nothing before roots = record {
   names = [];
-  put = sym (append-nil asked);
-  answered = [];
+  put = sym (append-nil before.asked);
+  answers = [];
+  given = inl (sym (append-nil before.answers));
   answers_are = inl refl;
-  agrees = λ files tells name has. absurd (nothing_in name has);
+  as_told = λ files tells name has. absurd (nothing_in name has);
   missed = λ name has none. absurd (nothing_in name has);
   is = record {
-    waves = [];
-    are = λ n less. let none : ⊥ = omega (arith, less) in absurd none;
-    rest = [];
-    is = refl;
-    few = omega arith;
+    first = record {
+      waves = [];
+      are = λ n less. let none : ⊥ = omega (arith, less) in absurd none;
+      rest = [];
+      is = refl;
+      few = omega arith;
+    };
+    within = inl (record {
+      each = λ k d less. let none : ⊥ = omega (arith, less) in absurd none;
+      together = omega arith;
+    });
   };
 }
 
 reads_nothing : (make : Option ℕ) (names : List (List ℕ)) (library : Asking) → IsLeft library → EndsReading make names library of_load.no_memory
 reads_nothing None names library left = record {
-  ended =
-      subst (λ asked'. HasEnded library.told names library.asked asked' library.misses library.misses' of_load.no_memory) (sym left.same_asked)
-      (subst (λ misses'. HasEnded library.told names library.asked library.asked library.misses misses' of_load.no_memory) (sym left.same_misses)
-      (asks_nothing library.told names library.asked library.misses));
+  ended = subst (λ after. HasEnded library.0 after names of_load.no_memory) (sym left) (asks_nothing library.0 names);
   counted = tt;
 }
 reads_nothing (Some count) names library left = (left, inl refl)
@@ -175,13 +200,13 @@ reads_nothing (Some count) names library left = (left, inl refl)
 pub nothing_read : (wanted : Settings → Type 0) (library : Asking) → IsLeft library → EndIs wanted library no_memory
 nothing_read wanted library left = record {
   lawful = λ settings is. (of_load.no_memory, reads_nothing settings.make settings.files library left);
-  none = λ none. left.same_asked;
+  none = λ none. ap (λ (seen : LibrarySeen). seen.asked) left;
 }
 
 -- where nothing was loaded
 
 pub stop_end : (settings : Settings) (names : List (List ℕ)) (library : Asking) (stop : LoadStop)
-    → HasEnded library.told names library.asked library.asked' library.misses library.misses' (of_library.end_of_stop stop) → of_library.HasFailed library.faults library.faults' stop
+    → HasEnded library.0 library.1 names (of_library.end_of_stop stop) → of_library.HasFailed library.0.faults library.1.faults stop
     → IsReadEnd settings names library (end_of_stop (of_loading stop))
 stop_end settings names library (Faults list) ended failed = record { load = of_load.faults list.items; asking = record { ended = ended; counted = tt }; comes = inr refl }
 stop_end settings names library (ReadFault name) ended failed = record { load = of_load.unread name; asking = record { ended = ended; counted = failed }; comes = inr refl }
@@ -192,7 +217,7 @@ stop_end settings names library NoMemory ended failed = record { load = of_load.
 
 -- where files were loaded
 pub loaded_end : (settings : Settings) (names : List (List ℕ)) (library : Asking) (found : LoadedFiles) (end : End)
-    → HasEnded library.told names library.asked library.asked' library.misses library.misses' (loaded found) → IsLoadedEnd settings found end → IsReadEnd settings names library end
+    → HasEnded library.0 library.1 names (loaded found) → IsLoadedEnd settings found end → IsReadEnd settings names library end
 loaded_end settings names library found end ended comes = record { load = loaded found; asking = record { ended = ended; counted = tt }; comes = comes }
 
 -- whatever the end, memory may be wanting behind it
@@ -206,7 +231,7 @@ lawful_wanting wanted one library end is = record {
 
 pub wanting : (wanted : Settings → Type 0) → ((settings other : Settings) → wanted settings → wanted other → settings ≡ other) → (library : Asking) (end : End) → EndIs wanted library end
     → IsAsked wanted library
-wanting wanted one library usage is = record { lawful = λ settings lawful. absurd (is.0 settings lawful); none = λ none. is.1 }
+wanting wanted one library usage is = record { lawful = λ settings lawful. absurd (is.0 settings lawful); none = λ none. ap (λ (seen : LibrarySeen). seen.asked) is.1 }
 wanting wanted one library (faults found) is = lawful_wanting wanted one library (faults found) is
 wanting wanted one library (missing root) is = lawful_wanting wanted one library (missing root) is
 wanting wanted one library (unread name) is = lawful_wanting wanted one library (unread name) is
@@ -216,7 +241,7 @@ wanting wanted one library no_memory is = is
 
 -- a run that stops says why, or that there was no memory for that
 pub stop_run : (wanted : Settings → Type 0) → ((settings other : Settings) → wanted settings → wanted other → settings ≡ other) → (library : Asking) (out err : Taking) (result : ℕ) (stop : Stop)
-    → EndIs wanted library (end_of_stop stop) → SaidEnd (end_of_stop stop) result err.taken err.taken' err.faults err.faults' err.settled' → out.taken' ≡ out.taken
+    → EndIs wanted library (end_of_stop stop) → SaidEnd (end_of_stop stop) result err → out.1.taken ≡ out.0.taken
     → IsRun wanted library out err result
 stop_run wanted one library out err result of_stop.Usage cause said left = elim said [
   | inl own ↦ record { end = usage; cause = cause; written = (own, left) }
@@ -295,11 +320,11 @@ run_wanted wanted settings library out err result lawful only run = record {
 
 -- a run whose words have no options
 pub words_run : (words : List (List ℕ)) (library : Asking) (out err : Taking) (result : ℕ) (fault : WordFault) (stop : Stop) → stop ≡ of_words fault → IsLeft library
-    → (fault ≡ of_word.Usage → HasNoOptions (AreLawful words)) → SaidEnd (end_of_stop stop) result err.taken err.taken' err.faults err.faults' err.settled' → out.taken' ≡ out.taken
+    → (fault ≡ of_word.Usage → HasNoOptions (AreLawful words)) → SaidEnd (end_of_stop stop) result err → out.1.taken ≡ out.0.taken
     → IsRun (AreLawful words) library out err result
 words_run words library out err result fault stop is left none said kept =
     stop_run (AreLawful words) (one_settings words) library out err result stop (subst (λ s. EndIs (AreLawful words) library (end_of_stop s)) (sym is) (words_end fault none)) said kept
   where
     words_end : (fault : WordFault) → (fault ≡ of_word.Usage → HasNoOptions (AreLawful words)) → EndIs (AreLawful words) library (end_of_stop (of_words fault))
-    words_end of_word.Usage none = (none refl, left.same_asked)
+    words_end of_word.Usage none = (none refl, left)
     words_end of_word.NoMemory none = nothing_read (AreLawful words) library left

@@ -17,7 +17,7 @@ use Rattle.group_tool.specs.declared.sink.Put.TheVariants.{Took, Failed}
 use Rattle.group_tool.specs.declared.sink.Flushed.TheVariants.{Done}
 use Rattle.group_tool.specs.declared.stop.Limit.TheVariants.{FileTooLarge}
 use Rattle.group_tool.specs.Say.{SaidIs, TookPart}
-use Rattle.group_tool.specs.Sink.{PutIs, FlushIs}
+use Rattle.group_tool.specs.Sink.{sink_seen, PutIs, FlushIs}
 use Rattle.group_tool.specs.Lines.{fault_line, fault_lines, limit_line, missing_line}
 use Rattle.group_tool.specs.Answer.{ComesTo, IsAnswer}
 use Rattle.group_tool.specs.End.{unread}
@@ -143,38 +143,38 @@ missing_root_line = refl
 
 -- a sink takes some of the bytes, from the first on; never none, and no more than there are
 
-took_two : PutIs (codes "abc") (Some (codes "x")) (Some (codes "xab")) 0 0 true false (Took 2)
+took_two : PutIs (codes "abc") (sink_seen (Some (codes "x")) 0 true) (sink_seen (Some (codes "xab")) 0 false) (Took 2)
 took_two = (omega arith, omega arith, refl, refl)
 
-took_none : PutIs (codes "abc") (Some []) (Some []) 0 0 true false (Took 0) → ⊥
+took_none : PutIs (codes "abc") (sink_seen (Some []) 0 true) (sink_seen (Some []) 0 false) (Took 0) → ⊥
 took_none is = omega (arith, is.0)
 
-took_too_many : PutIs (codes "a") (Some []) (Some (codes "a")) 0 0 true false (Took 2) → ⊥
+took_too_many : PutIs (codes "a") (sink_seen (Some []) 0 true) (sink_seen (Some (codes "a")) 0 false) (Took 2) → ⊥
 took_too_many is = omega (arith, is.1)
 
-failed_uncounted : PutIs (codes "a") None None 3 3 true true Failed → ⊥
+failed_uncounted : PutIs (codes "a") (sink_seen None 3 true) (sink_seen None 3 true) Failed → ⊥
 failed_uncounted is = elim is.2 [ inl rose ↦ omega (arith, rose) | inr end ↦ omega (arith, end) ]
 
-flushed : FlushIs (Some []) (Some []) 0 0 false true Done
+flushed : FlushIs (sink_seen (Some []) 0 false) (sink_seen (Some []) 0 true) Done
 flushed = (refl, refl)
 
-not_settled : FlushIs (Some []) (Some []) 0 0 false false Done → ⊥
+not_settled : FlushIs (sink_seen (Some []) 0 false) (sink_seen (Some []) 0 false) Done → ⊥
 not_settled is = let both : false ≡ true = is.1 in cc
 
 -- all of the bytes were said, or a part of them and a fault was counted
 
-said_all : SaidIs (codes "ab") (Some []) (Some (codes "ab")) 0 0 true true
+said_all : SaidIs (codes "ab") (sink_seen (Some []) 0 true) (sink_seen (Some (codes "ab")) 0 true) true
 said_all = record { is = refl; is_settled = refl }
 
-said_part : SaidIs (codes "ab") (Some []) (Some (codes "a")) 0 1 false false
+said_part : SaidIs (codes "ab") (sink_seen (Some []) 0 true) (sink_seen (Some (codes "a")) 1 false) false
 said_part = record { count = 1; is = refl; rose = inl (omega arith) }
 
 abbrev held : Option (List ℕ) → ℕ
 held (Some bytes) = length bytes
 held None = 0
 
-part_for_all : SaidIs (codes "ab") (Some []) (Some (codes "a")) 0 0 true true → ⊥
+part_for_all : SaidIs (codes "ab") (sink_seen (Some []) 0 true) (sink_seen (Some (codes "a")) 0 true) true → ⊥
 part_for_all is = omega (arith, ap held is.is)
 
-other_bytes : TookPart (codes "ab") (Some []) (Some (codes "abc")) 0 1 → ⊥
+other_bytes : TookPart (codes "ab") (sink_seen (Some []) 0 true) (sink_seen (Some (codes "abc")) 1 false) → ⊥
 other_bytes is = omega (arith, ap held is.is, length-take is.count (codes "ab"))

@@ -10,11 +10,10 @@ use Rattle.std.proofs.Math.Seq.{get_or-append_seam}
 use Rattle.list_laws.proofs.OneOrder.{IsStrict, same_order, less_strict, holds_of}
 use Rattle.graph_law.proofs.Increasing.{increasing_far}
 use Rattle.file_library.specs.declared.fault.Fault.{Fault}
-use Rattle.file_library.specs.Loaded.{LoadedFiles}
+use Rattle.file_library.specs.Loaded.{LoadedFiles, WasLoaded}
 use Rattle.group_release.specs.declared.level.Level.{Level}
 use Rattle.import_rules.specs.declared.names.PredName.{PredName}
 use Rattle.import_rules.specs.Flaws.{IsFaultOf}
-use Rattle.import_rules.specs.Loaded.{WasLoaded}
 use Rattle.import_rules.specs.Program.{Seen, IsProgram, HasPredicates, most_predicates}
 use Rattle.import_rules.proofs.OneFlaws.{one_list_of_flaws, one_list_of_import_faults}
 use Rattle.import_rules.proofs.OneProgram.{one_program, few_or_many}

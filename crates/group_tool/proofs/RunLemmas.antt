@@ -1,17 +1,17 @@
 -- What the ways in which a run ends say.
 use Rattle.std.proofs.Common.{◌≡◌, ◌≢◌, ℕ, ◌⊎◌, List, [], ◌∷◌, ◌++◌, Option, Some, None, true, ap, sym, subst, ◌∙◌, refl, inl, inr, append-nil, append_assoc, arith}
 use Rattle.file_library.specs.Counts.{Rose}
-use Rattle.file_library.specs.Library.{Files}
+use Rattle.file_library.specs.Library.{Files, map_of, LibrarySeen}
 use Rattle.file_library.specs.Asking.{LoadEnd, loaded, too_many, too_large, too_much, HasEnded, IsDecided}
 use Rattle.file_library.specs.Asking as of_load
 use Rattle.group_words.specs.Settings.{Settings}
 use Rattle.group_tool.specs.Wanted.{AskForNone, HasNoOptions}
-use Rattle.group_tool.specs.Answer.{ComesTo, IsAnswer}
+use Rattle.group_tool.specs.Answer.{ComesTo, IsLawfulAnswer, IsAnswer}
 use Rattle.group_tool.specs.End.{End, usage, faults, missing, unread, limit, report, no_memory, status_of, out_of, err_of}
 use Rattle.group_tool.specs.Say.{TookAll, TookPart}
 use Rattle.group_tool.specs.Sink.{more_taken}
-use Rattle.group_tool.specs.Run.{Asking, EndsAsking, EndsReading, IsLawfulEnd, EndIs, EndsBy, CutBy, Taking, IsRun, IsWritten, SaysAnswer, SaysNoMemory, IsUnread, HasReported, HasUsage, HasNoRoot, HasFaults, HasPassed, HasUnread, IsCutOff, IsSettled}
-use Rattle.group_tool.proofs.EndLemmas.{lawful_left}
+use Rattle.group_tool.specs.Run.{Asking, EndsAsking, EndsReading, IsLawfulEnd, EndIs, EndsBy, CutBy, Taking, IsRun, IsWritten, SaysAnswer, SaysHandedOver, SaysNoMemory, IsUnread, HasReported, HasUsage, HasNoRoot, HasFaults, HasPassed, HasUnread, IsCutOff, IsSettled}
+use Rattle.group_tool.proofs.EndLemmas.{lawful_left, reads_handed}
 
 pub more_none : (taken : Option (List ℕ)) → more_taken taken [] ≡ taken
 more_none None = refl
@@ -20,24 +20,24 @@ more_none (Some before) = ap Some (append-nil before)
 -- what both sinks have taken where the run was not cut off
 pub record IsSaid (result : ℕ) (out err : Taking) (end : End) : Type 0 where
   pub status : result ≡ status_of end
-  pub on_out : out.taken' ≡ more_taken out.taken (out_of end)
-  pub on_err : err.taken' ≡ more_taken err.taken (err_of end)
+  pub on_out : out.1.taken ≡ more_taken out.0.taken (out_of end)
+  pub on_err : err.1.taken ≡ more_taken err.0.taken (err_of end)
 
 -- a sink took all bytes, or a part of them, and the other took nothing
 pub record TookWhole (bytes : List ℕ) (status result : ℕ) (sink other : Taking) : Type 0 where
   pub is_status : result ≡ status
-  pub all : TookAll bytes sink.taken sink.taken' sink.settled'
-  pub nothing : other.taken' ≡ more_taken other.taken []
+  pub all : TookAll bytes sink.0 sink.1
+  pub nothing : other.1.taken ≡ more_taken other.0.taken []
 
 pub record TookSome (bytes : List ℕ) (result : ℕ) (sink other : Taking) : Type 0 where
   pub is_five : result ≡ 5
-  pub part : TookPart bytes sink.taken sink.taken' sink.faults sink.faults'
-  pub nothing : other.taken' ≡ other.taken
+  pub part : TookPart bytes sink.0 sink.1
+  pub nothing : other.1.taken ≡ other.0.taken
 
 whole_or_some : (bytes : List ℕ) (status result : ℕ) (sink other : Taking) → IsWritten bytes status result sink other
     → TookWhole bytes status result sink other ⊎ TookSome bytes result sink other
 whole_or_some bytes status result sink other written = elim written.0 [
-  | inl all ↦ inl (record { is_status = all.0; all = all.1; nothing = written.1 ∙ sym (more_none other.taken) })
+  | inl all ↦ inl (record { is_status = all.0; all = all.1; nothing = written.1 ∙ sym (more_none other.0.taken) })
   | inr part ↦ inr (record { is_five = part.0; part = part.1; nothing = written.1 })
 ]
 
@@ -47,7 +47,7 @@ lines_said result out err end none written = elim (whole_or_some (err_of end) (s
   | inl whole ↦
       inl (record {
         status = whole.is_status;
-        on_out = subst (λ bytes. out.taken' ≡ more_taken out.taken bytes) (sym none) whole.nothing;
+        on_out = subst (λ bytes. out.1.taken ≡ more_taken out.0.taken bytes) (sym none) whole.nothing;
         on_err = whole.all.is;
       })
   | inr part ↦ inr part
@@ -55,7 +55,7 @@ lines_said result out err end none written = elim (whole_or_some (err_of end) (s
 
 -- a run is said, or cut off
 said_or_cut : (result : ℕ) (out err : Taking) (end : End) → EndsBy result out err end
-    → IsSaid result out err end ⊎ ((result ≡ 5) × CutBy out err end × (Rose err.faults err.faults' ⊎ Rose out.faults out.faults'))
+    → IsSaid result out err end ⊎ ((result ≡ 5) × CutBy out err end × (Rose err.0.faults err.1.faults ⊎ Rose out.0.faults out.1.faults))
 said_or_cut result out err usage written = elim (lines_said result out err usage refl written) [
   | inl said ↦ inl said
   | inr part ↦ inr (part.is_five, (part.part, part.nothing), inl part.part.rose)
@@ -120,7 +120,7 @@ asked_unread None names library name reading = reading
 asked_unread (Some count) names library name reading = elim reading.1 [ inl none ↦ absurd (subst IsUnreadEnd none tt) | inr made ↦ absurd made.decided ]
 
 -- a name that could not be read is the last one, and that was counted
-unread_last : (wanted : Settings → Type 0) (library : Asking) (name : List ℕ) → IsLawfulEnd wanted library (unread name) → IsUnread wanted library.asked' library.faults library.faults' name
+unread_last : (wanted : Settings → Type 0) (library : Asking) (name : List ℕ) → IsLawfulEnd wanted library (unread name) → IsUnread wanted library name
 unread_last wanted library name is =
     let reading : EndsReading is.settings.make is.settings.files library (of_load.unread name) =
     subst (λ load. EndsReading is.settings.make is.settings.files library load) (unread_load is.settings is.load name is.comes) is.reading in
@@ -128,16 +128,16 @@ unread_last wanted library name is =
     record {
       settings = is.settings;
       lawful = is.lawful;
-      before = library.asked ++ asking.ended.is.before;
+      before = library.0.asked ++ asking.ended.is.before;
       last =
           asking.ended.put
-          ∙ (ap (λ names. library.asked ++ names) asking.ended.is.is ∙ sym (append_assoc library.asked asking.ended.is.before (name ∷ [])));
+          ∙ (ap (λ names. library.0.asked ++ names) asking.ended.is.is ∙ sym (append_assoc library.0.asked asking.ended.is.before (name ∷ [])));
       rose = asking.counted;
     }
 
 module _ (wanted : Settings → Type 0) (library : Asking) where
   -- over the library's map the end is the answer
-  right : (files : Files) → library.told ≡ Some files → (Rose library.faults library.faults' → ⊥) → (end : End) → end ≢ no_memory → EndIs wanted library end → IsAnswer wanted files end
+  right : (files : Files) → library.0.told ≡ Some files → (Rose library.0.faults library.1.faults → ⊥) → (end : End) → end ≢ no_memory → EndIs wanted library end → IsAnswer wanted files end
   right files tells quiet usage some cause = cause.0
   right files tells quiet (faults found) some cause =
       cause.told_too files tells (comes_decided cause.settings cause.load (faults found) cause.comes (λ name e. cc) (λ e. cc))
@@ -160,8 +160,8 @@ module _ (wanted : Settings → Type 0) (library : Asking) where
   wanting_or no_memory = inl refl
 
   module _ (out err : Taking) (result : ℕ) (run : IsRun wanted library out err result) where
-    pub answered : (files : Files) → library.told ≡ Some files → (Rose library.faults library.faults' → ⊥) → (Rose out.faults out.faults' → ⊥) → (Rose err.faults err.faults' → ⊥)
-        → SaysAnswer wanted files out.taken err.taken out.taken' err.taken' result ⊎ SaysNoMemory out.taken err.taken out.taken' err.taken' result
+    pub answered : (files : Files) → library.0.told ≡ Some files → (Rose library.0.faults library.1.faults → ⊥) → (Rose out.0.faults out.1.faults → ⊥) → (Rose err.0.faults err.1.faults → ⊥)
+        → SaysAnswer wanted files out err result ⊎ SaysNoMemory out err result
     answered files tells read_quiet out_quiet err_quiet = elim (said_or_cut result out err run.end run.written) [
       | inl said ↦
           elim (wanting_or run.end) [
@@ -178,97 +178,143 @@ module _ (wanted : Settings → Type 0) (library : Asking) where
       | inr cut ↦ elim cut.2 [ inl rose ↦ absurd (err_quiet rose) | inr rose ↦ absurd (out_quiet rose) ]
     ]
       where
-        no_memory_of : IsSaid result out err no_memory → SaysNoMemory out.taken err.taken out.taken' err.taken' result
-        no_memory_of said = record { status = said.status; on_out = said.on_out ∙ more_none out.taken; on_err = said.on_err }
+        no_memory_of : IsSaid result out err no_memory → SaysNoMemory out err result
+        no_memory_of said = record { status = said.status; on_out = said.on_out ∙ more_none out.0.taken; on_err = said.on_err }
 
     -- no status but its own
 
     apart : {X : Type 0} (m n : ℕ) → result ≡ m → result ≡ n → (m ≡ n → ⊥) → X
     apart {X} m n here there differ = absurd (differ (sym here ∙ there))
 
+    -- what was said is the answer over the files that were handed over
+
+    handed_lawful : (end : End) (cause : IsLawfulEnd wanted library end) → IsDecided cause.load → ((files : Files) → IsLawfulAnswer wanted files end → IsAnswer wanted files end)
+        → IsSaid result out err end → SaysHandedOver wanted library out err result
+    handed_lawful end cause decided is_answer said =
+        let handed = reads_handed cause.settings.make cause.settings.files library cause.load cause.reading decided in
+        record {
+          answers = handed.0;
+          given = handed.1.0;
+          says = record {
+            answer = end;
+            is_right = is_answer (map_of handed.0) (record {
+              settings = cause.settings;
+              lawful = cause.lawful;
+              asked = handed.1.1.0;
+              load = cause.load;
+              decided = decided;
+              ends = handed.1.1.1;
+              comes = cause.comes;
+            });
+            status = said.status;
+            on_out = said.on_out;
+            on_err = said.on_err;
+          };
+        }
+
+    handed_by : result ≢ 4 → result ≢ 7 → (end : End) → EndIs wanted library end → IsSaid result out err end → SaysHandedOver wanted library out err result
+    handed_by read memory usage cause said = record {
+      answers = [];
+      given = ap (λ (seen : LibrarySeen). seen.answers) cause.1 ∙ sym (append-nil library.0.answers);
+      says = record { answer = usage; is_right = cause.0; status = said.status; on_out = said.on_out; on_err = said.on_err };
+    }
+    handed_by read memory (faults found) cause said =
+        handed_lawful (faults found) cause (comes_decided cause.settings cause.load (faults found) cause.comes (λ name e. cc) (λ e. cc)) (λ files is. is) said
+    handed_by read memory (missing root) cause said =
+        handed_lawful (missing root) cause (comes_decided cause.settings cause.load (missing root) cause.comes (λ name e. cc) (λ e. cc)) (λ files is. is) said
+    handed_by read memory (unread name) cause said = absurd (read said.status)
+    handed_by read memory (limit passed) cause said =
+        handed_lawful (limit passed) cause (comes_decided cause.settings cause.load (limit passed) cause.comes (λ name e. cc) (λ e. cc)) (λ files is. is) said
+    handed_by read memory (report bytes) cause said =
+        handed_lawful (report bytes) cause (comes_decided cause.settings cause.load (report bytes) cause.comes (λ name e. cc) (λ e. cc)) (λ files is. is) said
+    handed_by read memory no_memory cause said = absurd (memory said.status)
+
+    pub handed_over : result ≢ 4 → result ≢ 5 → result ≢ 7 → SaysHandedOver wanted library out err result
+    handed_over read sink memory = handed_by read memory run.end run.cause (is_said result out err run.end run.written sink)
+
     reported_by : result ≡ 0 → (end : End) → EndIs wanted library end → IsSaid result out err end
-        → HasReported wanted library.told out.taken err.taken out.taken' err.taken'
+        → HasReported wanted library out err
     reported_by is usage cause said = apart 0 2 is said.status (λ e. omega (arith, e))
     reported_by is (faults found) cause said = apart 0 3 is said.status (λ e. omega (arith, e))
     reported_by is (missing root) cause said = apart 0 2 is said.status (λ e. omega (arith, e))
     reported_by is (unread name) cause said = apart 0 4 is said.status (λ e. omega (arith, e))
     reported_by is (limit passed) cause said = apart 0 6 is said.status (λ e. omega (arith, e))
-    reported_by is (report bytes) cause said = record { bytes = bytes; library = library; cause = cause; on_out = said.on_out; on_err = said.on_err ∙ more_none err.taken }
+    reported_by is (report bytes) cause said = record { bytes = bytes; cause = cause; on_out = said.on_out; on_err = said.on_err ∙ more_none err.0.taken }
     reported_by is no_memory cause said = apart 0 7 is said.status (λ e. omega (arith, e))
 
-    pub reported : result ≡ 0 → HasReported wanted library.told out.taken err.taken out.taken' err.taken'
+    pub reported : result ≡ 0 → HasReported wanted library out err
     reported is = reported_by is run.end run.cause (is_said result out err run.end run.written (λ five. let both : 0 ≡ 5 = sym is ∙ five in omega (arith, both)))
 
     refused_by : result ≡ 2 → (end : End) → EndIs wanted library end → IsSaid result out err end
-        → (HasUsage wanted err.taken err.taken' ⊎ HasNoRoot wanted library.told library.misses library.misses' err.taken err.taken') × (out.taken' ≡ out.taken)
-    refused_by is usage cause said = (inl (record { none = cause.0; on_err = said.on_err }), said.on_out ∙ more_none out.taken)
+        → (HasUsage wanted err ⊎ HasNoRoot wanted library err) × (out.1.taken ≡ out.0.taken)
+    refused_by is usage cause said = (inl (record { none = cause.0; on_err = said.on_err }), said.on_out ∙ more_none out.0.taken)
     refused_by is (faults found) cause said = apart 2 3 is said.status (λ e. omega (arith, e))
-    refused_by is (missing root) cause said = (inr (record { root = root; library = library; cause = cause; on_err = said.on_err }), said.on_out ∙ more_none out.taken)
+    refused_by is (missing root) cause said = (inr (record { root = root; cause = cause; on_err = said.on_err }), said.on_out ∙ more_none out.0.taken)
     refused_by is (unread name) cause said = apart 2 4 is said.status (λ e. omega (arith, e))
     refused_by is (limit passed) cause said = apart 2 6 is said.status (λ e. omega (arith, e))
     refused_by is (report bytes) cause said = apart 2 0 is said.status (λ e. omega (arith, e))
     refused_by is no_memory cause said = apart 2 7 is said.status (λ e. omega (arith, e))
 
-    pub refused : result ≡ 2 → (HasUsage wanted err.taken err.taken' ⊎ HasNoRoot wanted library.told library.misses library.misses' err.taken err.taken') × (out.taken' ≡ out.taken)
+    pub refused : result ≡ 2 → (HasUsage wanted err ⊎ HasNoRoot wanted library err) × (out.1.taken ≡ out.0.taken)
     refused is = refused_by is run.end run.cause (is_said result out err run.end run.written (λ five. let both : 2 ≡ 5 = sym is ∙ five in omega (arith, both)))
 
     -- where settings are wanted, it is a root that is missing
     pub refused_lawful : (settings : Settings) → wanted settings → result ≡ 2
-        → HasNoRoot wanted library.told library.misses library.misses' err.taken err.taken' × (out.taken' ≡ out.taken)
+        → HasNoRoot wanted library err × (out.1.taken ≡ out.0.taken)
     refused_lawful settings lawful is =
         let both = refused is in
         elim both.0 [ inl none ↦ absurd (none.none settings lawful) | inr missing_too ↦ (missing_too, both.1) ]
 
     faults_by : result ≡ 3 → (end : End) → EndIs wanted library end → IsSaid result out err end
-        → HasFaults wanted library.told library.misses library.misses' err.taken err.taken' × (out.taken' ≡ out.taken)
+        → HasFaults wanted library err × (out.1.taken ≡ out.0.taken)
     faults_by is usage cause said = apart 3 2 is said.status (λ e. omega (arith, e))
-    faults_by is (faults found) cause said = (record { found = found; library = library; cause = cause; on_err = said.on_err }, said.on_out ∙ more_none out.taken)
+    faults_by is (faults found) cause said = (record { found = found; cause = cause; on_err = said.on_err }, said.on_out ∙ more_none out.0.taken)
     faults_by is (missing root) cause said = apart 3 2 is said.status (λ e. omega (arith, e))
     faults_by is (unread name) cause said = apart 3 4 is said.status (λ e. omega (arith, e))
     faults_by is (limit passed) cause said = apart 3 6 is said.status (λ e. omega (arith, e))
     faults_by is (report bytes) cause said = apart 3 0 is said.status (λ e. omega (arith, e))
     faults_by is no_memory cause said = apart 3 7 is said.status (λ e. omega (arith, e))
 
-    pub faults_said : result ≡ 3 → HasFaults wanted library.told library.misses library.misses' err.taken err.taken' × (out.taken' ≡ out.taken)
+    pub faults_said : result ≡ 3 → HasFaults wanted library err × (out.1.taken ≡ out.0.taken)
     faults_said is = faults_by is run.end run.cause (is_said result out err run.end run.written (λ five. let both : 3 ≡ 5 = sym is ∙ five in omega (arith, both)))
 
     unread_by : result ≡ 4 → (end : End) → EndIs wanted library end → IsSaid result out err end
-        → HasUnread wanted library.asked' library.faults library.faults' err.taken err.taken' × (out.taken' ≡ out.taken)
+        → HasUnread wanted library err × (out.1.taken ≡ out.0.taken)
     unread_by is usage cause said = apart 4 2 is said.status (λ e. omega (arith, e))
     unread_by is (faults found) cause said = apart 4 3 is said.status (λ e. omega (arith, e))
     unread_by is (missing root) cause said = apart 4 2 is said.status (λ e. omega (arith, e))
-    unread_by is (unread name) cause said = (record { name = name; cause = unread_last wanted library name cause; on_err = said.on_err }, said.on_out ∙ more_none out.taken)
+    unread_by is (unread name) cause said = (record { name = name; cause = unread_last wanted library name cause; on_err = said.on_err }, said.on_out ∙ more_none out.0.taken)
     unread_by is (limit passed) cause said = apart 4 6 is said.status (λ e. omega (arith, e))
     unread_by is (report bytes) cause said = apart 4 0 is said.status (λ e. omega (arith, e))
     unread_by is no_memory cause said = apart 4 7 is said.status (λ e. omega (arith, e))
 
-    pub unread_said : result ≡ 4 → HasUnread wanted library.asked' library.faults library.faults' err.taken err.taken' × (out.taken' ≡ out.taken)
+    pub unread_said : result ≡ 4 → HasUnread wanted library err × (out.1.taken ≡ out.0.taken)
     unread_said is = unread_by is run.end run.cause (is_said result out err run.end run.written (λ five. let both : 4 ≡ 5 = sym is ∙ five in omega (arith, both)))
 
     passed_by : result ≡ 6 → (end : End) → EndIs wanted library end → IsSaid result out err end
-        → HasPassed wanted library err.taken err.taken' × (out.taken' ≡ out.taken)
+        → HasPassed wanted library err × (out.1.taken ≡ out.0.taken)
     passed_by is usage cause said = apart 6 2 is said.status (λ e. omega (arith, e))
     passed_by is (faults found) cause said = apart 6 3 is said.status (λ e. omega (arith, e))
     passed_by is (missing root) cause said = apart 6 2 is said.status (λ e. omega (arith, e))
     passed_by is (unread name) cause said = apart 6 4 is said.status (λ e. omega (arith, e))
-    passed_by is (limit passed) cause said = (record { passed = passed; cause = cause; on_err = said.on_err }, said.on_out ∙ more_none out.taken)
+    passed_by is (limit passed) cause said = (record { passed = passed; cause = cause; on_err = said.on_err }, said.on_out ∙ more_none out.0.taken)
     passed_by is (report bytes) cause said = apart 6 0 is said.status (λ e. omega (arith, e))
     passed_by is no_memory cause said = apart 6 7 is said.status (λ e. omega (arith, e))
 
-    pub passed_said : result ≡ 6 → HasPassed wanted library err.taken err.taken' × (out.taken' ≡ out.taken)
+    pub passed_said : result ≡ 6 → HasPassed wanted library err × (out.1.taken ≡ out.0.taken)
     passed_said is = passed_by is run.end run.cause (is_said result out err run.end run.written (λ five. let both : 6 ≡ 5 = sym is ∙ five in omega (arith, both)))
 
     wanting_by : result ≡ 7 → (end : End) → EndIs wanted library end → IsSaid result out err end
-        → SaysNoMemory out.taken err.taken out.taken' err.taken' result
+        → SaysNoMemory out err result
     wanting_by is usage cause said = apart 7 2 is said.status (λ e. omega (arith, e))
     wanting_by is (faults found) cause said = apart 7 3 is said.status (λ e. omega (arith, e))
     wanting_by is (missing root) cause said = apart 7 2 is said.status (λ e. omega (arith, e))
     wanting_by is (unread name) cause said = apart 7 4 is said.status (λ e. omega (arith, e))
     wanting_by is (limit passed) cause said = apart 7 6 is said.status (λ e. omega (arith, e))
     wanting_by is (report bytes) cause said = apart 7 0 is said.status (λ e. omega (arith, e))
-    wanting_by is no_memory cause said = record { status = said.status; on_out = said.on_out ∙ more_none out.taken; on_err = said.on_err }
+    wanting_by is no_memory cause said = record { status = said.status; on_out = said.on_out ∙ more_none out.0.taken; on_err = said.on_err }
 
-    pub wanting_said : result ≡ 7 → SaysNoMemory out.taken err.taken out.taken' err.taken' result
+    pub wanting_said : result ≡ 7 → SaysNoMemory out err result
     wanting_said is = wanting_by is run.end run.cause (is_said result out err run.end run.written (λ five. let both : 7 ≡ 5 = sym is ∙ five in omega (arith, both)))
 
     -- each run has one of the statuses
@@ -289,10 +335,10 @@ module _ (wanted : Settings → Type 0) (library : Asking) where
     statuses = elim (said_or_cut result out err run.end run.written) [ inl said ↦ status_said run.end said.status | inr cut ↦ inr (inr (inr (inr (inl cut.0)))) ]
 
     -- where the status is that of a sink that failed, the run was cut off
-    pub cut_off : result ≡ 5 → IsCutOff wanted library.told library.asked' library.faults library.faults' library.misses library.misses' out err
+    pub cut_off : result ≡ 5 → IsCutOff wanted library out err
     cut_off is = elim (said_or_cut result out err run.end run.written) [
       | inl said ↦ absurd (never_five run.end (sym said.status ∙ is))
-      | inr cut ↦ record { end = run.end; asked = library.asked; cause = run.cause; cut = cut.1 }
+      | inr cut ↦ record { end = run.end; cause = run.cause; cut = cut.1 }
     ]
       where
         never_five : (end : End) → status_of end ≡ 5 → ⊥
@@ -323,16 +369,16 @@ module _ (wanted : Settings → Type 0) (library : Asking) where
 
     -- the sink of the bytes is settled
 
-    settled_all : (bytes : List ℕ) (status : ℕ) (sink other : Taking) → IsWritten bytes status result sink other → result ≢ 5 → (result ≡ status) × (sink.settled' ≡ true)
+    settled_all : (bytes : List ℕ) (status : ℕ) (sink other : Taking) → IsWritten bytes status result sink other → result ≢ 5 → (result ≡ status) × (sink.1.settled ≡ true)
     settled_all bytes status sink other written whole = elim (whole_or_some bytes status result sink other written) [
       | inl all ↦ (all.is_status, all.all.is_settled)
       | inr part ↦ absurd (whole part.is_five)
     ]
 
-    settled_err : (bytes : List ℕ) (status : ℕ) → (status ≡ 0 → ⊥) → IsWritten bytes status result err out → result ≢ 5 → IsSettled result out.settled' err.settled'
+    settled_err : (bytes : List ℕ) (status : ℕ) → (status ≡ 0 → ⊥) → IsWritten bytes status result err out → result ≢ 5 → IsSettled result out.1 err.1
     settled_err bytes status some written whole = let all = settled_all bytes status err out written whole in inr ((λ zero. some (sym all.0 ∙ zero)), all.1)
 
-    settled_by : (end : End) → EndsBy result out err end → result ≢ 5 → IsSettled result out.settled' err.settled'
+    settled_by : (end : End) → EndsBy result out err end → result ≢ 5 → IsSettled result out.1 err.1
     settled_by usage written whole = settled_err (err_of usage) 2 (λ e. omega (arith, e)) written whole
     settled_by (faults found) written whole = settled_err (err_of (faults found)) 3 (λ e. omega (arith, e)) written whole
     settled_by (missing root) written whole = settled_err (err_of (missing root)) 2 (λ e. omega (arith, e)) written whole
@@ -341,15 +387,15 @@ module _ (wanted : Settings → Type 0) (library : Asking) where
     settled_by (report bytes) written whole = inl (settled_all bytes 0 out err written whole)
     settled_by no_memory written whole = settled_err (err_of no_memory) 7 (λ e. omega (arith, e)) written whole
 
-    pub settled : result ≢ 5 → IsSettled result out.settled' err.settled'
+    pub settled : result ≢ 5 → IsSettled result out.1 err.1
     settled whole = settled_by run.end run.written whole
 
     -- where no library is asked, its names are as before
-    pub unasked : AskForNone wanted → library.asked' ≡ library.asked
+    pub unasked : AskForNone wanted → library.1.asked ≡ library.0.asked
     unasked none = asked_none run.end run.cause
       where
-        asked_none : (end : End) → EndIs wanted library end → library.asked' ≡ library.asked
-        asked_none usage cause = cause.1
+        asked_none : (end : End) → EndIs wanted library end → library.1.asked ≡ library.0.asked
+        asked_none usage cause = ap (λ (seen : LibrarySeen). seen.asked) cause.1
         asked_none (faults found) cause = lawful_left wanted library (faults found) none cause
         asked_none (missing root) cause = lawful_left wanted library (missing root) none cause
         asked_none (unread name) cause = lawful_left wanted library (unread name) none cause

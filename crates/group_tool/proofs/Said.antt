@@ -4,7 +4,7 @@ use Rattle.std.proofs.lemmas.Bool.{cases_lt}
 use Rattle.file_library.specs.Counts.{Rose}
 use Rattle.std.proofs.Math.Seq.{take-add}
 use Rattle.std.proofs.lemmas.List.{take-append-drop, take-append-le, take_all}
-use Rattle.group_tool.specs.Sink.{more_taken}
+use Rattle.group_tool.specs.Sink.{SinkSeen, more_taken}
 use Rattle.group_tool.specs.Say.{TookPart}
 
 -- the first bytes of a piece that begins at a place go on from there
@@ -30,10 +30,10 @@ pub rose_before : (a b c : ℕ) → b ≤ c → Rose a b → Rose a c
 rose_before a b c after rose = elim rose [ inl up ↦ inl (omega arith) | inr end ↦ inr end ]
 
 -- a sink that took all of the bytes and failed to be flushed took the first of them, as many as there are
-pub taken_unflushed : (bytes : List ℕ) (taken taken' taken'' : Option (List ℕ)) (f f' f'' : ℕ) → taken' ≡ more_taken taken bytes → f ≤ f' → f' ≤ f''
-    → (taken'' ≡ taken') × (Rose f' f'') → TookPart bytes taken taken'' f f''
-taken_unflushed bytes taken taken' taken'' f f' f'' all before after failed = record {
+pub taken_unflushed : (bytes : List ℕ) (before mid after : SinkSeen) → mid.taken ≡ more_taken before.taken bytes → before.faults ≤ mid.faults → mid.faults ≤ after.faults
+    → (after.taken ≡ mid.taken) × (Rose mid.faults after.faults) → TookPart bytes before after
+taken_unflushed bytes before mid after all first second failed = record {
   count = length bytes;
-  is = failed.0 ∙ (all ∙ ap (more_taken taken) (sym (take_all (length bytes) bytes (omega arith))));
-  rose = rose_after f f' f'' before after failed.1;
+  is = failed.0 ∙ (all ∙ ap (more_taken before.taken) (sym (take_all (length bytes) bytes (omega arith))));
+  rose = rose_after before.faults mid.faults after.faults first second failed.1;
 }

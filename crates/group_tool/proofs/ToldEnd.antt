@@ -6,7 +6,7 @@ use Rattle.std.proofs.lemmas.List.Sums.{sum_by-cons}
 use Rattle.std.proofs.Math.Seq.{get_or-append_seam}
 use Rattle.list_laws.proofs.OneOrder.{holds_of, in_first, in_rest, first_or_rest, nothing_in}
 use Rattle.file_library.specs.declared.fault.Fault.{Fault}
-use Rattle.file_library.specs.Library.{Files}
+use Rattle.file_library.specs.Library.{Files, LibrarySeen, names_of, map_of}
 use Rattle.file_library.specs.Asked.{IsWave, wave_at, AreFirstWaves, AreWaves, names_in}
 use Rattle.file_library.specs.FileLoads.{FileLoads}
 use Rattle.file_library.specs.Loaded.{IsAskedIn, NamedText, LoadedFiles, size_of, AreWithin, IsLoaded, IsLoadFault, AreLoadFaults, most_bytes}
@@ -257,8 +257,8 @@ answered_all names answered (too_large name) decided is = is
 answered_all names answered too_much decided is = is
 answered_all names answered no_memory decided is = absurd decided
 
-pub told_end : (told : Option Files) (roots before now : Names) (misses misses' : ℕ) (load : LoadEnd) (ended : HasEnded told roots before now misses misses' load) (files : Files) → told ≡ Some files
+pub told_end : (before after : LibrarySeen) (roots : Names) (load : LoadEnd) (ended : HasEnded before after roots load) (files : Files) → before.told ≡ Some files
     → IsDecided load → LoadEndIs files roots ended.names load
-told_end told roots before now misses misses' load ended files tells decided =
-    end_too ended.seen files roots ended.names load decided
-    (λ name has. ended.agrees files tells name (subst (λ ns. Contains ns name) (answered_all ended.names ended.answered load decided ended.answers_are) has)) ended.is
+told_end before after roots load ended files tells decided =
+    end_too (map_of ended.answers) files roots ended.names load decided
+    (λ name has. ended.as_told files tells name (subst (λ ns. Contains ns name) (answered_all ended.names (names_of ended.answers) load decided ended.answers_are) has)) ended.is

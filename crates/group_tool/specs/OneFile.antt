@@ -7,4 +7,5 @@ pub record IsNewFile (name text : List ℕ) (library : OneFile) : Type 0 where
   pub named : library.name ≡ name
   pub holds : library.text.items ≡ text
   pub none_asked : library.asked.items ≡ []
+  pub none_answered : library.notes.items ≡ []
   pub no_misses : library.misses ≡ 0

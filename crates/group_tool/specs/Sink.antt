@@ -10,13 +10,21 @@ use Rattle.group_tool.specs.declared.sink.Flushed.TheVariants.{Done, Failed as f
 abbrev pub more_taken : Option (List ℕ) → List ℕ → Option (List ℕ)
 more_taken taken bytes = option_map (λ before. before ++ bytes) taken
 
+-- what is seen of a sink: the bytes that it has taken, where it tells them, its count of faults, and whether nothing was put since the last flush that was done
+pub record SinkSeen : Type 0 where
+  pub taken : Option (List ℕ)
+  pub faults : ℕ
+  pub settled : Bool
+
+abbrev pub sink_seen : Option (List ℕ) → ℕ → Bool → SinkSeen
+sink_seen taken faults settled = record { taken = taken; faults = faults; settled = settled }
+
 -- what stands after each answer to a put of the bytes
-abbrev pub PutIs : List ℕ → Option (List ℕ) → Option (List ℕ) → ℕ → ℕ → Bool → Bool → Put → Type 0
-PutIs bytes taken taken' faults faults' settled settled' (Took n) =
-    (1 ≤ n) × (n ≤ length bytes) × (taken' ≡ more_taken taken (take n bytes)) × (settled' ≡ false)
-PutIs bytes taken taken' faults faults' settled settled' Failed = (taken' ≡ taken) × (settled' ≡ settled) × Rose faults faults'
+abbrev pub PutIs : List ℕ → SinkSeen → SinkSeen → Put → Type 0
+PutIs bytes before after (Took n) = (1 ≤ n) × (n ≤ length bytes) × (after.taken ≡ more_taken before.taken (take n bytes)) × (after.settled ≡ false)
+PutIs bytes before after Failed = (after.taken ≡ before.taken) × (after.settled ≡ before.settled) × Rose before.faults after.faults
 
 -- and to a flush
-abbrev pub FlushIs : Option (List ℕ) → Option (List ℕ) → ℕ → ℕ → Bool → Bool → Flushed → Type 0
-FlushIs taken taken' faults faults' settled settled' Done = (taken' ≡ taken) × (settled' ≡ true)
-FlushIs taken taken' faults faults' settled settled' failed_flush = (taken' ≡ taken) × (settled' ≡ settled) × Rose faults faults'
+abbrev pub FlushIs : SinkSeen → SinkSeen → Flushed → Type 0
+FlushIs before after Done = (after.taken ≡ before.taken) × (after.settled ≡ true)
+FlushIs before after failed_flush = (after.taken ≡ before.taken) × (after.settled ≡ before.settled) × Rose before.faults after.faults

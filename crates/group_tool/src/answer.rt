@@ -40,15 +40,7 @@ pub fn report_alone<R: Threads + Sync, L: Library>(
     library: &mut L,
 ) -> Result<Vec<u8>, Stop>
     requires { (words : List (List ℕ)) × AreLawful words (see_options options.now) }
-    ensures { EndIs (AreJust (see_options options.now)) (record {
-      told = L.files library.old;
-      asked = L.asked library.old;
-      asked' = L.asked library.new;
-      faults = L.faults library.old;
-      faults' = L.faults library.new;
-      misses = L.misses library.old;
-      misses' = L.misses library.new;
-    }) (end_of result) }
+    ensures { EndIs (AreJust (see_options options.now)) (L.seen library.old, L.seen library.new) (end_of result) }
 {
     let program = load_program(rt, alloc, options, library)?;
     let told = tell_alone(rt, alloc, options, &program);
@@ -66,15 +58,7 @@ pub fn report_by_workers<R: Threads + Wait + Sync, L: Library, G: Gate>(
 ) -> Result<Vec<u8>, Stop>
     requires lawful { (words : List (List ℕ)) × AreLawful words (see_options options.now) }
     requires workers { (see_options options.now).searches ≡ None }
-    ensures { EndIs (AreJust (see_options options.now)) (record {
-      told = L.files library.old;
-      asked = L.asked library.old;
-      asked' = L.asked library.new;
-      faults = L.faults library.old;
-      faults' = L.faults library.new;
-      misses = L.misses library.old;
-      misses' = L.misses library.new;
-    }) (end_of result) }
+    ensures { EndIs (AreJust (see_options options.now)) (L.seen library.old, L.seen library.new) (end_of result) }
 {
     let program = load_program(rt, alloc, options, library)?;
     let told = tell_by_workers(rt, alloc, options, &program, gate);
@@ -92,15 +76,7 @@ pub fn report_by_stream<R: Threads + Wait + Sync, L: Library, G: Gate>(
 ) -> Result<Vec<u8>, Stop>
     requires lawful { (words : List (List ℕ)) × AreLawful words (see_options options.now) }
     requires workers { (see_options options.now).searches ≡ None }
-    ensures { EndIs (AreJust (see_options options.now)) (record {
-      told = L.files library.old;
-      asked = L.asked library.old;
-      asked' = L.asked library.new;
-      faults = L.faults library.old;
-      faults' = L.faults library.new;
-      misses = L.misses library.old;
-      misses' = L.misses library.new;
-    }) (end_of result) }
+    ensures { EndIs (AreJust (see_options options.now)) (L.seen library.old, L.seen library.new) (end_of result) }
 {
     let program = load_program(rt, alloc, options, library)?;
     let told = tell_by_stream(rt, alloc, options, &program, gate);

@@ -13,8 +13,9 @@
 //! 0 recursive user:p/0 user:q/0
 //! ```
 //!
-//! Files are seen through a `Library` and output through a `Sink`, in memory or real; what the real
-//! ones hold or take no clause says.
+//! Files are seen through a `Library` and output through a `Sink`, in memory or real. What the disk holds
+//! and what streams do with bytes no clause says; but over any library, the disk too, the answer is the
+//! right one for just the files that it handed over.
 #![tactic(auto)]
 
 mod answer;

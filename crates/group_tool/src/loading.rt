@@ -1,6 +1,6 @@
 ghost use Rattle.std.specs.Prelude.{◌≡◌, ◌≤◌, ℕ, List, [], ◌∷◌, IfOk, Some};
 ghost use Rattle.file_library.specs.SortedOut.{see_loaded};
-ghost use Rattle.import_rules.specs.Loaded.{WasLoaded};
+ghost use Rattle.file_library.specs.Loaded.{WasLoaded};
 ghost use Rattle.group_words.specs.Made.{made_text};
 ghost use Rattle.group_words.specs.Settings.{Settings, AreLawful, see_options};
 ghost use Rattle.group_tool.specs.Answer.{IsLoadedEnd};
@@ -30,15 +30,7 @@ pub fn load_program<R: Threads + Sync, L: Library>(
     library: &mut L,
 ) -> Result<Program, Stop>
     requires { (words : List (List ℕ)) × AreLawful words (see_options options.now) }
-    ensures { CarriesOn (EndIs (AreJust (see_options options.now)) (record {
-      told = L.files library.old;
-      asked = L.asked library.old;
-      asked' = L.asked library.new;
-      faults = L.faults library.old;
-      faults' = L.faults library.new;
-      misses = L.misses library.old;
-      misses' = L.misses library.new;
-    })) (see_options options.now) result }
+    ensures { CarriesOn (EndIs (AreJust (see_options options.now)) (L.seen library.old, L.seen library.new)) (see_options options.now) result }
 {
     settings_within();
     match options.make {
@@ -90,15 +82,7 @@ fn load_files<R: Threads + Sync, L: Library>(
     names: &[Text],
     library: &mut L,
 ) -> Result<Program, Stop>
-    ensures { (settings : Settings) → CarriesOn (IsReadEnd settings names.now (record {
-      told = L.files library.old;
-      asked = L.asked library.old;
-      asked' = L.asked library.new;
-      faults = L.faults library.old;
-      faults' = L.faults library.new;
-      misses = L.misses library.old;
-      misses' = L.misses library.new;
-    })) settings result }
+    ensures { (settings : Settings) → CarriesOn (IsReadEnd settings names.now (L.seen library.old, L.seen library.new)) settings result }
 {
     let loaded = load_all(rt, alloc, names, library)?;
     load_loaded(alloc, loaded)

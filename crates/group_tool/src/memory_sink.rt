@@ -60,19 +60,15 @@ impl MemorySink {
 }
 
 impl Sink for MemorySink {
-    ghost use Rattle.group_tool.specs.Sink.{PutIs, FlushIs};
+    ghost use Rattle.group_tool.specs.Sink.{sink_seen, PutIs, FlushIs};
     ghost use Rattle.group_tool.specs.MemorySink.{PutsWithin, IsFlushed};
 
-    ghost taken = { λ s. Some s.bytes.items };
-
-    ghost faults = { λ s. s.faults };
-
-    ghost settled = { λ s. s.settled };
+    ghost seen = { λ s. sink_seen (Some s.bytes.items) s.faults s.settled };
 
     fn put(&mut self, bytes: &[u8]) -> Put
         requires some { 0 < length bytes.now }
         requires most { length bytes.now ≤ 65536 }
-        ensures put { PutIs bytes.now (Some self.old.bytes.items) (Some self.new.bytes.items) self.old.faults self.new.faults self.old.settled self.new.settled result }
+        ensures put { PutIs bytes.now (sink_seen (Some self.old.bytes.items) self.old.faults self.old.settled) (sink_seen (Some self.new.bytes.items) self.new.faults self.new.settled) result }
         ensures faults_kept { self.old.faults ≤ self.new.faults }
         ensures within { PutsWithin bytes.now self.old self.new result }
     {
@@ -88,7 +84,7 @@ impl Sink for MemorySink {
     }
 
     fn flush(&mut self) -> Flushed
-        ensures flush { FlushIs (Some self.old.bytes.items) (Some self.new.bytes.items) self.old.faults self.new.faults self.old.settled self.new.settled result }
+        ensures flush { FlushIs (sink_seen (Some self.old.bytes.items) self.old.faults self.old.settled) (sink_seen (Some self.new.bytes.items) self.new.faults self.new.settled) result }
         ensures faults_kept { self.old.faults ≤ self.new.faults }
         ensures done { IsFlushed self.old self.new result }
     {

@@ -1,8 +1,9 @@
 ghost use Rattle.std.specs.Prelude.{◌≡◌, ◌+◌, [], Some, OnOk, OnErr, take};
 
-use file_library::{Library, Read};
+use file_library::{Library, Note, Read, note_absent, note_found};
 use prolog_tokens::Text;
 use std::alloc::{AllocError, Global};
+use std::snapshot::Snapshot;
 
 /// A library of one file. No read of it fails.
 #[derive(Drop)]
@@ -11,6 +12,7 @@ pub struct OneFile {
     name: Text,
     text: Vec<u8>,
     asked: Vec<Text>,
+    notes: Vec<Note>,
     misses: u64,
 }
 
@@ -36,36 +38,41 @@ impl OneFile {
             name,
             text,
             asked: Vec::new(alloc),
+            notes: Vec::new(alloc),
             misses: 0,
         }
     }
 }
 
 impl Library for OneFile {
+    ghost use Rattle.file_library.specs.Library.{library_seen};
+    ghost use Rattle.file_library.specs.Notes.{noted};
     ghost use Rattle.group_tool.specs.Wanted.{one_file};
 
-    ghost files = { λ l. Some (one_file l.name l.text.items) };
-
-    ghost asked = { λ l. l.asked.items };
-
-    ghost faults = { λ _. 0 };
-
-    ghost misses = { λ l. l.misses };
+    ghost seen = { λ l. library_seen (Some (one_file l.name l.text.items)) l.asked.items (noted l.notes.items) 0 l.misses };
 
     fn read(&mut self, name: &str, limit: u32, room: &mut Vec<u8>) -> Read {
         let Ok(asked) = Text::new(self.alloc, name) else {
             return Read::NoMemory;
         };
+        let key = Snapshot::of(&asked);
         if self.asked.push(asked).is_err() {
             return Read::NoMemory;
         }
         if self.name.as_str() != name {
+            if note_absent(&mut self.notes, key).is_err() {
+                return Read::NoMemory;
+            }
             self.misses = self.misses.saturating_add(1);
             return Read::Absent;
         }
-        match copy_start(&self.text, limit, room) {
-            Ok(()) => Read::Found,
-            Err(_) => Read::NoMemory,
+        let Ok(()) = copy_start(&self.text, limit, room) else {
+            return Read::NoMemory;
+        };
+        if note_found(&mut self.notes, key, room).is_err() {
+            room.clear();
+            return Read::NoMemory;
         }
+        Read::Found
     }
 }

@@ -7,7 +7,8 @@ ghost use Rattle.group_words.specs.Settings.{Settings, AreLawful, see_options};
 ghost use Rattle.group_tool.specs.End.{err_of, status_of, memory_line};
 ghost use Rattle.group_tool.specs.Stop.{end_of_stop};
 ghost use Rattle.group_tool.specs.Wanted.{AreJust, AskForNone, HasNoOptions};
-ghost use Rattle.group_tool.specs.Run.{EndsReading, IsRun, IsSettled, AreAskedFor, SaysAnswer, SaysNoMemory, SaidWith, SaidEnd, HasReported, HasUsage, HasNoRoot, HasFaults, HasPassed, HasUnread, IsCutOff};
+ghost use Rattle.group_tool.specs.Run.{EndsReading, IsRun, IsSettled, AreAskedFor, SaysAnswer, SaysHandedOver, SaysNoMemory, TookNone, SaidWith, SaidEnd};
+ghost use Rattle.group_tool.specs.Run.{HasReported, HasUsage, HasNoRoot, HasFaults, HasPassed, HasUnread, IsCutOff};
 
 use crate::answer::{report_alone, report_by_stream, report_by_workers};
 use crate::lines::{fault_lines, limit_line, missing_line, unread_line};
@@ -29,7 +30,7 @@ const OUT_OF_MEMORY: &str = "groups: out of memory\n";
 
 /// Says the bytes and answers the status, or 5 where the sink failed.
 fn say_with<S: Sink>(sink: &mut S, bytes: &[u8], status: u8) -> u8
-    ensures { SaidWith bytes.now status result (S.taken sink.old) (S.taken sink.new) (S.faults sink.old) (S.faults sink.new) (S.settled sink.new) }
+    ensures { SaidWith bytes.now status result (S.seen sink.old, S.seen sink.new) }
 {
     if say(sink, bytes) {
         return status;
@@ -40,8 +41,8 @@ fn say_with<S: Sink>(sink: &mut S, bytes: &[u8], status: u8) -> u8
 /// Says the lines, or that there was no memory for them.
 fn say_lines<S: Sink>(sink: &mut S, lines: Result<String, AllocError>, status: u8) -> u8
     ensures { MatchResult lines
-        (λ text. SaidWith (string_bytes text) status result (S.taken sink.old) (S.taken sink.new) (S.faults sink.old) (S.faults sink.new) (S.settled sink.new))
-        (λ _. SaidWith memory_line 7 result (S.taken sink.old) (S.taken sink.new) (S.faults sink.old) (S.faults sink.new) (S.settled sink.new)) }
+        (λ text. SaidWith (string_bytes text) status result (S.seen sink.old, S.seen sink.new))
+        (λ _. SaidWith memory_line 7 result (S.seen sink.old, S.seen sink.new)) }
 {
     match lines {
         Ok(text) => say_with(sink, text.as_bytes(), status),
@@ -51,7 +52,7 @@ fn say_lines<S: Sink>(sink: &mut S, lines: Result<String, AllocError>, status: u
 
 /// Says why there is no report, and answers the status of that.
 fn say_stop<S: Sink>(alloc: Global, sink: &mut S, stop: &Stop) -> u8
-    ensures { SaidEnd (end_of_stop stop.now) result (S.taken sink.old) (S.taken sink.new) (S.faults sink.old) (S.faults sink.new) (S.settled sink.new) }
+    ensures { SaidEnd (end_of_stop stop.now) result (S.seen sink.old, S.seen sink.new) }
 {
     match stop {
         Stop::Usage => say_with(sink, USAGE.as_bytes(), 2),
@@ -73,11 +74,8 @@ fn run_on_one_thread<R: Threads + Sync, L: Library, O: Sink, E: Sink>(
     err: &mut E,
 ) -> u8
     requires { (words : List (List ℕ)) × AreLawful words (see_options options.now) }
-    ensures run { IsRun (AreJust (see_options options.now))
-        (record { told = L.files library.old; asked = L.asked library.old; asked' = L.asked library.new; faults = L.faults library.old; faults' = L.faults library.new; misses = L.misses library.old; misses' = L.misses library.new })
-        (record { taken = O.taken out.old; taken' = O.taken out.new; faults = O.faults out.old; faults' = O.faults out.new; settled' = O.settled out.new })
-        (record { taken = E.taken err.old; taken' = E.taken err.new; faults = E.faults err.old; faults' = E.faults err.new; settled' = E.settled err.new })
-        result }
+    ensures run { IsRun (AreJust (see_options options.now)) (L.seen library.old, L.seen library.new)
+        (O.seen out.old, O.seen out.new) (E.seen err.old, E.seen err.new) result }
     ensures err_left { result ≡ 0 → err.new ≡ err.old }
     ensures out_left { result ≢ 0 → result ≢ 5 → out.new ≡ out.old }
     ensures one_left { (out.new ≡ out.old) ⊎ (err.new ≡ err.old) }
@@ -100,11 +98,8 @@ fn run_with_workers<R: Threads + Wait + Sync, L: Library, O: Sink, E: Sink, G: G
 ) -> u8
     requires lawful { (words : List (List ℕ)) × AreLawful words (see_options options.now) }
     requires workers { (see_options options.now).searches ≡ None }
-    ensures run { IsRun (AreJust (see_options options.now))
-        (record { told = L.files library.old; asked = L.asked library.old; asked' = L.asked library.new; faults = L.faults library.old; faults' = L.faults library.new; misses = L.misses library.old; misses' = L.misses library.new })
-        (record { taken = O.taken out.old; taken' = O.taken out.new; faults = O.faults out.old; faults' = O.faults out.new; settled' = O.settled out.new })
-        (record { taken = E.taken err.old; taken' = E.taken err.new; faults = E.faults err.old; faults' = E.faults err.new; settled' = E.settled err.new })
-        result }
+    ensures run { IsRun (AreJust (see_options options.now)) (L.seen library.old, L.seen library.new)
+        (O.seen out.old, O.seen out.new) (E.seen err.old, E.seen err.new) result }
     ensures err_left { result ≡ 0 → err.new ≡ err.old }
     ensures out_left { result ≢ 0 → result ≢ 5 → out.new ≡ out.old }
     ensures one_left { (out.new ≡ out.old) ⊎ (err.new ≡ err.old) }
@@ -127,11 +122,8 @@ fn run_streaming<R: Threads + Wait + Sync, L: Library, O: Sink, E: Sink, G: Gate
 ) -> u8
     requires lawful { (words : List (List ℕ)) × AreLawful words (see_options options.now) }
     requires workers { (see_options options.now).searches ≡ None }
-    ensures run { IsRun (AreJust (see_options options.now))
-        (record { told = L.files library.old; asked = L.asked library.old; asked' = L.asked library.new; faults = L.faults library.old; faults' = L.faults library.new; misses = L.misses library.old; misses' = L.misses library.new })
-        (record { taken = O.taken out.old; taken' = O.taken out.new; faults = O.faults out.old; faults' = O.faults out.new; settled' = O.settled out.new })
-        (record { taken = E.taken err.old; taken' = E.taken err.new; faults = E.faults err.old; faults' = E.faults err.new; settled' = E.settled err.new })
-        result }
+    ensures run { IsRun (AreJust (see_options options.now)) (L.seen library.old, L.seen library.new)
+        (O.seen out.old, O.seen out.new) (E.seen err.old, E.seen err.new) result }
     ensures err_left { result ≡ 0 → err.new ≡ err.old }
     ensures out_left { result ≢ 0 → result ≢ 5 → out.new ≡ out.old }
     ensures one_left { (out.new ≡ out.old) ⊎ (err.new ≡ err.old) }
@@ -154,11 +146,8 @@ fn run_lawful<R: Threads + Wait + Sync, L: Library, O: Sink, E: Sink, G: Gate>(
     gate: &G,
 ) -> u8
     requires { (words : List (List ℕ)) × AreLawful words (see_options options.now) }
-    ensures run { IsRun (AreJust (see_options options.now))
-        (record { told = L.files library.old; asked = L.asked library.old; asked' = L.asked library.new; faults = L.faults library.old; faults' = L.faults library.new; misses = L.misses library.old; misses' = L.misses library.new })
-        (record { taken = O.taken out.old; taken' = O.taken out.new; faults = O.faults out.old; faults' = O.faults out.new; settled' = O.settled out.new })
-        (record { taken = E.taken err.old; taken' = E.taken err.new; faults = E.faults err.old; faults' = E.faults err.new; settled' = E.settled err.new })
-        result }
+    ensures run { IsRun (AreJust (see_options options.now)) (L.seen library.old, L.seen library.new)
+        (O.seen out.old, O.seen out.new) (E.seen err.old, E.seen err.new) result }
     ensures err_left { result ≡ 0 → err.new ≡ err.old }
     ensures out_left { result ≢ 0 → result ≢ 5 → out.new ≡ out.old }
     ensures one_left { (out.new ≡ out.old) ⊎ (err.new ≡ err.old) }
@@ -186,11 +175,8 @@ fn run<R: Threads + Wait + Sync, L: Library, O: Sink, E: Sink, G: Gate>(
     err: &mut E,
     gate: &G,
 ) -> u8
-    ensures run { IsRun (AreLawful words.now)
-        (record { told = L.files library.old; asked = L.asked library.old; asked' = L.asked library.new; faults = L.faults library.old; faults' = L.faults library.new; misses = L.misses library.old; misses' = L.misses library.new })
-        (record { taken = O.taken out.old; taken' = O.taken out.new; faults = O.faults out.old; faults' = O.faults out.new; settled' = O.settled out.new })
-        (record { taken = E.taken err.old; taken' = E.taken err.new; faults = E.faults err.old; faults' = E.faults err.new; settled' = E.settled err.new })
-        result }
+    ensures run { IsRun (AreLawful words.now) (L.seen library.old, L.seen library.new)
+        (O.seen out.old, O.seen out.new) (E.seen err.old, E.seen err.new) result }
     ensures err_left { result ≡ 0 → err.new ≡ err.old }
     ensures out_left { result ≢ 0 → result ≢ 5 → out.new ≡ out.old }
     ensures one_left { (out.new ≡ out.old) ⊎ (err.new ≡ err.old) }
@@ -217,41 +203,52 @@ pub fn run_groups<R: Threads + Wait + Sync, L: Library, O: Sink, E: Sink, G: Gat
 ) -> u8
     // Over a library and sinks that tell what they hold, and where no count of faults rose, the
     // sinks have taken the bytes of the right answer, or memory was wanting.
-    ensures answered { (files : Files) → L.files library.old ≡ Some files
-        → ¬ Rose (L.faults library.old) (L.faults library.new) → ¬ Rose (O.faults out.old) (O.faults out.new) → ¬ Rose (E.faults err.old) (E.faults err.new)
-        → SaysAnswer (AreLawful words.now) files (O.taken out.old) (E.taken err.old) (O.taken out.new) (E.taken err.new) result
-        ⊎ SaysNoMemory (O.taken out.old) (E.taken err.old) (O.taken out.new) (E.taken err.new) result }
+    ensures answered { (files : Files) → (L.seen library.old).told ≡ Some files
+        → ¬ Rose (L.seen library.old).faults (L.seen library.new).faults
+        → ¬ Rose (O.seen out.old).faults (O.seen out.new).faults → ¬ Rose (E.seen err.old).faults (E.seen err.new).faults
+        → SaysAnswer (AreLawful words.now) files (O.seen out.old, O.seen out.new) (E.seen err.old, E.seen err.new) result
+        ⊎ SaysNoMemory (O.seen out.old, O.seen out.new) (E.seen err.old, E.seen err.new) result }
+
+    // Over any library and sinks, where no read and no sink failed and memory was ample, the sinks have
+    // taken the bytes of the right answer to just the files that the library handed over.
+    ensures handed_over { result ≢ 4 → result ≢ 5 → result ≢ 7
+        → SaysHandedOver (AreLawful words.now) (L.seen library.old, L.seen library.new)
+        (O.seen out.old, O.seen out.new) (E.seen err.old, E.seen err.new) result }
 
     // Over any library and sinks, what each status says.
     ensures statuses { (result ≡ 0) ⊎ ((result ≡ 2) ⊎ ((result ≡ 3) ⊎ ((result ≡ 4) ⊎ ((result ≡ 5) ⊎ ((result ≡ 6) ⊎ (result ≡ 7)))))) }
-    ensures report { result ≡ 0 → HasReported (AreLawful words.now) (L.files library.old) (O.taken out.old) (E.taken err.old) (O.taken out.new) (E.taken err.new) }
-    ensures usage { result ≡ 2 → (HasUsage (AreLawful words.now) (E.taken err.old) (E.taken err.new) ⊎ HasNoRoot (AreLawful words.now) (L.files library.old) (L.misses library.old) (L.misses library.new) (E.taken err.old) (E.taken err.new)) × (O.taken out.new ≡ O.taken out.old) }
+    ensures report { result ≡ 0
+        → HasReported (AreLawful words.now) (L.seen library.old, L.seen library.new) (O.seen out.old, O.seen out.new) (E.seen err.old, E.seen err.new) }
+    ensures usage { result ≡ 2
+        → (HasUsage (AreLawful words.now) (E.seen err.old, E.seen err.new)
+        ⊎ HasNoRoot (AreLawful words.now) (L.seen library.old, L.seen library.new) (E.seen err.old, E.seen err.new))
+        × TookNone (O.seen out.old, O.seen out.new) }
     ensures lawful { HasNoOptions (AreLawful words.now) → (result ≡ 2) ⊎ ((result ≡ 5) ⊎ (result ≡ 7)) }
-    ensures faults { result ≡ 3 → HasFaults (AreLawful words.now) (L.files library.old) (L.misses library.old) (L.misses library.new) (E.taken err.old) (E.taken err.new) × (O.taken out.new ≡ O.taken out.old) }
-    ensures unread { result ≡ 4 → HasUnread (AreLawful words.now) (L.asked library.new) (L.faults library.old) (L.faults library.new) (E.taken err.old) (E.taken err.new) × (O.taken out.new ≡ O.taken out.old) }
-    ensures limit { result ≡ 6 → HasPassed (AreLawful words.now)
-        (record { told = L.files library.old; asked = L.asked library.old; asked' = L.asked library.new; faults = L.faults library.old; faults' = L.faults library.new; misses = L.misses library.old; misses' = L.misses library.new })
-        (E.taken err.old) (E.taken err.new) × (O.taken out.new ≡ O.taken out.old) }
-    ensures cut_off { result ≡ 5 → IsCutOff (AreLawful words.now) (L.files library.old) (L.asked library.new) (L.faults library.old) (L.faults library.new) (L.misses library.old) (L.misses library.new)
-        (record { taken = O.taken out.old; taken' = O.taken out.new; faults = O.faults out.old; faults' = O.faults out.new; settled' = O.settled out.new })
-        (record { taken = E.taken err.old; taken' = E.taken err.new; faults = E.faults err.old; faults' = E.faults err.new; settled' = E.settled err.new }) }
-    ensures no_memory { result ≡ 7 → SaysNoMemory (O.taken out.old) (E.taken err.old) (O.taken out.new) (E.taken err.new) result }
-    ensures settled { result ≢ 5 → IsSettled result (O.settled out.new) (E.settled err.new) }
+    ensures faults { result ≡ 3
+        → HasFaults (AreLawful words.now) (L.seen library.old, L.seen library.new) (E.seen err.old, E.seen err.new)
+        × TookNone (O.seen out.old, O.seen out.new) }
+    ensures unread { result ≡ 4
+        → HasUnread (AreLawful words.now) (L.seen library.old, L.seen library.new) (E.seen err.old, E.seen err.new)
+        × TookNone (O.seen out.old, O.seen out.new) }
+    ensures limit { result ≡ 6
+        → HasPassed (AreLawful words.now) (L.seen library.old, L.seen library.new) (E.seen err.old, E.seen err.new)
+        × TookNone (O.seen out.old, O.seen out.new) }
+    ensures cut_off { result ≡ 5
+        → IsCutOff (AreLawful words.now) (L.seen library.old, L.seen library.new) (O.seen out.old, O.seen out.new) (E.seen err.old, E.seen err.new) }
+    ensures no_memory { result ≡ 7 → SaysNoMemory (O.seen out.old, O.seen out.new) (E.seen err.old, E.seen err.new) result }
+    ensures settled { result ≢ 5 → IsSettled result (O.seen out.new) (E.seen err.new) }
 
     // How the run ends, why, and what the sinks have taken: the other clauses follow from it.
-    ensures run { IsRun (AreLawful words.now)
-        (record { told = L.files library.old; asked = L.asked library.old; asked' = L.asked library.new; faults = L.faults library.old; faults' = L.faults library.new; misses = L.misses library.old; misses' = L.misses library.new })
-        (record { taken = O.taken out.old; taken' = O.taken out.new; faults = O.faults out.old; faults' = O.faults out.new; settled' = O.settled out.new })
-        (record { taken = E.taken err.old; taken' = E.taken err.new; faults = E.faults err.old; faults' = E.faults err.new; settled' = E.settled err.new })
-        result }
+    ensures run { IsRun (AreLawful words.now) (L.seen library.old, L.seen library.new)
+        (O.seen out.old, O.seen out.new) (E.seen err.old, E.seen err.new) result }
 
     // The library is asked for the files of the words and those that they lead to, each once, until
     // that ends; with wrong words, and where the file is made, for none.
-    ensures asked { (options : Settings) → AreLawful words.now options → options.make ≡ None → AreAskedFor options.files (L.asked library.old) (L.asked library.new) result }
-    ensures asking { (options : Settings) → AreLawful words.now options → (load : LoadEnd) × EndsReading options.make options.files
-        (record { told = L.files library.old; asked = L.asked library.old; asked' = L.asked library.new; faults = L.faults library.old; faults' = L.faults library.new; misses = L.misses library.old; misses' = L.misses library.new })
-        load }
-    ensures unasked { AskForNone (AreLawful words.now) → L.asked library.new ≡ L.asked library.old }
+    ensures asked { (options : Settings) → AreLawful words.now options → options.make ≡ None
+        → AreAskedFor options.files (L.seen library.old, L.seen library.new) result }
+    ensures asking { (options : Settings) → AreLawful words.now options
+        → (load : LoadEnd) × EndsReading options.make options.files (L.seen library.old, L.seen library.new) load }
+    ensures unasked { AskForNone (AreLawful words.now) → (L.seen library.new).asked ≡ (L.seen library.old).asked }
 
     // The sink that the run's bytes don't go to is left as it was.
     ensures err_left { result ≡ 0 → err.new ≡ err.old }
@@ -277,40 +274,51 @@ pub fn run_alone<R: Threads + Sync, L: Library, O: Sink, E: Sink>(
     requires alone { (is_some (see_options options.now).searches ≡ true) ⊎ ((see_options options.now).jobs ≡ 1) }
     // Over a library and sinks that tell what they hold, and where no count of faults rose, the
     // sinks have taken the bytes of the right answer, or memory was wanting.
-    ensures answered { (files : Files) → L.files library.old ≡ Some files
-        → ¬ Rose (L.faults library.old) (L.faults library.new) → ¬ Rose (O.faults out.old) (O.faults out.new) → ¬ Rose (E.faults err.old) (E.faults err.new)
-        → SaysAnswer (AreJust (see_options options.now)) files (O.taken out.old) (E.taken err.old) (O.taken out.new) (E.taken err.new) result
-        ⊎ SaysNoMemory (O.taken out.old) (E.taken err.old) (O.taken out.new) (E.taken err.new) result }
+    ensures answered { (files : Files) → (L.seen library.old).told ≡ Some files
+        → ¬ Rose (L.seen library.old).faults (L.seen library.new).faults
+        → ¬ Rose (O.seen out.old).faults (O.seen out.new).faults → ¬ Rose (E.seen err.old).faults (E.seen err.new).faults
+        → SaysAnswer (AreJust (see_options options.now)) files (O.seen out.old, O.seen out.new) (E.seen err.old, E.seen err.new) result
+        ⊎ SaysNoMemory (O.seen out.old, O.seen out.new) (E.seen err.old, E.seen err.new) result }
+
+    // Over any library and sinks, where no read and no sink failed and memory was ample, the sinks have
+    // taken the bytes of the right answer to just the files that the library handed over.
+    ensures handed_over { result ≢ 4 → result ≢ 5 → result ≢ 7
+        → SaysHandedOver (AreJust (see_options options.now)) (L.seen library.old, L.seen library.new)
+        (O.seen out.old, O.seen out.new) (E.seen err.old, E.seen err.new) result }
 
     // Over any library and sinks, what each status says.
     ensures statuses { (result ≡ 0) ⊎ ((result ≡ 2) ⊎ ((result ≡ 3) ⊎ ((result ≡ 4) ⊎ ((result ≡ 5) ⊎ ((result ≡ 6) ⊎ (result ≡ 7)))))) }
-    ensures report { result ≡ 0 → HasReported (AreJust (see_options options.now)) (L.files library.old) (O.taken out.old) (E.taken err.old) (O.taken out.new) (E.taken err.new) }
-    ensures missing { result ≡ 2 → HasNoRoot (AreJust (see_options options.now)) (L.files library.old) (L.misses library.old) (L.misses library.new) (E.taken err.old) (E.taken err.new) × (O.taken out.new ≡ O.taken out.old) }
-    ensures faults { result ≡ 3 → HasFaults (AreJust (see_options options.now)) (L.files library.old) (L.misses library.old) (L.misses library.new) (E.taken err.old) (E.taken err.new) × (O.taken out.new ≡ O.taken out.old) }
-    ensures unread { result ≡ 4 → HasUnread (AreJust (see_options options.now)) (L.asked library.new) (L.faults library.old) (L.faults library.new) (E.taken err.old) (E.taken err.new) × (O.taken out.new ≡ O.taken out.old) }
-    ensures limit { result ≡ 6 → HasPassed (AreJust (see_options options.now))
-        (record { told = L.files library.old; asked = L.asked library.old; asked' = L.asked library.new; faults = L.faults library.old; faults' = L.faults library.new; misses = L.misses library.old; misses' = L.misses library.new })
-        (E.taken err.old) (E.taken err.new) × (O.taken out.new ≡ O.taken out.old) }
-    ensures cut_off { result ≡ 5 → IsCutOff (AreJust (see_options options.now)) (L.files library.old) (L.asked library.new) (L.faults library.old) (L.faults library.new) (L.misses library.old) (L.misses library.new)
-        (record { taken = O.taken out.old; taken' = O.taken out.new; faults = O.faults out.old; faults' = O.faults out.new; settled' = O.settled out.new })
-        (record { taken = E.taken err.old; taken' = E.taken err.new; faults = E.faults err.old; faults' = E.faults err.new; settled' = E.settled err.new }) }
-    ensures no_memory { result ≡ 7 → SaysNoMemory (O.taken out.old) (E.taken err.old) (O.taken out.new) (E.taken err.new) result }
-    ensures settled { result ≢ 5 → IsSettled result (O.settled out.new) (E.settled err.new) }
+    ensures report { result ≡ 0
+        → HasReported (AreJust (see_options options.now)) (L.seen library.old, L.seen library.new)
+        (O.seen out.old, O.seen out.new) (E.seen err.old, E.seen err.new) }
+    ensures missing { result ≡ 2
+        → HasNoRoot (AreJust (see_options options.now)) (L.seen library.old, L.seen library.new) (E.seen err.old, E.seen err.new)
+        × TookNone (O.seen out.old, O.seen out.new) }
+    ensures faults { result ≡ 3
+        → HasFaults (AreJust (see_options options.now)) (L.seen library.old, L.seen library.new) (E.seen err.old, E.seen err.new)
+        × TookNone (O.seen out.old, O.seen out.new) }
+    ensures unread { result ≡ 4
+        → HasUnread (AreJust (see_options options.now)) (L.seen library.old, L.seen library.new) (E.seen err.old, E.seen err.new)
+        × TookNone (O.seen out.old, O.seen out.new) }
+    ensures limit { result ≡ 6
+        → HasPassed (AreJust (see_options options.now)) (L.seen library.old, L.seen library.new) (E.seen err.old, E.seen err.new)
+        × TookNone (O.seen out.old, O.seen out.new) }
+    ensures cut_off { result ≡ 5
+        → IsCutOff (AreJust (see_options options.now)) (L.seen library.old, L.seen library.new)
+        (O.seen out.old, O.seen out.new) (E.seen err.old, E.seen err.new) }
+    ensures no_memory { result ≡ 7 → SaysNoMemory (O.seen out.old, O.seen out.new) (E.seen err.old, E.seen err.new) result }
+    ensures settled { result ≢ 5 → IsSettled result (O.seen out.new) (E.seen err.new) }
 
     // How the run ends, why, and what the sinks have taken: the other clauses follow from it.
-    ensures run { IsRun (AreJust (see_options options.now))
-        (record { told = L.files library.old; asked = L.asked library.old; asked' = L.asked library.new; faults = L.faults library.old; faults' = L.faults library.new; misses = L.misses library.old; misses' = L.misses library.new })
-        (record { taken = O.taken out.old; taken' = O.taken out.new; faults = O.faults out.old; faults' = O.faults out.new; settled' = O.settled out.new })
-        (record { taken = E.taken err.old; taken' = E.taken err.new; faults = E.faults err.old; faults' = E.faults err.new; settled' = E.settled err.new })
-        result }
+    ensures run { IsRun (AreJust (see_options options.now)) (L.seen library.old, L.seen library.new)
+        (O.seen out.old, O.seen out.new) (E.seen err.old, E.seen err.new) result }
 
     // The library is asked for the files of the options and those that they lead to, each once, until
     // that ends; where the file is made, for none.
-    ensures asked { (see_options options.now).make ≡ None → AreAskedFor (see_options options.now).files (L.asked library.old) (L.asked library.new) result }
-    ensures asking { (load : LoadEnd) × EndsReading (see_options options.now).make (see_options options.now).files
-        (record { told = L.files library.old; asked = L.asked library.old; asked' = L.asked library.new; faults = L.faults library.old; faults' = L.faults library.new; misses = L.misses library.old; misses' = L.misses library.new })
-        load }
-    ensures unasked { (see_options options.now).make ≢ None → L.asked library.new ≡ L.asked library.old }
+    ensures asked { (see_options options.now).make ≡ None → AreAskedFor (see_options options.now).files (L.seen library.old, L.seen library.new) result }
+    ensures asking { (load : LoadEnd)
+        × EndsReading (see_options options.now).make (see_options options.now).files (L.seen library.old, L.seen library.new) load }
+    ensures unasked { (see_options options.now).make ≢ None → (L.seen library.new).asked ≡ (L.seen library.old).asked }
 
     // The sink that the run's bytes don't go to is left as it was.
     ensures err_left { result ≡ 0 → err.new ≡ err.old }

@@ -10,9 +10,9 @@ const PIECE: usize = 65_536;
 
 /// Puts all of the bytes, each piece again from where it was cut. Whether all were taken.
 fn put_all<S: Sink>(sink: &mut S, bytes: &[u8]) -> bool
-    ensures all { OnTrue result (S.taken sink.new ≡ more_taken (S.taken sink.old) bytes.now) }
-    ensures part { OnFalse result (TookPart bytes.now (S.taken sink.old) (S.taken sink.new) (S.faults sink.old) (S.faults sink.new)) }
-    ensures faults_kept { S.faults sink.old ≤ S.faults sink.new }
+    ensures all { OnTrue result ((S.seen sink.new).taken ≡ more_taken (S.seen sink.old).taken bytes.now) }
+    ensures part { OnFalse result (TookPart bytes.now (S.seen sink.old) (S.seen sink.new)) }
+    ensures faults_kept { (S.seen sink.old).faults ≤ (S.seen sink.new).faults }
 {
     let mut at = 0;
     while at < bytes.len() {
@@ -28,8 +28,8 @@ fn put_all<S: Sink>(sink: &mut S, bytes: &[u8]) -> bool
 /// Puts all of the bytes and flushes the sink. Whether both were done.
 #[tactic(auto, using(crate::proofs::Said::taken_unflushed))]
 pub fn say<S: Sink>(sink: &mut S, bytes: &[u8]) -> bool
-    ensures said { SaidIs bytes.now (S.taken sink.old) (S.taken sink.new) (S.faults sink.old) (S.faults sink.new) (S.settled sink.new) result }
-    ensures faults_kept { S.faults sink.old ≤ S.faults sink.new }
+    ensures said { SaidIs bytes.now (S.seen sink.old) (S.seen sink.new) result }
+    ensures faults_kept { (S.seen sink.old).faults ≤ (S.seen sink.new).faults }
 {
     if !put_all(sink, bytes) {
         return false;

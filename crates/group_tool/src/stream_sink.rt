@@ -1,6 +1,6 @@
 ghost use Rattle.std.specs.Prelude.{◌≡◌, ◌≤◌, ◌<◌, true, None, length};
 ghost use Rattle.std.specs.Io.KnownBytes.{Keeps};
-ghost use Rattle.group_tool.specs.Sink.{PutIs, FlushIs};
+ghost use Rattle.group_tool.specs.Sink.{sink_seen, PutIs, FlushIs};
 ghost use Rattle.group_tool.specs.StreamSink.{WroteIs};
 
 use crate::sink::{Flushed, Put, Sink};
@@ -31,16 +31,12 @@ impl<W: Write + Drop> StreamSink<W> {
 }
 
 impl<W: Write + Drop> Sink for StreamSink<W> {
-    ghost taken = { λ _. None };
-
-    ghost faults = { λ s. s.faults };
-
-    ghost settled = { λ s. s.settled };
+    ghost seen = { λ s. sink_seen None s.faults s.settled };
 
     fn put(&mut self, bytes: &[u8]) -> Put
         requires some { 0 < length bytes.now }
         requires most { length bytes.now ≤ 65536 }
-        ensures put { PutIs bytes.now None None self.old.faults self.new.faults self.old.settled self.new.settled result }
+        ensures put { PutIs bytes.now (sink_seen None self.old.faults self.old.settled) (sink_seen None self.new.faults self.new.settled) result }
         ensures faults_kept { self.old.faults ≤ self.new.faults }
         ensures wrote { WroteIs bytes.now (W.contents self.old.writer) (W.contents self.new.writer) result }
     {
@@ -57,7 +53,7 @@ impl<W: Write + Drop> Sink for StreamSink<W> {
     }
 
     fn flush(&mut self) -> Flushed
-        ensures flush { FlushIs None None self.old.faults self.new.faults self.old.settled self.new.settled result }
+        ensures flush { FlushIs (sink_seen None self.old.faults self.old.settled) (sink_seen None self.new.faults self.new.settled) result }
         ensures faults_kept { self.old.faults ≤ self.new.faults }
         ensures keeps { Keeps (W.contents self.old.writer) (W.contents self.new.writer) }
     {

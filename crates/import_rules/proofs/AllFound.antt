@@ -9,7 +9,7 @@ use Rattle.std.proofs.lemmas.List.Elements.{All-nil, All-cons}
 use Rattle.std.proofs.lemmas.Map.Keys.{Less-from_sorted}
 use Rattle.module_table.specs.Facts.{Facts}
 use Rattle.file_library.specs.Asked.{AreInOrder}
-use Rattle.file_library.specs.Loaded.{LoadedFiles, NamedText}
+use Rattle.file_library.specs.Loaded.{LoadedFiles, NamedText, WasLoaded}
 use Rattle.file_library.specs.declared.fault.Fault.{Fault}
 use Rattle.import_rules.specs.declared.lookups.Lookups.{Lookups}
 use Rattle.import_rules.specs.Clashes.{Imports, AreClashes}
@@ -17,7 +17,6 @@ use Rattle.import_rules.specs.Files.{AreNumbered}
 use Rattle.import_rules.specs.Flaws.{Flaw, AreImportFaults, clash_flaw, file_flaws}
 use Rattle.import_rules.specs.Items.{foreign_items}
 use Rattle.import_rules.specs.KnownFiles.{AreKnown, AreRising, IsKnownIn, IsReady, absent_of, files_of}
-use Rattle.import_rules.specs.Loaded.{WasLoaded}
 use Rattle.import_rules.specs.PlacedFlaws.{AreTexts, ArePlacedFlaws, StandsIn}
 use Rattle.import_rules.specs.Program.{IsReadFrom}
 use Rattle.import_rules.proofs.FlawsStand.{all_stand}

@@ -17,8 +17,7 @@ use Rattle.module_table.proofs.ClausesOf.{metas_small}
 use Rattle.module_table.proofs.FactWeights.{clauses_light, goals_light, metas_light}
 use Rattle.module_table.proofs.FewDefined.{few_defined, few_metas}
 use Rattle.file_library.specs.Library.{Files}
-use Rattle.file_library.specs.Loaded.{LoadedFiles, NamedText, IsTextOf, size_of, most_bytes, most_files}
-use Rattle.import_rules.specs.Loaded.{WasLoaded}
+use Rattle.file_library.specs.Loaded.{LoadedFiles, NamedText, IsTextOf, size_of, most_bytes, most_files, WasLoaded}
 use Rattle.import_rules.specs.Metas.{HasFewMetas}
 use Rattle.import_rules.specs.Program.{IsReadFrom}
 

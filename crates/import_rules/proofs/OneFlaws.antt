@@ -19,12 +19,11 @@ use Rattle.clause_text.specs.Cause.{number_of}
 use Rattle.clause_text.proofs.CauseNumbers.{one_number}
 use Rattle.module_table.specs.Facts.{Facts}
 use Rattle.file_library.specs.Asked.{AreInOrder}
-use Rattle.file_library.specs.Loaded.{LoadedFiles, NamedText}
+use Rattle.file_library.specs.Loaded.{LoadedFiles, NamedText, WasLoaded}
 use Rattle.file_library.specs.declared.fault.Fault.{Fault}
 use Rattle.import_rules.specs.declared.names.PredName.{PredName}
 use Rattle.import_rules.specs.Clashes.{AreClashes, Imports, clash}
 use Rattle.import_rules.specs.Flaws.{AreFlaws, AreImportFaults, Flaw, IsFaultOf, clash_flaw, file_flaws, flaw_cmp}
-use Rattle.import_rules.specs.Loaded.{WasLoaded}
 use Rattle.import_rules.specs.Names.{pred_cmp}
 use Rattle.import_rules.proofs.Lists.{map_from}
 use Rattle.import_rules.proofs.NameOrder.{pred_cmp_total}

@@ -10,7 +10,6 @@ pub mod Sources
 pub mod Numbers
 pub mod Parts
 pub mod NameTable
-pub mod Loaded
 pub mod Program
 pub mod Findings
 pub mod KnownFiles

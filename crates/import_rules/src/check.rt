@@ -7,7 +7,7 @@ ghost use Rattle.import_rules.specs.Files.{AreNumbered};
 ghost use Rattle.import_rules.specs.Findings.{see_findings};
 ghost use Rattle.import_rules.specs.Flaws.{AreImportFaults, clash_flaw};
 ghost use Rattle.import_rules.specs.Items.{foreign_items};
-ghost use Rattle.import_rules.specs.Loaded.{WasLoaded};
+ghost use Rattle.file_library.specs.Loaded.{WasLoaded};
 
 use crate::clash::find_imports;
 use crate::finding::Finding;

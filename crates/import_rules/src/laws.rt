@@ -3,12 +3,11 @@
 ghost use Rattle.std.specs.Prelude.{◌≡◌, ◌<◌, ◌≤◌, ℕ, List, [], Some, length, slice_get};
 ghost use Rattle.module_table.specs.Facts.{Facts};
 ghost use Rattle.file_library.specs.declared.fault.Fault.{Fault};
-ghost use Rattle.file_library.specs.Loaded.{LoadedFiles};
+ghost use Rattle.file_library.specs.Loaded.{LoadedFiles, WasLoaded};
 ghost use Rattle.import_rules.specs.declared.names.PredName.{PredName};
 ghost use Rattle.import_rules.specs.Files.{AreNumbered, ArePlaces};
 ghost use Rattle.import_rules.specs.Find.{Means};
 ghost use Rattle.import_rules.specs.Flaws.{AreFlaws, AreImportFaults, Flaw};
-ghost use Rattle.import_rules.specs.Loaded.{WasLoaded};
 ghost use Rattle.import_rules.specs.Names.{pred_name};
 ghost use Rattle.import_rules.specs.Program.{Seen, IsProgram, IsImportStop, HasPredicates, most_predicates, found, places_in};
 

@@ -3,7 +3,7 @@ ghost use Rattle.std.proofs.Props.{props};
 ghost use Rattle.file_library.specs.SortedOut.{see_loaded};
 ghost use Rattle.import_rules.specs.Files.{AreNumbered, most_predicates};
 ghost use Rattle.import_rules.specs.Flaws.{AreFlaws};
-ghost use Rattle.import_rules.specs.Loaded.{WasLoaded};
+ghost use Rattle.file_library.specs.Loaded.{WasLoaded};
 ghost use Rattle.import_rules.specs.Meanings.{AreTargets};
 ghost use Rattle.import_rules.specs.Metas.{AreDeclared, metas_in};
 ghost use Rattle.import_rules.specs.Numbers.{lists_of, places_for, parts_in};

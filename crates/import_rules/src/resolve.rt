@@ -5,7 +5,7 @@ ghost use Rattle.module_table.specs.Facts.{see_facts};
 ghost use Rattle.file_library.specs.SortedOut.{see_loaded};
 ghost use Rattle.import_rules.specs.Files.{AreNumbered, most_predicates};
 ghost use Rattle.import_rules.specs.Flaws.{AreFlaws};
-ghost use Rattle.import_rules.specs.Loaded.{WasLoaded};
+ghost use Rattle.file_library.specs.Loaded.{WasLoaded};
 ghost use Rattle.import_rules.specs.Meanings.{AreTargets};
 ghost use Rattle.import_rules.specs.Numbers.{AreNumbers, lists_of, parts_in};
 ghost use Rattle.import_rules.specs.Program.{see_program, IsProgram, IsImportStop};

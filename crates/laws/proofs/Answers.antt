@@ -5,8 +5,7 @@ use Rattle.std.specs.Str.{IsUtf8}
 use Rattle.file_library.specs.Library.{Files}
 use Rattle.file_library.specs.Asking.{LoadEnd, loaded, too_many, too_large, too_much, LoadEndIs, IsDecided}
 use Rattle.file_library.specs.Asking as of_load
-use Rattle.file_library.specs.Loaded.{LoadedFiles}
-use Rattle.import_rules.specs.Loaded.{WasLoaded}
+use Rattle.file_library.specs.Loaded.{LoadedFiles, WasLoaded}
 use Rattle.group_words.specs.Settings.{Settings, AreLawful, AreWithin}
 use Rattle.group_tool.specs.declared.stop.Limit.TheVariants.{TooManyFiles, FileTooLarge, TooMuchText}
 use Rattle.group_tool.specs.Wanted.{files_read, names_read}

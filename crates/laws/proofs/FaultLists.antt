@@ -13,10 +13,9 @@ use Rattle.prolog_tokens.specs.declared.token.Place.{Place}
 use Rattle.prolog_tokens.specs.Places.{IsPlace}
 use Rattle.clause_text.specs.declared.cause.Cause.TheVariants.{NotCallable}
 use Rattle.module_table.specs.Facts.{Facts}
-use Rattle.file_library.specs.Loaded.{LoadedFiles, NamedText}
+use Rattle.file_library.specs.Loaded.{LoadedFiles, NamedText, WasLoaded}
 use Rattle.file_library.specs.declared.fault.Fault.{Fault}
 use Rattle.import_rules.specs.Files.{AreNumbered, pair_cmp}
-use Rattle.import_rules.specs.Loaded.{WasLoaded}
 use Rattle.import_rules.specs.Program.{Seen, IsProgram, IsKnown, IsReadFrom}
 use Rattle.import_rules.proofs.Lists.{all_by}
 use Rattle.import_rules.proofs.Loaded.{was_read}

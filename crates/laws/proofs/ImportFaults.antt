@@ -9,14 +9,13 @@ use Rattle.std.proofs.lemmas.List.Sorted.{All-permutation}
 use Rattle.prolog_tokens.specs.declared.token.Place.{Place}
 use Rattle.prolog_tokens.specs.Places.{IsPlace}
 use Rattle.module_table.specs.Facts.{Facts}
-use Rattle.file_library.specs.Loaded.{LoadedFiles, NamedText}
+use Rattle.file_library.specs.Loaded.{LoadedFiles, NamedText, WasLoaded}
 use Rattle.file_library.specs.declared.fault.Fault.{Fault}
 use Rattle.import_rules.specs.declared.names.PredName.{PredName}
 use Rattle.import_rules.specs.Clashes.{AreClashes, Imports, clash}
 use Rattle.import_rules.specs.Files.{AreNumbered, all_defined}
 use Rattle.import_rules.specs.Flaws.{AreFlaws, AreImportFaults, Flaw, IsFaultOf, clash_flaw, file_flaws, flaw_cmp}
 use Rattle.import_rules.specs.Items.{foreign_items}
-use Rattle.import_rules.specs.Loaded.{WasLoaded}
 use Rattle.import_rules.specs.Names.{pred_cmp}
 use Rattle.import_rules.specs.PlacedFlaws.{StandsIn, fault_at}
 use Rattle.import_rules.specs.Program.{Seen, HasPredicates, IsProgram, most_predicates}

@@ -2,10 +2,9 @@
 use Rattle.std.proofs.Common.{◌≢◌, ◌⊎◌, inl, inr, ◌↔◌, ℕ, ◌<◌, ◌≤◌, List, [], ◌∷◌, Contains, length, refl}
 use Rattle.std.specs.List.Sorted.{IsStrictlyIncreasing}
 use Rattle.file_library.specs.declared.fault.Fault.{Fault}
-use Rattle.file_library.specs.Loaded.{LoadedFiles}
+use Rattle.file_library.specs.Loaded.{LoadedFiles, WasLoaded}
 use Rattle.import_rules.specs.declared.names.PredName.{PredName}
 use Rattle.import_rules.specs.Flaws.{AreImportFaults}
-use Rattle.import_rules.specs.Loaded.{WasLoaded}
 use Rattle.import_rules.specs.Program.{Seen, IsProgram, HasPredicates, most_predicates}
 use Rattle.call_edges.specs.GoalFaults.{AreGoalFaults}
 use Rattle.call_edges.specs.Roots.{IsRoot}

@@ -3,9 +3,8 @@
 ghost use Rattle.std.specs.Prelude.{◌≢◌, ◌⊎◌, ◌↔◌, ◌<◌, ◌≤◌, ℕ, List, [], Contains};
 ghost use Rattle.std.specs.List.Sorted.{IsStrictlyIncreasing};
 ghost use Rattle.file_library.specs.declared.fault.Fault.{Fault};
-ghost use Rattle.file_library.specs.Loaded.{LoadedFiles};
+ghost use Rattle.file_library.specs.Loaded.{LoadedFiles, WasLoaded};
 ghost use Rattle.import_rules.specs.Flaws.{AreImportFaults};
-ghost use Rattle.import_rules.specs.Loaded.{WasLoaded};
 ghost use Rattle.import_rules.specs.Program.{Seen, HasPredicates, IsProgram, most_predicates};
 ghost use Rattle.call_edges.specs.GoalFaults.{AreGoalFaults};
 ghost use Rattle.call_edges.specs.Roots.{IsRoot};

@@ -15,11 +15,7 @@ const REPORT: &str =
 struct Dripping<S: Sink + Drop>(S);
 
 impl<S: Sink + Drop> Sink for Dripping<S> {
-    ghost taken = { λ s. S.taken s.0 };
-
-    ghost faults = { λ s. S.faults s.0 };
-
-    ghost settled = { λ s. S.settled s.0 };
+    ghost seen = { λ s. S.seen s.0 };
 
     fn put(&mut self, bytes: &[u8]) -> Put {
         self.0.put(&bytes[..1])

@@ -2,21 +2,25 @@
 use Rattle.std.proofs.Common.{map}
 use Rattle.file_library.specs.AskedFile.{see_file}
 use Rattle.file_library.proofs.Stopped.{stop_ended}
-use Rattle.file_library.proofs.Finished.{all_ended, all_read}
+use Rattle.file_library.proofs.Finished.{was_loaded, all_ended, all_read}
 use Rattle.file_library.proofs.loading.load_all.Goals as goal
 
 pub returns-in-Err-clause-ended : goal.returns-in-Err-clause-ended
 returns-in-Err-clause-ended g c =
-    stop_ended (g.L.Library.files c.args.library.now) c.args.roots.now (g.L.Library.asked c.args.library.now) (g.L.Library.asked c.ask_all.new.library)
-    (g.L.Library.faults c.args.library.now) (g.L.Library.faults c.ask_all.new.library) (g.L.Library.misses c.args.library.now) (g.L.Library.misses c.ask_all.new.library) c.in-Err.stop c.in-Err.ensures.stops
+    stop_ended (g.L.Library.seen c.args.library.now) (g.L.Library.seen c.ask_all.new.library) c.args.roots.now c.in-Err.stop c.in-Err.ensures.stops
 
 pub returns-clause-ended : goal.returns-clause-ended
 returns-clause-ended g c =
-    all_ended (g.L.Library.files c.args.library.now) c.args.roots.now (g.L.Library.asked c.args.library.now) (g.L.Library.asked c.ask_all.new.library)
-    (g.L.Library.misses c.args.library.now) (g.L.Library.misses c.ask_all.new.library) (map see_file c.in-Ok.files.items) c.in-Ok.ensures.asked c.finish.result c.finish.ensures
+    all_ended (g.L.Library.seen c.args.library.now) (g.L.Library.seen c.ask_all.new.library) c.args.roots.now
+    (map see_file c.in-Ok.files.items) c.in-Ok.ensures.asked c.finish.result c.finish.ensures
 
 pub returns-clause-failed : goal.returns-clause-failed
 returns-clause-failed g c =
-    all_read (g.L.Library.files c.args.library.now) c.args.roots.now (g.L.Library.asked c.args.library.now) (g.L.Library.asked c.ask_all.new.library)
-    (g.L.Library.misses c.args.library.now) (g.L.Library.misses c.ask_all.new.library) (map see_file c.in-Ok.files.items) c.in-Ok.ensures.asked
-    (g.L.Library.faults c.args.library.now) (g.L.Library.faults c.ask_all.new.library) c.finish.result c.finish.ensures
+    all_read (g.L.Library.seen c.args.library.now) (g.L.Library.seen c.ask_all.new.library) c.args.roots.now (map see_file c.in-Ok.files.items) c.in-Ok.ensures.asked
+    (g.L.Library.seen c.args.library.now).faults (g.L.Library.seen c.ask_all.new.library).faults c.finish.result c.finish.ensures
+
+pub returns-clause-loaded : goal.returns-clause-loaded
+returns-clause-loaded g c =
+    was_loaded (g.L.Library.seen c.args.library.now) (g.L.Library.seen c.ask_all.new.library) c.args.roots.now c.finish.result
+    (all_ended (g.L.Library.seen c.args.library.now) (g.L.Library.seen c.ask_all.new.library) c.args.roots.now
+    (map see_file c.in-Ok.files.items) c.in-Ok.ensures.asked c.finish.result c.finish.ensures)

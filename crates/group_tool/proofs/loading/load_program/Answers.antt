@@ -6,7 +6,7 @@ use Rattle.group_tool.proofs.loading.load_program.Goals as goal
 
 pub returns-in-Some : goal.returns-in-Some
 returns-in-Some g c =
-    carried _ _ (see_options c.args.options.now) c.load_made.result (λ end is. is _ (record { same_asked = refl; same_faults = refl; same_misses = refl })) c.load_made.ensures
+    carried _ _ (see_options c.args.options.now) c.load_made.result (λ end is. is _ refl) c.load_made.ensures
 
 pub returns-in-None : goal.returns-in-None
 returns-in-None g c =

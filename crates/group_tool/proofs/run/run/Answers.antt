@@ -9,4 +9,4 @@ returns-in-Ok-clause-run g c =
 
 pub returns-in-Err-clause-run : goal.returns-in-Err-clause-run
 returns-in-Err-clause-run g c =
-    words_run c.args.words.now _ _ _ _ c.in-Err.fault c.from.result c.from.ensures (record { same_asked = refl; same_faults = refl; same_misses = refl }) c.in-Err.ensures.usage c.say_stop.ensures refl
+    words_run c.args.words.now _ _ _ _ c.in-Err.fault c.from.result c.from.ensures refl c.in-Err.ensures.usage c.say_stop.ensures refl

@@ -2,11 +2,14 @@ use Rattle.group_words.proofs.OneSettings.{one_settings}
 use Rattle.group_words.specs.Settings.{AreLawful}
 use Rattle.group_tool.proofs.AskedNames.{asked_said}
 use Rattle.group_tool.proofs.EndLemmas.{wanting}
-use Rattle.group_tool.proofs.RunLemmas.{answered, statuses, reported, refused, unlawful, faults_said, unread_said, passed_said, cut_off, wanting_said, settled, unasked}
+use Rattle.group_tool.proofs.RunLemmas.{answered, handed_over, statuses, reported, refused, unlawful, faults_said, unread_said, passed_said, cut_off, wanting_said, settled, unasked}
 use Rattle.group_tool.proofs.run.run_groups.Goals as goal
 
 pub returns-clause-answered : goal.returns-clause-answered
 returns-clause-answered g c = answered _ _ _ _ _ c.run.ensures.run
+
+pub returns-clause-handed_over : goal.returns-clause-handed_over
+returns-clause-handed_over g c = handed_over _ _ _ _ _ c.run.ensures.run
 
 pub returns-clause-statuses : goal.returns-clause-statuses
 returns-clause-statuses g c = statuses _ _ _ _ _ c.run.ensures.run

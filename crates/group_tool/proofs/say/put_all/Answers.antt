@@ -13,7 +13,7 @@ loop-at-preserved g c =
       omega (arith, put.1, c.loop-at.invariant.0, length-take m (drop at bytes), length-drop at bytes),
       put.2
           ∙ (ap (λ t. more_taken t (take c.in-Took.count (take m (drop at bytes)))) c.loop-at.invariant.1
-          ∙ (more_twice (g.S.Sink.taken c.args.sink.now) before (take c.in-Took.count (take m (drop at bytes)))
-          ∙ ap (more_taken (g.S.Sink.taken c.args.sink.now)) (take_piece bytes at m c.in-Took.count put.1))),
+          ∙ (more_twice (g.S.Sink.seen c.args.sink.now).taken before (take c.in-Took.count (take m (drop at bytes)))
+          ∙ ap (more_taken (g.S.Sink.seen c.args.sink.now).taken) (take_piece bytes at m c.in-Took.count put.1))),
       omega (arith, c.loop-at.invariant.2, c.in-Took.ensures.faults_kept),
     )
