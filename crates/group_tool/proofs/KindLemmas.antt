@@ -1,19 +1,30 @@
 -- The kinds of effects that predicates have themselves.
-use Rattle.std.proofs.Common.{◌≡◌, ◌⊎◌, inl, inr, ◌↔◌, ℕ, ◌<◌, ◌≤◌, ◌+◌, ◌*◌, ◌^◌, bit_and, bit_or, List, [], ◌∷◌, ◌++◌, length, get_or, take, refl, sym, subst, ap, ◌∙◌, arith}
+use Rattle.std.proofs.Common.{◌≡◌, ◌⊎◌, inl, inr, ◌↔◌, ℕ, ◌<◌, ◌≤◌, ◌+◌, ◌*◌, ◌^◌, bit_and, bit_or, List, [], ◌∷◌, ◌++◌, Option, Some, None, Result, Ok, Err, IfOk, length, get_or, map, take, refl, sym, subst, ap, ◌∙◌, arith, append-nil}
 use Rattle.std.specs.Int.{IsBitSet, bit_at}
+use Rattle.std.specs.List.{AllZip, filter_map, range_with_len}
+use Rattle.std.specs.Option.{option_to_list}
+use Rattle.std.specs.declared.alloc.AllocError.{AllocError}
 use Rattle.std.proofs.lemmas.Bool.{cases_eq}
-use Rattle.std.proofs.lemmas.List.{get_or_append_left, length-append, take_all, take_more}
-use Rattle.std.proofs.Math.Seq.{get_or-append_seam}
-use Rattle.std.proofs.lemmas.List.Elements.{All-contains, Contains-append_left, Contains-push, Contains-push_cases}
+use Rattle.std.specs.Prelude.{Contains, MatchResult}
+use Rattle.std.proofs.lemmas.List.{get_or-map, length-map, take_all}
+use Rattle.std.proofs.lemmas.List.Elements.{Contains-append_left, Contains-push, Contains-push_cases}
+use Rattle.std.proofs.lemmas.List.FromFn.{get_or-range_with_len, length-range_with_len}
 use Rattle.std.proofs.lemmas.Nat.{pow_pos}
 use Rattle.std.proofs.lemmas.Nat.Bits.{and_pow, bit_at-lt, bit_at-zero, bit_at_or}
 use Rattle.list_laws.proofs.OneOrder.{nothing_in}
-use Rattle.effect_flow.specs.Carriers.{HasKind}
 use Rattle.effect_flow.specs.Kinds.{kinds}
 use Rattle.import_rules.specs.declared.names.PredName.{PredName}
+use Rattle.import_rules.specs.Names.{pred_name}
 use Rattle.import_rules.specs.Program.{Seen}
-use Rattle.call_edges.specs.Unresolved.{AreUnresolved, IsUnresolved}
-use Rattle.group_tool.specs.Parts.{AreOwnKinds, HasEffect, SomeHasKind}
+use Rattle.call_edges.specs.declared.role.Met.{Met as MetKept}
+use Rattle.call_edges.specs.Goals.{Met}
+use Rattle.call_edges.specs.Seen.{see_met, see_mets}
+use Rattle.call_edges.specs.Calls.{IsMetIn}
+use Rattle.call_edges.specs.Called.{unless_found, unresolved}
+use Rattle.call_edges.proofs.BodyLemmas.{given_more}
+use Rattle.call_edges.proofs.UnresolvedLemmas.{met_unresolved}
+use Rattle.call_edges.proofs.ZipLemmas.{zip_at, zip_count}
+use Rattle.group_tool.specs.Parts.{AreOwnKinds, IsOwnKinds, SomeHasKind, kinds_given}
 
 -- a bit that is set is 1
 set_one : (n k : ℕ) → IsBitSet n k → bit_at n k ≡ 1
@@ -74,61 +85,76 @@ kinds_more names name all own is are kind = (
       ],
 )
 
--- one name more
-pub kinds_next : (names : List PredName) (i : ℕ) (name : PredName) (all own : ℕ) → i < length names → name ≡ get_or names i name → own ≡ kinds name.name name.arity
-    → AreKinds (take i names) all → AreKinds (take (i + 1) names) (bit_or all own)
-kinds_next names i name all own less at is are =
-    subst (λ ns. AreKinds ns (bit_or all own)) (sym (take_more names i name less ∙ ap (λ p. take i names ++ p ∷ []) (sym at)))
-    (kinds_more (take i names) name all own is are)
+-- what is met, one after another
 
-pub kinds_whole : (names : List PredName) (i all : ℕ) → length names ≤ i → AreKinds (take i names) all → AreKinds names all
-kinds_whole names i all whole are = subst (λ ns. AreKinds ns all) (take_all i names whole) are
-
--- the kinds of the names that a predicate calls and that mean none
-pub own_of : (seen : Seen) (node : ℕ) (names : List PredName) (all : ℕ) → AreUnresolved seen node names → AreKinds names all
-    → (kind : ℕ) → kind < 7 → IsBitSet all kind ↔ HasEffect seen kind node
-own_of seen node names all are kinds kind low = (
+kinds_same : (names : List PredName) (all : ℕ) → AreKinds names all → AreKinds names (bit_or all 0)
+kinds_same names all are kind = (
   λ set.
-      let some = (kinds kind).0 set in
-      record { name = some.name; unresolved = All-contains (IsUnresolved seen node) names some.name are.sound some.is_name; of_kind = some.of_kind },
-  λ has. (kinds kind).1 (record { name = has.name; is_name = are.all has.name has.unresolved; of_kind = has.of_kind }),
+      elim (or_cases all 0 kind set) [
+        | inl before ↦ (are kind).0 before
+        | inr never ↦ let one = set_one 0 kind never in let none = bit_at-zero kind in let no : ⊥ = omega (arith, one, none) in absurd no
+      ],
+  λ some. or_left all 0 kind ((are kind).1 some),
 )
 
--- the kinds of the first predicates
-pub record AreFirstKinds (seen : Seen) (own : List ℕ) (n : ℕ) : Type 0 where
-  pub each : length own ≡ n
-  pub upto : n ≤ length seen.predicates
-  pub are : (kind node : ℕ) → kind < 7 → node < n → HasKind own kind node ↔ HasEffect seen kind node
+kinds_option : (names : List PredName) (given : Option PredName) (all own : ℕ) → own ≡ kinds_given given → AreKinds names all
+    → AreKinds (names ++ option_to_list given) (bit_or all own)
+kinds_option names None all own is are =
+    subst (λ ns. AreKinds ns (bit_or all own)) (sym (append-nil names)) (subst (λ k. AreKinds names (bit_or all k)) (sym is) (kinds_same names all are))
+kinds_option names (Some name) all own is are = kinds_more names name all own is are
 
-pub first_none : (seen : Seen) → AreFirstKinds seen [] 0
-first_none seen = record { each = refl; upto = omega arith; are = λ kind node low lt. let no : ⊥ = omega (arith, lt) in absurd no }
+pub kinds_next : (seen : Seen) (met : List MetKept) (i : ℕ) (one : MetKept) (all own : ℕ) → i < length met → one ≡ get_or met i one
+    → own ≡ kinds_given (unresolved seen (see_met one))
+    → AreKinds (filter_map (unresolved seen) (see_mets (take i met))) all → AreKinds (filter_map (unresolved seen) (see_mets (take (i + 1) met))) (bit_or all own)
+kinds_next seen met i one all own lt at is are =
+    subst (λ ns. AreKinds ns (bit_or all own)) (sym (given_more (unresolved seen) see_met met i one (unresolved seen (see_met one)) lt at refl))
+    (kinds_option (filter_map (unresolved seen) (see_mets (take i met))) (unresolved seen (see_met one)) all own is are)
 
-pub first_more : (seen : Seen) (own : List ℕ) (n all : ℕ) → n < length seen.predicates → AreFirstKinds seen own n
-    → ((kind : ℕ) → kind < 7 → IsBitSet all kind ↔ HasEffect seen kind n) → AreFirstKinds seen (own ++ all ∷ []) (n + 1)
-first_more seen own n all less first is = record {
-  each = let each = first.each in let long = length-append own (all ∷ []) in omega (arith, each, long);
-  upto = omega (arith, less);
-  are = λ kind node low lt.
-      elim (cases_eq node n) [
-        | inl same ↦
-            let here : get_or (own ++ all ∷ []) node 0 ≡ all = ap (λ k. get_or (own ++ all ∷ []) k 0) (same ∙ sym first.each) ∙ get_or-append_seam own all [] 0 in
-            let own_is = is kind low in (
-              λ set. subst (HasEffect seen kind) (sym same) (own_is.0 (subst (λ k. IsBitSet k kind) here set)),
-              λ has. subst (λ k. IsBitSet k kind) (sym here) (own_is.1 (subst (HasEffect seen kind) same has)),
-            )
-        | inr other ↦
-            let each = first.each in
-            let before : node < n = omega (arith, lt, other) in
-            let there : get_or (own ++ all ∷ []) node 0 ≡ get_or own node 0 = get_or_append_left own (all ∷ []) 0 node (omega (arith, before, each)) in
-            let old = first.are kind node low before in (
-              λ set. old.0 (subst (λ k. IsBitSet k kind) there set),
-              λ has. subst (λ k. IsBitSet k kind) (sym there) (old.1 has),
-            )
-      ];
-}
+pub kinds_whole : (seen : Seen) (met : List MetKept) (i all : ℕ) → length met ≤ i → AreKinds (filter_map (unresolved seen) (see_mets (take i met))) all
+    → AreKinds (filter_map (unresolved seen) (see_mets met)) all
+kinds_whole seen met i all whole are = subst (λ ms. AreKinds (filter_map (unresolved seen) (see_mets ms)) all) (take_all i met whole) are
 
-pub first_all : (seen : Seen) (own : List ℕ) (n : ℕ) → length seen.predicates ≤ n → AreFirstKinds seen own n → AreOwnKinds seen own
-first_all seen own n whole first = record {
-  each = let each = first.each in let upto = first.upto in omega (arith, each, upto, whole);
-  are = λ kind node low lt. first.are kind node low (omega (arith, lt, whole));
-}
+-- a name without a kind, whether it means a predicate or not
+pub none_given : (owner name : List ℕ) (arity : ℕ) (target : Option ℕ) → kinds name arity ≡ 0 → 0 ≡ kinds_given (unless_found (pred_name owner name arity) target)
+none_given owner name arity None none = sym none
+none_given owner name arity (Some node) none = refl
+
+-- the kinds of the names that a predicate calls and that mean none
+pub own_of : (seen : Seen) (node : ℕ) (met : List Met) (all : ℕ) → ((m : Met) → Contains met m ↔ IsMetIn seen node m)
+    → AreKinds (filter_map (unresolved seen) met) all → IsOwnKinds seen node all
+own_of seen node met all are kinds kind low = (
+  λ set.
+      let some = (kinds kind).0 set in
+      record { name = some.name; unresolved = (met_unresolved seen node met are some.name).0 some.is_name; of_kind = some.of_kind },
+  λ has. (kinds kind).1 (record { name = has.name; is_name = (met_unresolved seen node met are has.name).1 has.unresolved; of_kind = has.of_kind }),
+)
+
+-- what is found of each predicate
+
+abbrev pub found_kinds : ℕ → Result ℕ AllocError
+found_kinds kinds = Ok kinds
+
+pub each_own : (seen : Seen) (count : ℕ) (own : List ℕ) → count ≡ length seen.predicates
+    → AllZip (λ node one. IfOk one (IsOwnKinds seen node)) (range_with_len 0 count) (map found_kinds own) → AreOwnKinds seen own
+each_own seen count own whole zip =
+    let R : ℕ → Result ℕ AllocError → Type 0 = λ node one. IfOk one (IsOwnKinds seen node) in
+    let as_long : count ≡ length own = sym (length-range_with_len 0 count) ∙ (zip_count R (range_with_len 0 count) (map found_kinds own) zip ∙ length-map own found_kinds) in
+    record {
+      each = sym as_long ∙ whole;
+      are = λ kind node low lt.
+          let inside : node < count = omega (arith, lt, whole) in
+          let here = zip_at R (range_with_len 0 count) (map found_kinds own) node 0 (found_kinds 0) zip (omega (arith, inside, length-range_with_len 0 count)) in
+          let number : get_or (range_with_len 0 count) node 0 ≡ node = get_or-range_with_len 0 count node 0 inside in
+          let kinds : get_or (map found_kinds own) node (found_kinds 0) ≡ found_kinds (get_or own node 0) =
+          get_or-map found_kinds own node 0 (found_kinds 0) (omega (arith, inside, as_long)) in
+          subst (λ n. IsOwnKinds seen n (get_or own node 0)) number
+          (subst (λ one. IfOk one (IsOwnKinds seen (get_or (range_with_len 0 count) node 0))) kinds here) kind low;
+    }
+
+pub each_found : {V : Type 0} (items : V → List ℕ) (seen : Seen) (count : ℕ) (xs : List (Result ℕ AllocError)) (found : Result V AllocError) → count ≡ length seen.predicates
+    → AllZip (λ node one. IfOk one (IsOwnKinds seen node)) (range_with_len 0 count) xs
+    → MatchResult found (λ own. (ys : List ℕ) × (xs ≡ map found_kinds ys) × (items own ≡ ys)) (λ e. Contains xs (Err e)) → IfOk found (λ own. AreOwnKinds seen (items own))
+each_found items seen count xs (Ok own) whole zip is =
+    let R : ℕ → Result ℕ AllocError → Type 0 = λ node one. IfOk one (IsOwnKinds seen node) in
+    subst (AreOwnKinds seen) (sym is.2) (each_own seen count is.0 whole (subst (AllZip R (range_with_len 0 count)) is.1 zip))
+each_found items seen count xs (Err e) whole zip is = tt

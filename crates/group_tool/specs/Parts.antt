@@ -30,6 +30,15 @@ pub record SomeHasKind (names : List PredName) (kind : ℕ) : Type 0 where
   pub is_name : Contains names name
   pub of_kind : IsBitSet (kinds name.name name.arity) kind
 
+-- the kinds of the name, where there is one
+abbrev pub kinds_given : Option PredName → ℕ
+kinds_given (Some name) = kinds name.name name.arity
+kinds_given None = 0
+
+-- the kinds that the predicate has itself
+abbrev pub IsOwnKinds : Seen → ℕ → ℕ → Type 0
+IsOwnKinds seen node own = (kind : ℕ) → kind < 7 → IsBitSet own kind ↔ HasEffect seen kind node
+
 -- the kinds that each predicate has itself
 pub record AreOwnKinds (seen : Seen) (own : List ℕ) : Type 0 where
   pub each : length own ≡ length seen.predicates

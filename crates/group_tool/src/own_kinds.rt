@@ -1,21 +1,52 @@
 //! The kinds of effects that predicates have themselves.
 
-ghost use Rattle.std.specs.Prelude.{◌<◌, ◌↔◌, ℕ, length, IfOk, IsBitSet};
+ghost use Rattle.std.specs.Prelude.{◌≡◌, ◌<◌, ◌↔◌, ℕ, length, IfOk, IsBitSet};
+ghost use Rattle.std.specs.List.{filter_map};
 ghost use Rattle.import_rules.specs.Program.{see_program};
-ghost use Rattle.group_tool.specs.Parts.{AreOwnKinds, HasEffect, SomeHasKind};
+ghost use Rattle.call_edges.specs.Called.{unresolved};
+ghost use Rattle.call_edges.specs.Seen.{see_met, see_mets};
+ghost use Rattle.group_tool.specs.Parts.{AreOwnKinds, IsOwnKinds, SomeHasKind, kinds_given};
 
-use call_edges::unresolved_of;
+use call_edges::{Met, met_in};
 use effect_flow::kinds_of;
-use import_rules::{PredName, Program};
+use import_rules::Program;
+use rayon::prelude::*;
 use std::alloc::{AllocError, Global};
+use std::thread::Threads;
 
-/// All kinds that one of the names or another has.
-fn kinds_in(names: &[PredName]) -> u64
-    ensures { (kind : ℕ) → IsBitSet result kind ↔ SomeHasKind names.now kind }
+/// How few predicates are worth a thread of their own.
+const FEWEST: usize = 512;
+
+/// The kinds of a call that goes to no predicate. Few names have a kind, and no other is looked up in
+/// the program.
+fn kinds_met(program: &Program, met: Met) -> u64
+    ensures { result ≡ kinds_given (unresolved (see_program program.now) (see_met met.entry)) }
+{
+    let Met::Call {
+        module,
+        name,
+        arity,
+    } = met
+    else {
+        return 0;
+    };
+    let kinds = kinds_of(name, arity);
+    if kinds == 0 {
+        return 0;
+    }
+    match program.find(module, name, arity) {
+        Some(_) => 0,
+        None => kinds,
+    }
+}
+
+/// The kinds of all calls that go to no predicate.
+fn kinds_in(program: &Program, met: &[Met]) -> u64
+    ensures { (kind : ℕ) → IsBitSet result kind ↔ SomeHasKind (filter_map (unresolved (see_program program.now)) (see_mets met.now)) kind }
 {
     let mut all = 0;
-    for name in names {
-        let own = kinds_of(name.name.as_str(), name.arity);
+    for one in met {
+        let own = kinds_met(program, *one);
         all |= own;
     }
     all
@@ -25,21 +56,28 @@ fn kinds_in(names: &[PredName]) -> u64
 /// mean no predicate.
 fn kinds_at(alloc: Global, program: &Program, node: u32) -> Result<u64, AllocError>
     requires { node < length (see_program program.now).predicates }
-    ensures { IfOk result (λ all. (kind : ℕ) → kind < 7 → IsBitSet all kind ↔ HasEffect (see_program program.now) kind node) }
+    ensures { IfOk result (IsOwnKinds (see_program program.now) node) }
 {
-    let names = unresolved_of(alloc, program, node)?;
-    Ok(kinds_in(&names))
+    let met = met_in(alloc, program, node)?;
+    Ok(kinds_in(program, &met))
 }
 
-/// The kinds that each predicate has itself.
-pub fn own_kinds(alloc: Global, program: &Program) -> Result<Vec<u64>, AllocError>
+/// The kinds that each predicate has itself. The predicates are walked side by side.
+pub fn own_kinds<R: Threads + Sync>(
+    rt: &R,
+    alloc: Global,
+    program: &Program,
+) -> Result<Vec<u64>, AllocError>
     ensures { IfOk result (λ own. AreOwnKinds (see_program program.now) own.items) }
 {
-    program.is_known();
-    let mut own = Vec::new(alloc);
-    for node in 0..program.count() {
-        let kinds = kinds_at(alloc, program, node)?;
-        own.push(kinds)?;
-    }
-    Ok(own)
+    (0..program.count())
+        .into_par_iter()
+        .with_min_len(FEWEST)
+        .map(
+            |node: u32| -> Result<u64, AllocError>
+                requires { node < length (see_program program.now).predicates }
+                ensures { IfOk result (IsOwnKinds (see_program program.entry.now) node) }
+            { kinds_at(alloc, program, node) },
+        )
+        .collect::<Result<Vec<u64>, AllocError>>(rt, alloc)?
 }

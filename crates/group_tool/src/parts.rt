@@ -37,7 +37,7 @@ fn effects_told<R: Threads + Sync>(
     ensures { IfOk result (λ bytes. TellEffects (see_program program.now) (lists_of groups.now) levels.now bytes.items) }
 {
     let _roots = roots;
-    let own = own_kinds(alloc, program)?;
+    let own = own_kinds(rt, alloc, program)?;
     let flows = flow(rt, alloc, calls, groups, levels, &own)?;
     let bytes = effect_lines(alloc, program, groups, levels, &flows)?;
     Ok(bytes)

@@ -1,22 +1,28 @@
-use Rattle.std.proofs.Common.{◌+◌, ◌<◌, ◌≤◌, length, subst, sym, arith}
+use Rattle.std.proofs.Common.{◌≡◌, ℕ, ◌-◌, ◌<◌, List, length, IfOk, ap, ◌∙◌, subst, arith}
+use Rattle.std.specs.List.{AllZip, range_with_len}
+use Rattle.rayon.specs.Numbers.{nat_range}
+use Rattle.rayon.proofs.ListFacts.{IfOk-then}
+use Rattle.rayon.proofs.ToStd.{nat_range-All}
 use Rattle.import_rules.specs.Program.{see_program}
-use Rattle.group_tool.proofs.KindLemmas.{AreFirstKinds, first_all, first_more, first_none}
+use Rattle.group_tool.proofs.KindLemmas.{each_found}
+use Rattle.group_tool.specs.Parts.{IsOwnKinds}
 use Rattle.group_tool.proofs.own_kinds.own_kinds.Goals as goal
 
-pub loop-node-init : goal.loop-node-init
-loop-node-init c = subst (λ own. AreFirstKinds (see_program c.args.program.now) own 0) (sym c.new-own.ensures.items) (first_none (see_program c.args.program.now))
-
-pub loop-node-preserved : goal.loop-node-preserved
-loop-node-preserved c =
-    let seen = see_program c.args.program.now in
-    let node = c.loop-node.node in
-    let below : node < length seen.predicates = omega (arith, c.loop-node-test.true, c.count-node-end.ensures) in
-    subst (λ own. AreFirstKinds seen own (node + 1)) (sym c.in_ok-push.ensures.items)
-    (first_more seen c.loop-node.own.items node c.in_ok-kinds.kinds below c.loop-node.invariant c.in_ok-kinds.ensures)
-
 pub returns : goal.returns
-returns c =
+returns g c =
+    let ends = c.into_par_iter.ensures in
     let seen = see_program c.args.program.now in
-    let node = c.loop-node.node in
-    let all : length seen.predicates ≤ node = omega (arith, c.loop-node-test.false, c.count-node-end.ensures) in
-    first_all seen c.loop-node.own.items node all c.loop-node.invariant
+    let count = c.count.result in
+    let whole : count - 0 ≡ count = omega arith in
+    let h = c.in_ok-collect.ensures in
+    let chain = rw (c.map.ensures.base, c.map.ensures.f, c.with_min_len.ensures.base) at h.1 in
+    let places = chain.1 ∙ (λ i. nat_range (ends.0 i) (ends.1 i)) ∙ ap (range_with_len 0) whole in
+    each_found (λ own. own.items) seen count h.0 _ c.count.ensures
+    (subst (λ (xs : List ℕ). AllZip (λ node one. IfOk one (IsOwnKinds seen node)) xs h.0) places chain.2) h.2
+
+pub collect-requires-clause-ready : goal.collect-requires-clause-ready
+collect-requires-clause-ready g c κs within =
+    let ends = c.into_par_iter.ensures in
+    let seen = see_program c.args.program.now in
+    let inside = nat_range-All (λ i. i < length seen.predicates) 0 c.count.result (λ i low high. omega (arith, high, c.count.ensures)) in
+    rw (c.map.ensures.base, c.map.ensures.f, c.with_min_len.ensures.base, ends.0, ends.1) (λ k d lt. (inside k d lt, λ y p. tt))
