@@ -92,7 +92,7 @@ module _ (before after : LibrarySeen) (roots : List (List ℕ)) (found : List Fi
       ends_by no_memory (inl all.gained.given) (inl refl)
       (record {
         first = first_names before after roots answers all.waves all.answers (λ files agree n less. all.are files agree n) few own agrees (names_of answers) []
-        (sym all.names ∙ sym (append-nil (names_of answers)));
+            (sym all.names ∙ sym (append-nil (names_of answers)));
         within = inl are_all.within;
       })
 
