@@ -1,3 +1,1 @@
 mod NewGroups
-mod OneNode
-mod RingGroups

@@ -19,13 +19,25 @@ pub(crate) fn tailed_ring(alloc: Global) -> Result<Graph, Fail>
     Ok(graph)
 }
 
-/// A graph by bits, lowest first: `edges` tells for each node which nodes it calls, `starts` which
-/// nodes are roots.
+/// The graph of these successor lists and roots.
+pub(crate) fn graph_of_lists(
+    alloc: Global,
+    lists: &[&[u32]],
+    roots: &[u32],
+) -> Result<Graph, Fail> {
+    let mut succs = Vec::new(alloc);
+    for list in lists {
+        succs.push(Vec::from_slice(alloc, list)?)?;
+    }
+    let graph = Graph::new(succs, Vec::from_slice(alloc, roots)?).ok_or("refused")?;
+    Ok(graph)
+}
+
+/// A graph by bits, lowest first, which tell for each node which nodes it calls. All nodes are roots.
 pub(crate) fn small_graph(
     alloc: Global,
     count: u32,
     mut edges: u32,
-    mut starts: u32,
 ) -> Result<Option<Graph>, AllocError> {
     let mut succs = Vec::new(alloc);
     let mut roots = Vec::new(alloc);
@@ -38,10 +50,7 @@ pub(crate) fn small_graph(
             edges >>= 1;
         }
         succs.push(list)?;
-        if starts & 1 == 1 {
-            roots.push(p)?;
-        }
-        starts >>= 1;
+        roots.push(p)?;
     }
     Ok(Graph::new(succs, roots))
 }

@@ -1,34 +1,5 @@
-use crate::graphs::tailed_ring;
-use group_release::{Level, Released, levels};
+use group_release::Released;
 use std::test::Fail;
-
-#[test]
-fn finds_levels(rt: HostRuntime) -> Result<(), Fail> {
-    let alloc = rt.alloc();
-    let graph = tailed_ring(alloc)?;
-    let groups = vec![in alloc;
-        vec![in alloc; 2]?,
-        vec![in alloc; 0, 1]?,
-        vec![in alloc; 3]?,
-    ]?;
-    let levels = levels(alloc, &graph, &groups)?;
-    let expected = [
-        Level {
-            height: 0,
-            recursive: false,
-        },
-        Level {
-            height: 1,
-            recursive: true,
-        },
-        Level {
-            height: 2,
-            recursive: false,
-        },
-    ];
-    assert_eq!(rt; levels.as_slice(), expected.as_slice());
-    Ok(())
-}
 
 #[test]
 fn holds_what_was_appended(rt: HostRuntime) -> Result<(), Fail> {

@@ -1,4 +1,5 @@
-//! Tests of the calls that search graphs, and of what they mean.
+//! Tests of the calls that search graphs, of what they mean, and of many searches whose places act as
+//! they are told. What the groups of graphs are stands in the rows of `graph_rows`.
 #![tactic(auto)]
 
 #[cfg(test)]
@@ -10,7 +11,9 @@ mod graphs;
 #[cfg(test)]
 mod level_tests;
 #[cfg(test)]
-mod plain_tests;
+mod machine_tests;
+#[cfg(test)]
+mod memory_tests;
 #[cfg(test)]
 mod step_tests;
 #[cfg(test)]
