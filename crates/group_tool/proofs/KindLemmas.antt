@@ -6,7 +6,7 @@ use Rattle.std.specs.Option.{option_to_list}
 use Rattle.std.specs.declared.alloc.AllocError.{AllocError}
 use Rattle.std.proofs.lemmas.Bool.{cases_eq}
 use Rattle.std.specs.Prelude.{Contains, MatchResult}
-use Rattle.std.proofs.lemmas.List.{get_or-map, length-map, take_all}
+use Rattle.std.proofs.lemmas.List.{get_or-map, length-map, take_all, get_or_default}
 use Rattle.std.proofs.lemmas.List.Elements.{Contains-append_left, Contains-push, Contains-push_cases}
 use Rattle.std.proofs.lemmas.List.FromFn.{get_or-range_with_len, length-range_with_len}
 use Rattle.std.proofs.lemmas.Nat.{pow_pos}
@@ -103,12 +103,18 @@ kinds_option names None all own is are =
     subst (λ ns. AreKinds ns (bit_or all own)) (sym (append-nil names)) (subst (λ k. AreKinds names (bit_or all k)) (sym is) (kinds_same names all are))
 kinds_option names (Some name) all own is are = kinds_more names name all own is are
 
-pub kinds_next : (seen : Seen) (met : List MetKept) (i : ℕ) (one : MetKept) (all own : ℕ) → i < length met → one ≡ get_or met i one
+kinds_next : (seen : Seen) (met : List MetKept) (i : ℕ) (one : MetKept) (all own : ℕ) → i < length met → one ≡ get_or met i one
     → own ≡ kinds_given (unresolved seen (see_met one))
     → AreKinds (filter_map (unresolved seen) (see_mets (take i met))) all → AreKinds (filter_map (unresolved seen) (see_mets (take (i + 1) met))) (bit_or all own)
 kinds_next seen met i one all own lt at is are =
     subst (λ ns. AreKinds ns (bit_or all own)) (sym (given_more (unresolved seen) see_met met i one (unresolved seen (see_met one)) lt at refl))
     (kinds_option (filter_map (unresolved seen) (see_mets (take i met))) (unresolved seen (see_met one)) all own is are)
+
+-- the same for what stands at the place, whatever stood past the end
+pub kinds_next_at : (seen : Seen) (met : List MetKept) (i : ℕ) (other : MetKept) (all own : ℕ) → i < length met → own ≡ kinds_given (unresolved seen (see_met (get_or met i other)))
+    → AreKinds (filter_map (unresolved seen) (see_mets (take i met))) all → AreKinds (filter_map (unresolved seen) (see_mets (take (i + 1) met))) (bit_or all own)
+kinds_next_at seen met i other all own lt is are =
+    kinds_next seen met i (get_or met i other) all own lt (get_or_default met i other (get_or met i other) lt) is are
 
 pub kinds_whole : (seen : Seen) (met : List MetKept) (i all : ℕ) → length met ≤ i → AreKinds (filter_map (unresolved seen) (see_mets (take i met))) all
     → AreKinds (filter_map (unresolved seen) (see_mets met)) all
@@ -144,7 +150,8 @@ each_own seen count own whole zip =
       are = λ kind node low lt.
           let inside : node < count = omega (arith, lt, whole) in
           let here = zip_at R (range_with_len 0 count) (map found_kinds own) node 0 (found_kinds 0) zip (omega (arith, inside, length-range_with_len 0 count)) in
-          let number : get_or (range_with_len 0 count) node 0 ≡ node = get_or-range_with_len 0 count node 0 inside in
+          let from_zero : 0 + node ≡ node = omega arith in
+          let number : get_or (range_with_len 0 count) node 0 ≡ node = get_or-range_with_len 0 count node 0 inside ∙ from_zero in
           let kinds : get_or (map found_kinds own) node (found_kinds 0) ≡ found_kinds (get_or own node 0) =
           get_or-map found_kinds own node 0 (found_kinds 0) (omega (arith, inside, as_long)) in
           subst (λ n. IsOwnKinds seen n (get_or own node 0)) number

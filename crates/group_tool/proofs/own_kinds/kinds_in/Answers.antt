@@ -1,6 +1,5 @@
-use Rattle.std.proofs.Common.{ap, ◌∙◌}
 use Rattle.import_rules.specs.Program.{see_program}
-use Rattle.group_tool.proofs.KindLemmas.{kinds_next, kinds_none, kinds_whole}
+use Rattle.group_tool.proofs.KindLemmas.{kinds_next_at, kinds_none, kinds_whole}
 use Rattle.group_tool.proofs.own_kinds.kinds_in.Goals as goal
 
 pub loop-one-init : goal.loop-one-init
@@ -8,7 +7,7 @@ loop-one-init c = kinds_none
 
 pub loop-one-preserved : goal.loop-one-preserved
 loop-one-preserved c =
-    kinds_next (see_program c.args.program.now) c.args.met.now c.loop-one.one-index c.one-item.result c.loop-one.all c.kinds_met-own.result c.loop-one-test.true c.one-item.is
+    kinds_next_at (see_program c.args.program.now) c.args.met.now c.loop-one.one-index _ c.loop-one.all c.kinds_met-own.result c.loop-one-test.true
     c.kinds_met-own.ensures c.loop-one.invariant
 
 pub returns : goal.returns
