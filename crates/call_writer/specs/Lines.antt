@@ -1,0 +1,87 @@
+-- The lines of a table of calls, as JSON: an object a line.
+use Rattle.std.specs.Prelude.{ℕ, ◌-◌, ◌==◌, List, [], ◌++◌, Option, Some, None, Bool, true, false, ◌&&◌, is_some, slice_get, if◌then◌else◌, codes}
+use Rattle.std.specs.Fmt.{decimal}
+use Rattle.prolog_tokens.specs.declared.token.Place.{Place}
+use Rattle.file_library.specs.Loaded.{NamedText}
+use Rattle.graph_law.specs.Classes.{group_at, least_member}
+use Rattle.group_release.specs.declared.level.Level.{Level}
+use Rattle.group_release.specs.Level.{level_at}
+use Rattle.import_rules.specs.declared.names.PredName.{PredName}
+use Rattle.import_rules.specs.Program.{Seen, found}
+use Rattle.call_edges.specs.CallPlaces.{CallAt}
+use Rattle.call_table.specs.declared.clauses.ClauseAt.{ClauseAt}
+use Rattle.call_writer.specs.Json.{json_string}
+
+-- the name of a file, and the line and the column there
+abbrev pub file_name : Option NamedText → List ℕ
+file_name (Some text) = text.0
+file_name None = []
+
+abbrev pub place_fields : List ℕ → Place → List ℕ
+place_fields file place =
+    codes "\"file\":" ++ (json_string file ++ (codes ",\"line\":" ++ (decimal place.line ++ (codes ",\"column\":" ++ decimal place.column))))
+
+-- a line and a column of the file at a place among the files
+abbrev pub spot_fields : Seen → ℕ → Place → List ℕ
+spot_fields seen file place = place_fields (file_name (slice_get seen.loaded.texts file)) place
+
+-- a name in a module
+abbrev pub name_fields : PredName → List ℕ
+name_fields name =
+    codes "\"module\":" ++ (json_string name.module ++ (codes ",\"name\":" ++ (json_string name.name ++ (codes ",\"arity\":" ++ decimal name.arity))))
+
+-- a number, or that there is none
+abbrev pub number_or_null : Option ℕ → List ℕ
+number_or_null (Some n) = decimal n
+number_or_null None = codes "null"
+
+-- `{"is":"call","caller":0,"callee":1`
+abbrev pub call_head : ℕ → Option ℕ → List ℕ
+call_head caller callee = codes "{\"is\":\"call\",\"caller\":" ++ (decimal caller ++ (codes ",\"callee\":" ++ number_or_null callee))
+
+-- `{"is":"call","caller":0,"callee":1,"module":"user","name":"q","arity":0,"file":"f.pl","line":1,"column":6}`
+abbrev pub call_line_to : Option ℕ → Seen → CallAt → Place → List ℕ
+call_line_to callee seen c place =
+    call_head c.caller callee ++ (codes "," ++ (name_fields c.callee ++ (codes "," ++ (spot_fields seen c.file place ++ codes "}\n"))))
+
+-- the line of a call of what its name means
+abbrev pub call_line : Seen → CallAt → Place → List ℕ
+call_line seen c place = call_line_to (found seen c.callee.module c.callee.name c.callee.arity) seen c place
+
+-- a call has a line, unless only those are told whose name means no predicate, and it means one
+abbrev pub call_line_if : Bool → Seen → CallAt → Place → List ℕ
+call_line_if undefined seen c place =
+    if undefined && is_some (found seen c.callee.module c.callee.name c.callee.arity) then [] else call_line seen c place
+
+-- `{"is":"clause","predicate":0,"file":"f.pl","line":1,"column":1}`
+abbrev pub clause_line : Seen → ClauseAt → Place → List ℕ
+clause_line seen c place =
+    codes "{\"is\":\"clause\",\"predicate\":" ++ (decimal c.node ++ (codes "," ++ (spot_fields seen c.file place ++ codes "}\n")))
+
+abbrev pub truth : Bool → List ℕ
+truth true = codes "true"
+truth false = codes "false"
+
+-- the least number of a group, the group's height, and whether it is recursive
+abbrev pub level_fields : ℕ → Level → List ℕ
+level_fields least level =
+    codes "\"group\":" ++ (decimal least ++ (codes ",\"height\":" ++ (decimal level.height ++ (codes ",\"recursive\":" ++ truth level.recursive))))
+
+-- those of the group at one less than the place; `null` where it is 0, in no group
+abbrev pub group_fields : List (List ℕ) → List Level → ℕ → List ℕ
+group_fields groups levels place =
+    if place == 0 then codes "\"group\":null,\"height\":null,\"recursive\":null"
+    else level_fields (least_member (group_at groups (place - 1))) (level_at levels (place - 1))
+
+-- `{"is":"predicate","id":0,"module":"user","name":"p","arity":0`
+abbrev pub predicate_head : ℕ → PredName → List ℕ
+predicate_head node name = codes "{\"is\":\"predicate\",\"id\":" ++ (decimal node ++ (codes "," ++ name_fields name))
+
+-- `{"is":"predicate","id":0,"module":"user","name":"p","arity":0,"group":0,"height":1,"recursive":true}`
+abbrev pub predicate_line : List (List ℕ) → List Level → ℕ → PredName → ℕ → List ℕ
+predicate_line groups levels node name place = predicate_head node name ++ (codes "," ++ (group_fields groups levels place ++ codes "}\n"))
+
+-- that of the predicate of that number, and nothing where there is none
+abbrev pub predicate_line_of : List PredName → List (List ℕ) → List Level → ℕ → ℕ → List ℕ
+predicate_line_of predicates groups levels node place =
+    elim (slice_get predicates node) [ Some name ↦ predicate_line groups levels node name place | None ↦ [] ]

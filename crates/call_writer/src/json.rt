@@ -1,0 +1,79 @@
+//! Strings and numbers of JSON.
+
+ghost use Rattle.std.specs.Prelude.{◌≡◌, ◌<◌, ◌+◌, ◌++◌, ◌∷◌, ◌/◌, ◌%◌, [], OnOk, chars, codes};
+ghost use Rattle.std.specs.Fmt.{decimal};
+ghost use Rattle.std.specs.List.{flat_map};
+ghost use Rattle.std.specs.String.{string_bytes};
+ghost use Rattle.call_writer.specs.Json.{hex_digit, json_char, json_string};
+
+use std::alloc::AllocError;
+
+/// The decimal digit of a number below 10.
+fn digit(number: u64) -> u8
+    requires { number < 10 }
+    ensures { result ≡ 48 + number }
+{
+    b'0' + number as u8
+}
+
+/// Adds the number in decimal digits. It takes no memory but that of the text.
+pub(crate) fn push_number(text: &mut String, number: u64) -> Result<(), AllocError>
+    ensures { OnOk result (string_bytes text.new ≡ string_bytes text.old ++ decimal number) }
+{
+    if number < 10 {
+        return text.push(digit(number) as char);
+    }
+    push_number(text, number / 10)?;
+    text.push(digit(number % 10) as char)
+}
+
+/// The small hexadecimal digit of a number below 16.
+fn hex_digit(number: u8) -> u8
+    requires { number < 16 }
+    ensures { result ≡ hex_digit number }
+{
+    if number < 10 {
+        return b'0' + number;
+    }
+    b'a' + (number - 10)
+}
+
+/// Adds the escape of a control character.
+fn push_code(text: &mut String, code: u8) -> Result<(), AllocError>
+    requires { code < 128 }
+    ensures { OnOk result (string_bytes text.new
+        ≡ string_bytes text.old ++ (codes "\\u00" ++ hex_digit (code / 16) ∷ hex_digit (code % 16) ∷ [])) }
+{
+    text.push_str("\\u00")?;
+    text.push(hex_digit(code / 16) as char)?;
+    text.push(hex_digit(code % 16) as char)
+}
+
+/// Adds a character of a string.
+fn push_json_char(text: &mut String, character: char) -> Result<(), AllocError>
+    ensures { OnOk result (string_bytes text.new ≡ string_bytes text.old ++ json_char character) }
+{
+    if character == '"' {
+        return text.push_str("\\\"");
+    }
+    if character == '\\' {
+        return text.push_str("\\\\");
+    }
+    if character < ' ' {
+        return push_code(text, character as u8);
+    }
+    text.push(character)
+}
+
+/// Adds a text as a string of JSON (RFC 8259, section 7): between quotes, a quote as `\"`, a backslash
+/// as `\\`, a character below U+0020 as `\u00HH` with two small hexadecimal digits, and any other as it
+/// is.
+pub fn push_json_string(text: &mut String, name: &str) -> Result<(), AllocError>
+    ensures { OnOk result (string_bytes text.new ≡ string_bytes text.old ++ json_string name.now) }
+{
+    text.push_str("\"")?;
+    for character in name.chars() {
+        push_json_char(text, character)?;
+    }
+    text.push_str("\"")
+}

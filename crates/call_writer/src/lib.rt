@@ -1,0 +1,18 @@
+//! A table of calls, as JSON with an object a line, and as a graph for Graphviz.
+//!
+//! ```text
+//! {"is":"predicate","id":0,"module":"user","name":"p","arity":0,"group":0,"height":1,"recursive":false}
+//! {"is":"clause","predicate":0,"file":"f.pl","line":1,"column":1}
+//! {"is":"call","caller":0,"callee":1,"module":"user","name":"q","arity":0,"file":"f.pl","line":1,"column":6}
+//! ```
+//!
+//! Which calls there are is for the layers below.
+#![tactic(auto)]
+
+mod dot;
+mod json;
+mod lines;
+
+pub use dot::{push_cluster, push_edges, push_node};
+pub use json::push_json_string;
+pub use lines::{push_call_lines, push_clause_lines, push_predicate_line};

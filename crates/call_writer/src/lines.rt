@@ -1,0 +1,284 @@
+//! The lines of a table of calls, as JSON.
+
+ghost use Rattle.std.specs.Prelude.{◌≡◌, ◌<◌, ◌≤◌, ◌++◌, ◌&&◌, All, OnOk, is_some, length, slice_get};
+ghost use Rattle.std.specs.Fmt.{decimal};
+ghost use Rattle.std.specs.List.{flat_map, zip};
+ghost use Rattle.std.specs.String.{string_bytes};
+ghost use Rattle.call_edges.specs.PlacedSeen.{see_call, see_calls};
+ghost use Rattle.call_writer.specs.Lines.{call_head, call_line_if, call_line_to, clause_line, file_name, group_fields, level_fields, name_fields, number_or_null, place_fields, predicate_head, predicate_line, predicate_line_of, spot_fields, truth};
+ghost use Rattle.graph_law.specs.Classes.{group_at, least_member};
+ghost use Rattle.graph_law.specs.Graph.{lists_of};
+ghost use Rattle.import_rules.specs.Names.{pred_name};
+ghost use Rattle.import_rules.specs.Program.{found, see_program};
+
+use crate::json::{push_json_string, push_number};
+use call_edges::PlacedCall;
+use call_table::ClauseAt;
+use group_release::Level;
+use import_rules::{PredName, Program};
+use prolog_tokens::Place;
+use std::alloc::AllocError;
+
+/// The name of the file at that place among the files, or nothing where there is none.
+fn file_name(program: &Program, file: u32) -> &str
+    ensures { result.now ≡ file_name (slice_get (see_program program.now).loaded.texts file) }
+{
+    match program.loaded().texts.get(file as usize) {
+        Some(text) => text.0.as_str(),
+        None => "",
+    }
+}
+
+/// Adds a file, a line and a column.
+fn push_place(text: &mut String, file: &str, place: Place) -> Result<(), AllocError>
+    ensures { OnOk result (string_bytes text.new ≡ string_bytes text.old ++ place_fields file.now place) }
+{
+    text.push_str("\"file\":")?;
+    push_json_string(text, file)?;
+    text.push_str(",\"line\":")?;
+    push_number(text, u64::from(place.line))?;
+    text.push_str(",\"column\":")?;
+    push_number(text, u64::from(place.column))
+}
+
+/// Adds a line and a column of the file at that place among the files.
+fn push_spot(
+    text: &mut String,
+    program: &Program,
+    file: u32,
+    place: Place,
+) -> Result<(), AllocError>
+    ensures { OnOk result (string_bytes text.new ≡ string_bytes text.old ++ spot_fields (see_program program.now) file place) }
+{
+    let name = file_name(program, file);
+    push_place(text, name, place)
+}
+
+/// Adds a name in a module.
+fn push_name(text: &mut String, owner: &str, name: &str, arity: u32) -> Result<(), AllocError>
+    ensures { OnOk result (string_bytes text.new ≡ string_bytes text.old ++ name_fields (pred_name owner.now name.now arity)) }
+{
+    text.push_str("\"module\":")?;
+    push_json_string(text, owner)?;
+    text.push_str(",\"name\":")?;
+    push_json_string(text, name)?;
+    text.push_str(",\"arity\":")?;
+    push_number(text, u64::from(arity))
+}
+
+/// Adds the number, or `null` where there is none.
+fn push_callee(text: &mut String, callee: Option<u32>) -> Result<(), AllocError>
+    ensures { OnOk result (string_bytes text.new ≡ string_bytes text.old ++ number_or_null callee) }
+{
+    match callee {
+        Some(node) => push_number(text, u64::from(node)),
+        None => text.push_str("null"),
+    }
+}
+
+/// Whether a call has no line: only undefined names are wanted, and it means a predicate.
+fn is_hidden(undefined: bool, callee: Option<u32>) -> bool
+    ensures { result ≡ (undefined && is_some callee) }
+{
+    if undefined {
+        return callee.is_some();
+    }
+    false
+}
+
+/// Adds the beginning of the line of a call: what kind of line it is, its caller and what it means.
+fn push_call_head(text: &mut String, caller: u32, callee: Option<u32>) -> Result<(), AllocError>
+    ensures { OnOk result (string_bytes text.new ≡ string_bytes text.old ++ call_head caller callee) }
+{
+    text.push_str("{\"is\":\"call\",\"caller\":")?;
+    push_number(text, u64::from(caller))?;
+    text.push_str(",\"callee\":")?;
+    push_callee(text, callee)
+}
+
+/// Adds the line of a call that means that predicate, or none.
+fn push_call_to(
+    text: &mut String,
+    program: &Program,
+    call: &PlacedCall<'_>,
+    callee: Option<u32>,
+    place: Place,
+) -> Result<(), AllocError>
+    ensures { OnOk result (string_bytes text.new ≡ string_bytes text.old ++ call_line_to callee (see_program program.now) (see_call call.now) place) }
+{
+    push_call_head(text, call.caller, callee)?;
+    text.push_str(",")?;
+    push_name(text, call.module, call.name, call.arity)?;
+    text.push_str(",")?;
+    push_spot(text, program, call.file, place)?;
+    text.push_str("}\n")
+}
+
+/// Adds the line of a call; where only undefined names are wanted, none for a call that means a
+/// predicate.
+fn push_call(
+    text: &mut String,
+    program: &Program,
+    call: &PlacedCall<'_>,
+    place: Place,
+    undefined: bool,
+) -> Result<(), AllocError>
+    ensures { OnOk result (string_bytes text.new ≡ string_bytes text.old ++ call_line_if undefined (see_program program.now) (see_call call.now) place) }
+{
+    let callee = program.find(call.module, call.name, call.arity);
+    if is_hidden(undefined, callee) {
+        return Ok(());
+    }
+    push_call_to(text, program, call, callee, place)
+}
+
+/// Adds the lines of calls with their lines and columns; where only undefined names are wanted, those
+/// of calls whose name means no predicate.
+pub fn push_call_lines(
+    text: &mut String,
+    program: &Program,
+    calls: &[PlacedCall<'_>],
+    places: &[Place],
+    undefined: bool,
+) -> Result<(), AllocError>
+    ensures { OnOk result (string_bytes text.new
+        ≡ string_bytes text.old ++ flat_map (λ pair. call_line_if undefined (see_program program.now) pair.0 pair.1) (zip (see_calls calls.now) places.now)) }
+{
+    for (call, place) in calls.iter().zip(places) {
+        push_call(text, program, call, *place, undefined)?;
+    }
+    Ok(())
+}
+
+/// Adds the line of a clause.
+fn push_clause(
+    text: &mut String,
+    program: &Program,
+    clause: ClauseAt,
+    place: Place,
+) -> Result<(), AllocError>
+    ensures { OnOk result (string_bytes text.new ≡ string_bytes text.old ++ clause_line (see_program program.now) clause place) }
+{
+    text.push_str("{\"is\":\"clause\",\"predicate\":")?;
+    push_number(text, u64::from(clause.node))?;
+    text.push_str(",")?;
+    push_spot(text, program, clause.file, place)?;
+    text.push_str("}\n")?;
+    Ok(())
+}
+
+/// Adds the lines of clauses with their lines and columns.
+pub fn push_clause_lines(
+    text: &mut String,
+    program: &Program,
+    clauses: &[ClauseAt],
+    places: &[Place],
+) -> Result<(), AllocError>
+    ensures { OnOk result (string_bytes text.new
+        ≡ string_bytes text.old ++ flat_map (λ pair. clause_line (see_program program.now) pair.0 pair.1) (zip clauses.now places.now)) }
+{
+    for (clause, place) in clauses.iter().zip(places) {
+        push_clause(text, program, *clause, *place)?;
+    }
+    Ok(())
+}
+
+fn truth(holds: bool) -> &'static str
+    ensures { result.now ≡ truth holds }
+{
+    if holds { "true" } else { "false" }
+}
+
+/// The least member of the group at that place, which is its first.
+fn least_at(groups: &[Vec<u32>], place: usize) -> u32
+    requires inhabited { All (λ members. 0 < length members) (lists_of groups.now) }
+    requires within { place < length groups.now }
+    ensures { result ≡ least_member (group_at (lists_of groups.now) place) }
+{
+    groups[place][0]
+}
+
+/// Adds the least member of a group and the group's level.
+fn push_level(text: &mut String, least: u32, level: Level) -> Result<(), AllocError>
+    ensures { OnOk result (string_bytes text.new ≡ string_bytes text.old ++ level_fields least level) }
+{
+    text.push_str("\"group\":")?;
+    push_number(text, u64::from(least))?;
+    text.push_str(",\"height\":")?;
+    push_number(text, u64::from(level.height))?;
+    text.push_str(",\"recursive\":")?;
+    text.push_str(truth(level.recursive))?;
+    Ok(())
+}
+
+/// Adds the group of a predicate, by one more than its place among the groups, or 0 where it is in
+/// none.
+fn push_group(
+    text: &mut String,
+    groups: &[Vec<u32>],
+    levels: &[Level],
+    place: usize,
+) -> Result<(), AllocError>
+    requires one_level_each { length levels.now ≡ length groups.now }
+    requires inhabited { All (λ members. 0 < length members) (lists_of groups.now) }
+    requires within { place ≤ length groups.now }
+    ensures { OnOk result (string_bytes text.new ≡ string_bytes text.old ++ group_fields (lists_of groups.now) levels.now place) }
+{
+    if place == 0 {
+        return text.push_str("\"group\":null,\"height\":null,\"recursive\":null");
+    }
+    let least = least_at(groups, place - 1);
+    push_level(text, least, levels[place - 1])
+}
+
+/// Adds the beginning of the line of a predicate: what kind of line it is, its number and its name.
+fn push_predicate_head(text: &mut String, node: u32, name: &PredName) -> Result<(), AllocError>
+    ensures { OnOk result (string_bytes text.new ≡ string_bytes text.old ++ predicate_head node name.now) }
+{
+    text.push_str("{\"is\":\"predicate\",\"id\":")?;
+    push_number(text, u64::from(node))?;
+    text.push_str(",")?;
+    push_name(text, name.module.as_str(), name.name.as_str(), name.arity)?;
+    Ok(())
+}
+
+/// Adds the line of the predicate with that number and name.
+fn push_named(
+    text: &mut String,
+    groups: &[Vec<u32>],
+    levels: &[Level],
+    node: u32,
+    name: &PredName,
+    place: usize,
+) -> Result<(), AllocError>
+    requires one_level_each { length levels.now ≡ length groups.now }
+    requires inhabited { All (λ members. 0 < length members) (lists_of groups.now) }
+    requires within { place ≤ length groups.now }
+    ensures { OnOk result (string_bytes text.new ≡ string_bytes text.old ++ predicate_line (lists_of groups.now) levels.now node name.now place) }
+{
+    push_predicate_head(text, node, name)?;
+    text.push_str(",")?;
+    push_group(text, groups, levels, place)?;
+    text.push_str("}\n")?;
+    Ok(())
+}
+
+/// Adds the line of the predicate with that number, which is in the group at one less than that place,
+/// or in none where it is 0.
+pub fn push_predicate_line(
+    text: &mut String,
+    program: &Program,
+    groups: &[Vec<u32>],
+    levels: &[Level],
+    node: u32,
+    place: usize,
+) -> Result<(), AllocError>
+    requires node { node < length (see_program program.now).predicates }
+    requires one_level_each { length levels.now ≡ length groups.now }
+    requires inhabited { All (λ members. 0 < length members) (lists_of groups.now) }
+    requires within { place ≤ length groups.now }
+    ensures { OnOk result (string_bytes text.new ≡ string_bytes text.old ++ predicate_line_of (see_program program.now).predicates (lists_of groups.now) levels.now node place) }
+{
+    push_named(text, groups, levels, node, program.name_of(node), place)?;
+    Ok(())
+}
