@@ -4,6 +4,7 @@ use crate::stop::Limit;
 use clause_text::cause_text;
 use file_library::Fault;
 use import_rules::PredName;
+use loop_report::predicate_name;
 use prolog_tokens::{Place, Text};
 use std::alloc::{AllocError, Global};
 
@@ -44,14 +45,8 @@ fn push_number(alloc: Global, text: &mut String, number: u32) -> Result<(), Allo
 
 /// The line that says which name of the words is no predicate of the program.
 pub fn missing_line(alloc: Global, root: &PredName) -> Result<String, AllocError> {
-    let mut text = String::from_str(alloc, "calls: no predicate ")?;
-    text.push_str(root.module.as_str())?;
-    text.push_str(":")?;
-    text.push_str(root.name.as_str())?;
-    text.push_str("/")?;
-    push_number(alloc, &mut text, root.arity)?;
-    text.push_str("\n")?;
-    Ok(text)
+    let name = predicate_name(alloc, root)?;
+    line(alloc, "calls: no predicate ", name.as_str(), "\n")
 }
 
 /// The line that says which file can't be read.

@@ -2,22 +2,22 @@
 //! with an object a line, or as a graph for Graphviz.
 #![tactic(auto)]
 
+ghost use Rattle.file_library.specs.Loaded.{WasLoaded};
 ghost use Rattle.file_library.specs.SortedOut.{see_loaded};
-ghost use Rattle.import_rules.specs.Loaded.{WasLoaded};
 
-mod grouped;
 mod lines;
 mod output;
+mod roots;
 mod stop;
+mod told;
 mod words;
 
-use crate::grouped::{Grouped, make_groups};
 use crate::lines::{fault_lines, limit_line, missing_line, unread_line};
-use crate::output::{Output, tell};
+use crate::output::tell;
 use crate::stop::Stop;
+use crate::told::make_told;
 use crate::words::{Wanted, read_wanted};
 use call_edges::call_lists;
-use call_table::call_table;
 use file_library::{DiskLibrary, Library, Loaded, load_all};
 use import_rules::{Program, resolve_all};
 use prolog_tokens::Text;
@@ -87,21 +87,9 @@ fn tell_program<R: Threads + Sync, W: Write>(
     out: &mut W,
 ) -> Result<bool, Stop> {
     let calls = call_lists(rt, alloc, program)?;
-    let Grouped {
-        nodes,
-        groups,
-        levels,
-    } = make_groups(alloc, program, &calls, wanted)?;
-    let table = call_table(alloc, program, &nodes, &groups)?;
-    let output = Output {
-        program,
-        nodes: &nodes,
-        groups: &groups,
-        levels: &levels,
-        table: &table,
-    };
-    let done = tell(alloc, wanted, &output, &calls, out)?;
-    forget(table);
+    let told = make_told(alloc, program, &calls, wanted)?;
+    let done = tell(alloc, wanted.form, &told, &calls, out)?;
+    forget(told);
     Ok(done)
 }
 
