@@ -3,10 +3,16 @@
 
 The examples and two hundred random programs are told, with names of any characters, over one file and over modules. Of each, the predicates,
 groups and heights are those of the report of `groups`, the clauses and the calls of a random program are those that it was made of, each at its
-place, and the graph has a node for each predicate and an edge for each pair of a caller and a callee. Needs `calls`, `groups` and `dot`. Ends with
-status 1 at the first difference.
+place, and the graph has a node for each predicate and an edge for each pair of a caller and a callee. Names with each code point are told
+and read back. Needs `calls`, `groups` and `dot`. Ends with status 1 at the first difference.
+
+--xref N takes each Nth `.pl` file of the Prolog packages that are installed, and sets the pairs of a caller and a callee inside its module beside
+those that SWI-Prolog's prolog_xref tells, where `calls` reads it: how many are told by both, and each that is told by one alone (docs/calls.md has the
+reasons). Needs `swipl` too.
 """
 
+import argparse
+import collections
 import json
 import pathlib
 import random
@@ -15,10 +21,14 @@ import subprocess
 import sys
 import tempfile
 
+import bridge
+import real_programs
+
 ROOT = pathlib.Path(__file__).resolve().parent.parent
 CALLS = str(ROOT / "calls")
 GROUPS = str(ROOT / "groups")
-ODD = ["p", "q", "r2", "aB", "", "it's", 'a"b', "back\\slash", "new\nline", "tab\t", "bell\a", "\x7f", "é", "日本", "\U0001f600", "a b", "[]", "<N>", "\\n", "{}x"]
+ODD = ["p", "q", "r2", "aB", "", "it's", 'a"b', "back\\slash", "new\nline", "tab\t", "bell\a", "\x7f", "é", "日本"]
+ODD += ["\U0001f600", "a b", "[]", "<N>", "\\n", "{}x"]
 
 
 def output(words, folder):
@@ -36,9 +46,10 @@ def quoted(name):
 def made(source):
     """A program of one file: its lines, and of each clause the head, and of each goal the name and the column."""
     names = source.sample(ODD, source.randint(2, len(ODD)))
+    heads = [name for name in names if name != "[]"]  # no clause has that head
     lines, clauses, calls = [], [], []
     for _ in range(source.randint(1, 30)):
-        head = source.choice(names)
+        head = source.choice(heads)
         line = quoted(head)
         goals = [source.choice(names) for _ in range(source.randint(0, 4))]
         for number, goal in enumerate(goals):
@@ -53,7 +64,6 @@ def made(source):
 def told(words, folder):
     lines = [json.loads(line) for line in output([CALLS, *words], folder).split("\n")[:-1]]
     return [[line for line in lines if line["is"] == kind] for kind in ("predicate", "clause", "call")]
-
 
 
 def beside_groups(words, folder, predicates):
@@ -105,18 +115,79 @@ def one_random(number, folder):
     beside_graph(["--unreached", "f.pl"], folder, predicates, goals)
 
 
+def all_code_points(folder):
+    """A name with each code point is told as it is; `a` stands before it, so that no name is that of a control construct."""
+    points = [point for point in range(0x110000) if not 0xD800 <= point < 0xE000]
+    for start in range(0, len(points), 200_000):
+        part = points[start : start + 200_000]
+        (folder / "f.pl").write_text("".join(f"'a\\x{point:x}\\'.\n" for point in part))
+        predicates, _, _ = told(["--unreached", "f.pl"], folder)
+        if sorted(line["name"] for line in predicates) != [f"a{chr(point)}" for point in part]:
+            sys.exit(f"code points from {start}: other names")
+
+
+def pairs_by_xref(path):
+    """The module, its predicates, and the pairs of a caller and a callee that prolog_xref tells."""
+    status, out, _ = bridge.run(["swipl", str(ROOT / "checks" / "xref_calls.pl"), "--"], path)
+    module, defined, pairs = "user", set(), set()
+    for line in out.splitlines():
+        word, *names = [bridge.plain(name) for name in bridge.NAME.findall(line)]
+        if word == "module":
+            module = names[0]
+        elif word == "defines":
+            defined.add(names[0])
+        elif word == "calls":
+            pairs.add(tuple(names))
+    return (module, defined, pairs) if status == 0 else None
+
+
+def pairs_here(path, module):
+    """The module's predicates, and the pairs of a caller and a callee in it, or nothing where the file isn't read."""
+    status, out, _ = bridge.run([CALLS, "--unreached"], path)
+    if status:
+        return None
+    lines = [json.loads(line) for line in out.split("\n")[:-1]]
+    names = {line["id"]: f"{line['name']}/{line['arity']}" for line in lines if line["is"] == "predicate" and line["module"] == module}
+    calls = [(line["caller"], line["callee"]) for line in lines if line["is"] == "call" and line["file"] == path.name]
+    return set(names.values()), {(names[one], names[other]) for one, other in calls if one in names and other in names}
+
+
+def beside_xref(every):
+    counts = collections.Counter()
+    for path in sorted({path for package in real_programs.packages() for path in real_programs.sources(package)})[::every]:
+        counts["files"] += 1
+        theirs = pairs_by_xref(path)
+        mine = theirs and pairs_here(path, theirs[0])
+        if not mine:
+            continue
+        defined = theirs[1] & mine[0]
+        here, there = ({pair for pair in pairs if defined.issuperset(pair)} for pairs in (mine[1], theirs[2]))
+        counts.update({"compared": 1, "the same": here == there, "by both": len(here & there)})
+        counts.update({"here alone": len(here - there), "by prolog_xref alone": len(there - here)})
+        for what, pairs in (("here alone", here - there), ("by prolog_xref alone", there - here)):
+            for caller, callee in sorted(pairs):
+                print(f"{path}: {what}: {caller} calls {callee}")
+    print(", ".join(f"{what} {count}" for what, count in counts.items()))
+
+
 def main():
+    parser = argparse.ArgumentParser()
+    parser.add_argument("--xref", type=int, metavar="N")
+    every = parser.parse_args().xref
+    if every is not None:
+        return beside_xref(every)
     with tempfile.TemporaryDirectory() as name:
         folder = pathlib.Path(name)
         for number in range(200):
             one_random(number, folder)
+        all_code_points(folder)
         examples = sorted((ROOT / "examples").glob("*.pl"))
         for path in examples:
             predicates, _, goals = told([path.name], path.parent)
             beside_groups([path.name], path.parent, predicates)
             beside_graph([path.name], path.parent, predicates, goals)
-    print(f"200 random programs and {len(examples)} examples are read back")
+    print(f"200 random programs, each code point and {len(examples)} examples are read back")
 
 
 if __name__ == "__main__":
-    main()
+    sys.exit(main())
