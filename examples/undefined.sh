@@ -4,4 +4,6 @@
 here=$(dirname -- "$0")
 "${CALLS:-$here/../calls}" --unreached --undefined "$@" |
     jq -r '"\(.file):\(.line):\(.column): undefined \(.module):\(.name)/\(.arity)"' |
-    if [ -n "$KNOWN" ]; then grep -v -F -f "$KNOWN"; else cat; fi
+    awk -v known="$KNOWN" '
+        BEGIN { if (known != "") while ((getline name < known) > 0) skip[name] }
+        { name = $0; sub(/^.*: undefined [^:]*:/, "", name); if (!(name in skip)) print }'
