@@ -14,7 +14,7 @@ use Rattle.blocked_table.specs.Kept.{kept_at}
 use Rattle.blocked_table.proofs.Along.{IsOnTheWay}
 use Rattle.blocked_table.proofs.Chain.{none_is_not, on_or_off, place_within}
 use Rattle.blocked_table.proofs.MovedSteps.{way_of}
-use Rattle.search_machine.specs.Events.{Asks, Begins, GoesOn, GoesOnWith, IsEvent, IsIdle, IsOther, Runs, stack_of}
+use Rattle.search_machine.specs.Events.{skip, resume, back, pass, suspend, transfer, retreat, release, Asks, Begins, GoesOn, GoesOnWith, IsEvent, IsIdle, IsOther, Runs, stack_of}
 use Rattle.search_machine.specs.Runs.{HasMore}
 use Rattle.search_machine.specs.State.{State, IsClaimed, IsGoodState, waiting_at}
 use Rattle.search_machine.proofs.Acting.{goes, puts}
@@ -101,10 +101,10 @@ module _ {lists : List (List ℕ)} {roots : List ℕ} {s : State} {place : ℕ} 
           (inr (record { begun = begun; begins = begins; unclaimed = unclaimed; goes_on = goes_on begun; only = refl }))
           (omega (arith, within, length-set s.running place (Some (plain begun)))) (waits_here v)
 
-      back : IsOn begun v → HasEvent lists s place
-      back on = (
+      goes_back : IsOn begun v → HasEvent lists s place
+      goes_back on = (
         record s { running = put (plain (lowered begun on.place)) },
-        inl (inr (inr (inl (record {
+        inl (back (record {
           v = v;
           begun = begun;
           begins = begins;
@@ -113,20 +113,20 @@ module _ {lists : List (List ℕ)} {roots : List ℕ} {s : State} {place : ℕ} 
           is = on.is;
           goes_on = goes_on (lowered begun on.place);
           only = refl;
-        })))),
+        })),
       )
 
       passes : HasMember s.groups v → HasEvent lists s place
       passes released = (
         record s { running = put (plain begun) },
-        inl (inr (inr (inr (inl (record {
+        inl (pass (record {
           v = v;
           begun = begun;
           begins = begins;
           released = released;
           goes_on = goes_on begun;
           only = refl;
-        }))))),
+        })),
       )
 
       way : IsOnTheWay lists roots (flat s.groups) s.kept begun v
@@ -138,7 +138,7 @@ module _ {lists : List (List ℕ)} {roots : List ℕ} {s : State} {place : ℕ} 
       suspends other = elim (suspended s.kept (plain begun) v way) [
         | inl is ↦ (
           record s { running = set s.running place None; kept = is.new },
-          inl (inr (inr (inr (inr (inl (record {
+          inl (suspend (record {
             v = v;
             begun = begun;
             begins = begins;
@@ -148,11 +148,11 @@ module _ {lists : List (List ℕ)} {roots : List ℕ} {s : State} {place : ℕ} 
             kept = is.kept;
             leaves = puts s.running place None within;
             only = refl;
-          })))))),
+          })),
         )
         | inr is ↦ (
           record s { running = put is.after; kept = is.new },
-          inl (inr (inr (inr (inr (inr (inl (record {
+          inl (transfer (record {
             v = v;
             begun = begun;
             begins = begins;
@@ -163,13 +163,13 @@ module _ {lists : List (List ℕ)} {roots : List ℕ} {s : State} {place : ℕ} 
             moved = is.moved;
             goes_on = goes (puts s.running place (Some is.after) within) refl is.moved.2;
             only = refl;
-          }))))))),
+          })),
         )
       ]
 
       settles : IsClaimed s v → HasEvent lists s place
       settles claimed = elim (on_or_off begun v) [
-        | inl on ↦ back on
+        | inl on ↦ goes_back on
         | inr off ↦ elim (member_or s.groups v) [
           | inl released ↦ passes released
           | inr unreleased ↦ suspends (record { claimed = claimed; unreleased = unreleased; off = off })
@@ -185,14 +185,14 @@ module _ {lists : List (List ℕ)} {roots : List ℕ} {s : State} {place : ℕ} 
     retreats : IsDone search.stack → low search.stack (top search.stack) < position search.stack (top search.stack) → HasEvent lists s place
     retreats done below = (
       record s { running = put (plain (retreated search.stack)) },
-      inl (inr (inr (inr (inr (inr (inr (inl (record {
+      inl (retreat (record {
         stack = search.stack;
         runs = runs;
         done = done;
         below = below;
         goes_on = goes_on (retreated search.stack);
         only = refl;
-      })))))))),
+      })),
     )
 
     abbrev left : Stack
@@ -214,7 +214,7 @@ module _ {lists : List (List ℕ)} {roots : List ℕ} {s : State} {place : ℕ} 
         let going : (running : List (Option SearchValue)) × GoesOnWith s.running running place left = goes_with in
         let t : State = record s { running = going.0; kept = woken.0; groups = s.groups ++ last.0 ∷ [] } in (
           t,
-          inl (inr (inr (inr (inr (inr (inr (inr (record {
+          inl (release (record {
             stack = search.stack;
             runs = runs;
             ripe = ripe;
@@ -222,7 +222,7 @@ module _ {lists : List (List ℕ)} {roots : List ℕ} {s : State} {place : ℕ} 
             woken = woken.1;
             goes_on = going.1;
             only = refl;
-          })))))))),
+          })),
         )
 
     finishes : next_successor search.stack ≡ None → HasEvent lists s place
@@ -251,7 +251,7 @@ module _ {lists : List (List ℕ)} {roots : List ℕ} {s : State} {place : ℕ} 
         let i : ℕ = ready.place in
         let search : SearchValue = ready.ready.search in (
           record s { running = put search; kept = set s.kept i None },
-          inl (inr (inl (record {
+          inl (resume (record {
             idle = idle;
             search = search;
             taken = record {
@@ -264,7 +264,7 @@ module _ {lists : List (List ℕ)} {roots : List ℕ} {s : State} {place : ℕ} 
             };
             goes_on = goes (puts s.running place (Some search) within) refl ready.ready.wants_nothing;
             only = refl;
-          }))),
+          })),
         )
 
     root_by : (HasReady s.kept → ⊥) → HasMore s → (to_come : List ℕ) → s.to_come ≡ to_come → HasEvent lists s place
@@ -274,7 +274,7 @@ module _ {lists : List (List ℕ)} {roots : List ℕ} {s : State} {place : ℕ} 
     ]
     root_by none more (root ∷ rest) is = elim (cases_Bool (get_or s.claimed root false)) [
       | inl claimed ↦
-          (record s { to_come = rest }, inl (inl (record { idle = idle; none_ready = none; root = root; next = is; claimed = claimed; only = refl })))
+          (record s { to_come = rest }, inl (skip (record { idle = idle; none_ready = none; root = root; next = is; claimed = claimed; only = refl })))
       | inr isnt ↦
           let between : State = record s { to_come = rest; claimed = set s.claimed root true; waiting = set s.waiting place (Some root) } in
           opens root between

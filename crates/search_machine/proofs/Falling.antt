@@ -11,7 +11,7 @@ use Rattle.search_stack.specs.Search.{SearchValue, below_frame}
 use Rattle.blocked_table.specs.Kept.{kept_at}
 use Rattle.blocked_table.proofs.Chain.{none_is_not, place_within}
 use Rattle.group_release.proofs.Beside.{last_below}
-use Rattle.search_machine.specs.Events.{Asks, Begins, GoesBack, GoesOn, IsEvent, IsPlainEvent, Opens, Passes, Releases, Resumes, Retreats, Runs, Skips, Suspends, Transfers, stack_of}
+use Rattle.search_machine.specs.Events.{Asks, Begins, GoesBack, GoesOn, IsEvent, IsPlainEvent, skip, resume, back, pass, suspend, transfer, retreat, release, Opens, Passes, Releases, Resumes, Retreats, Runs, Skips, Suspends, Transfers, stack_of}
 use Rattle.search_machine.specs.Runs.{IsRun, next_number, opening_state}
 use Rattle.search_machine.specs.State.{State, IsClaimed, IsGoodState, waiting_at}
 use Rattle.search_machine.proofs.Claiming.{written}
@@ -92,14 +92,14 @@ module _ (lists : List (List ℕ)) {s t : State} {place : ℕ} where
       omega (arith, is, goes, runs_work e.runs, woken_work e.woken, below_work e.stack e.ripe.done)
 
   pub plain_falls : IsPlainEvent place s t → work lists t < work lists s
-  plain_falls (inl skip) = skip_falls skip
-  plain_falls (inr (inl resume)) = resume_falls resume
-  plain_falls (inr (inr (inl back))) = back_falls back
-  plain_falls (inr (inr (inr (inl pass)))) = pass_falls pass
-  plain_falls (inr (inr (inr (inr (inl suspend))))) = suspend_falls suspend
-  plain_falls (inr (inr (inr (inr (inr (inl transfer)))))) = transfer_falls transfer
-  plain_falls (inr (inr (inr (inr (inr (inr (inl retreat))))))) = retreat_falls retreat
-  plain_falls (inr (inr (inr (inr (inr (inr (inr release))))))) = release_falls release
+  plain_falls (skip e) = skip_falls e
+  plain_falls (resume e) = resume_falls e
+  plain_falls (back e) = back_falls e
+  plain_falls (pass e) = pass_falls e
+  plain_falls (suspend e) = suspend_falls e
+  plain_falls (transfer e) = transfer_falls e
+  plain_falls (retreat e) = retreat_falls e
+  plain_falls (release e) = release_falls e
 
 -- a node is claimed, and waited for
 module _ {lists : List (List ℕ)} {roots : List ℕ} {s : State} (good : IsGoodState lists roots false s) where

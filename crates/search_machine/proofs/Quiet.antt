@@ -2,7 +2,7 @@
 use Rattle.std.proofs.Common.{◌≡◌, inl, inr, ℕ, List, [], ◌∷◌, length, get_or, set, Option, None, Some, ap, ◌∙◌, sym, arith, get_or-set_same, get_or-set_other}
 use Rattle.std.proofs.lemmas.Bool.{cases_eq, cases_lt}
 use Rattle.std.proofs.lemmas.List.{get_or_past, length-set, length-replicate}
-use Rattle.search_machine.specs.Events.{Asks, Claims, IsEvent, IsPlainEvent, Releases}
+use Rattle.search_machine.specs.Events.{Asks, Claims, IsEvent, IsPlainEvent, skip, resume, back, pass, suspend, transfer, retreat, release, Releases}
 use Rattle.search_machine.specs.Runs.{IsRun, next_number, opening_state}
 use Rattle.search_machine.specs.State.{State, waiting_at}
 use Rattle.search_machine.proofs.Starting.{read_replicate}
@@ -29,14 +29,14 @@ release_counted {s} {t} {place} e =
     elim e.goes_on as (λ _. length t.running ≡ length s.running) [ inl (none, sets) ↦ sets.counted | inr (some, goes_on) ↦ goes_on.sets.counted ]
 
 plain_quiet : {s t : State} {place : ℕ} → IsPlainEvent place s t → StaysQuiet s t
-plain_quiet (inl e) = same_quiet (running_is e.only) (waiting_is e.only)
-plain_quiet (inr (inl e)) = same_quiet e.goes_on.sets.counted (waiting_is e.only)
-plain_quiet (inr (inr (inl e))) = same_quiet e.goes_on.sets.counted (waiting_is e.only)
-plain_quiet (inr (inr (inr (inl e)))) = same_quiet e.goes_on.sets.counted (waiting_is e.only)
-plain_quiet (inr (inr (inr (inr (inl e))))) = same_quiet e.leaves.counted (waiting_is e.only)
-plain_quiet (inr (inr (inr (inr (inr (inl e)))))) = same_quiet e.goes_on.sets.counted (waiting_is e.only)
-plain_quiet (inr (inr (inr (inr (inr (inr (inl e))))))) = same_quiet e.goes_on.sets.counted (waiting_is e.only)
-plain_quiet (inr (inr (inr (inr (inr (inr (inr e))))))) = same_quiet (release_counted e) (waiting_is e.only)
+plain_quiet (skip e) = same_quiet (running_is e.only) (waiting_is e.only)
+plain_quiet (resume e) = same_quiet e.goes_on.sets.counted (waiting_is e.only)
+plain_quiet (back e) = same_quiet e.goes_on.sets.counted (waiting_is e.only)
+plain_quiet (pass e) = same_quiet e.goes_on.sets.counted (waiting_is e.only)
+plain_quiet (suspend e) = same_quiet e.leaves.counted (waiting_is e.only)
+plain_quiet (transfer e) = same_quiet e.goes_on.sets.counted (waiting_is e.only)
+plain_quiet (retreat e) = same_quiet e.goes_on.sets.counted (waiting_is e.only)
+plain_quiet (release e) = same_quiet (release_counted e) (waiting_is e.only)
 
 -- what the first half of a claim leaves
 record Asked (s between : State) (place v : ℕ) : Type 0 where

@@ -2,7 +2,7 @@
 use Rattle.std.proofs.Common.{inl, inr, ℕ, Bool, false, List, [], ◌∷◌, subst}
 use Rattle.blocked_table.specs.Kept.{IsChain}
 use Rattle.blocked_table.proofs.Chain.{no_ring}
-use Rattle.search_machine.specs.Events.{IsEvent, IsPlainEvent}
+use Rattle.search_machine.specs.Events.{IsEvent, IsPlainEvent, skip, resume, back, pass, suspend, transfer, retreat, release}
 use Rattle.search_machine.specs.Runs.{AreEvents, IsRun, next_number}
 use Rattle.search_machine.specs.State.{State, IsGoodState}
 use Rattle.search_machine.proofs.Claiming.{asks_keep, opens_keep}
@@ -15,14 +15,14 @@ use Rattle.search_machine.proofs.Turns.{back_keeps, pass_keeps, retreat_keeps}
 
 pub plain_keeps : {lists : List (List ℕ)} {roots : List ℕ} {place : ℕ} {s t : State} → IsGoodState lists roots false s → IsPlainEvent place s t
     → IsGoodState lists roots false t
-plain_keeps good (inl skip) = skip_keeps good skip
-plain_keeps good (inr (inl resume)) = resume_keeps good resume
-plain_keeps good (inr (inr (inl back))) = back_keeps good back
-plain_keeps good (inr (inr (inr (inl pass)))) = pass_keeps good pass
-plain_keeps good (inr (inr (inr (inr (inl suspend))))) = suspend_keeps good suspend
-plain_keeps good (inr (inr (inr (inr (inr (inl transfer)))))) = transfer_keeps good transfer
-plain_keeps good (inr (inr (inr (inr (inr (inr (inl retreat))))))) = retreat_keeps good retreat
-plain_keeps good (inr (inr (inr (inr (inr (inr (inr release))))))) = release_keeps good release
+plain_keeps good (skip e) = skip_keeps good e
+plain_keeps good (resume e) = resume_keeps good e
+plain_keeps good (back e) = back_keeps good e
+plain_keeps good (pass e) = pass_keeps good e
+plain_keeps good (suspend e) = suspend_keeps good e
+plain_keeps good (transfer e) = transfer_keeps good e
+plain_keeps good (retreat e) = retreat_keeps good e
+plain_keeps good (release e) = release_keeps good e
 
 pub event_keeps : {lists : List (List ℕ)} {roots : List ℕ} {place : ℕ} {s t : State} → IsGoodState lists roots false s → IsEvent lists place s t
     → IsGoodState lists roots false t

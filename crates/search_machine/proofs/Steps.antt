@@ -17,7 +17,7 @@ use Rattle.group_release.specs.Book.{BookValue, released_of}
 use Rattle.group_release.specs.Released.{IsAppended}
 use Rattle.search_machine.specs.declared.machine.Machine.TheInside.{Inside}
 use Rattle.search_machine.specs.declared.step.Step.TheVariants.{Done, Open}
-use Rattle.search_machine.specs.Events.{Begins, GoesOn, GoesOnWith, IsIdle, IsOther, SetsAt}
+use Rattle.search_machine.specs.Events.{skip, resume, back, pass, suspend, transfer, retreat, release, Begins, GoesOn, GoesOnWith, IsIdle, IsOther, SetsAt}
 use Rattle.search_machine.specs.Machine.{IsStep, Stops}
 use Rattle.search_machine.specs.MachineFields.{state_of}
 use Rattle.search_machine.specs.State.{State, IsClaimed, IsGoodState}
@@ -52,10 +52,7 @@ module _ (fields : Inside) (place : ℕ) {search : SearchValue} (out : IsOut fie
   pub back_step : (v : ℕ) (mid after : SearchValue) → Begins s place v mid.stack → (on : IsOn mid.stack v) → after.stack ≡ lowered mid.stack on.place
       → after.wanted ≡ None → IsStep Done place s (record s { running = with_search after })
   back_step v mid after begins on lowered_is wants_nothing =
-      inr
-      (inr
-      (inl
-      (record {
+      back (record {
         v = v;
         begun = mid.stack;
         begins = begins;
@@ -64,23 +61,19 @@ module _ (fields : Inside) (place : ℕ) {search : SearchValue} (out : IsOut fie
         is = on.is;
         goes_on = goes_on after lowered_is wants_nothing;
         only = refl;
-      })))
+      })
 
   pub pass_step : (v : ℕ) (mid after : SearchValue) → Begins s place v mid.stack → HasMember s.groups v → after ≡ mid → after.wanted ≡ None
       → IsStep Done place s (record s { running = with_search after })
   pass_step v mid after begins released same wants_nothing =
-      inr
-      (inr
-      (inr
-      (inl
-      (record {
+      pass (record {
         v = v;
         begun = mid.stack;
         begins = begins;
         released = released;
         goes_on = goes_on after (ap (λ (value : SearchValue). value.stack) same) wants_nothing;
         only = refl;
-      }))))
+      })
 
   -- the state where the book has other kept searches, and the graph and groups stay
   book_state : (running : List (Option SearchValue)) (book : BookValue) → book ≡ record fields.book { kept = book.kept }
@@ -99,12 +92,7 @@ module _ (fields : Inside) (place : ℕ) {search : SearchValue} (out : IsOut fie
       (record s { running = set fields.running.items place gone; kept = book.kept; to_come = drop fields.given book.roots; groups = book.groups })
   suspend_step v mid leaving book begins other same gone_is kept only =
       let sets : SetsAt s.running (set s.running place gone) place gone = puts s.running place gone out.within in
-      inr
-      (inr
-      (inr
-      (inr
-      (inl
-      (record {
+      suspend (record {
         v = v;
         begun = mid.stack;
         begins = begins;
@@ -114,20 +102,14 @@ module _ (fields : Inside) (place : ℕ) {search : SearchValue} (out : IsOut fie
         kept = kept;
         leaves = record { counted = sets.counted; at = sets.at ∙ gone_is; same = sets.same };
         only = book_state (set s.running place gone) book only;
-      })))))
+      })
 
   pub transfer_step : (v : ℕ) (mid leaving after : SearchValue) (book : BookValue) → Begins s place v mid.stack → IsOther s mid.stack v → leaving ≡ mid
       → IsSuspended fields.book.kept book.kept leaving v (Moved after) → book ≡ record fields.book { kept = book.kept }
       → IsStep Done place s
       (record s { running = with_search after; kept = book.kept; to_come = drop fields.given book.roots; groups = book.groups })
   transfer_step v mid leaving after book begins other same moved only =
-      inr
-      (inr
-      (inr
-      (inr
-      (inr
-      (inl
-      (record {
+      transfer (record {
         v = v;
         begun = mid.stack;
         begins = begins;
@@ -138,7 +120,7 @@ module _ (fields : Inside) (place : ℕ) {search : SearchValue} (out : IsOut fie
         moved = moved;
         goes_on = goes_on after refl moved.2;
         only = book_state (with_search after) book only;
-      }))))))
+      })
 
   -- the edge that has begun is left undecided
   pub begun_stops : (v : ℕ) (mid after : SearchValue) (book : BookValue) → Begins s place v mid.stack → after.stack ≡ mid.stack → after.wanted ≡ None
@@ -181,14 +163,7 @@ module _ (fields : Inside) (place : ℕ) {search : SearchValue} (out : IsOut fie
       → after ≡ record search { stack = retreated search.stack } → search.wanted ≡ None
       → IsStep Done place s (record s { running = with_search after })
   retreat_step after done below is wants_nothing =
-      inr
-      (inr
-      (inr
-      (inr
-      (inr
-      (inr
-      (inl
-      (record {
+      retreat (record {
         stack = search.stack;
         runs = out_runs out;
         done = done;
@@ -196,7 +171,7 @@ module _ (fields : Inside) (place : ℕ) {search : SearchValue} (out : IsOut fie
         goes_on =
             goes_on after (ap (λ (value : SearchValue). value.stack) is) (ap (λ (value : SearchValue). value.wanted) is ∙ wants_nothing);
         only = refl;
-      })))))))
+      })
 
   -- a group is released, and the book is another one
   module _ (group : List ℕ) (book : BookValue) (ripe : IsRipe search.stack) (group_is : group ≡ nodes_from search.stack (top search.stack))
@@ -206,14 +181,7 @@ module _ (fields : Inside) (place : ℕ) {search : SearchValue} (out : IsOut fie
         → IsStep Done place s
         (record s { running = running; kept = book.kept; to_come = drop fields.given book.roots; groups = book.groups })
     release_by running goes_on_with =
-        inr
-        (inr
-        (inr
-        (inr
-        (inr
-        (inr
-        (inr
-        (record {
+        release (record {
           stack = search.stack;
           runs = out_runs out;
           ripe = ripe;
@@ -228,7 +196,7 @@ module _ (fields : Inside) (place : ℕ) {search : SearchValue} (out : IsOut fie
           woken = subst (λ these. IsWoken these fields.book.kept book.kept) group_is woken;
           goes_on = goes_on_with;
           only = λ i. record s { running = running; kept = book.kept; to_come = drop fields.given (only i).roots; groups = book.groups };
-        })))))))
+        })
 
     pub release_none : size (below_frame search.stack (top search.stack)) ≡ 0 → gone ≡ None
         → IsStep Done place s
@@ -279,9 +247,7 @@ module _ (fields : Inside) (place : ℕ) (good : IsGoodState fields.book.lists f
         groups = book.groups;
       })
   resume_step search taken only =
-      inr
-      (inl
-      (record {
+      resume (record {
         idle = idle;
         search = search;
         taken = taken;
@@ -292,7 +258,7 @@ module _ (fields : Inside) (place : ℕ) (good : IsGoodState fields.book.lists f
           to_come = drop fields.given (only i).roots;
           groups = (only i).groups;
         };
-      }))
+      })
 
   -- the next root
   module _ (read : List ℕ) (more : HasMore here) (none_ready : HasReady here.kept → ⊥) (same : book ≡ fields.book) (read_is : read ≡ book.roots) where
@@ -319,8 +285,7 @@ module _ (fields : Inside) (place : ℕ) (good : IsGoodState fields.book.lists f
         → IsStep Done place here
         (record here { kept = book.kept; to_come = drop (fields.given + 1) book.roots; groups = book.groups })
     skip_step claimed =
-        inl
-        (record {
+        skip (record {
           idle = idle;
           none_ready = none_ready;
           root = root;

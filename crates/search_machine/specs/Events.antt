@@ -167,9 +167,15 @@ pub record Releases (s : State) (place : ℕ) (t : State) : Type 0 where
   pub only : t ≡ record s { running = t.running; kept = t.kept; groups = t.groups }
 
 -- an event at the place that asks for no opening
-abbrev pub IsPlainEvent : ℕ → State → State → Type 0
-IsPlainEvent place s t =
-    Skips s place t ⊎ (Resumes s place t ⊎ (GoesBack s place t ⊎ (Passes s place t ⊎ (Suspends s place t ⊎ (Transfers s place t ⊎ (Retreats s place t ⊎ Releases s place t))))))
+pub data IsPlainEvent (place : ℕ) (s t : State) : Type 0 where
+  skip : Skips s place t → IsPlainEvent place s t
+  resume : Resumes s place t → IsPlainEvent place s t
+  back : GoesBack s place t → IsPlainEvent place s t
+  pass : Passes s place t → IsPlainEvent place s t
+  suspend : Suspends s place t → IsPlainEvent place s t
+  transfer : Transfers s place t → IsPlainEvent place s t
+  retreat : Retreats s place t → IsPlainEvent place s t
+  release : Releases s place t → IsPlainEvent place s t
 
 -- one that claims a node, which is opened at once
 pub record Claims (lists : List (List ℕ)) (s : State) (place : ℕ) (t : State) : Type 0 where
