@@ -7,7 +7,7 @@ use Rattle.list_laws.specs.Counts.{times, flat, total}
 use Rattle.group_release.specs.Book.{BookValue}
 use Rattle.node_claims.specs.declared.view.Outline.{Outline}
 use Rattle.node_claims.specs.declared.view.View.{View}
-use Rattle.node_claims.specs.Views.{Noted, outline_of}
+use Rattle.node_claims.specs.Views.{Noted, finished_word, held_word, outline_of, unseen_word}
 
 -- the slot has a book, or none while a pass puts it back
 abbrev pub Slot : Type 0
@@ -21,11 +21,11 @@ standing views o x = total (λ v. times x v.nodes) views + (times x o.kept + tim
 abbrev pub finished : Outline → List ℕ → ℕ → ℕ
 finished o closed x = times x (flat o.released) + times x closed
 
--- the word is 0 where the node stands nowhere, 2 where it is finished, and else 1
+-- the word says that the node stands nowhere, that it stands somewhere, or that it is finished
 pub record WordIs (stands done word : ℕ) : Type 0 where
-  pub unseen : stands ≡ 0 → word ≡ 0
-  pub held : 0 < stands → done ≡ 0 → word ≡ 1
-  pub closed : 0 < done → word ≡ 2
+  pub unseen : stands ≡ 0 → word ≡ unseen_word
+  pub held : 0 < stands → done ≡ 0 → word ≡ held_word
+  pub closed : 0 < done → word ≡ finished_word
 
 -- what a pass knows is so: it has the graph and the roots, what it saw finished is finished, what it found held stands somewhere, and a book
 -- that it gave back failed has failed
@@ -33,8 +33,8 @@ pub record Agrees (o : Outline) (stands done : ℕ → ℕ) (v : View) : Type 0 
   pub lists : v.lists ≡ o.lists
   pub roots : v.roots ≡ o.roots
   pub seen : (x : ℕ) → 0 < times x v.seen → 0 < done x
-  pub held : (x : ℕ) → Noted x 1 v.looks → 0 < stands x
-  pub finished : (x : ℕ) → Noted x 2 v.looks → 0 < times x v.seen
+  pub held : (x : ℕ) → Noted x held_word v.looks → 0 < stands x
+  pub finished : (x : ℕ) → Noted x finished_word v.looks → 0 < times x v.seen
   pub told : v.told ≡ true → o.failed ≡ true
 
 -- the word of the turn is 0, the book is in the slot, and no pass has the turn

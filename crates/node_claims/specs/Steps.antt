@@ -6,7 +6,7 @@ use Rattle.group_release.specs.Book.{BookValue}
 use Rattle.node_claims.specs.declared.view.Outline.{Outline}
 use Rattle.node_claims.specs.declared.view.Taken.{Taken}
 use Rattle.node_claims.specs.declared.view.View.{View}
-use Rattle.node_claims.specs.Views.{Noted, claimed, looked, outline_of}
+use Rattle.node_claims.specs.Views.{Noted, held_word, claimed, looked, outline_of}
 use Rattle.node_claims.specs.Rule.{Slot}
 
 -- node x has word x + 1
@@ -17,7 +17,7 @@ node_of (suc x) = x
 -- the number is no less than what the pass knew of the node
 pub record IsLater (x : ℕ) (v : View) (n : ℕ) : Type 0 where
   pub small : n ≤ 2
-  pub held : Noted x 1 v.looks → 0 < n
+  pub held : Noted x held_word v.looks → 0 < n
   pub own : 0 < times x v.nodes → 0 < n
   pub seen : 0 < times x v.seen → n ≡ 2
 
@@ -83,4 +83,4 @@ pub record MayGive (v : View) (t : Taken) (now : Outline) (nodes : List ℕ) : T
   pub same : (x : ℕ) → times x nodes + (times x now.kept + times x (flat now.released))
       ≡ times x v.nodes + (times x t.book.kept + times x (flat t.book.released))
   pub wants : (x : ℕ) → 0 < times x now.wants
-      → (0 < times x t.book.wants) ⊎ ((0 < times x nodes + (times x now.kept + times x (flat now.released))) ⊎ Noted x 1 v.looks)
+      → (0 < times x t.book.wants) ⊎ ((0 < times x nodes + (times x now.kept + times x (flat now.released))) ⊎ Noted x held_word v.looks)

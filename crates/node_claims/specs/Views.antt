@@ -16,7 +16,15 @@ outline_of book = record {
   released = book.groups;
 }
 
--- the pair of the node and the number is among these
+-- the word of a node that no pass has claimed yet, of one that stands on the list of a pass or a kept search, and of one that is closed or released
+abbrev pub unseen_word : ℕ
+unseen_word = 0
+abbrev pub held_word : ℕ
+held_word = 1
+abbrev pub finished_word : ℕ
+finished_word = 2
+
+-- the pair of the node and the word is among these
 abbrev pub Noted : ℕ → ℕ → List (ℕ × ℕ) → Type 0
 Noted x n [] = ⊥
 Noted x n (p ∷ ps) = ((p.0 ≡ x) × (p.1 ≡ n)) ⊎ Noted x n ps
@@ -33,13 +41,13 @@ spent = record { live = false; lists = []; roots = []; nodes = []; seen = []; lo
 abbrev pub both : View → View → View
 both v w = record v { nodes = v.nodes ++ w.nodes; seen = v.seen ++ w.seen; looks = v.looks ++ w.looks; told = v.told || w.told }
 
--- after a look that found the number: 2 or more says that the node is finished
+-- after a look that found the word, or more than the last of the three, which then counts as that one
 abbrev pub looked : ℕ → ℕ → View → View
-looked x zero v = record v { looks = v.looks ++ (x, 0) ∷ [] }
-looked x (suc zero) v = record v { looks = v.looks ++ (x, 1) ∷ [] }
-looked x (suc (suc n)) v = record v { looks = v.looks ++ (x, 2) ∷ []; seen = v.seen ++ x ∷ [] }
+looked x zero v = record v { looks = v.looks ++ (x, unseen_word) ∷ [] }
+looked x (suc zero) v = record v { looks = v.looks ++ (x, held_word) ∷ [] }
+looked x (suc (suc n)) v = record v { looks = v.looks ++ (x, finished_word) ∷ []; seen = v.seen ++ x ∷ [] }
 
--- after a claim that found the number: it is won where that was 0
+-- after a claim that found the word: it is won where no pass had claimed the node
 abbrev pub claimed : ℕ → ℕ → View → View
-claimed x zero v = record v { looks = v.looks ++ (x, 0) ∷ []; nodes = v.nodes ++ x ∷ [] }
+claimed x zero v = record v { looks = v.looks ++ (x, unseen_word) ∷ []; nodes = v.nodes ++ x ∷ [] }
 claimed x (suc n) v = looked x (suc n) v

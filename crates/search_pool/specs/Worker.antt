@@ -5,7 +5,7 @@ use Rattle.search_stack.specs.GoodSearch.{IsGood}
 use Rattle.search_stack.specs.Search.{SearchValue, IsLastBegun, IsOn, IsRipe}
 use Rattle.search_stack.specs.Stack.{size}
 use Rattle.node_claims.specs.Claims.{ClaimsValue, PassValue, IsPassOf, nodes_with}
-use Rattle.node_claims.specs.Views.{Noted}
+use Rattle.node_claims.specs.Views.{Noted, held_word}
 use Rattle.search_pool.specs.declared.ended.Ended.{Ended}
 use Rattle.search_pool.specs.declared.ended.Ended.TheVariants.{Finished, NoMemory}
 use Rattle.search_pool.specs.declared.stopped.Stopped.{Stopped}
@@ -30,7 +30,7 @@ pub record IsRunning (claims : ClaimsValue) (pass : PassValue) (search : SearchV
 -- the last edge of the search leads to this node, which was found held and isn't on the search
 pub record IsElsewhere (pass : PassValue) (search : SearchValue) (node : ℕ) : Type 0 where
   pub last : IsLastBegun search.stack node
-  pub held : Noted node 1 pass.view.looks
+  pub held : Noted node held_word pass.view.looks
   pub away : IsOn search.stack node → ⊥
 
 -- what a search comes to that runs without the turn
