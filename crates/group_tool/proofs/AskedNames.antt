@@ -6,7 +6,7 @@ use Rattle.file_library.specs.Library.{Files, map_of}
 use Rattle.file_library.specs.Asked.{names_in}
 use Rattle.file_library.specs.Asking.{AreFirst, AreAll, AreTooMany, LoadEnd, loaded, faults, unread, too_many, too_large, too_much, no_memory, LoadEndIs}
 use Rattle.group_words.specs.Settings.{Settings}
-use Rattle.group_tool.specs.Answer.{ComesTo}
+use Rattle.group_tool.specs.Answer.{LoadEndComesTo}
 use Rattle.group_tool.specs.End as of_run
 use Rattle.group_tool.specs.End.{End, usage, missing, limit, report, memory_line}
 use Rattle.group_tool.specs.Lines.{unread_line, limit_line}
@@ -55,7 +55,7 @@ abbrev IsWhole : ℕ → Type 0
 IsWhole result = (result ≡ 0) ⊎ ((result ≡ 2) ⊎ (result ≡ 3))
 
 -- which ends of the asking come to a report, to faults or to a root that is missing
-load_whole : (settings : Settings) (files : Files) (roots names : List (List ℕ)) (load : LoadEnd) (end : End) → ComesTo settings load end → ((name : List ℕ) → end ≢ of_run.unread name)
+load_whole : (settings : Settings) (files : Files) (roots names : List (List ℕ)) (load : LoadEnd) (end : End) → LoadEndComesTo settings load end → ((name : List ℕ) → end ≢ of_run.unread name)
     → end ≢ of_run.no_memory → ((passed : Limit) → end ≢ limit passed) → LoadEndIs files roots names load → AreAll files roots names
 load_whole settings files roots names (loaded found) end comes not_unread not_wanting not_passed is = is.0
 load_whole settings files roots names (faults found) end comes not_unread not_wanting not_passed is = is.0

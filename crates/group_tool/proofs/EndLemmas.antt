@@ -22,7 +22,7 @@ use Rattle.group_tool.specs.declared.stop.Stop.{Stop}
 use Rattle.group_tool.specs.declared.stop.Stop.TheVariants as of_stop
 use Rattle.group_tool.specs.Wanted.{AreJust, AskForNone, HasNoOptions, one_file, made_name, files_read, names_read}
 use Rattle.group_tool.specs.Roots.{IsRootStop, asked_names}
-use Rattle.group_tool.specs.Answer.{ComesTo, IsLoadedEnd, IsLawfulAnswer}
+use Rattle.group_tool.specs.Answer.{LoadEndComesTo, IsLoadedEnd, IsLawfulAnswer}
 use Rattle.group_tool.specs.End.{End, usage, faults, missing, unread, limit, report, no_memory}
 use Rattle.group_tool.specs.Run.{Asking, EndsAsking, IsReadEnd, IsDecidedEnd, IsLeft, EndsReading, IsLawfulEnd, IsAsked, EndIs, Taking, SaidEnd, IsRun}
 use Rattle.group_tool.specs.Stop.{of_words, of_loading, of_checking, end_of_stop, end_of}
@@ -64,7 +64,7 @@ reads_handed (Some count) names library load reading decided = elim reading.1 [
 
 -- and this is the answer
 told_answer : (wanted : Settings → Type 0) (library : Asking) (settings : Settings) (load : LoadEnd) (end : End) → wanted settings
-    → EndsReading settings.make settings.files library load → ComesTo settings load end → (files : Files) → library.0.told ≡ Some files → IsDecided load → IsLawfulAnswer wanted files end
+    → EndsReading settings.make settings.files library load → LoadEndComesTo settings load end → (files : Files) → library.0.told ≡ Some files → IsDecided load → IsLawfulAnswer wanted files end
 told_answer wanted library settings load end lawful reading comes files tells decided =
     let over = reads_over settings.make settings.files library load reading files tells decided in
     record {
@@ -78,7 +78,7 @@ told_answer wanted library settings load end lawful reading comes files tells de
     }
 
 pub lawful_end : (wanted : Settings → Type 0) (library : Asking) (settings : Settings) (load : LoadEnd) (end : End) → wanted settings
-    → EndsReading settings.make settings.files library load → ComesTo settings load end → IsLawfulEnd wanted library end
+    → EndsReading settings.make settings.files library load → LoadEndComesTo settings load end → IsLawfulEnd wanted library end
 lawful_end wanted library settings load end lawful reading comes = record {
   settings = settings;
   lawful = lawful;
@@ -104,7 +104,7 @@ read_asked settings library load reading = record {
 }
 
 -- no reading comes to the usage
-never_usage : (settings : Settings) (load : LoadEnd) → ComesTo settings load usage → ⊥
+never_usage : (settings : Settings) (load : LoadEnd) → LoadEndComesTo settings load usage → ⊥
 never_usage settings (loaded found) comes = comes
 never_usage settings (of_load.faults found) comes = cc
 never_usage settings (of_load.unread name) comes = cc
@@ -113,7 +113,7 @@ never_usage settings (too_large name) comes = cc
 never_usage settings too_much comes = cc
 never_usage settings of_load.no_memory comes = cc
 
-comes_end : (settings : Settings) (library : Asking) (load : LoadEnd) → EndsReading settings.make settings.files library load → (end : End) → ComesTo settings load end
+comes_end : (settings : Settings) (library : Asking) (load : LoadEnd) → EndsReading settings.make settings.files library load → (end : End) → LoadEndComesTo settings load end
     → EndIs (AreJust settings) library end
 comes_end settings library load reading usage comes = absurd (never_usage settings load comes)
 comes_end settings library load reading (faults list) comes = lawful_end (AreJust settings) library settings load (faults list) refl reading comes
@@ -124,7 +124,7 @@ comes_end settings library load reading (report bytes) comes = lawful_end (AreJu
 comes_end settings library load reading no_memory comes = read_asked settings library load reading
 
 reading_end : (settings : Settings) (library : Asking) (load : LoadEnd) (end : End) → EndsReading settings.make settings.files library load
-    → (end ≡ no_memory) ⊎ ComesTo settings load end → EndIs (AreJust settings) library end
+    → (end ≡ no_memory) ⊎ LoadEndComesTo settings load end → EndIs (AreJust settings) library end
 reading_end settings library load end reading comes = elim comes [
   | inl none ↦ subst (EndIs (AreJust settings) library) (sym none) (read_asked settings library load reading)
   | inr is ↦ comes_end settings library load reading end is

@@ -19,7 +19,7 @@ use Rattle.group_tool.specs.declared.stop.Limit.TheVariants.{FileTooLarge}
 use Rattle.group_tool.specs.Say.{SaidIs, TookPart}
 use Rattle.group_tool.specs.Sink.{sink_seen, PutIs, FlushIs}
 use Rattle.group_tool.specs.Lines.{fault_line, fault_lines, limit_line, missing_line}
-use Rattle.group_tool.specs.Answer.{ComesTo, IsAnswer}
+use Rattle.group_tool.specs.Answer.{LoadEndComesTo, IsAnswer}
 use Rattle.group_tool.specs.End.{unread}
 use Rattle.group_tool.specs.Wanted.{AreJust, HasNoOptions, made_name, files_read}
 use Rattle.group_tool.specs.Parts.{path_line}
@@ -116,7 +116,7 @@ first_line_alone = refl
 no_failed_read : (wanted : Settings → Type 0) (files : Files) (name : List ℕ) → IsAnswer wanted files (unread name) → ⊥
 no_failed_read wanted files name is = undecided is.load is.decided is.comes
   where
-    undecided : (load : LoadEnd) → IsDecided load → ComesTo is.settings load (unread name) → ⊥
+    undecided : (load : LoadEnd) → IsDecided load → LoadEndComesTo is.settings load (unread name) → ⊥
     undecided (loaded found) decided comes = comes
     undecided (of_load.faults found) decided comes = cc
     undecided (of_load.unread other) decided comes = decided

@@ -19,8 +19,8 @@ use Rattle.call_edges.specs.Successors.{successor_lists}
 use Rattle.call_edges.proofs.SuccessorLemmas.{lists_count, list_has, lists_closed}
 use Rattle.group_words.specs.Settings.{Settings}
 use Rattle.loop_report.specs.Reportable.{AreGroups, AreLeveled, AreReportable}
-use Rattle.group_tool.specs.Driving.{AreInOrder}
-use Rattle.group_tool.specs.Roots.{AreRoots}
+use Rattle.group_tool.specs.Driving.{AreInScheduleOrder}
+use Rattle.group_tool.specs.Roots.{AreRootNumbers}
 use Rattle.group_tool.specs.Parts.{AreParts}
 use Rattle.group_tool.specs.LoadedEnd.{IsOutput, ReportsProgram}
 
@@ -93,8 +93,8 @@ reportable seen roots groups levels below is = record {
   leveled = is.leveled;
 }
 
-pub reports : (settings : Settings) (seen : Seen) (roots : List ℕ) (groups : List (List ℕ)) (levels : List Level) (first parts bytes : List ℕ) → AreRoots settings.roots seen roots
-    → AreLeveled (Calls (successor_lists seen)) roots groups levels → AreInOrder settings.searches (successor_lists seen) roots groups
+pub reports : (settings : Settings) (seen : Seen) (roots : List ℕ) (groups : List (List ℕ)) (levels : List Level) (first parts bytes : List ℕ) → AreRootNumbers settings.roots seen roots
+    → AreLeveled (Calls (successor_lists seen)) roots groups levels → AreInScheduleOrder settings.searches (successor_lists seen) roots groups
     → IsOutput settings.make settings.order settings.unreached seen groups levels first → AreParts settings seen groups levels parts → bytes ≡ first ++ parts
     → ReportsProgram settings seen bytes
 reports settings seen roots groups levels first parts bytes are leveled order output are_parts is = record {

@@ -6,13 +6,13 @@ use Rattle.file_library.specs.Asking as of_load
 use Rattle.file_library.proofs.OneEnd.{one_end}
 use Rattle.group_words.specs.Settings.{Settings}
 use Rattle.group_tool.specs.Wanted.{HasNoOptions, files_read, names_read}
-use Rattle.group_tool.specs.Answer.{ComesTo, IsLawfulAnswer, IsAnswer}
+use Rattle.group_tool.specs.Answer.{LoadEndComesTo, IsLawfulAnswer, IsAnswer}
 use Rattle.group_tool.specs.End.{End, usage, faults, missing, unread, limit, report, no_memory}
 use Rattle.group_tool.proofs.OneLoaded.{one_loaded_end}
 
 -- how the asking ends comes to one end
 comes_once : (settings : Settings) → settings.order ≡ false → (files : Files) (roots asked : List (List ℕ)) (load : LoadEnd) (end other : End) → LoadEndIs files roots asked load
-    → ComesTo settings load end → ComesTo settings load other → end ≡ other
+    → LoadEndComesTo settings load end → LoadEndComesTo settings load other → end ≡ other
 comes_once settings unordered files roots asked (loaded found) end other ends is also =
     one_loaded_end settings unordered found (record { files = files; roots = roots; is = ends.1 }) end other is also
 comes_once settings unordered files roots asked (of_load.faults found) end other ends is also = is ∙ sym also
@@ -33,8 +33,8 @@ module _ (wanted : Settings → Type 0) (one : (settings other : Settings) → w
       let names = names_read is.settings.make is.settings.files in
       let load : also.load ≡ is.load =
       one_end read names also.asked is.asked also.load is.load also.decided is.decided (subst (λ settings. AreEnds settings also.asked also.load) same also.ends) is.ends in
-      let comes : ComesTo is.settings also.load other = subst (λ settings. ComesTo settings also.load other) same also.comes in
-      comes_once is.settings (unordered is.settings is.lawful) read names is.asked is.load end other is.ends is.comes (subst (λ l. ComesTo is.settings l other) load comes)
+      let comes : LoadEndComesTo is.settings also.load other = subst (λ settings. LoadEndComesTo settings also.load other) same also.comes in
+      comes_once is.settings (unordered is.settings is.lawful) read names is.asked is.load end other is.ends is.comes (subst (λ l. LoadEndComesTo is.settings l other) load comes)
 
   -- the answer is the usage, or one by settings that are wanted
   usage_or_lawful : (end : End) → IsAnswer wanted files end → (HasNoOptions wanted × (end ≡ usage)) ⊎ IsLawfulAnswer wanted files end

@@ -23,7 +23,7 @@ use Rattle.loop_report.specs.Reportable.{AreLeveled}
 use Rattle.group_words.specs.Settings.{Settings}
 use Rattle.loop_report.proofs.OneHead.{same_head}
 use Rattle.loop_report.proofs.OneReport.{same_report}
-use Rattle.group_tool.specs.Roots.{AreRoots, LacksRoot, HasRoots, asked_names}
+use Rattle.group_tool.specs.Roots.{AreRootNumbers, LacksRoot, HasRoots, asked_names}
 use Rattle.group_tool.proofs.OneParts.{same_parts}
 use Rattle.group_tool.proofs.RootLemmas.{AreRising}
 use Rattle.group_tool.specs.LoadedEnd.{DefineTooMany, HaveImportFaults, HaveGoalFaults, AreCallable, LackRoot, IsOutput, ReportsProgram, ReportsLoaded, LoadedComesTo}
@@ -56,7 +56,7 @@ one_goal_list seen list other is also =
 number_strict : IsStrict (λ (a b : ℕ). a < b)
 number_strict = record { one_way = λ a b there back. omega (arith, there, back) }
 
-one_root_list : (list : Option (List PredName)) (seen : Seen) (roots others : List ℕ) → AreRoots list seen roots → AreRoots list seen others → roots ≡ others
+one_root_list : (list : Option (List PredName)) (seen : Seen) (roots others : List ℕ) → AreRootNumbers list seen roots → AreRootNumbers list seen others → roots ≡ others
 one_root_list list seen roots others is also =
     same_order (λ a b. a < b) number_strict roots others (rises roots is.ascending) (rises others also.ascending) (λ q has. (also.are q).1 ((is.are q).0 has))
     (λ q has. (is.are q).1 ((also.are q).0 has))

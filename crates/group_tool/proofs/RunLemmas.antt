@@ -6,7 +6,7 @@ use Rattle.file_library.specs.Asking.{LoadEnd, loaded, too_many, too_large, too_
 use Rattle.file_library.specs.Asking as of_load
 use Rattle.group_words.specs.Settings.{Settings}
 use Rattle.group_tool.specs.Wanted.{AskForNone, HasNoOptions}
-use Rattle.group_tool.specs.Answer.{ComesTo, IsLawfulAnswer, IsAnswer}
+use Rattle.group_tool.specs.Answer.{LoadEndComesTo, IsLawfulAnswer, IsAnswer}
 use Rattle.group_tool.specs.End.{End, usage, faults, missing, unread, limit, report, no_memory, status_of, out_of, err_of}
 use Rattle.group_tool.specs.Say.{TookAll, TookPart}
 use Rattle.group_tool.specs.Sink.{more_taken}
@@ -91,7 +91,7 @@ is_said result out err end written whole = elim (said_or_cut result out err end 
 -- which end of the asking comes to an end of the run
 
 -- a report, faults, a root that is missing and a passed limit are decided by the map
-comes_decided : (settings : Settings) (load : LoadEnd) (end : End) → ComesTo settings load end → ((name : List ℕ) → end ≢ unread name) → end ≢ no_memory → IsDecided load
+comes_decided : (settings : Settings) (load : LoadEnd) (end : End) → LoadEndComesTo settings load end → ((name : List ℕ) → end ≢ unread name) → end ≢ no_memory → IsDecided load
 comes_decided settings (loaded found) end comes not_unread not_wanting = tt
 comes_decided settings (of_load.faults found) end comes not_unread not_wanting = tt
 comes_decided settings (of_load.unread name) end comes not_unread not_wanting = not_unread name comes
@@ -100,7 +100,7 @@ comes_decided settings (too_large name) end comes not_unread not_wanting = tt
 comes_decided settings too_much end comes not_unread not_wanting = tt
 comes_decided settings of_load.no_memory end comes not_unread not_wanting = not_wanting comes
 
-unread_load : (settings : Settings) (load : LoadEnd) (name : List ℕ) → ComesTo settings load (unread name) → load ≡ of_load.unread name
+unread_load : (settings : Settings) (load : LoadEnd) (name : List ℕ) → LoadEndComesTo settings load (unread name) → load ≡ of_load.unread name
 unread_load settings (loaded found) name comes = absurd comes
 unread_load settings (of_load.faults found) name comes = cc
 unread_load settings (of_load.unread other) name comes = cc

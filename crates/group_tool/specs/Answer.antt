@@ -11,14 +11,14 @@ use Rattle.group_tool.specs.LoadedEnd.{LoadedComesTo}
 use Rattle.group_tool.specs.End.{End, usage, faults, unread, limit, no_memory}
 
 -- what the end of the asking for files comes to
-abbrev pub ComesTo : Settings → LoadEnd → End → Type 0
-ComesTo settings (of_load.loaded found) end = LoadedComesTo settings found end
-ComesTo settings (of_load.faults found) end = end ≡ faults found
-ComesTo settings (of_load.unread name) end = end ≡ unread name
-ComesTo settings of_load.too_many end = end ≡ limit TooManyFiles
-ComesTo settings (of_load.too_large name) end = end ≡ limit (FileTooLarge name)
-ComesTo settings of_load.too_much end = end ≡ limit TooMuchText
-ComesTo settings of_load.no_memory end = end ≡ no_memory
+abbrev pub LoadEndComesTo : Settings → LoadEnd → End → Type 0
+LoadEndComesTo settings (of_load.loaded found) end = LoadedComesTo settings found end
+LoadEndComesTo settings (of_load.faults found) end = end ≡ faults found
+LoadEndComesTo settings (of_load.unread name) end = end ≡ unread name
+LoadEndComesTo settings of_load.too_many end = end ≡ limit TooManyFiles
+LoadEndComesTo settings (of_load.too_large name) end = end ≡ limit (FileTooLarge name)
+LoadEndComesTo settings of_load.too_much end = end ≡ limit TooMuchText
+LoadEndComesTo settings of_load.no_memory end = end ≡ no_memory
 
 -- memory was wanting, or this is what loaded files come to
 abbrev pub IsLoadedEnd : Settings → LoadedFiles → End → Type 0
@@ -32,7 +32,7 @@ pub record IsLawfulAnswer (wanted : Settings → Type 0) (files : Files) (end : 
   pub load : LoadEnd
   pub decided : IsDecided load
   pub ends : LoadEndIs (files_read settings.make files) (names_read settings.make settings.files) asked load
-  pub comes : ComesTo settings load end
+  pub comes : LoadEndComesTo settings load end
 
 -- the answer to what is wanted over the files
 abbrev pub IsAnswer : (Settings → Type 0) → Files → End → Type 0

@@ -13,8 +13,8 @@ use Rattle.group_words.specs.Settings.{Settings}
 use Rattle.loop_report.specs.Report.{IsReport, IsOrderReport, head_line}
 use Rattle.loop_report.specs.Reportable.{AreLeveled}
 use Rattle.group_tool.specs.declared.stop.Limit.TheVariants.{TooManyPredicates}
-use Rattle.group_tool.specs.Driving.{AreInOrder}
-use Rattle.group_tool.specs.Roots.{AreRoots, LacksRoot, HasRoots, asked_names}
+use Rattle.group_tool.specs.Driving.{AreInScheduleOrder}
+use Rattle.group_tool.specs.Roots.{AreRootNumbers, LacksRoot, HasRoots, asked_names}
 use Rattle.group_tool.specs.Parts.{AreParts}
 use Rattle.group_tool.specs.End.{End, faults, missing, limit, report}
 
@@ -55,11 +55,11 @@ IsOutput None false unreached seen groups levels bytes = IsReport seen.predicate
 -- the bytes are the report of the groups that the roots reach, in some legal order, or in that of the schedule where one is wanted, and the parts behind it
 pub record ReportsProgram (settings : Settings) (seen : Seen) (bytes : List ℕ) : Type 0 where
   pub roots : List ℕ
-  pub are_roots : AreRoots settings.roots seen roots
+  pub are_roots : AreRootNumbers settings.roots seen roots
   pub groups : List (List ℕ)
   pub levels : List Level
   pub leveled : AreLeveled (NodeCalls seen) roots groups levels
-  pub order : AreInOrder settings.searches (successor_lists seen) roots groups
+  pub order : AreInScheduleOrder settings.searches (successor_lists seen) roots groups
   pub report : List ℕ
   pub output : IsOutput settings.make settings.order settings.unreached seen groups levels report
   pub parts : List ℕ

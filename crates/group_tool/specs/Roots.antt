@@ -18,7 +18,7 @@ IsRootBy None seen q = IsRoot seen q
 IsRootBy (Some list) seen q = IsAmong (IsNamed seen.predicates) list q
 
 -- the numbers of the predicates at which reach begins, ascending and each once
-pub record AreRoots (list : Option (List PredName)) (seen : Seen) (roots : List ℕ) : Type 0 where
+pub record AreRootNumbers (list : Option (List PredName)) (seen : Seen) (roots : List ℕ) : Type 0 where
   pub ascending : IsStrictlyIncreasing roots
   pub are : (q : ℕ) → Contains roots q ↔ IsRootBy list seen q
 

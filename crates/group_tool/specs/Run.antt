@@ -12,7 +12,7 @@ use Rattle.group_tool.specs.declared.stop.Limit.{Limit}
 use Rattle.group_tool.specs.Wanted.{AskForNone, HasNoOptions, one_file, made_name}
 use Rattle.group_tool.specs.Lines.{fault_lines, missing_line, unread_line, limit_line}
 use Rattle.group_tool.specs.End.{End, usage, faults, missing, limit, report, no_memory, usage_line, memory_line, status_of, out_of, err_of}
-use Rattle.group_tool.specs.Answer.{IsLawfulAnswer, IsAnswer, ComesTo}
+use Rattle.group_tool.specs.Answer.{IsLawfulAnswer, IsAnswer, LoadEndComesTo}
 use Rattle.group_tool.specs.Say.{TookAll, TookPart}
 use Rattle.group_tool.specs.Sink.{SinkSeen, more_taken}
 
@@ -34,7 +34,7 @@ pub record EndsAsking (library : Asking) (roots : List (List ℕ)) (load : LoadE
 pub record IsReadEnd (settings : Settings) (names : List (List ℕ)) (library : Asking) (end : End) : Type 0 where
   pub load : LoadEnd
   pub asking : EndsAsking library names load
-  pub comes : (end ≡ no_memory) ⊎ ComesTo settings load end
+  pub comes : (end ≡ no_memory) ⊎ LoadEndComesTo settings load end
 
 -- the library was not asked
 abbrev pub IsLeft : Asking → Type 0
@@ -58,7 +58,7 @@ pub record IsLawfulEnd (wanted : Settings → Type 0) (library : Asking) (end : 
   pub lawful : wanted settings
   pub load : LoadEnd
   pub reading : EndsReading settings.make settings.files library load
-  pub comes : ComesTo settings load end
+  pub comes : LoadEndComesTo settings load end
   pub told_too : (files : Files) → library.0.told ≡ Some files → IsDecided load → IsLawfulAnswer wanted files end
 
 -- what was asked for where memory was wanting: files of the wanted settings as far as the reading went, and else nothing

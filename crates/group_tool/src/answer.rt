@@ -5,9 +5,9 @@ ghost use Rattle.graph_law.specs.Graph.{Calls as ListCalls, lists_of};
 ghost use Rattle.group_release.specs.declared.level.Level.{Level};
 ghost use Rattle.group_words.specs.Settings.{AreLawful, see_options};
 ghost use Rattle.group_tool.specs.Carrying.{ProgramComesTo};
-ghost use Rattle.group_tool.specs.Driving.{AreInOrder};
+ghost use Rattle.group_tool.specs.Driving.{AreInScheduleOrder};
 ghost use Rattle.group_tool.specs.LoadedEnd.{IsOutput, ReportsProgram};
-ghost use Rattle.group_tool.specs.Roots.{AreEnds, AreRoots};
+ghost use Rattle.group_tool.specs.Roots.{AreEnds, AreRootNumbers};
 ghost use Rattle.group_tool.specs.Run.{EndIs};
 ghost use Rattle.group_tool.specs.Stop.{end_of};
 ghost use Rattle.group_tool.specs.Wanted.{AreJust};
@@ -175,9 +175,9 @@ fn report_groups<R: Threads + Sync>(
 ) -> Result<Vec<u8>, AllocError>
     requires calls { see_call_lists calls.now ≡ see_program program.now }
     requires below { All (λ q. q < length (see_program program.now).predicates) roots.now }
-    requires roots { AreRoots (see_options options.now).roots (see_program program.now) roots.now }
+    requires roots { AreRootNumbers (see_options options.now).roots (see_program program.now) roots.now }
     requires groups { AreGroups (ListCalls (successor_lists (see_program program.now))) roots.now (lists_of groups.now) }
-    requires order { AreInOrder (see_options options.now).searches (successor_lists (see_program program.now)) roots.now (lists_of groups.now) }
+    requires order { AreInScheduleOrder (see_options options.now).searches (successor_lists (see_program program.now)) roots.now (lists_of groups.now) }
     requires ends { AreEnds (see_options options.now).path (see_program program.now) ends }
     ensures { IfOk result (λ bytes. ReportsProgram (see_options options.now) (see_program program.now) bytes.items) }
 {
@@ -201,9 +201,9 @@ fn report_leveled<R: Threads + Sync>(
 ) -> Result<Vec<u8>, AllocError>
     requires calls { see_call_lists calls.now ≡ see_program program.now }
     requires below { All (λ q. q < length (see_program program.now).predicates) roots.now }
-    requires roots { AreRoots (see_options options.now).roots (see_program program.now) roots.now }
+    requires roots { AreRootNumbers (see_options options.now).roots (see_program program.now) roots.now }
     requires leveled { AreLeveled (ListCalls (successor_lists (see_program program.now))) roots.now (lists_of groups.now) levels.now }
-    requires order { AreInOrder (see_options options.now).searches (successor_lists (see_program program.now)) roots.now (lists_of groups.now) }
+    requires order { AreInScheduleOrder (see_options options.now).searches (successor_lists (see_program program.now)) roots.now (lists_of groups.now) }
     requires ends { AreEnds (see_options options.now).path (see_program program.now) ends }
     ensures { IfOk result (λ bytes. ReportsProgram (see_options options.now) (see_program program.now) bytes.items) }
 {

@@ -8,7 +8,7 @@ ghost use Rattle.call_edges.specs.Successors.{successor_lists};
 ghost use Rattle.import_rules.specs.Program.{see_program};
 ghost use Rattle.loop_report.specs.Reportable.{AreGroups, AreLeveled};
 ghost use Rattle.group_words.specs.Settings.{AreLawful, see_options};
-ghost use Rattle.group_tool.specs.Driving.{AreInOrder};
+ghost use Rattle.group_tool.specs.Driving.{AreInScheduleOrder};
 
 use call_edges::CallLists;
 use group_feed::{LevelTaker, drive_feed};
@@ -34,7 +34,7 @@ pub fn groups_alone(
     requires calls { see_call_lists calls.now ≡ see_program program.now }
     requires roots { All (λ q. q < length (see_program program.now).predicates) roots.now }
     ensures groups { IfOk result (λ groups. AreGroups (ListCalls (successor_lists (see_program program.now))) roots.now (lists_of groups.items)) }
-    ensures order { IfOk result (λ groups. AreInOrder (see_options options.now).searches (successor_lists (see_program program.now)) roots.now (lists_of groups.items)) }
+    ensures order { IfOk result (λ groups. AreInScheduleOrder (see_options options.now).searches (successor_lists (see_program program.now)) roots.now (lists_of groups.items)) }
 {
     settings_within();
     let _program = program;

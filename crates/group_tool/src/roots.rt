@@ -4,7 +4,7 @@ ghost use Rattle.std.specs.Prelude.{◌≡◌, ◌<◌, ◌↔◌, ◌++◌, ◌
 ghost use Rattle.std.specs.List.{AllZip};
 ghost use Rattle.import_rules.specs.Program.{see_program};
 ghost use Rattle.group_words.specs.Settings.{see_options};
-ghost use Rattle.group_tool.specs.Roots.{AreRoots, HasRoots, IsNamed, IsRootStop, IsEndStop, AreEnds, asked_names};
+ghost use Rattle.group_tool.specs.Roots.{AreRootNumbers, HasRoots, IsNamed, IsRootStop, IsEndStop, AreEnds, asked_names};
 
 use crate::stop::Stop;
 use call_edges::roots_of;
@@ -77,7 +77,7 @@ fn listed(alloc: Global, program: &Program, list: &[PredName]) -> Result<Vec<u32
 
 /// The numbers of the predicates that the list names, ascending and each once.
 fn listed_roots(alloc: Global, program: &Program, list: &[PredName]) -> Result<Vec<u32>, Stop>
-    ensures roots { IfOk result (λ roots. AreRoots (Some list.now) (see_program program.now) roots.items) }
+    ensures roots { IfOk result (λ roots. AreRootNumbers (Some list.now) (see_program program.now) roots.items) }
     ensures below { IfOk result (λ roots. All (λ q. q < length (see_program program.now).predicates) roots.items) }
     ensures rooted { IfOk result (λ _. HasRoots (Some list.now) (see_program program.now)) }
     ensures err { IfErr result (IsRootStop (Some list.now) (see_program program.now)) }
@@ -92,7 +92,7 @@ fn listed_roots(alloc: Global, program: &Program, list: &[PredName]) -> Result<V
 /// The predicates at which reach begins, ascending and each once: those that the options list, or
 /// where they list none those of the program.
 pub fn roots_by(alloc: Global, program: &Program, options: &Options) -> Result<Vec<u32>, Stop>
-    ensures roots { IfOk result (λ roots. AreRoots (see_options options.now).roots (see_program program.now) roots.items) }
+    ensures roots { IfOk result (λ roots. AreRootNumbers (see_options options.now).roots (see_program program.now) roots.items) }
     ensures below { IfOk result (λ roots. All (λ q. q < length (see_program program.now).predicates) roots.items) }
     ensures rooted { IfOk result (λ _. HasRoots (see_options options.now).roots (see_program program.now)) }
     ensures err { IfErr result (IsRootStop (see_options options.now).roots (see_program program.now)) }

@@ -10,7 +10,7 @@ use Rattle.group_words.specs.Settings.{Settings, AreLawful, AreWithin}
 use Rattle.group_tool.specs.declared.stop.Limit.TheVariants.{TooManyFiles, FileTooLarge, TooMuchText}
 use Rattle.group_tool.specs.Wanted.{files_read, names_read}
 use Rattle.group_tool.specs.LoadedEnd.{LoadedComesTo}
-use Rattle.group_tool.specs.Answer.{ComesTo, IsLawfulAnswer, IsAnswer}
+use Rattle.group_tool.specs.Answer.{LoadEndComesTo, IsLawfulAnswer, IsAnswer}
 use Rattle.group_tool.specs.End.{End, usage, faults, missing, unread, limit, report, no_memory}
 use Rattle.laws.specs.AnswerLayers.{WordsAreDecided}
 use Rattle.laws.proofs.ReportBytes.{SomeSearch}
@@ -34,7 +34,7 @@ record IsAsked (wanted : Settings → Type 0) (files : Files) (load : LoadEnd) :
   pub ends : LoadEndIs (files_read settings.make files) (names_read settings.make settings.files) asked load
 
 module _ (wanted : Settings → Type 0) (files : Files) where
-  answer_of : (load : LoadEnd) (is : IsAsked wanted files load) (end : End) → ComesTo is.settings load end → IsLawfulAnswer wanted files end
+  answer_of : (load : LoadEnd) (is : IsAsked wanted files load) (end : End) → LoadEndComesTo is.settings load end → IsLawfulAnswer wanted files end
   answer_of load is end comes = record {
     settings = is.settings;
     lawful = is.lawful;

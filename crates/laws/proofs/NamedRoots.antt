@@ -14,7 +14,7 @@ use Rattle.import_rules.proofs.Lists.{all_by, any_there, any_from}
 use Rattle.import_rules.proofs.NameOrder.{same_parts, same_itself}
 use Rattle.call_edges.specs.Roots.{IsRoot}
 use Rattle.laws.proofs.Orders.{HasOnce, has_once}
-use Rattle.group_tool.specs.Roots.{IsNamed, IsRootBy, IsFirstMissing, LacksRoot, HasRoots, AreRoots}
+use Rattle.group_tool.specs.Roots.{IsNamed, IsRootBy, IsFirstMissing, LacksRoot, HasRoots, AreRootNumbers}
 use Rattle.group_tool.proofs.RootLemmas.{AreRising, stands, listed_are, named_below}
 
 -- a name is that of a predicate, or not
@@ -64,7 +64,7 @@ same_number : (a b : ℕ) → nat_cmp a b ≡ Equal → a ≡ b
 same_number a b tie = ranked a b Equal (sym tie)
 
 -- the roots that a list names
-named_roots : (list : List PredName) (seen : Seen) → AreRising seen.predicates → All (Contains seen.predicates) list → (roots : List ℕ) × AreRoots (Some list) seen roots
+named_roots : (list : List PredName) (seen : Seen) → AreRising seen.predicates → All (Contains seen.predicates) list → (roots : List ℕ) × AreRootNumbers (Some list) seen roots
 named_roots list seen rising has =
     let numbers = numbers_of seen.predicates list has in
     let ordered : HasOnce nat_cmp nat_cmp_total numbers.0 = has_once nat_cmp nat_cmp_total same_number numbers.0 in
@@ -78,7 +78,7 @@ named_roots list seen rising has =
 
 module _ (roots_exist : (seen : Seen) → (roots : List ℕ) × (IsStrictlyIncreasing roots × ((q : ℕ) → Contains roots q ↔ IsRoot seen q))) where
   -- the roots are a list
-  pub some_roots : (list : Option (List PredName)) (seen : Seen) → AreRising seen.predicates → HasRoots list seen → (roots : List ℕ) × AreRoots list seen roots
+  pub some_roots : (list : Option (List PredName)) (seen : Seen) → AreRising seen.predicates → HasRoots list seen → (roots : List ℕ) × AreRootNumbers list seen roots
   some_roots None seen rising has = let roots = roots_exist seen in (roots.0, record { ascending = roots.1.0; are = roots.1.1 })
   some_roots (Some list) seen rising has = named_roots list seen rising has
 
@@ -88,5 +88,5 @@ module _ (roots_below : (seen : Seen) (q : ℕ) → IsRoot seen q → q < length
   root_below (Some list) seen q among = named_below seen.predicates list q among
 
   -- and are numbers of predicates
-  pub all_below : (list : Option (List PredName)) (seen : Seen) (roots : List ℕ) → AreRoots list seen roots → All (λ q. q < length seen.predicates) roots
+  pub all_below : (list : Option (List PredName)) (seen : Seen) (roots : List ℕ) → AreRootNumbers list seen roots → All (λ q. q < length seen.predicates) roots
   all_below list seen roots are = all_by (λ q. q < length seen.predicates) roots (λ q has. root_below list seen q ((are.are q).0 has))

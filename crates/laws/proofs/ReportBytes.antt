@@ -14,8 +14,8 @@ use Rattle.call_edges.proofs.SuccessorLemmas.{lists_closed}
 use Rattle.group_words.specs.Settings.{Settings}
 use Rattle.loop_report.specs.Report.{head_line}
 use Rattle.loop_report.specs.Reportable.{AreGroups, AreLeveled, AreReportable}
-use Rattle.group_tool.specs.Driving.{AreInOrder}
-use Rattle.group_tool.specs.Roots.{AreRoots, HasRoots, asked_names}
+use Rattle.group_tool.specs.Driving.{AreInScheduleOrder}
+use Rattle.group_tool.specs.Roots.{AreRootNumbers, HasRoots, asked_names}
 use Rattle.group_tool.specs.LoadedEnd.{IsOutput, ReportsProgram}
 use Rattle.group_tool.proofs.GroupLemmas.{roots_listed, reportable, reports}
 use Rattle.laws.proofs.PartBytes.{PartLaws, some_parts}
@@ -44,7 +44,7 @@ pub record GraphLaws : Type 0 where
 record HasGroups (searches : Option (ℕ × ℕ)) (lists : List (List ℕ)) (roots : List ℕ) : Type 0 where
   pub groups : List (List ℕ)
   pub are : AreGroups (Calls lists) roots groups
-  pub order : AreInOrder searches lists roots groups
+  pub order : AreInScheduleOrder searches lists roots groups
 
 -- at least one search, where they are wanted
 abbrev pub SomeSearch : Option (ℕ × ℕ) → Type 0
@@ -75,7 +75,7 @@ module _ (laws : GraphLaws) where
     some_output None false unreached seen groups levels can = reported seen.predicates seen.loaded.files groups levels unreached can
 
     -- what the roots reach has a report
-    pub some_report : (settings : Settings) (seen : Seen) (roots : List ℕ) → SomeSearch settings.searches → AreRoots settings.roots seen roots
+    pub some_report : (settings : Settings) (seen : Seen) (roots : List ℕ) → SomeSearch settings.searches → AreRootNumbers settings.roots seen roots
         → HasRoots (asked_names settings.path settings.roots) seen → All (λ q. q < length seen.predicates) roots → (bytes : List ℕ) × ReportsProgram settings seen bytes
     some_report settings seen roots some are has below =
         let lists = successor_lists seen in
