@@ -8,6 +8,7 @@ pub mod Parts
 pub mod Lines
 pub mod Carrying
 pub mod Driving
+pub mod Asked
 pub mod End
 pub mod LoadedEnd
 pub mod Answer

@@ -1,4 +1,4 @@
-ghost use Rattle.std.specs.Prelude.{◌≡◌, ◌<◌, ℕ, List, None, All, IfOk, length};
+ghost use Rattle.std.specs.Prelude.{◌≡◌, ◌<◌, ℕ, List, None, All, IfErr, IfOk, length};
 ghost use Rattle.call_edges.specs.Opened.{see_call_lists};
 ghost use Rattle.call_edges.specs.Successors.{successor_lists};
 ghost use Rattle.graph_law.specs.Graph.{Calls as ListCalls, lists_of};
@@ -7,9 +7,9 @@ ghost use Rattle.group_words.specs.Settings.{AreLawful, see_options};
 ghost use Rattle.group_tool.specs.Carrying.{ProgramComesTo};
 ghost use Rattle.group_tool.specs.Driving.{AreInScheduleOrder};
 ghost use Rattle.group_tool.specs.LoadedEnd.{IsOutput, ReportsProgram};
-ghost use Rattle.group_tool.specs.Roots.{AreEnds, AreRootNumbers};
+ghost use Rattle.group_tool.specs.Asked.{IsAskedOf};
 ghost use Rattle.group_tool.specs.Run.{EndIs};
-ghost use Rattle.group_tool.specs.Stop.{end_of};
+ghost use Rattle.group_tool.specs.Stop.{end_of, end_of_stop};
 ghost use Rattle.group_tool.specs.Wanted.{AreJust};
 ghost use Rattle.import_rules.specs.Program.{see_program};
 ghost use Rattle.loop_report.specs.Reportable.{AreGroups, AreLeveled, AreReportable};
@@ -23,7 +23,7 @@ use call_edges::{CallLists, call_lists};
 use file_library::Library;
 use group_feed::LevelTaker;
 use group_release::{Level, levels};
-use group_words::Options;
+use group_words::{Options, settings_within};
 use import_rules::Program;
 use loop_report::{head_line, order_report, report};
 use search_pool::Gate;
@@ -31,6 +31,15 @@ use std::alloc::{AllocError, Global};
 use std::mem::forget;
 use std::sync::Wait;
 use std::thread::Threads;
+
+/// What is asked of a program: what its predicates call, where reach begins, and the ends of the path
+/// that is wanted.
+#[derive(Drop)]
+struct Asked<'p> {
+    calls: CallLists<'p>,
+    roots: Vec<u32>,
+    ends: Option<(u32, u32)>,
+}
 
 /// The report that the options ask for, or why there is none. The groups are found on one thread.
 pub fn report_alone<R: Threads + Sync, L: Library>(
@@ -48,38 +57,19 @@ pub fn report_alone<R: Threads + Sync, L: Library>(
     told
 }
 
-/// The same, where workers find the groups.
-pub fn report_by_workers<R: Threads + Wait + Sync, L: Library, G: Gate>(
+/// The same, where the groups are found as the options say: on one thread, or by workers.
+pub fn report_lawful<R: Threads + Wait + Sync, L: Library, G: Gate>(
     rt: &R,
     alloc: Global,
     options: &Options,
     library: &mut L,
     gate: &G,
 ) -> Result<Vec<u8>, Stop>
-    requires lawful { (words : List (List ℕ)) × AreLawful words (see_options options.now) }
-    requires workers { (see_options options.now).searches ≡ None }
+    requires { (words : List (List ℕ)) × AreLawful words (see_options options.now) }
     ensures { EndIs (AreJust (see_options options.now)) (L.seen library.old, L.seen library.new) (end_of result) }
 {
     let program = load_program(rt, alloc, options, library)?;
-    let told = tell_by_workers(rt, alloc, options, &program, gate);
-    leave(program);
-    told
-}
-
-/// The same, where workers find the groups and their levels are found as they come.
-pub fn report_by_stream<R: Threads + Wait + Sync, L: Library, G: Gate>(
-    rt: &R,
-    alloc: Global,
-    options: &Options,
-    library: &mut L,
-    gate: &G,
-) -> Result<Vec<u8>, Stop>
-    requires lawful { (words : List (List ℕ)) × AreLawful words (see_options options.now) }
-    requires workers { (see_options options.now).searches ≡ None }
-    ensures { EndIs (AreJust (see_options options.now)) (L.seen library.old, L.seen library.new) (end_of result) }
-{
-    let program = load_program(rt, alloc, options, library)?;
-    let told = tell_by_stream(rt, alloc, options, &program, gate);
+    let told = tell(rt, alloc, options, &program, gate);
     leave(program);
     told
 }
@@ -90,8 +80,48 @@ fn leave(program: Program) {
     forget(program);
 }
 
-/// The report of the program, where each of its goals is callable and it has all roots. The groups are
-/// found on one thread.
+/// What is asked of the program, where each of its goals is callable, it has all roots and the ends of
+/// the path, or why there is no report of it.
+fn asked_of<'p, R: Threads + Sync>(
+    rt: &R,
+    alloc: Global,
+    options: &Options,
+    program: &'p Program,
+) -> Result<Asked<'p>, Stop>
+    ensures asked { IfOk result (IsAskedOf (see_options options.now) (see_program program.now)) }
+    ensures stops { IfErr result (λ stop. ProgramComesTo (see_options options.now) (see_program program.now) (end_of_stop stop)) }
+{
+    let calls = call_lists(rt, alloc, program)?;
+    let roots = roots_by(alloc, program, options)?;
+    let ends = ends_by(alloc, program, options)?;
+    Ok(Asked { calls, roots, ends })
+}
+
+/// The report of the program, or why there is none. The groups are found on one thread, or by workers.
+fn tell<R: Threads + Wait + Sync, G: Gate>(
+    rt: &R,
+    alloc: Global,
+    options: &Options,
+    program: &Program,
+    gate: &G,
+) -> Result<Vec<u8>, Stop>
+    requires { (words : List (List ℕ)) × AreLawful words (see_options options.now) }
+    ensures { ProgramComesTo (see_options options.now) (see_program program.now) (end_of result) }
+{
+    settings_within();
+    if options.stream {
+        return tell_by_stream(rt, alloc, options, program, gate);
+    }
+    if options.searches.is_some() {
+        return tell_alone(rt, alloc, options, program);
+    }
+    if options.jobs == 1 {
+        return tell_alone(rt, alloc, options, program);
+    }
+    tell_by_workers(rt, alloc, options, program, gate)
+}
+
+/// The same, where the groups are found on one thread.
 fn tell_alone<R: Threads + Sync>(
     rt: &R,
     alloc: Global,
@@ -101,11 +131,9 @@ fn tell_alone<R: Threads + Sync>(
     requires { (words : List (List ℕ)) × AreLawful words (see_options options.now) }
     ensures { ProgramComesTo (see_options options.now) (see_program program.now) (end_of result) }
 {
-    let calls = call_lists(rt, alloc, program)?;
-    let roots = roots_by(alloc, program, options)?;
-    let ends = ends_by(alloc, program, options)?;
-    let groups = groups_alone(alloc, options, program, &calls, &roots)?;
-    let bytes = report_groups(rt, alloc, options, program, &calls, &roots, ends, &groups)?;
+    let asked = asked_of(rt, alloc, options, program)?;
+    let groups = groups_alone(alloc, options, program, &asked.calls, &asked.roots)?;
+    let bytes = report_groups(rt, alloc, options, program, &asked, &groups)?;
     Ok(bytes)
 }
 
@@ -121,11 +149,9 @@ fn tell_by_workers<R: Threads + Wait + Sync, G: Gate>(
     requires workers { (see_options options.now).searches ≡ None }
     ensures { ProgramComesTo (see_options options.now) (see_program program.now) (end_of result) }
 {
-    let calls = call_lists(rt, alloc, program)?;
-    let roots = roots_by(alloc, program, options)?;
-    let ends = ends_by(alloc, program, options)?;
-    let groups = groups_by_workers(rt, alloc, options, program, &calls, &roots, gate)?;
-    let bytes = report_groups(rt, alloc, options, program, &calls, &roots, ends, &groups)?;
+    let asked = asked_of(rt, alloc, options, program)?;
+    let groups = groups_by_workers(rt, alloc, options, program, &asked.calls, &asked.roots, gate)?;
+    let bytes = report_groups(rt, alloc, options, program, &asked, &groups)?;
     Ok(bytes)
 }
 
@@ -141,24 +167,19 @@ fn tell_by_stream<R: Threads + Wait + Sync, G: Gate>(
     requires workers { (see_options options.now).searches ≡ None }
     ensures { ProgramComesTo (see_options options.now) (see_program program.now) (end_of result) }
 {
-    let calls = call_lists(rt, alloc, program)?;
-    let roots = roots_by(alloc, program, options)?;
-    let ends = ends_by(alloc, program, options)?;
-    let mut taker = LevelTaker::new(alloc, &calls)?;
+    let asked = asked_of(rt, alloc, options, program)?;
+    let mut taker = LevelTaker::new(alloc, &asked.calls)?;
     let groups = groups_by_stream(
-        rt, alloc, options, program, &calls, &roots, gate, &mut taker,
-    )?;
-    let bytes = report_leveled(
         rt,
         alloc,
         options,
         program,
-        &calls,
-        &roots,
-        ends,
-        &groups,
-        taker.levels(),
+        &asked.calls,
+        &asked.roots,
+        gate,
+        &mut taker,
     )?;
+    let bytes = report_leveled(rt, alloc, options, program, &asked, &groups, taker.levels())?;
     Ok(bytes)
 }
 
@@ -168,23 +189,17 @@ fn report_groups<R: Threads + Sync>(
     alloc: Global,
     options: &Options,
     program: &Program,
-    calls: &CallLists<'_>,
-    roots: &[u32],
-    ends: Option<(u32, u32)>,
+    asked: &Asked<'_>,
     groups: &[Vec<u32>],
 ) -> Result<Vec<u8>, AllocError>
-    requires calls { see_call_lists calls.now ≡ see_program program.now }
-    requires below { All (λ q. q < length (see_program program.now).predicates) roots.now }
-    requires roots { AreRootNumbers (see_options options.now).roots (see_program program.now) roots.now }
-    requires groups { AreGroups (ListCalls (successor_lists (see_program program.now))) roots.now (lists_of groups.now) }
-    requires order { AreInScheduleOrder (see_options options.now).searches (successor_lists (see_program program.now)) roots.now (lists_of groups.now) }
-    requires ends { AreEnds (see_options options.now).path (see_program program.now) ends }
+    requires asked { IsAskedOf (see_options options.now) (see_program program.now) asked.now }
+    requires groups { AreGroups (ListCalls (successor_lists (see_program program.now))) asked.now.roots.items (lists_of groups.now) }
+    requires order { AreInScheduleOrder (see_options options.now).searches (successor_lists (see_program program.now)) asked.now.roots.items
+        (lists_of groups.now) }
     ensures { IfOk result (λ bytes. ReportsProgram (see_options options.now) (see_program program.now) bytes.items) }
 {
-    let levels = levels_of(alloc, program, calls, roots, groups)?;
-    report_leveled(
-        rt, alloc, options, program, calls, roots, ends, groups, &levels,
-    )
+    let levels = levels_of(alloc, program, &asked.calls, &asked.roots, groups)?;
+    report_leveled(rt, alloc, options, program, asked, groups, &levels)
 }
 
 /// The same, where the levels are known.
@@ -193,23 +208,27 @@ fn report_leveled<R: Threads + Sync>(
     alloc: Global,
     options: &Options,
     program: &Program,
-    calls: &CallLists<'_>,
-    roots: &[u32],
-    ends: Option<(u32, u32)>,
+    asked: &Asked<'_>,
     groups: &[Vec<u32>],
     levels: &[Level],
 ) -> Result<Vec<u8>, AllocError>
-    requires calls { see_call_lists calls.now ≡ see_program program.now }
-    requires below { All (λ q. q < length (see_program program.now).predicates) roots.now }
-    requires roots { AreRootNumbers (see_options options.now).roots (see_program program.now) roots.now }
-    requires leveled { AreLeveled (ListCalls (successor_lists (see_program program.now))) roots.now (lists_of groups.now) levels.now }
-    requires order { AreInScheduleOrder (see_options options.now).searches (successor_lists (see_program program.now)) roots.now (lists_of groups.now) }
-    requires ends { AreEnds (see_options options.now).path (see_program program.now) ends }
+    requires asked { IsAskedOf (see_options options.now) (see_program program.now) asked.now }
+    requires leveled { AreLeveled (ListCalls (successor_lists (see_program program.now))) asked.now.roots.items (lists_of groups.now) levels.now }
+    requires order { AreInScheduleOrder (see_options options.now).searches (successor_lists (see_program program.now)) asked.now.roots.items
+        (lists_of groups.now) }
     ensures { IfOk result (λ bytes. ReportsProgram (see_options options.now) (see_program program.now) bytes.items) }
 {
     let first = written(alloc, options, program, groups, levels)?;
     let parts = parts_of(
-        rt, alloc, options, program, calls, roots, ends, groups, levels,
+        rt,
+        alloc,
+        options,
+        program,
+        &asked.calls,
+        &asked.roots,
+        asked.ends,
+        groups,
+        levels,
     )?;
     let bytes = joined(first, &parts)?;
     Ok(bytes)

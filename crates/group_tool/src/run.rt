@@ -5,18 +5,18 @@ ghost use Rattle.file_library.specs.Asking.{LoadEnd};
 ghost use Rattle.file_library.specs.Library.{Files};
 ghost use Rattle.group_words.specs.Settings.{Settings, AreLawful, see_options};
 ghost use Rattle.group_tool.specs.End.{err_of, status_of, memory_line};
-ghost use Rattle.group_tool.specs.Stop.{end_of_stop};
+ghost use Rattle.group_tool.specs.Stop.{end_of, end_of_stop};
 ghost use Rattle.group_tool.specs.Wanted.{AreJust, AskForNone, HasNoOptions};
-ghost use Rattle.group_tool.specs.Run.{EndsReading, IsRun, IsSettled, AreAskedFor, SaysAnswer, SaysHandedOver, SaysNoMemory, TookNone, SaidWith, SaidEnd};
+ghost use Rattle.group_tool.specs.Run.{Asking, EndIs, EndsReading, IsRun, IsSettled, AreAskedFor, SaysAnswer, SaysHandedOver, SaysNoMemory, TookNone, SaidWith, SaidEnd};
 ghost use Rattle.group_tool.specs.Run.{HasReported, HasUsage, HasNoRoot, HasFaults, HasPassed, HasUnread, IsCutOff};
 
-use crate::answer::{report_alone, report_by_stream, report_by_workers};
+use crate::answer::{report_alone, report_lawful};
 use crate::lines::{fault_lines, limit_line, missing_line, unread_line};
 use crate::say::say;
 use crate::sink::Sink;
 use crate::stop::Stop;
 use file_library::Library;
-use group_words::{Options, parse_words, settings_within};
+use group_words::{Options, parse_words};
 use prolog_tokens::Text;
 use search_pool::Gate;
 use std::alloc::{AllocError, Global};
@@ -64,78 +64,26 @@ fn say_stop<S: Sink>(alloc: Global, sink: &mut S, stop: &Stop) -> u8
     }
 }
 
-/// Puts what the options come to on the sink that it goes to, where the groups are found on one thread.
-fn run_on_one_thread<R: Threads + Sync, L: Library, O: Sink, E: Sink>(
-    rt: &R,
+/// Says the report, or why there is none, and answers the status of that.
+fn say_report<O: Sink, E: Sink>(
     alloc: Global,
-    options: &Options,
-    library: &mut L,
     out: &mut O,
     err: &mut E,
+    report: Result<Vec<u8>, Stop>,
 ) -> u8
-    requires { (words : List (List ℕ)) × AreLawful words (see_options options.now) }
-    ensures run { IsRun (AreJust (see_options options.now)) (L.seen library.old, L.seen library.new)
-        (O.seen out.old, O.seen out.new) (E.seen err.old, E.seen err.new) result }
+    ensures run { (settings : Settings) (library : Asking) → EndIs (AreJust settings) library (end_of report)
+        → IsRun (AreJust settings) library (O.seen out.old, O.seen out.new) (E.seen err.old, E.seen err.new) result }
     ensures err_left { result ≡ 0 → err.new ≡ err.old }
     ensures out_left { result ≢ 0 → result ≢ 5 → out.new ≡ out.old }
     ensures one_left { (out.new ≡ out.old) ⊎ (err.new ≡ err.old) }
 {
-    match report_alone(rt, alloc, options, library) {
-        Ok(report) => say_with(out, &report, 0),
-        Err(stop) => say_stop(alloc, err, &stop),
-    }
-}
-
-/// The same, where workers find the groups.
-fn run_with_workers<R: Threads + Wait + Sync, L: Library, O: Sink, E: Sink, G: Gate>(
-    rt: &R,
-    alloc: Global,
-    options: &Options,
-    library: &mut L,
-    out: &mut O,
-    err: &mut E,
-    gate: &G,
-) -> u8
-    requires lawful { (words : List (List ℕ)) × AreLawful words (see_options options.now) }
-    requires workers { (see_options options.now).searches ≡ None }
-    ensures run { IsRun (AreJust (see_options options.now)) (L.seen library.old, L.seen library.new)
-        (O.seen out.old, O.seen out.new) (E.seen err.old, E.seen err.new) result }
-    ensures err_left { result ≡ 0 → err.new ≡ err.old }
-    ensures out_left { result ≢ 0 → result ≢ 5 → out.new ≡ out.old }
-    ensures one_left { (out.new ≡ out.old) ⊎ (err.new ≡ err.old) }
-{
-    match report_by_workers(rt, alloc, options, library, gate) {
+    match report {
         Ok(bytes) => say_with(out, &bytes, 0),
         Err(stop) => say_stop(alloc, err, &stop),
     }
 }
 
-/// The same, where workers find the groups and their levels are found as they come.
-fn run_streaming<R: Threads + Wait + Sync, L: Library, O: Sink, E: Sink, G: Gate>(
-    rt: &R,
-    alloc: Global,
-    options: &Options,
-    library: &mut L,
-    out: &mut O,
-    err: &mut E,
-    gate: &G,
-) -> u8
-    requires lawful { (words : List (List ℕ)) × AreLawful words (see_options options.now) }
-    requires workers { (see_options options.now).searches ≡ None }
-    ensures run { IsRun (AreJust (see_options options.now)) (L.seen library.old, L.seen library.new)
-        (O.seen out.old, O.seen out.new) (E.seen err.old, E.seen err.new) result }
-    ensures err_left { result ≡ 0 → err.new ≡ err.old }
-    ensures out_left { result ≢ 0 → result ≢ 5 → out.new ≡ out.old }
-    ensures one_left { (out.new ≡ out.old) ⊎ (err.new ≡ err.old) }
-{
-    match report_by_stream(rt, alloc, options, library, gate) {
-        Ok(bytes) => say_with(out, &bytes, 0),
-        Err(stop) => say_stop(alloc, err, &stop),
-    }
-}
-
-/// Puts what the options of lawful words come to on the sink that it goes to: on one thread, or with
-/// workers, whose groups are leveled at the end or as they come.
+/// Puts what the options of lawful words come to on the sink that it goes to.
 fn run_lawful<R: Threads + Wait + Sync, L: Library, O: Sink, E: Sink, G: Gate>(
     rt: &R,
     alloc: Global,
@@ -152,17 +100,8 @@ fn run_lawful<R: Threads + Wait + Sync, L: Library, O: Sink, E: Sink, G: Gate>(
     ensures out_left { result ≢ 0 → result ≢ 5 → out.new ≡ out.old }
     ensures one_left { (out.new ≡ out.old) ⊎ (err.new ≡ err.old) }
 {
-    settings_within();
-    if options.stream {
-        return run_streaming(rt, alloc, options, library, out, err, gate);
-    }
-    if options.searches.is_some() {
-        return run_alone(rt, alloc, options, library, out, err);
-    }
-    if options.jobs == 1 {
-        return run_alone(rt, alloc, options, library, out, err);
-    }
-    run_with_workers(rt, alloc, options, library, out, err, gate)
+    let report = report_lawful(rt, alloc, options, library, gate);
+    say_report(alloc, out, err, report)
 }
 
 /// Puts what the words come to on the sink that it goes to.
@@ -325,5 +264,6 @@ pub fn run_alone<R: Threads + Sync, L: Library, O: Sink, E: Sink>(
     ensures out_left { result ≢ 0 → result ≢ 5 → out.new ≡ out.old }
     ensures one_left { (out.new ≡ out.old) ⊎ (err.new ≡ err.old) }
 {
-    run_on_one_thread(rt, alloc, options, library, out, err)
+    let report = report_alone(rt, alloc, options, library);
+    say_report(alloc, out, err, report)
 }

@@ -6,13 +6,13 @@ use Rattle.group_tool.proofs.answer.report_leveled.Goals as goal
 
 pub written-requires : goal.written-requires
 written-requires g c =
-    (reportable (see_program c.args.program.now) c.args.roots.now (lists_of c.args.groups.now) c.args.levels.now c.requires.below c.requires.leveled)
+    (reportable (see_program c.args.program.now) c.args.asked.now.roots.items (lists_of c.args.groups.now) c.args.levels.now c.requires.asked.below c.requires.leveled)
 
 pub parts_of-requires-clause-leveled : goal.parts_of-requires-clause-leveled
 parts_of-requires-clause-leveled g c κs within = c.requires.leveled
 
 pub returns : goal.returns
 returns g c =
-    reports (see_options c.args.options.now) (see_program c.args.program.now) c.args.roots.now (lists_of c.args.groups.now) c.args.levels.now c.in_ok-first.first.items
-    c.in_ok-parts.parts.items c.in_ok-bytes.bytes.items c.requires.roots c.requires.leveled c.requires.order c.in_ok-first.ensures
+    reports (see_options c.args.options.now) (see_program c.args.program.now) c.args.asked.now.roots.items (lists_of c.args.groups.now) c.args.levels.now c.in_ok-first.first.items
+    c.in_ok-parts.parts.items c.in_ok-bytes.bytes.items c.requires.asked.roots c.requires.leveled c.requires.order c.in_ok-first.ensures
     c.in_ok-parts.ensures (rw (c.deref.ensures.value) at c.in_ok-bytes.ensures)

@@ -3,26 +3,13 @@ use Rattle.group_tool.specs.declared.stop.Stop.TheVariants.{NoMemory}
 use Rattle.import_rules.specs.Program.{see_program}
 use Rattle.group_words.specs.Settings.{see_options}
 use Rattle.group_tool.specs.Answer.{IsLoadedEnd}
-use Rattle.group_tool.specs.Stop.{of_checking}
-use Rattle.group_tool.proofs.EndLemmas.{handed_on, check_end, root_end}
-use Rattle.group_tool.proofs.RootLemmas.{asked_stop}
+use Rattle.group_tool.proofs.EndLemmas.{handed_on}
 use Rattle.group_tool.proofs.answer.tell_by_workers.Goals as goal
 
-pub returns-in_err-calls : goal.returns-in_err-calls
-returns-in_err-calls g c found program =
-    handed_on (IsLoadedEnd (see_options c.args.options.now) found) c.from_residual.result (of_checking c.in_err-calls.field-0.0) c.from_residual.ensures.1
-    (check_end (see_options c.args.options.now) found (see_program c.args.program.now) c.in_err-calls.field-0.0 program c.in_err-calls.ensures.refused)
-
-pub returns-in_err-roots : goal.returns-in_err-roots
-returns-in_err-roots g c found program =
-    handed_on (IsLoadedEnd (see_options c.args.options.now) found) c.from_residual-in_err-roots.result c.in_err-roots.field-0.0 c.from_residual-in_err-roots.ensures.1
-    (root_end (see_options c.args.options.now) found (see_program c.args.program.now) c.in_err-roots.field-0.0 program c.in_ok-calls.ensures.callable
-    (asked_stop (see_options c.args.options.now).path (see_options c.args.options.now).roots (see_program c.args.program.now) c.in_err-roots.field-0.0 c.in_err-roots.ensures.err))
-
-pub returns-in_err-ends : goal.returns-in_err-ends
-returns-in_err-ends g c found program =
-    handed_on (IsLoadedEnd (see_options c.args.options.now) found) c.from_residual-in_err-ends.result c.in_err-ends.field-0.0 c.from_residual-in_err-ends.ensures.1
-    (root_end (see_options c.args.options.now) found (see_program c.args.program.now) c.in_err-ends.field-0.0 program c.in_ok-calls.ensures.callable c.in_err-ends.ensures.err)
+pub returns-in_err-asked : goal.returns-in_err-asked
+returns-in_err-asked g c found program =
+    handed_on (IsLoadedEnd (see_options c.args.options.now) found) c.from_residual.result c.in_err-asked.field-0.0 c.from_residual.ensures.1
+    (c.in_err-asked.ensures.stops found program)
 
 pub returns-in_err-groups : goal.returns-in_err-groups
 returns-in_err-groups g c found program =
@@ -36,7 +23,7 @@ pub returns : goal.returns
 returns g c found program =
     inr (record {
       seen = see_program c.args.program.now;
-      program = record { program = program; callable = c.in_ok-calls.ensures.callable };
-      rooted = c.in_ok-ends.ensures.rooted;
+      program = record { program = program; callable = c.in_ok-asked.ensures.asked.callable };
+      rooted = c.in_ok-asked.ensures.asked.rooted;
       reports = c.in_ok-bytes.ensures;
     })
