@@ -7,9 +7,8 @@ use Rattle.std.proofs.lemmas.List.Elements.{All-append, All-cons, All-nil}
 use Rattle.std.proofs.lemmas.Option.{slice_get_within, get_or_from_slice_get, slice_get-get_or}
 use Rattle.list_laws.proofs.OneOrder.{nothing_in, first_or_rest, in_first, in_rest}
 use Rattle.import_rules.specs.declared.names.PredName.{PredName}
-use Rattle.import_rules.specs.Find.{or_found, first_source}
 use Rattle.import_rules.specs.Names.{pred_cmp}
-use Rattle.import_rules.specs.Program.{Seen, found}
+use Rattle.import_rules.specs.Program.{Seen}
 use Rattle.import_rules.proofs.NumberLemmas.{number_at}
 use Rattle.call_edges.specs.Calls.{IsAmong}
 use Rattle.group_tool.specs.declared.stop.Stop.{Stop}
@@ -29,14 +28,6 @@ named_there predicates name n is = (n, slice_get_within predicates n name is, ge
 pub one_named : (predicates : List PredName) (name : PredName) (m n : ℕ) → AreRising predicates → IsNamed predicates name m → IsNamed predicates name n → m ≡ n
 one_named predicates name m n rising is also =
     let same : Some m ≡ Some n = sym (number_at predicates name m rising is) ∙ number_at predicates name n rising also in cc
-
--- a predicate of the program is found in its own module
-pub found_own : (seen : Seen) (name : PredName) → AreRising seen.predicates → Contains seen.predicates name
-    → (n : ℕ) × (found seen name.module name.name name.arity ≡ Some n) × IsNamed seen.predicates name n
-unfolding found
-found_own seen name rising has =
-    let at = stands seen.predicates name has in
-    (at.0, ap (λ own. or_found seen.predicates own (first_source seen.loaded.files name)) (number_at seen.predicates name at.0 rising at.1), at.1)
 
 -- numbers of names, in the order of the names
 

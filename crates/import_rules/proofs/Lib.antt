@@ -31,3 +31,4 @@ pub mod PlacedRuns
 pub mod FlawsStand
 pub mod AllFound
 pub mod OneFlaws
+pub mod OwnLemmas

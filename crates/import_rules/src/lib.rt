@@ -4,7 +4,7 @@
 //! there is none: more predicates than `MOST_PREDICATES`, which is 1,048,576, or else the import
 //! faults, each with its line and column. A `Program` numbers its predicates from 0 in order of
 //! module, name and arity. `find` is the predicate that a name means in a module: the module's own,
-//! else the one that it imports. It takes no memory. `meta_of` is how the arguments of a predicate's
+//! else the one that it imports, and `own` is the module's own alone. Neither takes memory. `meta_of` is how the arguments of a predicate's
 //! goals stand, by the first declaration for it, whichever file has that.
 //!
 //! With `:- module(a, [x/0]).` and `x.` in `a.pl`, and `:- use_module(a).` and `p :- x.` in `f.pl`,
@@ -27,6 +27,7 @@ mod meta_places;
 mod name_table;
 mod names;
 mod number;
+mod own;
 mod part;
 mod placed;
 mod places;

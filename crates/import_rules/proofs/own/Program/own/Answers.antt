@@ -1,12 +1,12 @@
 use Rattle.std.proofs.Common.{◌≡◌, Some, None, IsTrue, false, sym, subst, ◌∙◌}
 use Rattle.std.specs.Prelude.{slice_get}
 use Rattle.import_rules.specs.Program.{see_program, found}
-use Rattle.group_tool.proofs.RootLemmas.{found_own}
-use Rattle.group_tool.proofs.roots.number_of.Goals as goal
+use Rattle.import_rules.proofs.OwnLemmas.{found_own}
+use Rattle.import_rules.proofs.own.Program.own.Goals as goal
 
 pub returns-in_default : goal.returns-in_default
 returns-in_default c has =
-    let seen = see_program c.args.program.now in
+    let seen = see_program c.args.self.now in
     let own = found_own seen c.args.name.now c.is_known.ensures.numbered.in_order has in
     let same : found seen c.as_str.result.now c.as_str-2.result.now c.args.name.now.arity ≡ found seen c.args.name.now.module c.args.name.now.name c.args.name.now.arity =
     λ i. found seen (c.as_str.ensures i) (c.as_str-2.ensures i) c.args.name.now.arity in
@@ -14,11 +14,11 @@ returns-in_default c has =
 
 pub name_of-requires : goal.name_of-requires
 name_of-requires c =
-    c.found_means.ensures.below (see_program c.args.program.now) c.as_str.result.now c.as_str-2.result.now c.args.name.now.arity c.in-Some.node (sym c.find.ensures ∙ c.in-Some.is)
+    c.found_means.ensures.below (see_program c.args.self.now) c.as_str.result.now c.as_str-2.result.now c.args.name.now.arity c.in-Some.node (sym c.find.ensures ∙ c.in-Some.is)
 
 pub returns : goal.returns
 returns c has =
-    let seen = see_program c.args.program.now in
+    let seen = see_program c.args.self.now in
     let own = found_own seen c.args.name.now c.is_known.ensures.numbered.in_order has in
     let same : found seen c.as_str.result.now c.as_str-2.result.now c.args.name.now.arity ≡ found seen c.args.name.now.module c.args.name.now.name c.args.name.now.arity =
     λ i. found seen (c.as_str.ensures i) (c.as_str-2.ensures i) c.args.name.now.arity in

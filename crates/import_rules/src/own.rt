@@ -1,0 +1,40 @@
+//! The predicate of a name itself, whatever its module imports.
+
+ghost use Rattle.std.specs.Prelude.{◌≡◌, ◌↔◌, Contains, IsTrue, MatchOption, Some, slice_get};
+ghost use Rattle.import_rules.specs.Program.{see_program};
+
+use crate::laws::found_means;
+use crate::names::PredName;
+use crate::program::Program;
+
+/// Whether the names are those of one predicate.
+fn is_same(name: &PredName, other: &PredName) -> bool
+    ensures { IsTrue result ↔ (name.now ≡ other.now) }
+{
+    if name.arity != other.arity {
+        return false;
+    }
+    if name.name != other.name {
+        return false;
+    }
+    name.module == other.module
+}
+
+impl Program {
+    /// The number of the predicate of that name. One that the module imports by it is none of it.
+    pub fn own(&self, name: &PredName) -> Option<u32>
+        ensures { MatchOption result
+            (Contains (see_program self.now).predicates name.now → ⊥)
+            (λ node. slice_get (see_program self.now).predicates node ≡ Some name.now) }
+    {
+        self.is_known();
+        found_means();
+        let Some(node) = self.find(name.module.as_str(), name.name.as_str(), name.arity) else {
+            return None;
+        };
+        if is_same(self.name_of(node), name) {
+            return Some(node);
+        }
+        None
+    }
+}
