@@ -17,3 +17,5 @@ pub mod Stopped
 pub mod LoadedFiles
 pub mod LoadFaults
 pub mod Finished
+pub mod ToldWaves
+pub mod ToldEnd

@@ -64,6 +64,30 @@ same_last (p ∷ a) (q ∷ b) x y same =
     let tails : a ++ x ∷ [] ≡ b ++ y ∷ [] = cc in
     same_last a b x y tails
 
+-- and what stands before their last is the same
+pub same_before : (a b : Names) (x y : List ℕ) → a ++ x ∷ [] ≡ b ++ y ∷ [] → a ≡ b
+same_before [] [] x y same = refl
+same_before [] (q ∷ b) x y same =
+    let long : length (x ∷ []) ≡ length (q ∷ (b ++ y ∷ [])) = ap (λ names. length names) same in
+    let none : ⊥ = omega (arith, long, length-append b (y ∷ [])) in absurd none
+same_before (p ∷ a) [] x y same =
+    let long : length (p ∷ (a ++ x ∷ [])) ≡ length (y ∷ []) = ap (λ names. length names) same in
+    let none : ⊥ = omega (arith, long, length-append a (x ∷ [])) in absurd none
+same_before (p ∷ a) (q ∷ b) x y same =
+    let both : p ∷ (a ++ x ∷ []) ≡ q ∷ (b ++ y ∷ []) = same in
+    let first : p ≡ q = cc in
+    let tails : a ++ x ∷ [] ≡ b ++ y ∷ [] = cc in
+    let rest = same_before a b x y tails in
+    λ i. first i ∷ rest i
+
+-- names are none, or have a last
+pub last_of : (names : Names) → (names ≡ []) ⊎ ((before : Names) × (last : List ℕ) × (names ≡ before ++ last ∷ []))
+last_of [] = inl refl
+last_of (name ∷ names) = elim (last_of names) [
+  | inl none ↦ inr ([], name, λ i. name ∷ none i)
+  | inr (before, last, is) ↦ inr (name ∷ before, last, λ i. name ∷ is i)
+]
+
 pub begins_on : (a before after rest : Names) → before ≡ a ++ rest → Begins before after → Begins a after
 begins_on a before after rest is on = (rest ++ on.0, on.1 ∙ (ap (λ names. names ++ on.0) is ∙ append_assoc a rest on.0))
 

@@ -104,3 +104,9 @@ pub record HasEnded (before after : LibrarySeen) (roots : List (List ℕ)) (end 
   pub as_told : (files : Files) → before.told ≡ Some files → (name : List ℕ) → Contains (names_of answers) name → map_of answers name ≡ seen_of files name
   pub missed : (name : List ℕ) → Contains (names_of answers) name → map_of answers name ≡ None → Rose before.misses after.misses
   pub is : LoadEndIs (map_of answers) roots names end
+
+-- the asking for the roots ended as the files of this map decide, the names of the call being those that were asked for
+pub record EndsAsTold (before after : LibrarySeen) (roots : List (List ℕ)) (files : Files) (end : LoadEnd) : Type 0 where
+  pub names : List (List ℕ)
+  pub put : after.asked ≡ before.asked ++ names
+  pub is : LoadEndIs files roots names end

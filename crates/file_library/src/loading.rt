@@ -1,9 +1,9 @@
-ghost use Rattle.std.specs.Prelude.{◌≡◌, ◌≤◌, List, All, IfOk, IfErr, length, map, sum_by};
+ghost use Rattle.std.specs.Prelude.{◌≡◌, ◌≤◌, List, Some, All, IfOk, IfErr, length, map, sum_by};
 ghost use Rattle.file_library.specs.Library.{Files, IsLater, names_of};
 ghost use Rattle.file_library.specs.Answers.{bytes_of};
 ghost use Rattle.file_library.specs.AskedFile.{see_file, IsOfText};
 ghost use Rattle.file_library.specs.AskAll.{answers_of, Agrees, AreApart};
-ghost use Rattle.file_library.specs.Asking.{HasEnded};
+ghost use Rattle.file_library.specs.Asking.{EndsAsTold, HasEnded};
 ghost use Rattle.file_library.specs.Loaded.{WasLoaded};
 ghost use Rattle.file_library.specs.SortedOut.{AreJustAsked, FinishIs, HasFailed, end_of, see_loaded};
 
@@ -27,6 +27,8 @@ pub fn load_all<R: Threads + Sync, L: Library>(
 ) -> Result<Loaded, LoadStop>
     ensures later { IsLater (L.seen library.old) (L.seen library.new) }
     ensures ended { HasEnded (L.seen library.old) (L.seen library.new) roots.now (end_of result) }
+    ensures told { (files : Files) → (L.seen library.old).told ≡ Some files
+        → EndsAsTold (L.seen library.old) (L.seen library.new) roots.now files (end_of result) }
     ensures loaded { IfOk result (λ loaded. WasLoaded (see_loaded loaded)) }
     ensures failed { IfErr result (HasFailed (L.seen library.old).faults (L.seen library.new).faults) }
 {

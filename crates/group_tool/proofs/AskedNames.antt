@@ -12,7 +12,7 @@ use Rattle.group_tool.specs.End.{End, usage, missing, limit, report, memory_line
 use Rattle.group_tool.specs.Lines.{unread_line, limit_line}
 use Rattle.group_tool.specs.declared.stop.Limit.{Limit}
 use Rattle.group_tool.specs.Run.{Asking, EndsAsking, EndsReading, IsLawfulEnd, EndIs, EndsBy, Taking, IsRun, SaidWith, AreAskedFor}
-use Rattle.group_tool.proofs.ToldWaves.{waves_once}
+use Rattle.file_library.proofs.ToldWaves.{waves_once}
 
 all_first : (files : Files) (roots names : List (List ℕ)) → AreAll files roots names → AreFirst files roots names
 all_first files roots names all = record {

@@ -26,7 +26,7 @@ use Rattle.group_tool.specs.Answer.{LoadEndComesTo, IsLoadedEnd, IsLawfulAnswer}
 use Rattle.group_tool.specs.End.{End, usage, faults, missing, unread, limit, report, no_memory}
 use Rattle.group_tool.specs.Run.{Asking, EndsAsking, IsReadEnd, IsDecidedEnd, IsLeft, EndsReading, IsLawfulEnd, IsAsked, EndIs, Taking, SaidEnd, IsRun}
 use Rattle.group_tool.specs.Stop.{of_words, of_loading, of_checking, end_of_stop, end_of}
-use Rattle.group_tool.proofs.ToldEnd.{told_end}
+use Rattle.file_library.proofs.ToldEnd.{told_end}
 
 -- over the library's map the reading ends so
 reads_over : (make : Option ℕ) (names : List (List ℕ)) (library : Asking) (load : LoadEnd) → EndsReading make names library load → (files : Files) → library.0.told ≡ Some files → IsDecided load

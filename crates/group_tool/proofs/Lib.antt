@@ -1,8 +1,6 @@
 pub mod Said
 pub mod Examples
 pub mod LimitLine
-pub mod ToldWaves
-pub mod ToldEnd
 mod OneCircuits
 mod OneParts
 pub mod OneLoaded

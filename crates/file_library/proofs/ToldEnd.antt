@@ -2,7 +2,7 @@
 use Rattle.std.proofs.Common.{◌≡◌, ℕ, zero, ◌+◌, ◌<◌, ◌≤◌, List, [], ◌∷◌, ◌++◌, Option, Some, None, All, Contains, length, map, take, option_map, unwrap_or, sum_by, min, refl, sym, subst, ap, ◌∙◌, inl, inr, arith, length-take}
 use Rattle.std.proofs.lemmas.List.{length-append, get_or_append_left, append_assoc, take_all}
 use Rattle.std.proofs.lemmas.List.Elements.{All-map, Contains-append_left, Contains-append_cases, Contains-get_or}
-use Rattle.std.proofs.lemmas.List.Sums.{sum_by-cons}
+use Rattle.std.proofs.lemmas.List.Sums.{sum_by-append, sum_by-cons}
 use Rattle.std.proofs.Math.Seq.{get_or-append_seam}
 use Rattle.list_laws.proofs.OneOrder.{holds_of, in_first, in_rest, first_or_rest, nothing_in}
 use Rattle.file_library.specs.declared.fault.Fault.{Fault}
@@ -10,9 +10,10 @@ use Rattle.file_library.specs.Library.{Files, LibrarySeen, names_of, map_of}
 use Rattle.file_library.specs.Asked.{IsWave, wave_at, AreFirstWaves, AreWaves, names_in}
 use Rattle.file_library.specs.FileLoads.{FileLoads}
 use Rattle.file_library.specs.Loaded.{IsAskedIn, NamedText, LoadedFiles, size_of, AreWithin, IsLoaded, IsLoadFault, AreLoadFaults, most_bytes}
-use Rattle.file_library.specs.Asking.{AreFirst, AreAll, AreTooMany, LeadTo, IsTooMuch, LoadEnd, loaded, faults, unread, too_many, too_large, too_much, no_memory, LoadEndIs, IsDecided, AreAnswered, seen_of, HasEnded}
+use Rattle.file_library.specs.Asking.{AreFirst, AreAll, AreTooMany, LeadTo, IsTooMuch, LoadEnd, loaded, faults, unread, too_many, too_large, too_much, no_memory, LoadEndIs, IsDecided, AreAnswered, AreFirstWithin, EndsAsTold, seen_of, HasEnded}
+use Rattle.file_library.proofs.NameLists.{last_of, same_before}
 use Rattle.file_library.proofs.WaveLaws.{Names, in_names, waves_asked, asked_waves}
-use Rattle.group_tool.proofs.ToldWaves.{AgreeBelow, in_wave_to, first_waves_same, waves_same, StandsAt, stands_at, names_of_first, names_with_last}
+use Rattle.file_library.proofs.ToldWaves.{AgreeBelow, in_wave_to, first_waves_same, waves_same, StandsAt, stands_at, names_of_first, names_with_last}
 
 -- what is seen of a file that isn't too large is the file
 
@@ -40,6 +41,14 @@ sums_same f g [] same = refl
 sums_same f g (name ∷ names) same =
     let rest = sums_same f g names (λ other has. same other (in_rest name other names has)) in
     omega (arith, sum_by-cons f name names, sum_by-cons g name names, rest, same name (in_first name names))
+
+within_before : {files : Files} (names more : Names) → AreWithin files (names ++ more) → AreWithin files names
+within_before {files} names more within = record {
+  each = λ k d less.
+      let lower : k < length (names ++ more) = omega (arith, less, length-append names more) in
+      subst (λ name. size_of files name ≤ most_bytes) (get_or_append_left names more d k less) (within.each k d lower);
+  together = omega (arith, sum_by-append (size_of files) names more, within.together);
+}
 
 module _ (seen files : Files) (roots : Names) where
   -- the two maps have the same at each of the names
@@ -110,16 +119,19 @@ module _ (seen files : Files) (roots : Names) where
             omega (arith, all, first.few);
       }
 
-  leads_too : (names : Names) (last : List ℕ) → AreSeen names → LeadTo seen roots names last → LeadTo files roots names last
-  leads_too names last are leads =
-      let same : AreSame leads.before =
-      same_within leads.before (λ name has. are name (subst (λ ns. Contains ns name) (sym leads.is) (Contains-append_left leads.before (last ∷ []) name has))) leads.within.each in
+  leads_by : (names : Names) (last : List ℕ) (leads : LeadTo seen roots names last) → AreSeen leads.before → LeadTo files roots names last
+  leads_by names last leads are =
+      let same : AreSame leads.before = same_within leads.before are leads.within.each in
       record {
         before = leads.before;
         is = leads.is;
         first = first_too leads.before names last leads.is same leads.first;
         within = within_too leads.before same leads.within;
       }
+
+  leads_too : (names : Names) (last : List ℕ) → AreSeen names → LeadTo seen roots names last → LeadTo files roots names last
+  leads_too names last are leads =
+      leads_by names last leads (λ name has. are name (subst (λ ns. Contains ns name) (sym leads.is) (Contains-append_left leads.before (last ∷ []) name has)))
 
   last_there : (before names : Names) (last : List ℕ) → names ≡ before ++ last ∷ [] → Contains names last
   last_there before names last is =
@@ -235,6 +247,47 @@ module _ (seen files : Files) (roots : Names) where
       all = λ fault stands. is.all fault (fault_from fault stands);
     }
 
+  -- a last name is without an answer
+
+  unread_too : (names answered : Names) (last : List ℕ) → names ≡ answered ++ last ∷ [] → AreSeen answered → LeadTo seen roots names last → LeadTo files roots names last
+  unread_too names answered last is are leads =
+      leads_by names last leads (subst AreSeen (same_before answered leads.before last last (sym is ∙ leads.is)) are)
+
+  -- memory was wanting
+
+  none_first : (names : Names) → names ≡ [] → AreFirst files roots names
+  none_first names none = record { waves = []; are = λ n less. let no : ⊥ = omega (arith, less) in absurd no; rest = []; is = sym (ap (λ ns. ns ++ []) none); few = omega arith }
+
+  all_first_too : (names : Names) → AreSame names → AreFirst seen roots names → AreFirst files roots names
+  all_first_too names same first = elim (last_of names) [
+    | inl none ↦ none_first names none
+    | inr (before, last, is) ↦
+        first_too before names last is (λ name has. same name (subst (λ ns. Contains ns name) (sym is) (Contains-append_left before (last ∷ []) name has))) first
+  ]
+
+  answered_too : (names : Names) → AreSeen names → AreFirstWithin seen roots names → AreFirstWithin files roots names
+  answered_too names are is = elim is.within [
+    | inl within ↦
+        let same : AreSame names = same_within names are within.each in
+        record { first = all_first_too names same is.first; within = inl (within_too names same within) }
+    | inr (last, leads) ↦
+        let also : LeadTo files roots names last = leads_too names last are leads in
+        record { first = also.first; within = inr (last, also) }
+  ]
+
+  wanting_too : (names answered : Names) (last : List ℕ) → names ≡ answered ++ last ∷ [] → AreSeen answered → AreFirstWithin seen roots names → AreFirstWithin files roots names
+  wanting_too names answered last is are first = elim first.within [
+    | inl within ↦
+        let before : AreWithin seen answered = within_before answered (last ∷ []) (subst (AreWithin seen) is within) in
+        let same : AreSame answered = same_within answered are before.each in
+        let also : AreFirst files roots names = first_too answered names last is same first.first in
+        record { first = also; within = inr (last, record { before = answered; is = is; first = also; within = within_too answered same before }) }
+    | inr (other, leads) ↦
+        let also : LeadTo files roots names other =
+        leads_by names other leads (subst AreSeen (same_before answered leads.before last other (sym is ∙ leads.is)) are) in
+        record { first = also.first; within = inr (other, also) }
+  ]
+
   end_too : (names : Names) (load : LoadEnd) → IsDecided load → AreSeen names → LoadEndIs seen roots names load → LoadEndIs files roots names load
   end_too names (loaded found) decided are is = (all_too names are is.0, loaded_too names are is.0 found is.1)
   end_too names (faults found) decided are is = (all_too names are is.0, faults_too names are is.0 found is.1, is.2)
@@ -262,3 +315,29 @@ pub told_end : (before after : LibrarySeen) (roots : Names) (load : LoadEnd) (en
 told_end before after roots load ended files tells decided =
     end_too (map_of ended.answers) files roots ended.names load decided
     (λ name has. ended.as_told files tells name (subst (λ ns. Contains ns name) (answered_all ended.names (names_of ended.answers) load decided ended.answers_are) has)) ended.is
+
+-- and so does each end where the map is told, whatever it is decided by
+whole_end : (files : Files) (roots names answered : Names) (seen : Files) (load : LoadEnd) → AreAnswered names answered load
+    → ((name : List ℕ) → Contains answered name → seen name ≡ seen_of files name) → LoadEndIs seen roots names load → LoadEndIs files roots names load
+whole_end files roots names answered seen (unread name) is are ends = unread_too seen files roots names answered name is are ends
+whole_end files roots names answered seen no_memory (inl all) are ends =
+    answered_too seen files roots names (λ name has. are name (subst (λ ns. Contains ns name) all has)) ends
+whole_end files roots names answered seen no_memory (inr (last, is)) are ends = wanting_too seen files roots names answered last is are ends
+whole_end files roots names answered seen (loaded found) is are ends =
+    end_too seen files roots names (loaded found) tt (λ name has. are name (subst (λ ns. Contains ns name) is has)) ends
+whole_end files roots names answered seen (faults found) is are ends =
+    end_too seen files roots names (faults found) tt (λ name has. are name (subst (λ ns. Contains ns name) is has)) ends
+whole_end files roots names answered seen too_many is are ends =
+    end_too seen files roots names too_many tt (λ name has. are name (subst (λ ns. Contains ns name) is has)) ends
+whole_end files roots names answered seen (too_large name) is are ends =
+    end_too seen files roots names (too_large name) tt (λ other has. are other (subst (λ ns. Contains ns other) is has)) ends
+whole_end files roots names answered seen too_much is are ends =
+    end_too seen files roots names too_much tt (λ name has. are name (subst (λ ns. Contains ns name) is has)) ends
+
+pub told_whole : (before after : LibrarySeen) (roots : Names) (load : LoadEnd) → HasEnded before after roots load → (files : Files) → before.told ≡ Some files
+    → EndsAsTold before after roots files load
+told_whole before after roots load ended files tells = record {
+  names = ended.names;
+  put = ended.put;
+  is = whole_end files roots ended.names (names_of ended.answers) (map_of ended.answers) load ended.answers_are (ended.as_told files tells) ended.is;
+}
