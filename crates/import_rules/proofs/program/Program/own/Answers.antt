@@ -2,7 +2,7 @@ use Rattle.std.proofs.Common.{◌≡◌, Some, None, IsTrue, false, sym, subst, 
 use Rattle.std.specs.Prelude.{slice_get}
 use Rattle.import_rules.specs.Program.{see_program, found}
 use Rattle.import_rules.proofs.OwnLemmas.{found_own}
-use Rattle.import_rules.proofs.own.Program.own.Goals as goal
+use Rattle.import_rules.proofs.program.Program.own.Goals as goal
 
 pub returns-in_default : goal.returns-in_default
 returns-in_default c has =
