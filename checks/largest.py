@@ -7,6 +7,7 @@ where an answer is wrong; prints the seconds and the most memory of each run.
 """
 
 import argparse
+import os
 import pathlib
 import resource
 import subprocess
@@ -25,13 +26,19 @@ wrong = []
 
 
 def run(folder, *words):
-    before = resource.getrusage(resource.RUSAGE_CHILDREN)
     begun = time.monotonic()
-    done = subprocess.run([chosen[0], *words], cwd=folder, capture_output=True, timeout=300)
-    took = time.monotonic() - begun
-    after = resource.getrusage(resource.RUSAGE_CHILDREN)
-    print(f"  {took:6.2f} s, {after.ru_utime + after.ru_stime - before.ru_utime - before.ru_stime:6.2f} of processors: {' '.join(words)[:90]}", flush=True)
-    return done.returncode, done.stdout, done.stderr
+    with tempfile.TemporaryFile() as out, tempfile.TemporaryFile() as err:
+        process = subprocess.Popen([chosen[0], *words], cwd=folder, stdout=out, stderr=err)
+        _, status, used = os.wait4(process.pid, 0)
+        process.returncode = os.waitstatus_to_exitcode(status)
+        took = time.monotonic() - begun
+        # A new process begins with the memory of the one that starts it, so less than that can't be told.
+        own = resource.getrusage(resource.RUSAGE_SELF).ru_maxrss
+        most = f"{used.ru_maxrss >> 10:5} MB" if used.ru_maxrss > own else " " * 8
+        print(f"  {took:6.2f} s, {used.ru_utime + used.ru_stime:6.2f} of processors, {most}: {' '.join(words)[:90]}", flush=True)
+        out.seek(0)
+        err.seek(0)
+        return process.returncode, out.read(), err.read()
 
 
 def expect(what, found, answer):
@@ -55,6 +62,12 @@ def facts(folder):
     for way in WAYS:
         expect(f"facts {way}", run(folder, *way, "f0.pl", "f1.pl"), (0, report, b""))
     expect("facts, with all that stands beside", run(folder, "--effects", "--loops", "--unreached", "f0.pl", "f1.pl"), (0, report, b""))
+    path = f"p0/0,p{MOST - 1}/0"
+    told = report + f"no-path user:p0/0 user:p{MOST - 1}/0\n".encode()
+    expect("facts, with a path", run(folder, "--path", path, "f0.pl", "f1.pl"), (0, told, b""))
+    some = (head(2, 2, 0, 1) + f"0 plain user:p0/0\n0 plain user:p{MOST - 1}/0\n").encode()
+    others = "".join(f"unreached {name}\n" for name in names if name not in ("user:p0/0", f"user:p{MOST - 1}/0")).encode()
+    expect("facts, from two roots", run(folder, "--roots", path, "--unreached", "f0.pl", "f1.pl"), (0, some + others, b""))
     status, out, err = run(folder, "--order", "--stream", "--jobs", "4", "f0.pl", "f1.pl")
     expect("facts, streamed", (status, b"".join(sorted(out.splitlines(True))), err), (0, b"".join(sorted(report.splitlines(True))), b""))
     expect("one fact more", run(folder, "f0.pl", "f1.pl", "g.pl"), (6, b"", f"groups: more than {MOST} predicates\n".encode()))
