@@ -28,10 +28,10 @@ use Rattle.file_library.proofs.NextWaveLemmas.{has_no_key}
 
 -- what is given of the items of a list
 
-some_once : {X : Type 0} {x y : X} → Some x ≡ Some y → x ≡ y
+pub some_once : {X : Type 0} {x y : X} → Some x ≡ Some y → x ≡ y
 some_once is = cc
 
-all_from : {X : Type 0} (P : X → Type 0) (xs : List X) → ((x : X) → Contains xs x → P x) → All P xs
+pub all_from : {X : Type 0} (P : X → Type 0) (xs : List X) → ((x : X) → Contains xs x → P x) → All P xs
 all_from {X} P xs each k d less = each (get_or xs k d) (Contains-get_or xs k d less)
 
 each_later : {X : Type 0} (P : X → Type 0) (x : X) (xs : List X) → ((y : X) → Contains (x ∷ xs) y → P y) → (y : X) → Contains xs y → P y
@@ -63,7 +63,7 @@ given_from {X} {Y} h (first ∷ xs) y has = at (λ there. given_from h xs y ther
       | inr rest ↦ later (on rest)
     ]
 
-from_map : {X Y : Type 0} (f : X → Y) (xs : List X) (y : Y) → Contains (map f xs) y → (x : X) × Contains xs x × (f x ≡ y)
+pub from_map : {X Y : Type 0} (f : X → Y) (xs : List X) (y : Y) → Contains (map f xs) y → (x : X) × Contains xs x × (f x ≡ y)
 from_map {X} {Y} f [] y has = absurd (nothing_in y has)
 from_map {X} {Y} f (first ∷ xs) y has = elim (first_or_rest (f first) y (map f xs) has) [
   | inl is ↦ (first, in_first first xs, is)
@@ -112,7 +112,7 @@ none_passes {X} test (first ∷ xs) x none has = at (λ empty later. none_passes
 
 -- what a file that was found gives
 
-text_named : (name : List ℕ) (found : Found) (text : NamedText) → text_at name found ≡ Some text → (text.0 ≡ name) × (text_of found ≡ Some text.1)
+pub text_named : (name : List ℕ) (found : Found) (text : NamedText) → text_at name found ≡ Some text → (text.0 ≡ name) × (text_of found ≡ Some text.1)
 text_named name absent text is = let both : None ≡ Some text = is in absurd (cc)
 text_named name (sound own facts) text is =
     let pair : NamedText = (name, own) in
@@ -120,7 +120,7 @@ text_named name (sound own facts) text is =
     (ap (λ (t : NamedText). t.0) (sym same), ap (λ (t : NamedText). Some t.1) same)
 text_named name (faulty own fault) text is = let both : None ≡ Some text = is in absurd (cc)
 
-absent_named : (name : List ℕ) (found : Found) (given : List ℕ) → absent_at name found ≡ Some given → (given ≡ name) × (text_of found ≡ None)
+pub absent_named : (name : List ℕ) (found : Found) (given : List ℕ) → absent_at name found ≡ Some given → (given ≡ name) × (text_of found ≡ None)
 absent_named name absent given is = (sym (some_once is), refl)
 absent_named name (sound own facts) given is = let both : None ≡ Some given = is in absurd (cc)
 absent_named name (faulty own fault) given is = let both : None ≡ Some given = is in absurd (cc)
@@ -132,7 +132,7 @@ text_given set name bytes (sound own facts) there none =
     ap (λ text. Some (name, text)) same
 text_given set name bytes (faulty own fault) there none = let both : true ≡ false = none in absurd (cc)
 
-absent_given : (name : List ℕ) (found : Found) → text_of found ≡ None → absent_at name found ≡ Some name
+pub absent_given : (name : List ℕ) (found : Found) → text_of found ≡ None → absent_at name found ≡ Some name
 absent_given name absent there = refl
 absent_given name (sound own facts) there = let both : Some own ≡ None = there in absurd (cc)
 absent_given name (faulty own fault) there = let both : Some own ≡ None = there in absurd (cc)

@@ -25,11 +25,11 @@ clap_part (flag key) is = is
 clap_part (apart key value) is = (is.0, plain_bare value is.1)
 clap_part (joined key value) is = is.0
 
-clap_parts : (parts : List Part) → All IsPart parts → AreClapParts parts
+pub clap_parts : (parts : List Part) → All IsPart parts → AreClapParts parts
 clap_parts [] all = tt
 clap_parts (part ∷ parts) all = (clap_part part (All-head IsPart part parts all), clap_parts parts (All-tail IsPart part parts all))
 
-one_at_most : (o : Option Text) → length (as_list o) ≤ 1
+pub one_at_most : (o : Option Text) → length (as_list o) ≤ 1
 one_at_most None = omega arith
 one_at_most (Some v) = omega arith
 
@@ -49,7 +49,7 @@ module _ (words : List Text) (given : Key → Option Text) (files : List Text) (
 
 -- two readings are one
 
-plus_same : (xs ys : List Text) → plus None xs ≡ plus None ys → xs ≡ ys
+pub plus_same : (xs ys : List Text) → plus None xs ≡ plus None ys → xs ≡ ys
 plus_same [] [] e = refl
 plus_same [] (y ∷ ys) e = let both : None ≡ Some (y ∷ ys) = e in cc
 plus_same (x ∷ xs) [] e = let both : Some (x ∷ xs) ≡ None = e in cc
@@ -168,7 +168,7 @@ module _ (rows : List Row) (g : Given) (is : IsGiven rows g) (parts : List Part)
 
 -- values and files that are lawful
 
-abbrev ArePlain : List Text → Type 0
+abbrev pub ArePlain : List Text → Type 0
 ArePlain [] = Unit {0}
 ArePlain (v ∷ vs) = (is_plain v ≡ true) × ArePlain vs
 
@@ -192,7 +192,7 @@ empty_if own key bare valued = go (same_key own key) refl
     go false e = tt
 
 -- the values of lawful parts are plain
-plain_values : (key : Key) → takes_value key ≡ true → (parts : List Part) → All IsPart parts → ArePlain (values key parts)
+pub plain_values : (key : Key) → takes_value key ≡ true → (parts : List Part) → All IsPart parts → ArePlain (values key parts)
 plain_values key valued [] all = tt
 plain_values key valued (file word ∷ parts) all = plain_values key valued parts (All-tail IsPart (file word) parts all)
 plain_values key valued (flag own ∷ parts) all =
@@ -234,23 +234,23 @@ bare_file (b ∷ c ∷ x ∷ xs) l is = go (b == 45) (c == 45) refl refl l
     go true false e f l = let both : Some (c ∷ x ∷ xs) ≡ None = (rw (e, f) at l.no_short) in cc
     go false u e f l = rw e refl
 
-abbrev AreFiles : List Text → Type 0
+abbrev pub AreFiles : List Text → Type 0
 AreFiles [] = Unit {0}
 AreFiles (w ∷ ws) = (is_file w ≡ true) × AreFiles ws
 
-files_front : (xs ys : List Text) → AreFiles (xs ++ ys) → AreFiles xs
+pub files_front : (xs ys : List Text) → AreFiles (xs ++ ys) → AreFiles xs
 files_front [] ys all = tt
 files_front (x ∷ xs) ys all = (all.0, files_front xs ys all.1)
 
-files_behind : (xs ys : List Text) → AreFiles (xs ++ ys) → AreFiles ys
+pub files_behind : (xs ys : List Text) → AreFiles (xs ++ ys) → AreFiles ys
 files_behind [] ys all = all
 files_behind (x ∷ xs) ys all = files_behind xs ys all.1
 
-files_both : (xs ys : List Text) → AreFiles xs → AreFiles ys → AreFiles (xs ++ ys)
+pub files_both : (xs ys : List Text) → AreFiles xs → AreFiles ys → AreFiles (xs ++ ys)
 files_both [] ys front all = all
 files_both (x ∷ xs) ys front all = (front.0, files_both xs ys front.1 all)
 
-and_both : (a b : Bool) → (a && b) ≡ true → (a ≡ true) × (b ≡ true)
+pub and_both : (a b : Bool) → (a && b) ≡ true → (a ≡ true) × (b ≡ true)
 and_both true b e = (refl, e)
 and_both false b e = let both : false ≡ true = e in cc
 
@@ -262,15 +262,15 @@ files_test : (xs : List Text) → AreFiles xs → list_all is_file xs ≡ true
 files_test [] all = refl
 files_test (x ∷ xs) all = rw all.0 (files_test xs all.1)
 
-files_all : (xs : List Text) → AreFiles xs → All (λ word. is_file word ≡ true) xs
+pub files_all : (xs : List Text) → AreFiles xs → All (λ word. is_file word ≡ true) xs
 files_all [] all = All-nil (λ word. is_file word ≡ true)
 files_all (x ∷ xs) all = All-cons (λ word. is_file word ≡ true) x xs all.0 (files_all xs all.1)
 
-all_files : (xs : List Text) → All (λ word. is_file word ≡ true) xs → AreFiles xs
+pub all_files : (xs : List Text) → All (λ word. is_file word ≡ true) xs → AreFiles xs
 all_files [] all = tt
 all_files (x ∷ xs) all = (All-head (λ word. is_file word ≡ true) x xs all, all_files xs (All-tail (λ word. is_file word ≡ true) x xs all))
 
-part_are_files : (parts : List Part) → All IsPart parts → AreFiles (flat_map part_files parts)
+pub part_are_files : (parts : List Part) → All IsPart parts → AreFiles (flat_map part_files parts)
 part_are_files [] all = tt
 part_are_files (file word ∷ parts) all = (plain_file word (All-head IsPart (file word) parts all), part_are_files parts (All-tail IsPart (file word) parts all))
 part_are_files (flag own ∷ parts) all = part_are_files parts (All-tail IsPart (flag own) parts all)
@@ -281,7 +281,7 @@ part_are_files (joined own v ∷ parts) all = part_are_files parts (All-tail IsP
 own_plain : (key : Key) (v : Text) (vs : List Text) → ArePlain ((if same_key key key then v ∷ [] else []) ++ vs) → is_plain v ≡ true
 own_plain key v vs all = (subst (λ b. ArePlain ((if b then v ∷ [] else []) ++ vs)) (same_text (key_name key)) all).0
 
-lawful_parts : (parts : List Part) → AreClapParts parts → ((key : Key) → takes_value key ≡ true → ArePlain (values key parts)) → AreFiles (flat_map part_files parts) → All IsPart parts
+pub lawful_parts : (parts : List Part) → AreClapParts parts → ((key : Key) → takes_value key ≡ true → ArePlain (values key parts)) → AreFiles (flat_map part_files parts) → All IsPart parts
 lawful_parts [] are plain files = All-nil IsPart
 lawful_parts (file word ∷ parts) are plain files = All-cons IsPart (file word) parts (bare_file word are.0 files.0) (lawful_parts parts are.1 plain files.1)
 lawful_parts (flag own ∷ parts) are plain files =

@@ -15,11 +15,9 @@ use Rattle.file_library.specs.declared.fault.Fault.{Fault}
 use Rattle.file_library.proofs.WaveLaws.{Names, has_name}
 use Rattle.laws.proofs.FaultPlaces.{place_there}
 use Rattle.laws.proofs.FoundAt.{IsAt}
-use Rattle.laws.proofs.Given.{all_from, given_in, given_from, given_rise}
+use Rattle.file_library.proofs.LoadedFiles.{all_from, some_once}
+use Rattle.laws.proofs.Given.{given_in, given_from, given_rise}
 use Rattle.laws.proofs.NextNames.{AreOrderedOf}
-
-pub some_once : {X : Type 0} {x y : X} → Some x ≡ Some y → x ≡ y
-some_once is = cc
 
 -- the fault of a root that isn't there
 abbrev no_root : List ℕ → Fault

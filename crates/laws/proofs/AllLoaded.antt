@@ -12,30 +12,13 @@ use Rattle.file_library.specs.AskedFile.{Found, absent, sound, faulty, text_of, 
 use Rattle.file_library.specs.SortedOut.{facts_at, text_at, absent_at, AreJustAsked}
 use Rattle.file_library.proofs.NameLists.{no_more}
 use Rattle.file_library.proofs.WaveLaws.{Names}
-use Rattle.laws.proofs.AllFaults.{some_once, fault_at, faults_at, fault_of, root_absent, faultless}
+use Rattle.file_library.proofs.LoadedFiles.{absent_given, absent_named, all_from, from_map, some_once, text_named}
+use Rattle.laws.proofs.AllFaults.{fault_at, faults_at, fault_of, root_absent, faultless}
 use Rattle.laws.proofs.FoundAt.{IsAt}
-use Rattle.laws.proofs.Given.{all_from, from_map, given_in, given_from, none_given, given_rise, given_sum}
+use Rattle.laws.proofs.Given.{given_in, given_from, none_given, given_rise, given_sum}
 use Rattle.laws.proofs.NextNames.{AreOrderedOf}
 
 -- what a file gives
-
-text_named : (name : List ℕ) (found : Found) (text : NamedText) → text_at name found ≡ Some text → (text.0 ≡ name) × (text_of found ≡ Some text.1)
-text_named name absent text is = let both : None ≡ Some text = is in absurd (cc)
-text_named name (sound own facts) text is =
-    let pair : NamedText = (name, own) in
-    let same : pair ≡ text = some_once is in
-    (ap (λ (t : NamedText). t.0) (sym same), ap (λ (t : NamedText). Some t.1) same)
-text_named name (faulty own refusal) text is = let both : None ≡ Some text = is in absurd (cc)
-
-absent_named : (name : List ℕ) (found : Found) (given : List ℕ) → absent_at name found ≡ Some given → (given ≡ name) × (text_of found ≡ None)
-absent_named name absent given is = (sym (some_once is), refl)
-absent_named name (sound own facts) given is = let both : None ≡ Some given = is in absurd (cc)
-absent_named name (faulty own refusal) given is = let both : None ≡ Some given = is in absurd (cc)
-
-absent_given : (name : List ℕ) (found : Found) → text_of found ≡ None → absent_at name found ≡ Some name
-absent_given name absent there = refl
-absent_given name (sound own facts) there = let both : Some own ≡ None = there in absurd (cc)
-absent_given name (faulty own refusal) there = let both : Some own ≡ None = there in absurd (cc)
 
 text_given : (roots : Names) (name bytes : List ℕ) (found : Found) → text_of found ≡ Some bytes → fault_of roots name found ≡ None → text_at name found ≡ Some (name, bytes)
 text_given roots name bytes absent there none = let both : None ≡ Some bytes = there in absurd (cc)

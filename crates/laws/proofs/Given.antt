@@ -11,16 +11,6 @@ use Rattle.list_laws.proofs.OneOrder.{nothing_in, first_or_rest, in_rest, in_fir
 use Rattle.file_library.specs.Asked.{AreInOrder}
 use Rattle.file_library.proofs.WaveLaws.{Names}
 
-pub all_from : {X : Type 0} (P : X → Type 0) (xs : List X) → ((x : X) → Contains xs x → P x) → All P xs
-all_from {X} P xs each k d less = each (get_or xs k d) (Contains-get_or xs k d less)
-
-pub from_map : {X Y : Type 0} (f : X → Y) (xs : List X) (y : Y) → Contains (map f xs) y → (x : X) × Contains xs x × (f x ≡ y)
-from_map {X} {Y} f [] y has = absurd (nothing_in y has)
-from_map {X} {Y} f (first ∷ xs) y has = elim (first_or_rest (f first) y (map f xs) has) [
-  | inl is ↦ (first, in_first first xs, is)
-  | inr later ↦ let from = from_map f xs y later in (from.0, in_rest first from.0 xs from.1, from.2)
-]
-
 module _ {Y : Type 0} (give : List ℕ → Option Y) where
   pub given_in : (names : Names) (name : List ℕ) (y : Y) → Contains names name → give name ≡ Some y → Contains (filter_map give names) y
   given_in [] name y has is = absurd (nothing_in name has)

@@ -7,7 +7,8 @@ use Rattle.group_words.proofs.Readings.{reading_taken}
 use Rattle.group_words.proofs.Views.{ComeOnce, Parsed, parsed, parts_views}
 use Rattle.group_words.proofs.WalkRows.{plus}
 use Rattle.laws.proofs.Known.{IsKnown, known_all, known_bool, known_both, empty_or_not}
-use Rattle.laws.proofs.Plain.{AreFiles, ArePlain, Text, all_files, clap_parts, files_all, files_behind, files_both, files_front, lawful_parts, one_at_most, part_are_files, plain_values}
+use Rattle.clap.specs.Walk.{Text}
+use Rattle.group_words.proofs.Readings.{AreFiles, ArePlain, all_files, clap_parts, files_all, files_behind, files_both, files_front, lawful_parts, one_at_most, part_are_files, plain_values, plus_same}
 
 -- a reading of the words
 pub record HasReading (words : List Text) : Type 0 where
@@ -23,12 +24,6 @@ known_part (file word) = known_bool (is_plain word) true
 known_part (flag key) = known_bool (takes_value key) false
 known_part (apart key value) = known_both (known_bool (takes_value key) true) (known_bool (is_plain value) true)
 known_part (joined key value) = known_both (known_bool (takes_value key) true) (known_bool (is_plain value) true)
-
-plus_same : (xs ys : List Text) → plus None xs ≡ plus None ys → xs ≡ ys
-plus_same [] [] e = refl
-plus_same [] (y ∷ ys) e = let both : None ≡ Some (y ∷ ys) = e in cc
-plus_same (x ∷ xs) [] e = let both : Some (x ∷ xs) ≡ None = e in cc
-plus_same (x ∷ xs) (y ∷ ys) e = let both : Some (x ∷ xs) ≡ Some (y ∷ ys) = e in cc
 
 -- the value, where there is one
 abbrev only : List Text → Option Text

@@ -5,6 +5,7 @@ use Rattle.std.specs.Str.{IsUtf8}
 use Rattle.std.proofs.lemmas.Bool.Decides.{nat_tests}
 use Rattle.std.proofs.lemmas.List.Elements.{All-head, All-tail}
 use Rattle.std.proofs.lemmas.Str.{IsCharBoundary-after_ascii, IsUtf8-drop, IsUtf8-nil}
+use Rattle.group_words.proofs.Readings.{and_both}
 use Rattle.group_words.specs.Words.{Key, Jobs, Searches, Seed, Roots, Path, Order, Unreached, Effects, Loops, Stream, Make, Part, file, flag, apart, joined, IsReading, as_list, option_word, part_words, rest_words, same_key, values}
 
 abbrev AreUtf8 : List (List ℕ) → Type 0
@@ -32,10 +33,6 @@ utf8_if false v is = tt
 abbrev is_ascii : ℕ → Bool
 is_ascii b = nat_lt b 128
 
-both_true : (a b : Bool) → (a && b) ≡ true → (a ≡ true) × (b ≡ true)
-both_true true b e = (refl, e)
-both_true false b e = let both : false ≡ true = e in cc
-
 behind_one : (b : ℕ) (bs : List ℕ) → is_ascii b ≡ true → IsUtf8 (b ∷ bs) → IsUtf8 bs
 behind_one b bs low utf8 =
     let small : b < 128 = grind (arith, nat_tests) in
@@ -44,7 +41,7 @@ behind_one b bs low utf8 =
 behind_ascii : (front back : List ℕ) → list_all is_ascii front ≡ true → IsUtf8 (front ++ back) → IsUtf8 back
 behind_ascii [] back low utf8 = utf8
 behind_ascii (b ∷ front) back low utf8 =
-    let each = both_true (is_ascii b) (list_all is_ascii front) low in
+    let each = and_both (is_ascii b) (list_all is_ascii front) low in
     behind_ascii front back each.1 (behind_one b (front ++ back) each.0 utf8)
 
 word_ascii : (key : Key) → list_all is_ascii (option_word key ++ codes "=") ≡ true

@@ -9,10 +9,10 @@ written-requires g c =
     (reportable (see_program c.args.program.now) c.args.asked.now.roots.items (lists_of c.args.groups.now) c.args.levels.now c.requires.asked.below c.requires.leveled)
 
 pub parts_of-requires-clause-leveled : goal.parts_of-requires-clause-leveled
-parts_of-requires-clause-leveled g c κs within = c.requires.leveled
+parts_of-requires-clause-leveled g c κs within = rw (c.deref.ensures.value) c.requires.leveled
 
 pub returns : goal.returns
 returns g c =
     reports (see_options c.args.options.now) (see_program c.args.program.now) c.args.asked.now.roots.items (lists_of c.args.groups.now) c.args.levels.now c.in_ok-first.first.items
     c.in_ok-parts.parts.items c.in_ok-bytes.bytes.items c.requires.asked.roots c.requires.leveled c.requires.order c.in_ok-first.ensures
-    c.in_ok-parts.ensures (rw (c.deref.ensures.value) at c.in_ok-bytes.ensures)
+    c.in_ok-parts.ensures (rw (c.deref-2.ensures.value) at c.in_ok-bytes.ensures)
