@@ -60,7 +60,6 @@ mod Numbers
 mod Lists
 mod Together
 mod AnsweredWords
-mod Plain
 mod Utf8Values
 mod ReadWords
 -- answer

@@ -1,5 +1,5 @@
 -- Words have a reading, or none.
-use Rattle.std.proofs.Common.{◌≡◌, ◌⊎◌, inl, inr, ◌≤◌, true, false, List, [], ◌∷◌, ◌++◌, flat_map, length, Option, Some, None, All, refl, sym, ◌∙◌, subst, arith}
+use Rattle.std.proofs.Common.{◌≡◌, ◌⊎◌, inl, inr, ℕ, ◌≤◌, true, false, List, [], ◌∷◌, ◌++◌, flat_map, length, Option, Some, None, All, refl, sym, ◌∙◌, subst, arith}
 use Rattle.std.specs.Str.{IsUtf8}
 use Rattle.group_words.specs.Words.{Key, Part, file, flag, apart, joined, IsPart, IsReading, as_list, is_file, is_plain, part_files, rest_files, takes_value, values}
 use Rattle.group_words.proofs.HaveChars.{texts_have_chars}
@@ -7,8 +7,11 @@ use Rattle.group_words.proofs.Readings.{reading_taken}
 use Rattle.group_words.proofs.Views.{ComeOnce, Parsed, parsed, parts_views}
 use Rattle.group_words.proofs.WalkRows.{plus}
 use Rattle.laws.proofs.Known.{IsKnown, known_all, known_bool, known_both, empty_or_not}
-use Rattle.clap.specs.Walk.{Text}
 use Rattle.group_words.proofs.Readings.{AreFiles, ArePlain, all_files, clap_parts, files_all, files_behind, files_both, files_front, lawful_parts, one_at_most, part_are_files, plain_values, plus_same}
+
+-- a word or a value
+abbrev pub Text : Type 0
+Text = List ℕ
 
 -- a reading of the words
 pub record HasReading (words : List Text) : Type 0 where
