@@ -130,18 +130,18 @@ module _ (T : Rows) (within : RowsWithin T) where
   qualified_within owner role [] n small = none_within n
   qualified_within owner role (tree ∷ trees) n small = named_within owner role tree (atom_name tree) n small
 
-  by_within : (w : Way) (owner : List ℕ) (role : GoalArg) (name : List ℕ) (args : List Tree) → IsWithin (length args + added role) (taken_by T w owner role name args).standing
-  by_within Silent owner role name args = none_within (length args + added role)
-  by_within Behind owner role name args = second_within (length args + added role) Caret (omega arith)
-  by_within Control owner role name args =
+  by_within : (w : Way) (at : ℕ) (owner : List ℕ) (role : GoalArg) (name : List ℕ) (args : List Tree) → IsWithin (length args + added role) (taken_by T w at owner role name args).standing
+  by_within Silent at owner role name args = none_within (length args + added role)
+  by_within Behind at owner role name args = second_within (length args + added role) Caret (omega arith)
+  by_within Control at owner role name args =
       let small : added (settled role) ≤ length args + added role = omega (arith, settled_within role) in
       role_within (length args + added role) (first_two (settled role)) small small (omega arith)
-  by_within Qualified owner role name args = qualified_within owner role args (length args + added role) (omega arith)
-  by_within Calling owner role name args = within.each owner name (length args + added role)
+  by_within Qualified at owner role name args = qualified_within owner role args (length args + added role) (omega arith)
+  by_within Calling at owner role name args = within.each owner name (length args + added role)
 
   -- what is added to an argument and ten times its weight are no more than what is added to the compound and ten times the weight of all its arguments
-  pub argument_within : (owner : List ℕ) (role : GoalArg) (name : List ℕ) (args : List Tree) (i : ℕ) (tree : Tree) → slice_get args i ≡ Some tree
-      → added (role_at (taken T owner role name args).standing i) + 10 * weight tree ≤ added role + 10 * weights (trees_from args)
-  argument_within owner role name args i tree is =
-      let few = (by_within (way role name (length args)) owner role name args).each i in
+  pub argument_within : (at : ℕ) (owner : List ℕ) (role : GoalArg) (name : List ℕ) (args : List Tree) (i : ℕ) (tree : Tree) → slice_get args i ≡ Some tree
+      → added (role_at (taken T at owner role name args).standing i) + 10 * weight tree ≤ added role + 10 * weights (trees_from args)
+  argument_within at owner role name args i tree is =
+      let few = (by_within (way role name (length args)) at owner role name args).each i in
       omega (arith, few, part_count args i tree is, slice_get_within args i tree is)

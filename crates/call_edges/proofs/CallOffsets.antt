@@ -6,46 +6,22 @@ use Rattle.std.specs.Option.{option_map}
 use Rattle.std.proofs.lemmas.List.Elements.{All-contains}
 use Rattle.std.proofs.lemmas.Option.{none-some, same_Some, slice_get_within, get_or_from_slice_get}
 use Rattle.prolog_tokens.specs.Places.{IsOffset}
-use Rattle.prolog_terms.specs.Tree.{Tree, span_of}
+use Rattle.prolog_terms.specs.Tree.{Tree}
 use Rattle.prolog_terms.specs.Views.{sides_of}
 use Rattle.clause_text.specs.Offsets.{HasOffsets}
-use Rattle.clause_text.proofs.TermOffsets.{span_stands}
 use Rattle.module_table.specs.Defined.{Predicate}
 use Rattle.module_table.specs.Facts.{Facts}
 use Rattle.file_library.specs.Loaded.{NamedText}
 use Rattle.import_rules.specs.Program.{Seen, places_in, IsKnown, IsReadFrom}
-use Rattle.call_edges.specs.Goals.{Met, call, fault, Place, Rows, Leads, met_at}
+use Rattle.call_edges.specs.Goals.{call, Place}
 use Rattle.call_edges.specs.ProgramRows.{rows_of}
 use Rattle.call_edges.specs.Calls.{body_of}
 use Rattle.call_edges.specs.Bodies.{Body, body_in, clause_bodies, bodies_at}
-use Rattle.call_edges.specs.CallPlaces.{CallAt, Source, call_met, call_at, IsCalled, IsCallOf, AreCallsOf, StandsInText}
+use Rattle.call_edges.specs.CallPlaces.{CallAt, IsCallOf, AreCallsOf, StandsInText}
 use Rattle.call_edges.proofs.AmongLemmas.{flat_has, among_given}
 use Rattle.call_edges.proofs.BodyLemmas.{places_there, bodies_there}
 use Rattle.call_edges.proofs.LightLemmas.{all_of}
-use Rattle.call_edges.proofs.OffsetLemmas.{part_stands, by_stands}
-
--- what a call tells of its file and its offset
-call_tells : (source : Source) (offset : ℕ) (met : Option Met) (c : CallAt) → call_met source offset met ≡ Some c → (c.file ≡ source.file) × (c.offset ≡ offset)
-call_tells source offset (Some (call owner name arity)) c is =
-    let same = same_Some _ c is in
-    (ap (λ (x : CallAt). x.file) (sym same), ap (λ (x : CallAt). x.offset) (sym same))
-call_tells source offset (Some (fault at)) c is = absurd (none-some c is)
-call_tells source offset None c is = absurd (none-some c is)
-
-module _ (text : List ℕ) where
-  call_stands : (source : Source) (T : Rows) (p : Place) (c : CallAt) → HasOffsets text p.tree → IsCalled source T p c → IsOffset text c.offset
-  call_stands source T p c stands is = by_path is.stands.path p stands is.stands.leads
-    where
-      by_path : (path : List Place) (q : Place) → HasOffsets text q.tree → Leads T q path is.at → IsOffset text c.offset
-      by_path [] q here same =
-          let called : call_at source T q.module_ q.role q.tree ≡ Some c = subst (λ (x : Place). call_at source T x.module_ x.role x.tree ≡ Some c) (sym same) is.called in
-          let at = (call_tells source (span_of q.tree).from (met_at T q.module_ q.role q.tree) c called).1 in
-          subst (IsOffset text) (sym at) (span_stands text q.tree here)
-      by_path (n ∷ path) q here leads = by_path path n (part_stands text T q.module_ q.role q.tree n here leads.0) leads.1
-
--- and its file is that of the body
-call_file : (source : Source) (T : Rows) (p : Place) (c : CallAt) → IsCalled source T p c → c.file ≡ source.file
-call_file source T p c is = (call_tells source (span_of is.at.tree).from (met_at T is.at.module_ is.at.role is.at.tree) c is.called).0
+use Rattle.call_edges.proofs.OffsetLemmas.{by_stands, goal_stands}
 
 -- the body of a clause that stands in the text
 body_stands : (text : List ℕ) (file : ℕ) (owner : List ℕ) (clauses : List Tree) (body : Body) → All (HasOffsets text) clauses
@@ -82,12 +58,12 @@ node_stands seen caller c known among =
     All-contains (λ (p : Predicate). All (HasOffsets text.0.1) p.clauses) there.file.defined there.predicate text.2.placed.of_clauses in_part in
     let body = body_stands text.0.1 place.one.0 there.file.module_ there.predicate.clauses among.one clauses
     (subst (λ (bs : List Body). Contains bs among.one) (bodies_there seen.loaded.files place.one there.file there.predicate there.at_place there.at_part) place.is) in
-    let source : Source = record { file = among.one.file; caller = caller } in
-    let in_file : c.file ≡ place.one.0 = call_file source (rows_of seen) among.one.at c among.is ∙ body.1 in
+    let called = among.is in
+    let c_met = call c.offset c.callee.module c.callee.name c.callee.arity in
     record {
       text = text.0;
-      is = ap (slice_get seen.loaded.texts) in_file ∙ text.1;
-      stands = call_stands text.0.1 source (rows_of seen) among.one.at c body.0 among.is;
+      is = ap (slice_get seen.loaded.texts) (called.in_file ∙ body.1) ∙ text.1;
+      stands = goal_stands text.0.1 (rows_of seen) among.one.at c_met body.0 called.met;
     }
   where
     stands : {X : Type 0} (xs : List X) (k : ℕ) (x : X) → slice_get xs k ≡ Some x → Contains xs x

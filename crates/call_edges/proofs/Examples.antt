@@ -51,12 +51,16 @@ goals tree = mets_in plain_rows (codes "user") (Goal 0) tree
 abbrev grammar : Tree → List Met
 grammar tree = mets_in plain_rows (codes "user") Grammar tree
 
+-- a call by a compound, and one by an atom
 abbrev calls : List ℕ → ℕ → Met
-calls own arity = call (codes "user") own arity
+calls own arity = call 2 (codes "user") own arity
+
+abbrev alone : List ℕ → ℕ → Met
+alone own arity = call 1 (codes "user") own arity
 
 -- atoms, compounds and terms that call nothing
 
-an_atom : goals a ≡ calls (codes "a") 0 ∷ []
+an_atom : goals a ≡ alone (codes "a") 0 ∷ []
 an_atom = refl
 
 a_compound : goals (with (codes "p") (a ∷ b ∷ [])) ≡ calls (codes "p") 2 ∷ []
@@ -74,7 +78,7 @@ a_list_with_a_tail = refl
 curly_brackets : goals (curly a (at 4)) ≡ []
 curly_brackets = refl
 
-empty_brackets : goals (name (codes "[]")) ≡ calls (codes "[]") 0 ∷ []
+empty_brackets : goals (name (codes "[]")) ≡ alone (codes "[]") 0 ∷ []
 empty_brackets = refl
 
 -- constants aren't callable, also in brackets, where they themselves stand
@@ -91,10 +95,10 @@ a_text = refl
 -- control constructs
 
 joined_goals : goals (with (codes ",") (a ∷ with (codes ";") (with (codes "->") (b ∷ d ∷ []) ∷ with (codes "|") (a ∷ b ∷ []) ∷ []) ∷ []))
-    ≡ calls (codes "a") 0 ∷ calls (codes "b") 0 ∷ calls (codes "d") 0 ∷ calls (codes "a") 0 ∷ calls (codes "b") 0 ∷ []
+    ≡ alone (codes "a") 0 ∷ alone (codes "b") 0 ∷ alone (codes "d") 0 ∷ alone (codes "a") 0 ∷ alone (codes "b") 0 ∷ []
 joined_goals = refl
 
-negated_goal : goals (with (codes "\\+") (round a ∷ [])) ≡ calls (codes "a") 0 ∷ []
+negated_goal : goals (with (codes "\\+") (round a ∷ [])) ≡ alone (codes "a") 0 ∷ []
 negated_goal = refl
 
 a_comma_of_three : goals (with (codes ",") (a ∷ b ∷ d ∷ [])) ≡ calls (codes ",") 3 ∷ []
@@ -102,7 +106,7 @@ a_comma_of_three = refl
 
 -- goals with added arguments
 
-call_with_one : goals (with (codes "call") (a ∷ [])) ≡ calls (codes "call") 1 ∷ calls (codes "a") 0 ∷ []
+call_with_one : goals (with (codes "call") (a ∷ [])) ≡ calls (codes "call") 1 ∷ alone (codes "a") 0 ∷ []
 call_with_one = refl
 
 call_with_three : goals (with (codes "call") (with (codes "p") (a ∷ []) ∷ b ∷ d ∷ [])) ≡ calls (codes "call") 3 ∷ calls (codes "p") 3 ∷ []
@@ -114,22 +118,22 @@ call_of_a_comma = refl
 call_of_a_number : goals (with (codes "call") (number 9 ∷ a ∷ [])) ≡ calls (codes "call") 2 ∷ fault 9 ∷ []
 call_of_a_number = refl
 
-maplist_over_a_list : goals (with (codes "maplist") (a ∷ var ∷ var ∷ [])) ≡ calls (codes "maplist") 3 ∷ calls (codes "a") 2 ∷ []
+maplist_over_a_list : goals (with (codes "maplist") (a ∷ var ∷ var ∷ [])) ≡ calls (codes "maplist") 3 ∷ alone (codes "a") 2 ∷ []
 maplist_over_a_list = refl
 
-call_of_a_maplist : goals (with (codes "call") (with (codes "maplist") (a ∷ []) ∷ var ∷ [])) ≡ calls (codes "call") 2 ∷ calls (codes "maplist") 2 ∷ calls (codes "a") 1 ∷ []
+call_of_a_maplist : goals (with (codes "call") (with (codes "maplist") (a ∷ []) ∷ var ∷ [])) ≡ calls (codes "call") 2 ∷ calls (codes "maplist") 2 ∷ alone (codes "a") 1 ∷ []
 call_of_a_maplist = refl
 
 -- the first argument of `maplist` isn't written there
-call_of_the_name : goals (with (codes "call") (name (codes "maplist") ∷ a ∷ var ∷ [])) ≡ calls (codes "call") 3 ∷ calls (codes "maplist") 2 ∷ []
+call_of_the_name : goals (with (codes "call") (name (codes "maplist") ∷ a ∷ var ∷ [])) ≡ calls (codes "call") 3 ∷ alone (codes "maplist") 2 ∷ []
 call_of_the_name = refl
 
 -- other predicates that take goals
 
-find_all : goals (with (codes "findall") (a ∷ b ∷ d ∷ [])) ≡ calls (codes "findall") 3 ∷ calls (codes "b") 0 ∷ []
+find_all : goals (with (codes "findall") (a ∷ b ∷ d ∷ [])) ≡ calls (codes "findall") 3 ∷ alone (codes "b") 0 ∷ []
 find_all = refl
 
-find_all_with_a_tail : goals (with (codes "findall") (a ∷ b ∷ d ∷ var ∷ [])) ≡ calls (codes "findall") 4 ∷ calls (codes "b") 0 ∷ []
+find_all_with_a_tail : goals (with (codes "findall") (a ∷ b ∷ d ∷ var ∷ [])) ≡ calls (codes "findall") 4 ∷ alone (codes "b") 0 ∷ []
 find_all_with_a_tail = refl
 
 bag_of : goals (with (codes "bagof") (var ∷ with (codes "^") (var ∷ round (with (codes "^") (var ∷ with (codes "p") (var ∷ []) ∷ [])) ∷ []) ∷ var ∷ []))
@@ -137,39 +141,39 @@ bag_of : goals (with (codes "bagof") (var ∷ with (codes "^") (var ∷ round (w
 bag_of = refl
 
 set_of_a_comma : goals (with (codes "setof") (var ∷ round (with (codes "^") (var ∷ round (with (codes ",") (a ∷ b ∷ [])) ∷ [])) ∷ var ∷ []))
-    ≡ calls (codes "setof") 3 ∷ calls (codes "a") 0 ∷ calls (codes "b") 0 ∷ []
+    ≡ calls (codes "setof") 3 ∷ alone (codes "a") 0 ∷ alone (codes "b") 0 ∷ []
 set_of_a_comma = refl
 
 -- behind a goal `^` is a predicate
 set_of_another_module : goals (with (codes "setof") (var ∷ with (codes ":") (name (codes "m") ∷ with (codes "^") (var ∷ a ∷ []) ∷ []) ∷ var ∷ []))
-    ≡ calls (codes "setof") 3 ∷ call (codes "m") (codes "^") 2 ∷ []
+    ≡ calls (codes "setof") 3 ∷ call 2 (codes "m") (codes "^") 2 ∷ []
 set_of_another_module = refl
 
-for_all : goals (with (codes "forall") (a ∷ b ∷ [])) ≡ calls (codes "forall") 2 ∷ calls (codes "a") 0 ∷ calls (codes "b") 0 ∷ []
+for_all : goals (with (codes "forall") (a ∷ b ∷ [])) ≡ calls (codes "forall") 2 ∷ alone (codes "a") 0 ∷ alone (codes "b") 0 ∷ []
 for_all = refl
 
-catch_goals : goals (with (codes "catch") (a ∷ b ∷ d ∷ [])) ≡ calls (codes "catch") 3 ∷ calls (codes "a") 0 ∷ calls (codes "d") 0 ∷ []
+catch_goals : goals (with (codes "catch") (a ∷ b ∷ d ∷ [])) ≡ calls (codes "catch") 3 ∷ alone (codes "a") 0 ∷ alone (codes "d") 0 ∷ []
 catch_goals = refl
 
-phrase_of_two : goals (with (codes "phrase") (a ∷ var ∷ [])) ≡ calls (codes "phrase") 2 ∷ calls (codes "a") 2 ∷ []
+phrase_of_two : goals (with (codes "phrase") (a ∷ var ∷ [])) ≡ calls (codes "phrase") 2 ∷ alone (codes "a") 2 ∷ []
 phrase_of_two = refl
 
-phrase_of_three : goals (with (codes "phrase") (curly a (at 4) ∷ var ∷ var ∷ [])) ≡ calls (codes "phrase") 3 ∷ calls (codes "a") 0 ∷ []
+phrase_of_three : goals (with (codes "phrase") (curly a (at 4) ∷ var ∷ var ∷ [])) ≡ calls (codes "phrase") 3 ∷ alone (codes "a") 0 ∷ []
 phrase_of_three = refl
 
-initial_goal : goals (with (codes "initialization") (a ∷ [])) ≡ calls (codes "initialization") 1 ∷ calls (codes "a") 0 ∷ []
+initial_goal : goals (with (codes "initialization") (a ∷ [])) ≡ calls (codes "initialization") 1 ∷ alone (codes "a") 0 ∷ []
 initial_goal = refl
 
-initial_goal_when : goals (with (codes "initialization") (a ∷ a ∷ [])) ≡ calls (codes "initialization") 2 ∷ calls (codes "a") 0 ∷ []
+initial_goal_when : goals (with (codes "initialization") (a ∷ a ∷ [])) ≡ calls (codes "initialization") 2 ∷ alone (codes "a") 0 ∷ []
 initial_goal_when = refl
 
 -- goals of other modules
 
 goal_of_a_module : goals (with (codes ":") (name (codes "m") ∷ with (codes ",") (a ∷ with (codes "call") (b ∷ var ∷ []) ∷ []) ∷ []))
-    ≡ call (codes "m") (codes "a") 0 ∷ call (codes "m") (codes "call") 2 ∷ call (codes "m") (codes "b") 1 ∷ []
+    ≡ call 1 (codes "m") (codes "a") 0 ∷ call 2 (codes "m") (codes "call") 2 ∷ call 1 (codes "m") (codes "b") 1 ∷ []
 goal_of_a_module = refl
 
-goal_of_a_module_in_brackets : goals (with (codes ":") (round (name (codes "m")) ∷ round a ∷ [])) ≡ call (codes "m") (codes "a") 0 ∷ []
+goal_of_a_module_in_brackets : goals (with (codes ":") (round (name (codes "m")) ∷ round a ∷ [])) ≡ call 1 (codes "m") (codes "a") 0 ∷ []
 goal_of_a_module_in_brackets = refl
 
 goal_of_a_variable : goals (with (codes ":") (round var ∷ number 7 ∷ [])) ≡ []
@@ -178,7 +182,7 @@ goal_of_a_variable = refl
 goal_of_a_number : goals (with (codes ":") (round (number 5) ∷ number 7 ∷ [])) ≡ fault 5 ∷ []
 goal_of_a_number = refl
 
-added_to_a_module : goals (with (codes "call") (with (codes ":") (name (codes "m") ∷ a ∷ []) ∷ var ∷ [])) ≡ calls (codes "call") 2 ∷ call (codes "m") (codes "a") 1 ∷ []
+added_to_a_module : goals (with (codes "call") (with (codes ":") (name (codes "m") ∷ a ∷ []) ∷ var ∷ [])) ≡ calls (codes "call") 2 ∷ call 1 (codes "m") (codes "a") 1 ∷ []
 added_to_a_module = refl
 
 -- grammar bodies
@@ -195,19 +199,19 @@ a_grammar_number = refl
 a_grammar_float : grammar (constant Float true None (at 8)) ≡ fault 8 ∷ []
 a_grammar_float = refl
 
-two_added : grammar (with (codes "->") (a ∷ with (codes "p") (var ∷ []) ∷ [])) ≡ calls (codes "a") 2 ∷ calls (codes "p") 3 ∷ []
+two_added : grammar (with (codes "->") (a ∷ with (codes "p") (var ∷ []) ∷ [])) ≡ alone (codes "a") 2 ∷ calls (codes "p") 3 ∷ []
 two_added = refl
 
-negated_body : grammar (with (codes "\\+") (a ∷ [])) ≡ calls (codes "a") 2 ∷ []
+negated_body : grammar (with (codes "\\+") (a ∷ [])) ≡ alone (codes "a") 2 ∷ []
 negated_body = refl
 
-goal_in_a_body : grammar (curly (with (codes ",") (a ∷ number 6 ∷ [])) (at 4)) ≡ calls (codes "a") 0 ∷ fault 6 ∷ []
+goal_in_a_body : grammar (curly (with (codes ",") (a ∷ number 6 ∷ [])) (at 4)) ≡ alone (codes "a") 0 ∷ fault 6 ∷ []
 goal_in_a_body = refl
 
-body_of_a_module : grammar (with (codes ":") (name (codes "m") ∷ with (codes ",") (a ∷ text ∷ []) ∷ [])) ≡ call (codes "m") (codes "a") 2 ∷ []
+body_of_a_module : grammar (with (codes ":") (name (codes "m") ∷ with (codes ",") (a ∷ text ∷ []) ∷ [])) ≡ call 1 (codes "m") (codes "a") 2 ∷ []
 body_of_a_module = refl
 
-call_in_a_body : grammar (with (codes "call") (a ∷ b ∷ [])) ≡ calls (codes "call") 4 ∷ calls (codes "a") 3 ∷ []
+call_in_a_body : grammar (with (codes "call") (a ∷ b ∷ [])) ≡ calls (codes "call") 4 ∷ alone (codes "a") 3 ∷ []
 call_in_a_body = refl
 
 phrase_in_a_body : grammar (with (codes "phrase") (text ∷ [])) ≡ calls (codes "phrase") 3 ∷ []
@@ -221,7 +225,7 @@ second_side = record { i = 1; argument = refl; in_module = refl; stands = refl }
 plain_argument : IsPart plain_rows (codes "user") (Goal 0) (with (codes "p") (a ∷ [])) (place (codes "user") Plain a)
 plain_argument = record { i = 0; argument = refl; in_module = refl; stands = refl }
 
-met_behind_a_caret : IsMet plain_rows (place (codes "user") Caret (with (codes "^") (var ∷ a ∷ []))) (calls (codes "a") 0)
+met_behind_a_caret : IsMet plain_rows (place (codes "user") Caret (with (codes "^") (var ∷ a ∷ []))) (alone (codes "a") 0)
 met_behind_a_caret = record {
   at = place (codes "user") Caret a;
   stands = record { path = place (codes "user") Caret a ∷ []; leads = (record { i = 1; argument = refl; in_module = refl; stands = refl }, refl) };
@@ -261,14 +265,14 @@ four_goals : goals
     ∷ with (codes ",")
     (with (codes "setof") (var ∷ with (codes "^") (var ∷ with (codes "r") (var ∷ var ∷ []) ∷ []) ∷ var ∷ [])
     ∷ with (codes ",") (with (codes ":") (var ∷ name (codes "s") ∷ []) ∷ with (codes ":") (name (codes "m") ∷ name (codes "s") ∷ []) ∷ []) ∷ []) ∷ []))
-    ≡ calls (codes "maplist") 2 ∷ calls (codes "q") 1 ∷ calls (codes "setof") 3 ∷ calls (codes "r") 2 ∷ call (codes "m") (codes "s") 0 ∷ []
+    ≡ calls (codes "maplist") 2 ∷ alone (codes "q") 1 ∷ calls (codes "setof") 3 ∷ calls (codes "r") 2 ∷ call 1 (codes "m") (codes "s") 0 ∷ []
 four_goals = refl
 
 -- `greeting --> [hello], name, { log(x) }.`
 greeting : grammar
     (with (codes ",")
     (listed (trees_from (name (codes "hello") ∷ [])) (at 4) ∷ with (codes ",") (name (codes "name") ∷ curly (with (codes "log") (name (codes "x") ∷ [])) (at 5) ∷ []) ∷ []))
-    ≡ calls (codes "name") 2 ∷ calls (codes "log") 1 ∷ []
+    ≡ alone (codes "name") 2 ∷ calls (codes "log") 1 ∷ []
 greeting = refl
 
 -- arguments that are declared: `each(1, ?)`, `t(0)`, `set(^)`, `body(//)`, and `call(0, ?)`, which the table knows too
@@ -286,7 +290,7 @@ abbrev declared_goals : Tree → List Met
 declared_goals tree = mets_in declaring (codes "user") (Goal 0) tree
 
 -- `p(L) :- each(show, L).`
-each_shown : declared_goals (with (codes "each") (name (codes "show") ∷ var ∷ [])) ≡ calls (codes "each") 2 ∷ calls (codes "show") 1 ∷ []
+each_shown : declared_goals (with (codes "each") (name (codes "show") ∷ var ∷ [])) ≡ calls (codes "each") 2 ∷ alone (codes "show") 1 ∷ []
 each_shown = refl
 
 -- `p :- t(3).`
@@ -295,21 +299,21 @@ number_as_declared_goal = refl
 
 -- `p :- m:each(show, L).`
 each_of_a_module : declared_goals (with (codes ":") (name (codes "m") ∷ with (codes "each") (name (codes "show") ∷ var ∷ []) ∷ []))
-    ≡ call (codes "m") (codes "each") 2 ∷ call (codes "m") (codes "show") 1 ∷ []
+    ≡ call 2 (codes "m") (codes "each") 2 ∷ call 1 (codes "m") (codes "show") 1 ∷ []
 each_of_a_module = refl
 
 -- `p :- maplist(each(show), L).`: the first argument of `each/2` is written
 each_called : declared_goals (with (codes "maplist") (with (codes "each") (name (codes "show") ∷ []) ∷ var ∷ []))
-    ≡ calls (codes "maplist") 2 ∷ calls (codes "each") 2 ∷ calls (codes "show") 1 ∷ []
+    ≡ calls (codes "maplist") 2 ∷ calls (codes "each") 2 ∷ alone (codes "show") 1 ∷ []
 each_called = refl
 
 behind_declared_carets : declared_goals (with (codes "set") (with (codes "^") (number 5 ∷ round (with (codes "^") (var ∷ with (codes ",") (a ∷ b ∷ []) ∷ [])) ∷ []) ∷ []))
-    ≡ calls (codes "set") 1 ∷ calls (codes "a") 0 ∷ calls (codes "b") 0 ∷ []
+    ≡ calls (codes "set") 1 ∷ alone (codes "a") 0 ∷ alone (codes "b") 0 ∷ []
 behind_declared_carets = refl
 
-declared_body : declared_goals (with (codes "body") (with (codes ",") (a ∷ curly b (at 4) ∷ []) ∷ [])) ≡ calls (codes "body") 1 ∷ calls (codes "a") 2 ∷ calls (codes "b") 0 ∷ []
+declared_body : declared_goals (with (codes "body") (with (codes ",") (a ∷ curly b (at 4) ∷ []) ∷ [])) ≡ calls (codes "body") 1 ∷ alone (codes "a") 2 ∷ alone (codes "b") 0 ∷ []
 declared_body = refl
 
 -- the table isn't used
-call_as_declared : declared_goals (with (codes "call") (a ∷ b ∷ [])) ≡ calls (codes "call") 2 ∷ calls (codes "a") 0 ∷ []
+call_as_declared : declared_goals (with (codes "call") (a ∷ b ∷ [])) ≡ calls (codes "call") 2 ∷ alone (codes "a") 0 ∷ []
 call_as_declared = refl

@@ -26,7 +26,5 @@ pub mod ZipLemmas
 pub mod PlacedLemmas
 pub mod GoalFaultLemmas
 pub mod UnresolvedLemmas
-pub mod PlacedMet
-pub mod PlacedWalk
 pub mod PlacedCallLemmas
 pub mod CallOffsets

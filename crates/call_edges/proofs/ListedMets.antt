@@ -29,7 +29,7 @@ module _ (T : Rows) where
         let tree = atom name span in
         adds_own T (place owner role tree) old (old ++ option_to_list (met_at T owner role tree)) (λ q is. is) refl
     mets_add owner role (compound name args form span) old =
-        let apart = taken T owner role name (trees_in args) in
+        let apart = taken T span.from owner role name (trees_in args) in
         let own = old ++ option_to_list apart.met in
         let first : AddsFirst T apart (trees_in args) 0 old own = first_none T apart (trees_in args) old own refl in
         let all = among_add apart (trees_in args) 0 args old own (record { each = λ i. ap (slice_get (trees_in args)) (omega arith) }) first in

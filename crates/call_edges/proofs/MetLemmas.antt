@@ -160,35 +160,35 @@ module _ (T : Rows) where
           ]
 
   pub first_all : (owner : List ℕ) (role : GoalArg) (name : List ℕ) (args : List Tree) (form : Form) (span : Span) (k : ℕ) (old new : List Met)
-      → length args ≤ k → AddsFirst (taken T owner role name args) args k old new → AddsMet T (compound_at owner role name args form span) old new
+      → length args ≤ k → AddsFirst (taken T span.from owner role name args) args k old new → AddsMet T (compound_at owner role name args form span) old new
   first_all owner role name args form span k old new all first =
-      adds_as (IsMetFirst (taken T owner role name args) args k) (IsMet T (compound_at owner role name args form span)) old new to from first
+      adds_as (IsMetFirst (taken T span.from owner role name args) args k) (IsMet T (compound_at owner role name args form span)) old new to from first
     where
-      to : (m : Met) → IsMetFirst (taken T owner role name args) args k m → IsMet T (compound_at owner role name args form span) m
+      to : (m : Met) → IsMetFirst (taken T span.from owner role name args) args k m → IsMet T (compound_at owner role name args form span) m
       to m either =
           elim either [
             | inl own ↦
                 met_here (compound_at owner role name args form span) m
-                (subst (λ (xs : List Tree). (taken T owner role name xs).met ≡ Some m) (sym (trees_back args)) own)
+                (subst (λ (xs : List Tree). (taken T span.from owner role name xs).met ≡ Some m) (sym (trees_back args)) own)
             | inr below ↦
                 met_within (compound_at owner role name args form span) m
                 (record {
                   part = below.part;
-                  is = subst (λ (xs : List Tree). IsArgument (taken T owner role name xs) xs below.part) (sym (trees_back args)) below.is;
+                  is = subst (λ (xs : List Tree). IsArgument (taken T span.from owner role name xs) xs below.part) (sym (trees_back args)) below.is;
                   met = below.met;
                 })
           ]
 
-      behind : (m : Met) → IsWithinPart (compound_at owner role name args form span) m → IsMetBelow (taken T owner role name args) args k m
+      behind : (m : Met) → IsWithinPart (compound_at owner role name args form span) m → IsMetBelow (taken T span.from owner role name args) args k m
       behind m within =
-          let is : IsArgument (taken T owner role name args) args within.part =
-          subst (λ (xs : List Tree). IsArgument (taken T owner role name xs) xs within.part) (trees_back args) within.is in
+          let is : IsArgument (taken T span.from owner role name args) args within.part =
+          subst (λ (xs : List Tree). IsArgument (taken T span.from owner role name xs) xs within.part) (trees_back args) within.is in
           record { part = within.part; is = is; below = omega (arith, slice_get_within args is.i within.part.tree is.argument, all); met = within.met }
 
-      from : (m : Met) → IsMet T (compound_at owner role name args form span) m → IsMetFirst (taken T owner role name args) args k m
+      from : (m : Met) → IsMet T (compound_at owner role name args form span) m → IsMetFirst (taken T span.from owner role name args) args k m
       from m met =
           elim (parted (compound_at owner role name args form span) m met) [
-            | inl own ↦ inl (subst (λ (xs : List Tree). (taken T owner role name xs).met ≡ Some m) (trees_back args) own)
+            | inl own ↦ inl (subst (λ (xs : List Tree). (taken T span.from owner role name xs).met ≡ Some m) (trees_back args) own)
             | inr within ↦ inr (behind m within)
           ]
 

@@ -1,11 +1,10 @@
--- A goal that isn't callable stands where a term of the text does.
+-- A goal stands where a term of the text does.
 use Rattle.std.proofs.Common.{◌≡◌, inl, inr, ℕ, zero, suc, ◌+◌, Bool, true, false, List, [], ◌∷◌, Option, Some, None, All, length, slice_get, if◌then◌else◌, codes, ap, sym, subst, refl}
 use Rattle.std.specs.Str.{bytes_eq}
 use Rattle.std.proofs.lemmas.List.Elements.{All-contains}
 use Rattle.std.proofs.lemmas.Option.{none-some, same_Some}
 use Rattle.prolog_tokens.specs.Places.{IsOffset}
 use Rattle.prolog_terms.specs.declared.term.ConstKind.{ConstKind}
-use Rattle.prolog_terms.specs.declared.term.ConstKind.TheVariants.{Integer, Float, Str, BackStr}
 use Rattle.prolog_terms.specs.Tree.{Tree, Trees, variable, constant, atom, compound, listed, tailed as with_tail, curly, paren, more as with_more, none}
 use Rattle.prolog_terms.specs.Views.{inside, start_of, trees_in, atom_name, sides_of, sides_at}
 use Rattle.prolog_terms.proofs.ViewLemmas.{pair_if}
@@ -20,75 +19,67 @@ use Rattle.module_table.specs.declared.goal_arg.GoalArg.TheVariants.{Plain, Goal
 use Rattle.call_edges.specs.declared.role.Way.{Way}
 use Rattle.call_edges.specs.declared.role.Way.TheVariants.{Silent, Behind, Control, Qualified, Calling}
 use Rattle.module_table.specs.Metas.{added}
-use Rattle.call_edges.specs.Goals.{Met, call, fault, Place, place, Rows, way, is_variable, goal_named, taken_by, atom_met, constant_met, met_at, IsPart, Leads, IsMet}
+use Rattle.call_edges.specs.Goals.{Met, call, fault, Place, place, Rows, way, is_variable, goal_named, taken_by, atom_met, constant_met, is_text, met_at, IsPart, Leads, IsMet}
 use Rattle.call_edges.specs.Calls.{body_by, IsMetInClause}
 use Rattle.call_edges.specs.GoalFaults.{IsMetInFile}
 
 abbrev no_met : Option Met
 no_met = None
 
-abbrev called : List ℕ → List ℕ → ℕ → Option Met
-called owner name arity = Some (call owner name arity)
-
-abbrev faulty : ℕ → Option Met
-faulty at = Some (fault at)
-
-no_fault : {A : Type 0} (at : ℕ) → no_met ≡ faulty at → A
-no_fault at is = absurd (none-some (fault at) is)
-
-call_no_fault : {A : Type 0} (owner name : List ℕ) (arity at : ℕ) → called owner name arity ≡ faulty at → A
-call_no_fault owner name arity at is = cc
-
-one_fault : (m n : ℕ) → faulty m ≡ faulty n → m ≡ n
-one_fault m n is = cc
-
-constant_fault : (role : GoalArg) (kind : ConstKind) (n at : ℕ) → constant_met role kind n ≡ faulty at → n ≡ at
-constant_fault Plain kind n at is = no_fault at is
-constant_fault (Goal e) kind n at is = one_fault n at is
-constant_fault Caret kind n at is = one_fault n at is
-constant_fault Grammar Str n at is = no_fault at is
-constant_fault Grammar BackStr n at is = no_fault at is
-constant_fault Grammar Integer n at is = one_fault n at is
-constant_fault Grammar Float n at is = one_fault n at is
-
-either_no_fault : {A : Type 0} (silent : Bool) (owner name : List ℕ) (arity at : ℕ) → (if silent then no_met else called owner name arity) ≡ faulty at → A
-either_no_fault true owner name arity at is = no_fault at is
-either_no_fault false owner name arity at is = call_no_fault owner name arity at is
-
-atom_no_fault : {A : Type 0} (owner : List ℕ) (role : GoalArg) (name : List ℕ) (at : ℕ) → atom_met owner role name ≡ faulty at → A
-atom_no_fault owner Plain name at is = no_fault at is
-atom_no_fault owner (Goal e) name at is = call_no_fault owner name e at is
-atom_no_fault owner Caret name at is = call_no_fault owner name 0 at is
-atom_no_fault owner Grammar name at is = either_no_fault (is_among (codes "[]" ∷ codes "{}" ∷ codes "!" ∷ []) name) owner name 2 at is
+-- where the goal starts of a call that is met, or stands that isn't callable
+abbrev pub offset_of : Met → ℕ
+offset_of (call at owner name arity) = at
+offset_of (fault at) = at
 
 module _ (text : List ℕ) where
-  variable_or : (is_var : Bool) (n at : ℕ) → IsOffset text n → (if is_var then no_met else faulty n) ≡ faulty at → IsOffset text at
-  variable_or true n at stands is = no_fault at is
-  variable_or false n at stands is = subst (IsOffset text) (one_fault n at is) stands
+  -- what is met stands in the text
+  abbrev pub MetStands : Met → Type 0
+  MetStands m = IsOffset text (offset_of m)
 
-  named_stands : (owner : List ℕ) (role : GoalArg) (tree : Tree) (found : Option (List ℕ)) (at : ℕ) → HasOffsets text tree
-      → (goal_named owner role tree found).met ≡ faulty at → IsOffset text at
-  named_stands owner role tree (Some name) at stands is = no_fault at is
-  named_stands owner role tree None at stands is = variable_or (is_variable tree) (start_of tree) at (start_stands text tree stands) is
+  one_stands : (one m : Met) → MetStands one → Some one ≡ Some m → MetStands m
+  one_stands one m stands is = subst MetStands (same_Some one m is) stands
 
-  taken_stands : (T : Rows) (w : Way) (owner : List ℕ) (role : GoalArg) (name : List ℕ) (args : Trees) (at : ℕ) → HaveOffsets text args
-      → (taken_by T w owner role name (trees_in args)).met ≡ faulty at → IsOffset text at
-  taken_stands T Silent owner role name args at stand is = no_fault at is
-  taken_stands T Behind owner role name args at stand is = no_fault at is
-  taken_stands T Control owner role name args at stand is = no_fault at is
-  taken_stands T Qualified owner role name none at stand is = no_fault at is
-  taken_stands T Qualified owner role name (with_more tree trees) at stand is = named_stands owner role tree (atom_name tree) at stand.0 is
-  taken_stands T Calling owner role name args at stand is = call_no_fault owner name (length (trees_in args) + added role) at is
+  unless_stands : (silent : Bool) (one m : Met) → MetStands one → (if silent then no_met else Some one) ≡ Some m → MetStands m
+  unless_stands true one m stands is = absurd (none-some m is)
+  unless_stands false one m stands is = one_stands one m stands is
 
-  met_stands : (T : Rows) (owner : List ℕ) (role : GoalArg) (tree : Tree) (at : ℕ) → HasOffsets text tree → met_at T owner role tree ≡ faulty at → IsOffset text at
-  met_stands T owner role (variable span) at stands is = no_fault at is
-  met_stands T owner role (constant kind minus value span) at stands is = subst (IsOffset text) (constant_fault role kind span.from at is) stands
-  met_stands T owner role (atom name span) at stands is = atom_no_fault owner role name at is
-  met_stands T owner role (compound name args form span) at stands is = taken_stands T (way role name (length (trees_in args))) owner role name args at stands.1 is
-  met_stands T owner role (listed items span) at stands is = no_fault at is
-  met_stands T owner role (with_tail items tail span) at stands is = no_fault at is
-  met_stands T owner role (curly inner span) at stands is = no_fault at is
-  met_stands T owner role (paren inner span) at stands is = no_fault at is
+  constant_stands : (role : GoalArg) (kind : ConstKind) (at : ℕ) (m : Met) → IsOffset text at → constant_met role kind at ≡ Some m → MetStands m
+  constant_stands Plain kind at m stands is = absurd (none-some m is)
+  constant_stands (Goal e) kind at m stands is = one_stands (fault at) m stands is
+  constant_stands Caret kind at m stands is = one_stands (fault at) m stands is
+  constant_stands Grammar kind at m stands is = unless_stands (is_text kind) (fault at) m stands is
+
+  atom_stands : (at : ℕ) (owner : List ℕ) (role : GoalArg) (name : List ℕ) (m : Met) → IsOffset text at → atom_met at owner role name ≡ Some m → MetStands m
+  atom_stands at owner Plain name m stands is = absurd (none-some m is)
+  atom_stands at owner (Goal e) name m stands is = one_stands (call at owner name e) m stands is
+  atom_stands at owner Caret name m stands is = one_stands (call at owner name 0) m stands is
+  atom_stands at owner Grammar name m stands is =
+      unless_stands (is_among (codes "[]" ∷ codes "{}" ∷ codes "!" ∷ []) name) (call at owner name 2) m stands is
+
+  named_stands : (owner : List ℕ) (role : GoalArg) (tree : Tree) (found : Option (List ℕ)) (m : Met) → HasOffsets text tree
+      → (goal_named owner role tree found).met ≡ Some m → MetStands m
+  named_stands owner role tree (Some name) m stands is = absurd (none-some m is)
+  named_stands owner role tree None m stands is = unless_stands (is_variable tree) (fault (start_of tree)) m (start_stands text tree stands) is
+
+  taken_stands : (T : Rows) (w : Way) (at : ℕ) (owner : List ℕ) (role : GoalArg) (name : List ℕ) (args : Trees) (m : Met) → IsOffset text at → HaveOffsets text args
+      → (taken_by T w at owner role name (trees_in args)).met ≡ Some m → MetStands m
+  taken_stands T Silent at owner role name args m here stand is = absurd (none-some m is)
+  taken_stands T Behind at owner role name args m here stand is = absurd (none-some m is)
+  taken_stands T Control at owner role name args m here stand is = absurd (none-some m is)
+  taken_stands T Qualified at owner role name none m here stand is = absurd (none-some m is)
+  taken_stands T Qualified at owner role name (with_more tree trees) m here stand is = named_stands owner role tree (atom_name tree) m stand.0 is
+  taken_stands T Calling at owner role name args m here stand is = one_stands (call at owner name (length (trees_in args) + added role)) m here is
+
+  met_stands : (T : Rows) (owner : List ℕ) (role : GoalArg) (tree : Tree) (m : Met) → HasOffsets text tree → met_at T owner role tree ≡ Some m → MetStands m
+  met_stands T owner role (variable span) m stands is = absurd (none-some m is)
+  met_stands T owner role (constant kind minus value span) m stands is = constant_stands role kind span.from m stands is
+  met_stands T owner role (atom name span) m stands is = atom_stands span.from owner role name m stands is
+  met_stands T owner role (compound name args form span) m stands is =
+      taken_stands T (way role name (length (trees_in args))) span.from owner role name args m stands.0 stands.1 is
+  met_stands T owner role (listed items span) m stands is = absurd (none-some m is)
+  met_stands T owner role (with_tail items tail span) m stands is = absurd (none-some m is)
+  met_stands T owner role (curly inner span) m stands is = absurd (none-some m is)
+  met_stands T owner role (paren inner span) m stands is = absurd (none-some m is)
 
   argument_stands : (args : Trees) (i : ℕ) (tree : Tree) → HaveOffsets text args → slice_get (trees_in args) i ≡ Some tree → HasOffsets text tree
   argument_stands none i tree stand is = absurd (none-some tree is)
@@ -105,12 +96,12 @@ module _ (text : List ℕ) where
   part_stands T owner role (curly inner span) q stands is = subst (HasOffsets text) (ap (λ (p : Place). p.tree) (sym is)) stands.1
   part_stands T owner role (paren inner span) q stands is = subst (HasOffsets text) (ap (λ (p : Place). p.tree) (sym is)) stands.1
 
-  pub fault_stands : (T : Rows) (p : Place) (at : ℕ) → HasOffsets text p.tree → IsMet T p (fault at) → IsOffset text at
-  fault_stands T p at stands met = by_path met.stands.path p stands met.stands.leads
+  pub goal_stands : (T : Rows) (p : Place) (m : Met) → HasOffsets text p.tree → IsMet T p m → MetStands m
+  goal_stands T p m stands met = by_path met.stands.path p stands met.stands.leads
     where
-      by_path : (path : List Place) (q : Place) → HasOffsets text q.tree → Leads T q path met.at → IsOffset text at
+      by_path : (path : List Place) (q : Place) → HasOffsets text q.tree → Leads T q path met.at → MetStands m
       by_path [] q here same =
-          met_stands T q.module_ q.role q.tree at here (subst (λ (x : Place). met_at T x.module_ x.role x.tree ≡ Some (fault at)) (sym same) met.met)
+          met_stands T q.module_ q.role q.tree m here (subst (λ (x : Place). met_at T x.module_ x.role x.tree ≡ Some m) (sym same) met.met)
       by_path (n ∷ path) q here leads = by_path path n (part_stands T q.module_ q.role q.tree n here leads.0) leads.1
 
   -- bodies of clauses
@@ -138,7 +129,7 @@ module _ (text : List ℕ) where
 
   clause_fault_stands : (T : Rows) (owner : List ℕ) (clause : Tree) (at : ℕ) → HasOffsets text clause → IsMetInClause T owner clause (fault at) → IsOffset text at
   clause_fault_stands T owner clause at stands met =
-      fault_stands T met.body at
+      goal_stands T met.body (fault at)
       (by_stands owner clause (sides_of (codes ":-") clause) (sides_of (codes "-->") clause) met.body stands refl refl met.is) met.met
 
   -- a goal of a file that isn't callable
@@ -150,5 +141,5 @@ module _ (text : List ℕ) where
             All-contains (λ (p : Predicate). All (HasOffsets text) p.clauses) file.defined among.one placed.of_clauses among.has in
             let clause = among.is in
             clause_fault_stands T file.module_ clause.one at (All-contains (HasOffsets text) among.one.clauses clause.one clauses clause.has) clause.is
-        | inr goal ↦ fault_stands T (place file.module_ (Goal 0) goal.one) at (All-contains (HasOffsets text) file.goals goal.one placed.of_goals goal.has) goal.is
+        | inr goal ↦ goal_stands T (place file.module_ (Goal 0) goal.one) (fault at) (All-contains (HasOffsets text) file.goals goal.one placed.of_goals goal.has) goal.is
       ]

@@ -1,5 +1,5 @@
 -- Calls of bodies and of predicates, in order and each once.
-use Rattle.std.proofs.Common.{◌≡◌, ◌↔◌, ℕ, nat_eq, ◌&&◌, Bool, true, List, [], map, ap, sym, ◌∙◌, subst}
+use Rattle.std.proofs.Common.{◌≡◌, ◌↔◌, ℕ, nat_eq, ◌&&◌, Bool, true, List, [], Some, map, ap, sym, ◌∙◌, subst}
 use Rattle.std.specs.Prelude.{Contains}
 use Rattle.std.specs.List.{dedup}
 use Rattle.std.specs.List.Retain.{IsFiltered, DiffersFromLast}
@@ -15,21 +15,69 @@ use Rattle.std.proofs.lemmas.List.Filters.{dedup_is}
 use Rattle.std.proofs.lemmas.List.Kept.{Any-dedup, Contains-from_dedup, IsStrictlySortedBy-dedup}
 use Rattle.std.proofs.lemmas.List.Sorted.{Contains-permutation, IsPermutation-sym}
 use Rattle.std.proofs.lemmas.Map.Keys.{Less-from_sorted}
+use Rattle.std.proofs.lemmas.Option.{none-some, same_Some}
 use Rattle.import_rules.specs.declared.names.PredName.{PredName}
 use Rattle.import_rules.specs.Names.{is_same}
 use Rattle.import_rules.specs.Program.{Seen}
 use Rattle.import_rules.proofs.Lists.{all_pairs_map}
 use Rattle.import_rules.proofs.NameOrder.{pred_cmp_total, same_ties, same_parts}
 use Rattle.call_edges.specs.declared.body.Body.{Body as BodyKept}
-use Rattle.call_edges.specs.declared.placed_walk.PlacedCall.{PlacedCall}
-use Rattle.call_edges.specs.Goals.{Rows, Adds}
+use Rattle.call_edges.specs.declared.role.Met.{Met as MetKept}
+use Rattle.call_edges.specs.declared.placed_calls.PlacedCall.{PlacedCall}
+use Rattle.call_edges.specs.Goals.{Met, call, fault, Rows, Adds, AddsMet}
 use Rattle.call_edges.specs.ProgramRows.{rows_of}
 use Rattle.call_edges.specs.Calls.{IsAmong}
-use Rattle.call_edges.specs.Bodies.{Body, see_body, bodies_in}
-use Rattle.call_edges.specs.CallPlaces.{CallAt, call_cmp, IsCalledIn, IsCallOf, AreCallsOf}
-use Rattle.call_edges.specs.PlacedSeen.{see_call, see_calls}
+use Rattle.call_edges.specs.Bodies.{Body, see_body, bodies_in, IsMetInBody}
+use Rattle.call_edges.specs.Seen.{see_met, see_mets}
+use Rattle.call_edges.specs.CallPlaces.{CallAt, call_cmp, IsCallBy, IsCalledIn, IsCallOf, AreCallsOf}
+use Rattle.call_edges.specs.PlacedSeen.{see_call, see_calls, call_met}
 use Rattle.call_edges.proofs.AddsLemmas.{adds_as}
 use Rattle.call_edges.proofs.AmongLemmas.{among_map, map_has}
+use Rattle.call_edges.proofs.CallLemmas.{adds_from_none}
+
+-- the calls of what is met
+
+module _ (file caller : ℕ) where
+  abbrev pub IsKeptCall : MetKept → CallAt → Type 0
+  IsKeptCall one c = call_met file caller (see_met one) ≡ Some c
+
+  kept_call : (m : Met) (c : CallAt) → call_met file caller m ≡ Some c → IsCallBy file caller (λ (x : Met). m ≡ x) c
+  kept_call (call at owner name arity) c is =
+      let same = same_Some _ c is in
+      record {
+        in_file = ap (λ (x : CallAt). x.file) (sym same);
+        caller_is = ap (λ (x : CallAt). x.caller) (sym same);
+        met = ap (λ (x : CallAt). call x.offset x.callee.module x.callee.name x.callee.arity) same;
+      }
+  kept_call (fault at) c is = absurd (none-some c is)
+
+  call_kept : (m : Met) (c : CallAt) → IsCallBy file caller (λ (x : Met). m ≡ x) c → call_met file caller m ≡ Some c
+  call_kept m c is =
+      ap (call_met file caller) is.met ∙ (λ i. Some (record { file = sym is.in_file i; offset = c.offset; caller = sym is.caller_is i; callee = c.callee }))
+
+  call_as : (P Q : Met → Type 0) (c : CallAt) → ((m : Met) → P m → Q m) → IsCallBy file caller P c → IsCallBy file caller Q c
+  call_as P Q c to is = record { in_file = is.in_file; caller_is = is.caller_is; met = to (call c.offset c.callee.module c.callee.name c.callee.arity) is.met }
+
+  pub calls_kept : (met : List MetKept) (old new : List CallAt) → Adds (IsAmong IsKeptCall met) old new → Adds (IsCallBy file caller (Contains (see_mets met))) old new
+  calls_kept met old new adds =
+      adds_as (IsAmong IsKeptCall met) (IsCallBy file caller (Contains (see_mets met))) old new
+      (λ c among.
+      call_as (λ (x : Met). see_met among.one ≡ x) (Contains (see_mets met)) c
+      (λ m same. (map_has see_met met m).1 (record { one = among.one; has = among.has; is = same }))
+      (kept_call (see_met among.one) c among.is))
+      (λ c is.
+      let kept = (map_has see_met met (call c.offset c.callee.module c.callee.name c.callee.arity)).0 is.met in
+      record { one = kept.one; has = kept.has; is = call_kept (see_met kept.one) c (record { in_file = is.in_file; caller_is = is.caller_is; met = kept.is }) })
+      adds
+
+-- the calls of a body
+pub body_called : (T : Rows) (caller : ℕ) (body : Body) (met : List MetKept) (none : List Met) (old new : List CallAt) → none ≡ [] → AddsMet T body.at none (see_mets met)
+    → Adds (IsCallBy body.file caller (Contains (see_mets met))) old new → Adds (IsCalledIn T caller body) old new
+body_called T caller body met none old new empty walked adds =
+    let has = adds_from_none (IsMetInBody T body) none (see_mets met) empty walked in
+    adds_as (IsCallBy body.file caller (Contains (see_mets met))) (IsCalledIn T caller body) old new
+    (λ c. call_as body.file caller (Contains (see_mets met)) (IsMetInBody T body) c (λ m. (has m).0))
+    (λ c. call_as body.file caller (IsMetInBody T body) (Contains (see_mets met)) c (λ m. (has m).1)) adds
 
 abbrev pub IsSeenCall : Rows → ℕ → BodyKept → CallAt → Type 0
 IsSeenCall T caller body c = IsCalledIn T caller (see_body body) c

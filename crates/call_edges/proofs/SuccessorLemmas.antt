@@ -45,7 +45,7 @@ found_below seen owner name arity n is =
     or_found_below seen.predicates p (number_of seen.predicates p) (first_source seen.loaded.files p) n refl is
 
 pub target_below : (seen : Seen) (m : Met) (q : ℕ) → target seen m ≡ Some q → q < length seen.predicates
-target_below seen (call owner name arity) q is = found_below seen owner name arity q is
+target_below seen (call at owner name arity) q is = found_below seen owner name arity q is
 target_below seen (fault at) q is = absurd (none-some q is)
 
 pub goes_below : (seen : Seen) (P : Met → Type 0) (q : ℕ) → GoesTo seen P q → q < length seen.predicates

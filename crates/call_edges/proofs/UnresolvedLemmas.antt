@@ -34,47 +34,56 @@ module _ (seen : Seen) where
   abbrev pub IsKeptName : MetKept → PredName → Type 0
   IsKeptName one name = unresolved seen (see_met one) ≡ Some name
 
-  call_found : (owner name : List ℕ) (arity : ℕ) (wanted : PredName) (o : Option ℕ) → found seen owner name arity ≡ o → unless_found (pred_name owner name arity) o ≡ Some wanted
-      → (call owner name arity ≡ call wanted.module wanted.name wanted.arity) × (found seen wanted.module wanted.name wanted.arity ≡ None)
-  call_found owner name arity wanted (Some n) here is = absurd (none-some wanted is)
-  call_found owner name arity wanted None here is =
-      let same : pred_name owner name arity ≡ wanted = same_Some (pred_name owner name arity) wanted is in (
-        ap (λ (p : PredName). call p.module p.name p.arity) same,
-        subst (λ (p : PredName). found seen p.module p.name p.arity ≡ None) same here,
-      )
+  -- what it says that a call has no predicate: it has the name, which means none
+  record IsCallOf (m : Met) (wanted : PredName) : Type 0 where
+    at : ℕ
+    same : m ≡ call at wanted.module wanted.name wanted.arity
+    none : found seen wanted.module wanted.name wanted.arity ≡ None
 
-  -- what it says that a call has no predicate
-  kept_name : (m : Met) (wanted : PredName) → unresolved seen m ≡ Some wanted
-      → (m ≡ call wanted.module wanted.name wanted.arity) × (found seen wanted.module wanted.name wanted.arity ≡ None)
-  kept_name (call owner name arity) wanted is = call_found owner name arity wanted (found seen owner name arity) refl is
+  call_found : (at : ℕ) (owner name : List ℕ) (arity : ℕ) (wanted : PredName) (o : Option ℕ) → found seen owner name arity ≡ o
+      → unless_found (pred_name owner name arity) o ≡ Some wanted → IsCallOf (call at owner name arity) wanted
+  call_found at owner name arity wanted (Some n) here is = absurd (none-some wanted is)
+  call_found at owner name arity wanted None here is =
+      let same : pred_name owner name arity ≡ wanted = same_Some (pred_name owner name arity) wanted is in
+      record {
+        at = at;
+        same = ap (λ (p : PredName). call at p.module p.name p.arity) same;
+        none = subst (λ (p : PredName). found seen p.module p.name p.arity ≡ None) same here;
+      }
+
+  kept_name : (m : Met) (wanted : PredName) → unresolved seen m ≡ Some wanted → IsCallOf m wanted
+  kept_name (call at owner name arity) wanted is = call_found at owner name arity wanted (found seen owner name arity) refl is
   kept_name (fault at) wanted is = absurd (none-some wanted is)
 
-  name_kept : (m : Met) (wanted : PredName) → m ≡ call wanted.module wanted.name wanted.arity → found seen wanted.module wanted.name wanted.arity ≡ None
+  name_kept : (m : Met) (at : ℕ) (wanted : PredName) → m ≡ call at wanted.module wanted.name wanted.arity → found seen wanted.module wanted.name wanted.arity ≡ None
       → unresolved seen m ≡ Some wanted
-  name_kept m wanted same none = ap (unresolved seen) same ∙ ap (unless_found wanted) none
+  name_kept m at wanted same none = ap (unresolved seen) same ∙ ap (unless_found wanted) none
 
   pub names_kept : (met : List MetKept) (old new : List PredName) → Adds (IsAmong IsKeptName met) old new → Adds (IsUnresolvedOf seen (Contains (see_mets met))) old new
   names_kept met old new adds =
       adds_as (IsAmong IsKeptName met) (IsUnresolvedOf seen (Contains (see_mets met))) old new
       (λ name among.
-      let both = kept_name (see_met among.one) name among.is in
+      let one = kept_name (see_met among.one) name among.is in
       record {
-        met = (map_has see_met met (call name.module name.name name.arity)).1 (record { one = among.one; has = among.has; is = both.0 });
-        means_none = both.1;
+        at = one.at;
+        met = (map_has see_met met (call one.at name.module name.name name.arity)).1 (record { one = among.one; has = among.has; is = one.same });
+        means_none = one.none;
       })
       (λ name is.
-      let kept = (map_has see_met met (call name.module name.name name.arity)).0 is.met in
-      record { one = kept.one; has = kept.has; is = name_kept (see_met kept.one) name kept.is is.means_none })
+      let kept = (map_has see_met met (call is.at name.module name.name name.arity)).0 is.met in
+      record { one = kept.one; has = kept.has; is = name_kept (see_met kept.one) is.at name kept.is is.means_none })
       adds
+
+  pub unresolved_as : (P Q : Met → Type 0) (name : PredName) → ((m : Met) → P m → Q m) → IsUnresolvedOf seen P name → IsUnresolvedOf seen Q name
+  unresolved_as P Q name to un = record { at = un.at; met = to (call un.at name.module name.name name.arity) un.met; means_none = un.means_none }
 
   -- those of what is met in a predicate
   pub node_names : (node : ℕ) (met : List Met) (old new : List PredName) → ((m : Met) → Contains met m ↔ IsMetIn seen node m) → old ≡ []
       → Adds (IsUnresolvedOf seen (Contains met)) old new → (name : PredName) → Contains new name ↔ IsUnresolved seen node name
   node_names node met old new are none adds name =
-      let has = adds_from_none (IsUnresolvedOf seen (Contains met)) old new none adds name in
-      let here = are (call name.module name.name name.arity) in (
-        λ there. let un = has.0 there in record { met = here.0 un.met; means_none = un.means_none },
-        λ un. has.1 (record { met = here.1 un.met; means_none = un.means_none }),
+      let has = adds_from_none (IsUnresolvedOf seen (Contains met)) old new none adds name in (
+        λ there. unresolved_as (Contains met) (IsMetIn seen node) name (λ m. (are m).0) (has.0 there),
+        λ un. has.1 (unresolved_as (IsMetIn seen node) (Contains met) name (λ m. (are m).1) un),
       )
 
   -- the names that are met in a predicate and mean none
@@ -84,12 +93,12 @@ module _ (seen : Seen) where
       let given = among_given (λ (x : PredName) (y : PredName). x ≡ y) (unresolved seen) met name in (
         λ has.
             let one = given.0 (record { one = name; has = has; is = refl }) in
-            let both = kept_name one.one name (one.is.is ∙ ap (λ n. Some n) one.is.holds) in
-            record { met = subst (IsMetIn seen node) both.0 ((are one.one).0 one.has); means_none = both.1 },
+            let named = kept_name one.one name (one.is.is ∙ ap (λ n. Some n) one.is.holds) in
+            record { at = named.at; met = subst (IsMetIn seen node) named.same ((are one.one).0 one.has); means_none = named.none },
         λ un.
-            let m = call name.module name.name name.arity in
+            let m = call un.at name.module name.name name.arity in
             let back =
-            given.1 (record { one = m; has = (are m).1 un.met; is = record { one = name; is = name_kept m name refl un.means_none; holds = refl } }) in
+            given.1 (record { one = m; has = (are m).1 un.met; is = record { one = name; is = name_kept m un.at name refl un.means_none; holds = refl } }) in
             subst (Contains (filter_map (unresolved seen) met)) back.is back.has,
       )
 

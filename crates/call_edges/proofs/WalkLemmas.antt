@@ -37,10 +37,10 @@ pub read_seen : (terms : List Term) (i : ℕ) (found : Term) → i < length term
 read_seen terms i found lt is = slice_get-map tree_of terms i ∙ ap (option_map tree_of) (slice_get_read terms (length terms) i found refl lt is)
 
 -- what a compound is, by what the code reads of it
-pub taken_is : (T : Rows) (owner : List ℕ) (role : GoalArg) (name wanted : List ℕ) (items parts : List Term) (apart : Taken)
-    → apart ≡ taken T owner role name (map tree_of items) → name ≡ wanted → items ≡ parts → apart ≡ taken T owner role wanted (map tree_of parts)
-taken_is T owner role name wanted items parts apart is named same =
-    is ∙ (ap (λ n. taken T owner role n (map tree_of items)) named ∙ ap (λ xs. taken T owner role wanted (map tree_of xs)) same)
+pub taken_is : (T : Rows) (at : ℕ) (owner : List ℕ) (role : GoalArg) (name wanted : List ℕ) (items parts : List Term) (apart : Taken)
+    → apart ≡ taken T at owner role name (map tree_of items) → name ≡ wanted → items ≡ parts → apart ≡ taken T at owner role wanted (map tree_of parts)
+taken_is T at owner role name wanted items parts apart is named same =
+    is ∙ (ap (λ n. taken T at owner role n (map tree_of items)) named ∙ ap (λ xs. taken T at owner role wanted (map tree_of xs)) same)
 
 module _ (T : Rows) (owner : List ℕ) (role : GoalArg) (found : Term) (old new : List Met) where
   -- what the walk has to add
@@ -65,7 +65,7 @@ module _ (T : Rows) (owner : List ℕ) (role : GoalArg) (found : Term) (old new 
   constant_walked kind minus value span is adds =
       subst IsWalked (sym (constant_seen found kind minus value span is)) (adds_own T (place owner role (constant kind minus value span)) old new (λ q part. part) adds)
 
-  pub atom_walked : (name : Text) (span : Span) → found ≡ term.Atom name span → new ≡ old ++ option_to_list (atom_met owner role name) → IsWalked (tree_of found)
+  pub atom_walked : (name : Text) (span : Span) → found ≡ term.Atom name span → new ≡ old ++ option_to_list (atom_met span.from owner role name) → IsWalked (tree_of found)
   atom_walked name span is adds =
       subst IsWalked (sym (atom_seen found name span is)) (adds_own T (place owner role (atom name span)) old new (λ q part. part) adds)
 
@@ -82,10 +82,10 @@ module _ (T : Rows) (owner : List ℕ) (role : GoalArg) (found : Term) (old new 
       (adds_part T (place owner role (paren (tree_of inner.value) span)) (place owner role (tree_of inner.value)) old new refl (λ x same. same) refl adds)
 
   pub compound_walked : (name : Text) (args : Vec Term Global) (form : Form) (span : Span) (apart : Taken) (items : List Tree) (k : ℕ) → found ≡ term.Compound name args form span
-      → items ≡ map tree_of args.items → apart ≡ taken T owner role name (map tree_of args.items) → length items ≤ k → AddsFirst T apart items k old new → IsWalked (tree_of found)
+      → items ≡ map tree_of args.items → apart ≡ taken T span.from owner role name (map tree_of args.items) → length items ≤ k → AddsFirst T apart items k old new → IsWalked (tree_of found)
   compound_walked name args form span apart items k is same_items same all first =
       let parts = map tree_of args.items in
       let few : length parts ≤ k = subst (λ (xs : List Tree). length xs ≤ k) same_items all in
       let own : AddsFirst T apart parts k old new = subst (λ (xs : List Tree). AddsFirst T apart xs k old new) same_items first in
-      let here : AddsFirst T (taken T owner role name parts) parts k old new = subst (λ (a : Taken). AddsFirst T a parts k old new) same own in
+      let here : AddsFirst T (taken T span.from owner role name parts) parts k old new = subst (λ (a : Taken). AddsFirst T a parts k old new) same own in
       subst IsWalked (sym (compound_seen found name args form span is)) (first_all T owner role name parts form span k old new few here)

@@ -44,7 +44,7 @@ IsMetIn seen node m = IsAmong (IsMetAt (rows_of seen) seen.loaded.files) (places
 
 -- the predicate that a call goes to
 abbrev pub target : Seen → Met → Option ℕ
-target seen (call owner name arity) = found seen owner name arity
+target seen (call at owner name arity) = found seen owner name arity
 target seen (fault at) = None
 
 -- something of which this is true goes to predicate q

@@ -13,9 +13,9 @@ use Rattle.call_edges.specs.declared.role.Row.{Row}
 use Rattle.call_edges.specs.declared.role.Way.{Way}
 use Rattle.call_edges.specs.declared.role.Way.TheVariants.{Silent, Behind, Control, Qualified, Calling}
 
--- a call of a predicate of a module, or where a goal stands that isn't callable
+-- a call of a predicate of a module, with the offset at which its goal starts, or where a goal stands that isn't callable
 pub data Met : Type 0 where
-  call : List ℕ → List ℕ → ℕ → Met
+  call : ℕ → List ℕ → List ℕ → ℕ → Met
   fault : ℕ → Met
 
 -- a term in a body of a module
@@ -118,7 +118,7 @@ settled (Goal e) = Goal e
 settled Caret = Goal 0
 settled Grammar = Grammar
 
--- what is met at a compound itself, and how its arguments stand in which module
+-- what is met at a compound that starts there, and how its arguments stand in which module
 pub record Taken : Type 0 where
   pub met : Option Met
   pub module_ : List ℕ
@@ -144,25 +144,25 @@ abbrev pub qualified_taken : List ℕ → GoalArg → List Tree → Taken
 qualified_taken owner role (tree ∷ trees) = goal_of owner role tree
 qualified_taken owner role [] = record { met = None; module_ = owner; standing = no_goals }
 
-abbrev pub taken_by : Rows → Way → List ℕ → GoalArg → List ℕ → List Tree → Taken
-taken_by T Silent module_ role name args = record { met = None; module_ = module_; standing = no_goals }
-taken_by T Behind module_ role name args = record { met = None; module_ = module_; standing = by_row (second_only Caret) }
-taken_by T Control module_ role name args = record { met = None; module_ = module_; standing = by_row (first_two (settled role)) }
-taken_by T Qualified module_ role name args = qualified_taken module_ role args
-taken_by T Calling module_ role name args =
-    let arity = length args + added role in record { met = Some (call module_ name arity); module_ = module_; standing = T module_ name arity }
+abbrev pub taken_by : Rows → Way → ℕ → List ℕ → GoalArg → List ℕ → List Tree → Taken
+taken_by T Silent at module_ role name args = record { met = None; module_ = module_; standing = no_goals }
+taken_by T Behind at module_ role name args = record { met = None; module_ = module_; standing = by_row (second_only Caret) }
+taken_by T Control at module_ role name args = record { met = None; module_ = module_; standing = by_row (first_two (settled role)) }
+taken_by T Qualified at module_ role name args = qualified_taken module_ role args
+taken_by T Calling at module_ role name args =
+    let arity = length args + added role in record { met = Some (call at module_ name arity); module_ = module_; standing = T module_ name arity }
 
-abbrev pub taken : Rows → List ℕ → GoalArg → List ℕ → List Tree → Taken
-taken T module_ role name args = taken_by T (way role name (length args)) module_ role name args
+abbrev pub taken : Rows → ℕ → List ℕ → GoalArg → List ℕ → List Tree → Taken
+taken T at module_ role name args = taken_by T (way role name (length args)) at module_ role name args
 
 -- what is met at a place itself
 
 -- `[]`, `{}` and `!` call nothing in a grammar body
-abbrev pub atom_met : List ℕ → GoalArg → List ℕ → Option Met
-atom_met module_ Plain name = None
-atom_met module_ (Goal e) name = Some (call module_ name e)
-atom_met module_ Caret name = Some (call module_ name 0)
-atom_met module_ Grammar name = if is_among (codes "[]" ∷ codes "{}" ∷ codes "!" ∷ []) name then None else Some (call module_ name 2)
+abbrev pub atom_met : ℕ → List ℕ → GoalArg → List ℕ → Option Met
+atom_met at module_ Plain name = None
+atom_met at module_ (Goal e) name = Some (call at module_ name e)
+atom_met at module_ Caret name = Some (call at module_ name 0)
+atom_met at module_ Grammar name = if is_among (codes "[]" ∷ codes "{}" ∷ codes "!" ∷ []) name then None else Some (call at module_ name 2)
 
 abbrev pub is_text : ConstKind → Bool
 is_text Str = true
@@ -179,8 +179,8 @@ constant_met Grammar kind at = if is_text kind then None else Some (fault at)
 
 abbrev pub met_at : Rows → List ℕ → GoalArg → Tree → Option Met
 met_at T module_ role (constant kind minus value span) = constant_met role kind span.from
-met_at T module_ role (atom name span) = atom_met module_ role name
-met_at T module_ role (compound name args form span) = (taken T module_ role name (trees_in args)).met
+met_at T module_ role (atom name span) = atom_met span.from module_ role name
+met_at T module_ role (compound name args form span) = (taken T span.from module_ role name (trees_in args)).met
 met_at T module_ role _ = None
 
 -- which places are directly inside a place
@@ -212,7 +212,7 @@ abbrev pub place : List ℕ → GoalArg → Tree → Place
 place module_ role tree = record { module_ = module_; role = role; tree = tree }
 
 abbrev pub IsPart : Rows → List ℕ → GoalArg → Tree → Place → Type 0
-IsPart T module_ role (compound name args form span) q = IsArgument (taken T module_ role name (trees_in args)) (trees_in args) q
+IsPart T module_ role (compound name args form span) q = IsArgument (taken T span.from module_ role name (trees_in args)) (trees_in args) q
 IsPart T module_ role (curly inner span) q = q ≡ place module_ (curly_role role) inner
 IsPart T module_ role (paren inner span) q = q ≡ place module_ role inner
 IsPart T module_ role _ q = ⊥

@@ -13,7 +13,7 @@ abbrev mutual
   mets_in T owner role (constant kind minus value span) = option_to_list (met_at T owner role (constant kind minus value span))
   mets_in T owner role (atom name span) = option_to_list (met_at T owner role (atom name span))
   mets_in T owner role (compound name args form span) =
-      let apart = taken T owner role name (trees_in args) in option_to_list apart.met ++ mets_among T apart.module_ apart.standing 0 args
+      let apart = taken T span.from owner role name (trees_in args) in option_to_list apart.met ++ mets_among T apart.module_ apart.standing 0 args
   mets_in T owner role (listed items span) = []
   mets_in T owner role (tailed items tail span) = []
   mets_in T owner role (curly inner span) = mets_in T owner (curly_role role) inner

@@ -1,9 +1,9 @@
 -- What the code keeps of calls, as it is seen.
-use Rattle.std.specs.Prelude.{List, map}
+use Rattle.std.specs.Prelude.{ℕ, List, Option, Some, None, map}
 use Rattle.import_rules.specs.Names.{pred_name}
-use Rattle.call_edges.specs.declared.placed_walk.PlacedCall.{PlacedCall}
-use Rattle.call_edges.specs.declared.placed_walk.Caller.{Caller}
-use Rattle.call_edges.specs.CallPlaces.{CallAt, Source}
+use Rattle.call_edges.specs.declared.placed_calls.PlacedCall.{PlacedCall}
+use Rattle.call_edges.specs.CallPlaces.{CallAt}
+use Rattle.call_edges.specs.Goals.{Met, call, fault}
 
 abbrev pub see_call : PlacedCall → CallAt
 see_call c = record { file = c.file; offset = c.offset; caller = c.caller; callee = pred_name c.module.now c.name.now c.arity }
@@ -11,5 +11,7 @@ see_call c = record { file = c.file; offset = c.offset; caller = c.caller; calle
 abbrev pub see_calls : List PlacedCall → List CallAt
 see_calls calls = map see_call calls
 
-abbrev pub see_source : Caller → Source
-see_source c = record { file = c.file; caller = c.node }
+-- the call in that file and by that predicate, where what is met is one
+abbrev pub call_met : ℕ → ℕ → Met → Option CallAt
+call_met file caller (call at owner name arity) = Some (record { file = file; offset = at; caller = caller; callee = pred_name owner name arity })
+call_met file caller (fault at) = None

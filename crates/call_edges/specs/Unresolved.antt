@@ -9,7 +9,8 @@ use Rattle.call_edges.specs.Calls.{IsMetIn}
 
 -- a call for which this holds has the name, which means no predicate
 pub record IsUnresolvedOf (seen : Seen) (P : Met → Type 0) (name : PredName) : Type 0 where
-  pub met : P (call name.module name.name name.arity)
+  pub at : ℕ
+  pub met : P (call at name.module name.name name.arity)
   pub means_none : found seen name.module name.name name.arity ≡ None
 
 -- the predicate of that number calls the name, and it means none

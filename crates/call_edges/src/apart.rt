@@ -138,17 +138,18 @@ fn standing_of<'a>(program: &'a Program, owner: &'a str, name: &'a str, arity: u
     }
 }
 
-/// What is met at a compound that stands so in a body of the module `owner`, and how its arguments
-/// stand.
+/// What is met at a compound that starts at this byte offset and stands so in a body of the module
+/// `owner`, and how its arguments stand.
 pub fn take_apart<'a>(
     program: &'a Program,
+    at: u32,
     owner: &'a str,
     role: GoalArg,
     name: &'a str,
     args: &'a [Term],
 ) -> Taken<'a>
     requires { length args.now + added role ≤ 4294967295 }
-    ensures { see_taken result ≡ taken (rows_of (see_program program.now)) owner.now role name.now (map tree_of args.now) }
+    ensures { see_taken result ≡ taken (rows_of (see_program program.now)) at owner.now role name.now (map tree_of args.now) }
 {
     match way_of(role, name, args.len()) {
         Way::Silent => Taken {
@@ -171,6 +172,7 @@ pub fn take_apart<'a>(
             let arity = args.len() as u32 + added(role);
             Taken {
                 met: Some(Met::Call {
+                    at,
                     module: owner,
                     name,
                     arity,

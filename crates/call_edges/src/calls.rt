@@ -9,9 +9,9 @@ ghost use Rattle.call_edges.specs.Seen.{see_met, see_mets};
 ghost use Rattle.call_edges.specs.Calls.{GoesTo, IsAmong, NodeCalls, target};
 ghost use Rattle.call_edges.specs.Bodies.{see_body, IsMetInBody, IsLight};
 
-use crate::body::Body;
-use crate::met::{met_in, push_met};
+use crate::body::{Body, bodies_of};
 use crate::role::Met;
+use crate::walking::walk;
 use graph_law::Opener;
 use import_rules::Program;
 use std::alloc::AllocError;
@@ -25,6 +25,7 @@ fn target(program: &Program, met: Met) -> Option<u32>
             module,
             name,
             arity,
+            ..
         } => program.find(module, name, arity),
         Met::Fault(_) => None,
     }
@@ -55,8 +56,12 @@ pub fn push_called<'a>(
         out.old.items out.new.items) }
 {
     let mut met = Vec::new(*out.allocator());
-    push_met(program, bodies, &mut met)?;
-    push_targets(program, &met, out)
+    for body in bodies {
+        met.clear();
+        walk(program, body.term, body.owner, body.role, &mut met)?;
+        push_targets(program, &met, out)?;
+    }
+    Ok(())
 }
 
 /// Adds the predicates that a predicate calls to `out`, which is empty.
@@ -65,8 +70,9 @@ fn push_callees(program: &Program, node: u32, out: &mut Vec<u32>) -> Result<(), 
     requires empty { out.old.items ≡ [] }
     ensures { OnOk result ((q : ℕ) → Contains out.new.items q ↔ NodeCalls (see_program program.now) node q) }
 {
-    let met = met_in(*out.allocator(), program, node)?;
-    push_targets(program, &met, out)
+    program.is_known();
+    let bodies = bodies_of(*out.allocator(), program, node)?;
+    push_called(program, &bodies, out)
 }
 
 /// Puts the predicates that a predicate calls into `out`, which is empty, ascending and each once.

@@ -15,7 +15,7 @@ use import_rules::Program;
 use std::alloc::{AllocError, Global};
 
 /// Adds what is met in bodies, one after another.
-pub fn push_met<'a>(
+fn push_met<'a>(
     program: &'a Program,
     bodies: &[Body<'a>],
     met: &mut Vec<Met<'a>>,

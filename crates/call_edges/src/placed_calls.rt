@@ -1,24 +1,82 @@
 //! All calls of predicates, each with the place of its goal.
 
-ghost use Rattle.std.specs.Prelude.{◌<◌, ◌↔◌, All, Contains, length, map, IfOk, OnOk};
+ghost use Rattle.std.specs.Prelude.{◌≡◌, ◌<◌, ◌↔◌, All, Contains, length, map, option_map, IfOk, OnOk};
 ghost use Rattle.call_edges.specs.Bodies.{see_body, IsLight};
-ghost use Rattle.call_edges.specs.CallPlaces.{AreCallsOf, CallAt, IsCalledIn, IsCallOf, StandsInText};
+ghost use Rattle.call_edges.specs.CallPlaces.{AreCallsOf, CallAt, IsCallBy, IsCalledIn, IsCallOf, StandsInText};
 ghost use Rattle.call_edges.specs.Calls.{IsAmong};
 ghost use Rattle.call_edges.specs.Goals.{Adds};
-ghost use Rattle.call_edges.specs.PlacedSeen.{see_calls};
+ghost use Rattle.call_edges.specs.PlacedSeen.{call_met, see_call, see_calls};
 ghost use Rattle.call_edges.specs.ProgramRows.{rows_of};
+ghost use Rattle.call_edges.specs.Seen.{see_met, see_mets};
 ghost use Rattle.import_rules.specs.Program.{see_program};
 
 use crate::body::{Body, push_bodies_of};
-use crate::placed_walk::{Caller, PlacedCall, walk_calls};
+use crate::role::Met;
+use crate::walking::walk;
 use import_rules::Program;
 use std::alloc::{AllocError, Global};
 
-/// Adds the calls in bodies of clauses of a predicate.
+/// A call in a clause: the place of its file among the files, the byte offset at which its goal
+/// starts, the number of the predicate that calls, and the name that it calls in a module. Calls are
+/// ordered by their parts in this order.
+#[derive(Clone, Copy, Debug, PartialEq, Eq, PartialOrd, Ord)]
+pub struct PlacedCall<'a> {
+    pub file: u32,
+    pub offset: u32,
+    pub caller: u32,
+    pub module: &'a str,
+    pub name: &'a str,
+    pub arity: u32,
+}
+
+/// The call in that file and by that predicate, where what is met is one.
+fn call_met<'a>(file: u32, node: u32, met: Met<'a>) -> Option<PlacedCall<'a>>
+    ensures { option_map see_call result ≡ call_met file node (see_met met.entry) }
+{
+    let Met::Call {
+        at,
+        module,
+        name,
+        arity,
+    } = met
+    else {
+        return None;
+    };
+    Some(PlacedCall {
+        file,
+        offset: at,
+        caller: node,
+        module,
+        name,
+        arity,
+    })
+}
+
+/// Adds the calls of what is met in a body of that file, of a clause of that predicate.
+fn push_calls<'a>(
+    file: u32,
+    node: u32,
+    met: &[Met<'a>],
+    calls: &mut Vec<PlacedCall<'a>>,
+) -> Result<(), AllocError>
+    ensures { OnOk result (Adds (IsCallBy file node (Contains (see_mets met.now))) (see_calls calls.old.items) (see_calls calls.new.items)) }
+{
+    for one in met {
+        let Some(call) = call_met(file, node, *one) else {
+            continue;
+        };
+        calls.push(call)?;
+    }
+    Ok(())
+}
+
+/// Adds the calls in bodies of clauses of a predicate. `met` is a list whose memory serves one body
+/// after another.
 fn push_calls_in<'a>(
     program: &'a Program,
     bodies: &[Body<'a>],
     node: u32,
+    met: &mut Vec<Met<'a>>,
     calls: &mut Vec<PlacedCall<'a>>,
 ) -> Result<(), AllocError>
     requires { All IsLight (map see_body bodies.now) }
@@ -26,11 +84,9 @@ fn push_calls_in<'a>(
         (see_calls calls.old.items) (see_calls calls.new.items)) }
 {
     for body in bodies {
-        let caller = Caller {
-            file: body.file,
-            node,
-        };
-        walk_calls(program, body.term, caller, body.owner, body.role, calls)?;
+        met.clear();
+        walk(program, body.term, body.owner, body.role, met)?;
+        push_calls(body.file, node, met, calls)?;
     }
     Ok(())
 }
@@ -46,11 +102,12 @@ fn calls_from<'a>(
 {
     program.is_known();
     let mut bodies = Vec::new(alloc);
+    let mut met = Vec::new(alloc);
     let mut calls = Vec::new(alloc);
     for caller in callers {
         bodies.clear();
         push_bodies_of(program, *caller, &mut bodies)?;
-        push_calls_in(program, &bodies, *caller, &mut calls)?;
+        push_calls_in(program, &bodies, *caller, &mut met, &mut calls)?;
     }
     Ok(calls)
 }

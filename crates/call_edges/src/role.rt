@@ -25,10 +25,12 @@ pub enum Way {
     Calling,
 }
 
-/// What is met at a place of a body: a call, or the byte offset of a goal that isn't callable.
+/// What is met at a place of a body: a call, with the byte offset at which its goal starts, or the
+/// byte offset of a goal that isn't callable.
 #[derive(Clone, Copy, Debug)]
 pub enum Met<'a> {
     Call {
+        at: u32,
         module: &'a str,
         name: &'a str,
         arity: u32,

@@ -29,6 +29,7 @@ fn unresolved<'a>(program: &Program, met: Met<'a>) -> Option<Called<'a>>
         module,
         name,
         arity,
+        ..
     } = met
     else {
         return None;

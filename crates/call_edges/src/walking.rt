@@ -36,9 +36,10 @@ fn constant_met<'a>(role: GoalArg, kind: ConstKind, at: u32) -> Option<Met<'a>>
     }
 }
 
-/// What is met at an atom that stands so. `[]`, `{}` and `!` call nothing in a grammar body.
-pub fn atom_met<'a>(owner: &'a str, role: GoalArg, name: &'a str) -> Option<Met<'a>>
-    ensures { option_map see_met result ≡ atom_met owner.now role name.now }
+/// What is met at an atom that stands so, at this byte offset. `[]`, `{}` and `!` call nothing in a
+/// grammar body.
+fn atom_met<'a>(at: u32, owner: &'a str, role: GoalArg, name: &'a str) -> Option<Met<'a>>
+    ensures { option_map see_met result ≡ atom_met at owner.now role name.now }
 {
     let arity = match role {
         GoalArg::Plain => return None,
@@ -52,6 +53,7 @@ pub fn atom_met<'a>(owner: &'a str, role: GoalArg, name: &'a str) -> Option<Met<
         }
     };
     Some(Met::Call {
+        at,
         module: owner,
         name,
         arity,
@@ -59,7 +61,7 @@ pub fn atom_met<'a>(owner: &'a str, role: GoalArg, name: &'a str) -> Option<Met<
 }
 
 /// How the inner term of curly brackets stands: as a goal in a grammar body.
-pub fn curly_role(role: GoalArg) -> GoalArg
+fn curly_role(role: GoalArg) -> GoalArg
     ensures { result ≡ curly_role role }
 {
     match role {
@@ -83,7 +85,7 @@ fn role_in(row: Row, at: usize) -> GoalArg
 }
 
 /// How the argument at a place stands.
-pub fn role_of(standing: Standing, at: usize) -> GoalArg
+fn role_of(standing: Standing, at: usize) -> GoalArg
     ensures { result ≡ role_at (see_standing standing.entry) at }
 {
     match standing {
@@ -97,7 +99,7 @@ pub fn role_of(standing: Standing, at: usize) -> GoalArg
 }
 
 /// Whether none of the arguments is a goal.
-pub fn is_silent(standing: Standing) -> bool
+fn is_silent(standing: Standing) -> bool
     ensures { result ≡ true → see_standing standing.entry ≡ no_goals }
 {
     match standing {
@@ -134,10 +136,17 @@ pub fn walk<'a>(
     match term {
         Term::Var { .. } => Ok(()),
         Term::Const { kind, span, .. } => push_met(met, constant_met(role, *kind, span.from)),
-        Term::Atom { name, .. } => push_met(met, atom_met(owner, role, name.as_str())),
-        Term::Compound { name, args, .. } => {
+        Term::Atom { name, span } => {
+            push_met(met, atom_met(span.from, owner, role, name.as_str()))
+        }
+        Term::Compound {
+            name,
+            args,
+            span,
+            ..
+        } => {
             program.is_known();
-            let taken = take_apart(program, owner, role, name.as_str(), args);
+            let taken = take_apart(program, span.from, owner, role, name.as_str(), args);
             push_met(met, taken.met)?;
             if is_silent(taken.standing) {
                 return Ok(());

@@ -26,6 +26,7 @@ fn kinds_met(program: &Program, met: Met) -> u64
         module,
         name,
         arity,
+        ..
     } = met
     else {
         return 0;

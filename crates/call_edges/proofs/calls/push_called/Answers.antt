@@ -1,18 +1,35 @@
-use Rattle.std.proofs.Common.{map, ap}
+use Rattle.std.proofs.Common.{◌≡◌, map, get_or, ap, sym, ◌∙◌, subst, arith}
+use Rattle.std.proofs.lemmas.List.{length-map, get_or-map}
 use Rattle.import_rules.specs.Program.{see_program}
-use Rattle.call_edges.specs.ProgramRows.{rows_of}
 use Rattle.call_edges.specs.Seen.{see_mets}
-use Rattle.call_edges.specs.Calls.{IsAmong}
-use Rattle.call_edges.specs.Bodies.{see_body, IsMetInBody}
-use Rattle.call_edges.proofs.CallLemmas.{adds_from_none, met_goes}
-use Rattle.call_edges.proofs.WalkLemmas.{on_ok}
+use Rattle.call_edges.specs.Bodies.{see_body, IsLight}
+use Rattle.call_edges.proofs.AmongLemmas.{among_more, among_all}
+use Rattle.call_edges.proofs.CallLemmas.{IsCalledIn, body_goes, bodies_go}
 use Rattle.call_edges.proofs.calls.push_called.Goals as goal
+
+pub walk-requires : goal.walk-requires
+walk-requires c =
+    let bodies = c.args.bodies.now in
+    let k = c.loop-body.body-index in
+    let body = c.body-item.result in
+    let within = c.loop-body-test.true in
+    let read : get_or (map see_body bodies) k (see_body body) ≡ see_body body = get_or-map see_body bodies k body (see_body body) within ∙ ap see_body (sym c.body-item.is) in
+    subst IsLight read (c.requires k (see_body body) (omega (arith, within, length-map bodies see_body)))
+
+pub loop-body-preserved : goal.loop-body-preserved
+loop-body-preserved c =
+    let seen = see_program c.args.program.now in
+    let body = c.body-item.result in
+    let out = c.loop-body.out.items in
+    let called = c.push_targets.new.out.items in
+    among_more (IsCalledIn seen) c.args.bodies.now c.loop-body.body-index body c.args.out.now.items out called c.loop-body-test.true c.body-item.is c.loop-body.invariant
+    (body_goes seen (see_body body) c.walk.new.met.items (see_mets c.clear.new.self.items) out called (ap see_mets c.clear.ensures.items) c.in_ok-walk.ensures
+    (rw c.deref.ensures.value at c.in_ok-push_targets.ensures))
 
 pub returns : goal.returns
 returns c =
     let seen = see_program c.args.program.now in
-    let P = IsAmong (IsMetInBody (rows_of seen)) (map see_body c.args.bodies.now) in
-    let met = see_mets c.push_met.new.met.items in
-    let has = adds_from_none P (see_mets c.new-met.result.items) met (ap see_mets c.new-met.ensures.items) c.in_ok-push_met.ensures in
-    on_ok c.push_targets.result c.push_targets.ensures (λ adds.
-    met_goes seen P met c.args.out.now.items c.push_targets.new.out.items has (rw c.deref.ensures.value at adds))
+    let bodies = c.args.bodies.now in
+    let old = c.args.out.now.items in
+    let out = c.loop-body.out.items in
+    bodies_go seen bodies old out (among_all (IsCalledIn seen) bodies c.loop-body.body-index old out c.loop-body-test.false c.loop-body.invariant)

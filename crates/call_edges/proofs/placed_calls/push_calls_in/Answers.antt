@@ -2,14 +2,15 @@ use Rattle.std.proofs.Common.{◌≡◌, map, get_or, ap, sym, ◌∙◌, subst,
 use Rattle.std.proofs.lemmas.List.{length-map, get_or-map}
 use Rattle.import_rules.specs.Program.{see_program}
 use Rattle.call_edges.specs.ProgramRows.{rows_of}
+use Rattle.call_edges.specs.Seen.{see_mets}
 use Rattle.call_edges.specs.PlacedSeen.{see_calls}
 use Rattle.call_edges.specs.Bodies.{see_body, IsLight}
 use Rattle.call_edges.proofs.AmongLemmas.{among_more, among_all}
-use Rattle.call_edges.proofs.PlacedCallLemmas.{IsSeenCall, bodies_called}
+use Rattle.call_edges.proofs.PlacedCallLemmas.{IsSeenCall, body_called, bodies_called}
 use Rattle.call_edges.proofs.placed_calls.push_calls_in.Goals as goal
 
-pub walk_calls-requires : goal.walk_calls-requires
-walk_calls-requires c =
+pub walk-requires : goal.walk-requires
+walk-requires c =
     let bodies = c.args.bodies.now in
     let k = c.loop-body.body-index in
     let body = c.body-item.result in
@@ -19,8 +20,14 @@ walk_calls-requires c =
 
 pub loop-body-preserved : goal.loop-body-preserved
 loop-body-preserved c =
-    among_more (IsSeenCall (rows_of (see_program c.args.program.now)) c.args.node) c.args.bodies.now c.loop-body.body-index c.body-item.result (see_calls c.args.calls.now.items)
-    (see_calls c.loop-body.calls.items) (see_calls c.walk_calls.new.calls.items) c.loop-body-test.true c.body-item.is c.loop-body.invariant c.in_ok-walk_calls.ensures
+    let T = rows_of (see_program c.args.program.now) in
+    let body = c.body-item.result in
+    let calls = see_calls c.loop-body.calls.items in
+    let new = see_calls c.push_calls.new.calls.items in
+    among_more (IsSeenCall T c.args.node) c.args.bodies.now c.loop-body.body-index body (see_calls c.args.calls.now.items) calls new c.loop-body-test.true c.body-item.is
+    c.loop-body.invariant
+    (body_called T c.args.node (see_body body) c.walk.new.met.items (see_mets c.clear.new.self.items) calls new (ap see_mets c.clear.ensures.items) c.in_ok-walk.ensures
+    (rw c.deref.ensures.value at c.in_ok-push_calls.ensures))
 
 pub returns : goal.returns
 returns c =

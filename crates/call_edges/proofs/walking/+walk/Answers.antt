@@ -39,12 +39,12 @@ walk-requires t c =
     let read : slice_get parts k ≡ Some tree =
     subst (λ xs. slice_get (map tree_of xs) k ≡ Some tree) c.deref-arg-items.ensures.value
     (read_seen c.deref-arg-items.result.now k c.arg-item.result c.loop-at-test.true c.arg-item.is) in
-    let apart : see_taken c.take_apart-taken.result ≡ taken (rows_of (see_program c.args.program.now)) owner role v.name parts =
-    taken_is (rows_of (see_program c.args.program.now)) owner role c.as_str-in-Compound.result.now v.name c.deref.result.now v.args.items (see_taken c.take_apart-taken.result) c.take_apart-taken.ensures
+    let apart : see_taken c.take_apart-taken.result ≡ taken (rows_of (see_program c.args.program.now)) v.span.from owner role v.name parts =
+    taken_is (rows_of (see_program c.args.program.now)) v.span.from owner role c.as_str-in-Compound.result.now v.name c.deref.result.now v.args.items (see_taken c.take_apart-taken.result) c.take_apart-taken.ensures
     c.as_str-in-Compound.ensures c.deref.ensures.value in
-    let stands : c.role_of.result ≡ role_at (taken (rows_of (see_program c.args.program.now)) owner role v.name parts).standing k = c.role_of.ensures ∙ ap (λ (a : Taken). role_at a.standing k) apart in (
+    let stands : c.role_of.result ≡ role_at (taken (rows_of (see_program c.args.program.now)) v.span.from owner role v.name parts).standing k = c.role_of.ensures ∙ ap (λ (a : Taken). role_at a.standing k) apart in (
       omega (arith, deepest_one parts k tree read, ap depth is),
-      omega (arith, argument_within (rows_of (see_program c.args.program.now)) (rows_within (see_program c.args.program.now) c.is_known.ensures) owner role v.name parts k tree read, ap added stands, ap weight is, c.requires),
+      omega (arith, argument_within (rows_of (see_program c.args.program.now)) (rows_within (see_program c.args.program.now) c.is_known.ensures) v.span.from owner role v.name parts k tree read, ap added stands, ap weight is, c.requires),
     )
 
 pub loop-at-preserved : goal.loop-at-preserved
@@ -84,7 +84,7 @@ returns-in-Atom t c =
     let new = see_mets c.push_met-in-Atom.new.met.items in
     on_ok c.push_met-in-Atom.result c.push_met-in-Atom.ensures (λ adds.
     atom_walked (rows_of (see_program c.args.program.now)) owner role c.args.term.now old new v.name v.span v.is
-    (adds ∙ (ap (λ o. old ++ option_to_list o) c.atom_met.ensures ∙ ap (λ name. old ++ option_to_list (atom_met owner role name)) c.as_str.ensures)))
+    (adds ∙ (ap (λ o. old ++ option_to_list o) c.atom_met.ensures ∙ ap (λ name. old ++ option_to_list (atom_met v.span.from owner role name)) c.as_str.ensures)))
 
 pub returns-then-is_silent : goal.returns-then-is_silent
 returns-then-is_silent t c =
@@ -95,8 +95,8 @@ returns-then-is_silent t c =
     let old = see_mets c.args.met.now.items in
     let new = see_mets c.push_met-in-Compound.new.met.items in
     let here = see_taken c.take_apart-taken.result in
-    let apart : here ≡ taken (rows_of (see_program c.args.program.now)) owner role v.name parts =
-    taken_is (rows_of (see_program c.args.program.now)) owner role c.as_str-in-Compound.result.now v.name c.deref.result.now v.args.items (see_taken c.take_apart-taken.result) c.take_apart-taken.ensures
+    let apart : here ≡ taken (rows_of (see_program c.args.program.now)) v.span.from owner role v.name parts =
+    taken_is (rows_of (see_program c.args.program.now)) v.span.from owner role c.as_str-in-Compound.result.now v.name c.deref.result.now v.args.items (see_taken c.take_apart-taken.result) c.take_apart-taken.ensures
     c.as_str-in-Compound.ensures c.deref.ensures.value in
     compound_walked (rows_of (see_program c.args.program.now)) owner role c.args.term.now old new v.name v.args v.form v.span here parts (length parts) v.is refl apart (omega arith)
     (first_rowless (rows_of (see_program c.args.program.now)) here parts (length parts) old new (c.is_silent.ensures c.if-is_silent.true) (first_none (rows_of (see_program c.args.program.now)) here parts old new c.in_ok-push_met-in-Compound.ensures))
@@ -111,8 +111,8 @@ returns-after-loop-at t c =
     let new = see_mets c.loop-at.met.items in
     let here = see_taken c.take_apart-taken.result in
     let items = c.deref-arg-items.result.now in
-    let apart : here ≡ taken (rows_of (see_program c.args.program.now)) owner role v.name parts =
-    taken_is (rows_of (see_program c.args.program.now)) owner role c.as_str-in-Compound.result.now v.name c.deref.result.now v.args.items (see_taken c.take_apart-taken.result) c.take_apart-taken.ensures
+    let apart : here ≡ taken (rows_of (see_program c.args.program.now)) v.span.from owner role v.name parts =
+    taken_is (rows_of (see_program c.args.program.now)) v.span.from owner role c.as_str-in-Compound.result.now v.name c.deref.result.now v.args.items (see_taken c.take_apart-taken.result) c.take_apart-taken.ensures
     c.as_str-in-Compound.ensures c.deref.ensures.value in
     compound_walked (rows_of (see_program c.args.program.now)) owner role c.args.term.now old new v.name v.args v.form v.span here (map tree_of items) c.loop-at.at v.is
     (ap (map tree_of) c.deref-arg-items.ensures.value) apart (omega (arith, length-map items tree_of, c.loop-at-test.false)) c.loop-at.invariant
