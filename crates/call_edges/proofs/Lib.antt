@@ -7,6 +7,7 @@ mod MeantLemmas
 mod AddedLemmas
 pub mod ListedMets
 pub mod WalkLemmas
+pub mod KeptMeanings
 pub mod PieceLemmas
 pub mod PlaceLemmas
 pub mod BodyLemmas

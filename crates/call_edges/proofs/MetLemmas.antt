@@ -162,7 +162,7 @@ module _ (T : Rows) where
   pub first_all : (owner : List ℕ) (role : GoalArg) (name : List ℕ) (args : List Tree) (form : Form) (span : Span) (k : ℕ) (old new : List Met)
       → length args ≤ k → AddsFirst (taken T span.from owner role name args) args k old new → AddsMet T (compound_at owner role name args form span) old new
   first_all owner role name args form span k old new all first =
-      adds_as (IsMetFirst (taken T span.from owner role name args) args k) (IsMet T (compound_at owner role name args form span)) old new to from first
+      adds_as (IsMetFirst (taken T span.from owner role name args) args k) (IsMet T (compound_at owner role name args form span)) old new to back first
     where
       to : (m : Met) → IsMetFirst (taken T span.from owner role name args) args k m → IsMet T (compound_at owner role name args form span) m
       to m either =
@@ -185,8 +185,8 @@ module _ (T : Rows) where
           subst (λ (xs : List Tree). IsArgument (taken T span.from owner role name xs) xs within.part) (trees_back args) within.is in
           record { part = within.part; is = is; below = omega (arith, slice_get_within args is.i within.part.tree is.argument, all); met = within.met }
 
-      from : (m : Met) → IsMet T (compound_at owner role name args form span) m → IsMetFirst (taken T span.from owner role name args) args k m
-      from m met =
+      back : (m : Met) → IsMet T (compound_at owner role name args form span) m → IsMetFirst (taken T span.from owner role name args) args k m
+      back m met =
           elim (parted (compound_at owner role name args form span) m met) [
             | inl own ↦ inl (subst (λ (xs : List Tree). (taken T span.from owner role name xs).met ≡ Some m) (trees_back args) own)
             | inr within ↦ inr (behind m within)

@@ -1,14 +1,15 @@
 //! What a compound is to the body that it stands in.
 
-ghost use Rattle.std.specs.Prelude.{◌≡◌, ◌≤◌, ◌+◌, length, map};
+ghost use Rattle.std.specs.Prelude.{◌≡◌, ◌≤◌, ◌+◌, length, map, IfSome};
 ghost use Rattle.prolog_terms.specs.Tree.{tree_of};
 ghost use Rattle.module_table.specs.Metas.{added};
-ghost use Rattle.call_edges.specs.Goals.{is_control, goal_way, way, settled, is_variable, goal_of, qualified_taken, taken};
-ghost use Rattle.call_edges.specs.ProgramRows.{rows_of};
-ghost use Rattle.import_rules.specs.Program.{see_program};
+ghost use Rattle.call_edges.specs.Goals.{is_control, goal_way, way, settled, is_variable, goal_of, qualified_taken, row, taken};
+ghost use Rattle.call_edges.specs.Meant.{IsMeaning, IsMeant};
+ghost use Rattle.call_edges.specs.ProgramRows.{rows_of, standing_by};
+ghost use Rattle.import_rules.specs.Program.{Seen, found, meta_meant, see_program};
 ghost use Rattle.call_edges.specs.Seen.{see_standing, see_taken};
 
-use crate::role::{Met, Standing, Taken, Way};
+use crate::role::{Meaning, Meant, Met, Standing, Taken, Way};
 use crate::table::{first_two, is_one_of, row_of, second_only};
 use import_rules::Program;
 use module_table::GoalArg;
@@ -88,7 +89,8 @@ fn is_variable(term: &Term) -> bool
 
 /// `M:G`, by the term for the module `M`.
 fn goal_of<'a>(owner: &'a str, role: GoalArg, module: &'a Term) -> Taken<'a>
-    ensures { see_taken result ≡ goal_of owner.now role (tree_of «module».now) }
+    ensures taken { see_taken result ≡ goal_of owner.now role (tree_of «module».now) }
+    ensures meant { (seen : Seen) → IfSome result.met (IsMeant seen) }
 {
     if let Some(name) = atom_name(module) {
         return Taken {
@@ -112,7 +114,8 @@ fn goal_of<'a>(owner: &'a str, role: GoalArg, module: &'a Term) -> Taken<'a>
 }
 
 fn qualified<'a>(owner: &'a str, role: GoalArg, args: &'a [Term]) -> Taken<'a>
-    ensures { see_taken result ≡ qualified_taken owner.now role (map tree_of args.now) }
+    ensures taken { see_taken result ≡ qualified_taken owner.now role (map tree_of args.now) }
+    ensures meant { (seen : Seen) → IfSome result.met (IsMeant seen) }
 {
     match args {
         [] => Taken {
@@ -124,11 +127,34 @@ fn qualified<'a>(owner: &'a str, role: GoalArg, args: &'a [Term]) -> Taken<'a>
     }
 }
 
-/// How the arguments of a goal stand: as the predicate declares them that it calls, else by the table.
-fn standing_of<'a>(program: &'a Program, owner: &'a str, name: &'a str, arity: u32) -> Standing<'a>
-    ensures { see_standing result ≡ rows_of (see_program program.now) owner.now name.now arity }
+/// What a name means in a module, and what that predicate declares. It is looked up only where a
+/// predicate declares something.
+fn meaning_of<'a>(program: &'a Program, owner: &'a str, name: &'a str, arity: u32) -> Meaning<'a>
+    ensures meant { IsMeaning (found (see_program program.now) owner.now name.now arity) result.meant }
+    ensures declared { result.declared.now ≡ meta_meant (see_program program.now) owner.now name.now arity }
 {
-    let declared = program.meta_meant(owner, name, arity);
+    if program.declares_nothing() {
+        return Meaning {
+            meant: Meant::Unasked,
+            declared: &[],
+        };
+    }
+    match program.find(owner, name, arity) {
+        Some(node) => Meaning {
+            meant: Meant::Predicate(node),
+            declared: program.meta_of(node),
+        },
+        None => Meaning {
+            meant: Meant::Nothing,
+            declared: &[],
+        },
+    }
+}
+
+/// How the arguments of a goal stand: as the predicate declares them that it calls, else by the table.
+fn standing_by<'a>(declared: &'a [GoalArg], name: &str, arity: u32) -> Standing<'a>
+    ensures { see_standing result ≡ standing_by (row name.now arity) declared.now }
+{
     if !declared.is_empty() {
         return Standing::Declared(declared);
     }
@@ -149,7 +175,8 @@ pub fn take_apart<'a>(
     args: &'a [Term],
 ) -> Taken<'a>
     requires { length args.now + added role ≤ 4294967295 }
-    ensures { see_taken result ≡ taken (rows_of (see_program program.now)) at owner.now role name.now (map tree_of args.now) }
+    ensures taken { see_taken result ≡ taken (rows_of (see_program program.now)) at owner.now role name.now (map tree_of args.now) }
+    ensures meant { IfSome result.met (IsMeant (see_program program.now)) }
 {
     match way_of(role, name, args.len()) {
         Way::Silent => Taken {
@@ -170,15 +197,17 @@ pub fn take_apart<'a>(
         Way::Qualified => qualified(owner, role, args),
         Way::Calling => {
             let arity = args.len() as u32 + added(role);
+            let meaning = meaning_of(program, owner, name, arity);
             Taken {
                 met: Some(Met::Call {
                     at,
                     module: owner,
                     name,
                     arity,
+                    meant: meaning.meant,
                 }),
                 module: owner,
-                standing: standing_of(program, owner, name, arity),
+                standing: standing_by(meaning.declared, name, arity),
             }
         }
     }

@@ -4,35 +4,44 @@ ghost use Rattle.std.specs.Prelude.{◌≡◌, ◌<◌, ◌↔◌, ℕ, [], All,
 ghost use Rattle.std.specs.List.Sorted.{IsStrictlyIncreasing};
 ghost use Rattle.import_rules.specs.Program.{see_program};
 ghost use Rattle.call_edges.specs.Goals.{Adds};
+ghost use Rattle.call_edges.specs.Meant.{AreMeant, IsMeant};
 ghost use Rattle.call_edges.specs.ProgramRows.{rows_of};
 ghost use Rattle.call_edges.specs.Seen.{see_met, see_mets};
 ghost use Rattle.call_edges.specs.Calls.{GoesTo, IsAmong, NodeCalls, target};
 ghost use Rattle.call_edges.specs.Bodies.{see_body, IsMetInBody, IsLight};
 
 use crate::body::{Body, bodies_of};
-use crate::role::Met;
+use crate::role::{Meant, Met};
 use crate::walking::walk;
 use graph_law::Opener;
 use import_rules::Program;
 use std::alloc::AllocError;
 
-/// The predicate that a call goes to.
+/// The predicate that a call goes to. Its name is looked up where it wasn't yet.
 fn target(program: &Program, met: Met) -> Option<u32>
+    requires { IsMeant (see_program program.now) met }
     ensures { result ≡ target (see_program program.now) (see_met met.entry) }
 {
-    match met {
-        Met::Call {
-            module,
-            name,
-            arity,
-            ..
-        } => program.find(module, name, arity),
-        Met::Fault(_) => None,
+    let Met::Call {
+        module,
+        name,
+        arity,
+        meant,
+        ..
+    } = met
+    else {
+        return None;
+    };
+    match meant {
+        Meant::Unasked => program.find(module, name, arity),
+        Meant::Predicate(node) => Some(node),
+        Meant::Nothing => None,
     }
 }
 
 /// Adds the predicates that calls go to.
 pub fn push_targets(program: &Program, met: &[Met], out: &mut Vec<u32>) -> Result<(), AllocError>
+    requires { AreMeant (see_program program.now) met.now }
     ensures { OnOk result (Adds (GoesTo (see_program program.now) (Contains (see_mets met.now))) out.old.items out.new.items) }
 {
     for one in met {

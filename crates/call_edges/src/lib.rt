@@ -42,6 +42,6 @@ pub use laid_out::CallLists;
 pub use laws::{calls_told, one_list_of_faults, roots_below};
 pub use met::met_in;
 pub use placed_calls::{PlacedCall, calls_of};
-pub use role::Met;
+pub use role::{Meant, Met};
 pub use roots::roots_of;
 pub use unresolved::unresolved_of;

@@ -38,6 +38,7 @@ fn call_met<'a>(file: u32, node: u32, met: Met<'a>) -> Option<PlacedCall<'a>>
         module,
         name,
         arity,
+        ..
     } = met
     else {
         return None;

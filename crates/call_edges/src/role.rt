@@ -25,6 +25,17 @@ pub enum Way {
     Calling,
 }
 
+/// What the name of a call means in its module.
+#[derive(Clone, Copy, Debug, PartialEq, Eq)]
+pub enum Meant {
+    /// It wasn't looked up.
+    Unasked,
+    /// The predicate of that number.
+    Predicate(u32),
+    /// No predicate.
+    Nothing,
+}
+
 /// What is met at a place of a body: a call, with the byte offset at which its goal starts, or the
 /// byte offset of a goal that isn't callable.
 #[derive(Clone, Copy, Debug)]
@@ -34,6 +45,7 @@ pub enum Met<'a> {
         module: &'a str,
         name: &'a str,
         arity: u32,
+        meant: Meant,
     },
     Fault(u32),
 }
@@ -47,6 +59,14 @@ pub enum Standing<'a> {
     ByRow(Row),
     /// As the predicate that is called declares them.
     Declared(&'a [GoalArg]),
+}
+
+/// What a name means in a module, and how that predicate declares its arguments; empty where it
+/// doesn't.
+#[derive(Clone, Copy, Debug)]
+pub struct Meaning<'a> {
+    pub meant: Meant,
+    pub declared: &'a [GoalArg],
 }
 
 /// A compound of a body: what is met at the term itself, and how its arguments stand, in which

@@ -1,17 +1,18 @@
 //! What is met within a body.
 
-ghost use Rattle.std.specs.Prelude.{◌≡◌, ◌≤◌, ◌+◌, ◌*◌, ◌++◌, true, map, option_map, OnOk};
+ghost use Rattle.std.specs.Prelude.{◌≡◌, ◌≤◌, ◌+◌, ◌*◌, ◌++◌, true, map, option_map, IfSome, OnOk};
 ghost use Rattle.std.specs.Option.{option_to_list};
 ghost use Rattle.prolog_terms.specs.Tree.{tree_of};
 ghost use Rattle.prolog_terms.specs.Weight.{weight};
 ghost use Rattle.module_table.specs.Metas.{added};
 ghost use Rattle.call_edges.specs.Goals.{atom_met, constant_met, curly_role, row_role, role_at, no_goals, place, AddsMet};
+ghost use Rattle.call_edges.specs.Meant.{AreMeant, IsMeant};
 ghost use Rattle.call_edges.specs.ProgramRows.{rows_of};
 ghost use Rattle.call_edges.specs.Seen.{see_met, see_mets, see_standing};
-ghost use Rattle.import_rules.specs.Program.{see_program};
+ghost use Rattle.import_rules.specs.Program.{Seen, see_program};
 
 use crate::apart::take_apart;
-use crate::role::{Met, Row, Standing};
+use crate::role::{Meant, Met, Row, Standing};
 use crate::table::is_one_of;
 use import_rules::Program;
 use module_table::GoalArg;
@@ -21,7 +22,8 @@ use std::alloc::AllocError;
 /// What is met at a constant that stands so, at this byte offset. No constant is callable, but texts
 /// stand in grammar bodies.
 fn constant_met<'a>(role: GoalArg, kind: ConstKind, at: u32) -> Option<Met<'a>>
-    ensures { option_map see_met result ≡ constant_met role kind at }
+    ensures met { option_map see_met result ≡ constant_met role kind at }
+    ensures meant { (seen : Seen) → IfSome result (IsMeant seen) }
 {
     match role {
         GoalArg::Plain => None,
@@ -39,7 +41,8 @@ fn constant_met<'a>(role: GoalArg, kind: ConstKind, at: u32) -> Option<Met<'a>>
 /// What is met at an atom that stands so, at this byte offset. `[]`, `{}` and `!` call nothing in a
 /// grammar body.
 fn atom_met<'a>(at: u32, owner: &'a str, role: GoalArg, name: &'a str) -> Option<Met<'a>>
-    ensures { option_map see_met result ≡ atom_met at owner.now role name.now }
+    ensures met { option_map see_met result ≡ atom_met at owner.now role name.now }
+    ensures meant { (seen : Seen) → IfSome result (IsMeant seen) }
 {
     let arity = match role {
         GoalArg::Plain => return None,
@@ -57,6 +60,7 @@ fn atom_met<'a>(at: u32, owner: &'a str, role: GoalArg, name: &'a str) -> Option
         module: owner,
         name,
         arity,
+        meant: Meant::Unasked,
     })
 }
 
@@ -110,7 +114,8 @@ fn is_silent(standing: Standing) -> bool
 }
 
 fn push_met<'a>(met: &mut Vec<Met<'a>>, one: Option<Met<'a>>) -> Result<(), AllocError>
-    ensures { OnOk result (see_mets met.new.items ≡ see_mets met.old.items ++ option_to_list (option_map see_met one.entry)) }
+    ensures mets { OnOk result (see_mets met.new.items ≡ see_mets met.old.items ++ option_to_list (option_map see_met one.entry)) }
+    ensures kept { OnOk result (met.new.items ≡ met.old.items ++ option_to_list one.entry) }
 {
     match one {
         None => Ok(()),
@@ -121,7 +126,8 @@ fn push_met<'a>(met: &mut Vec<Met<'a>>, one: Option<Met<'a>>) -> Result<(), Allo
     }
 }
 
-/// Adds what is met within a term that stands so in a body of the module `owner`.
+/// Adds what is met within a term that stands so in a body of the module `owner`. A compound's name is
+/// looked up only where a predicate declares goals, and what it means is kept.
 pub fn walk<'a>(
     program: &'a Program,
     term: &'a Term,
@@ -130,8 +136,9 @@ pub fn walk<'a>(
     met: &mut Vec<Met<'a>>,
 ) -> Result<(), AllocError>
     requires { added role + 10 * weight (tree_of term.now) ≤ 4294967295 }
-    ensures { OnOk result (AddsMet (rows_of (see_program program.now)) (place owner.now role (tree_of term.now))
+    ensures met { OnOk result (AddsMet (rows_of (see_program program.now)) (place owner.now role (tree_of term.now))
         (see_mets met.old.items) (see_mets met.new.items)) }
+    ensures meant { OnOk result (AreMeant (see_program program.now) met.old.items → AreMeant (see_program program.now) met.new.items) }
 {
     match term {
         Term::Var { .. } => Ok(()),

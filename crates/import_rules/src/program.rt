@@ -1,4 +1,4 @@
-ghost use Rattle.std.specs.Prelude.{◌≡◌, ◌<◌, ◌≤◌, [], Some, length, map, take, slice_get};
+ghost use Rattle.std.specs.Prelude.{◌≡◌, ◌<◌, ◌≤◌, ℕ, List, [], true, Some, length, map, take, slice_get};
 ghost use Rattle.std.proofs.Props.{props};
 ghost use Rattle.file_library.specs.SortedOut.{see_loaded};
 ghost use Rattle.import_rules.specs.Files.{AreNumbered, most_predicates};
@@ -94,6 +94,13 @@ impl Program {
             return &[];
         }
         &self.loaded.files[file as usize].metas[place as usize - 1].args
+    }
+
+    /// Whether no predicate has such a declaration. Then no name needs to be looked up for one.
+    pub fn declares_nothing(&self) -> bool
+        ensures { result ≡ true → (owner name : List ℕ) (arity : ℕ) → meta_meant (see_program self.now) owner name arity ≡ [] }
+    {
+        self.meta_places.is_empty()
     }
 
     /// Those of the predicate that a name means in a module. Where nothing is declared, no name is

@@ -5,6 +5,9 @@ use Rattle.call_edges.proofs.AmongLemmas.{among_next, among_all}
 use Rattle.call_edges.proofs.CallLemmas.{HasTarget, adds_given, adds_not, kept_go}
 use Rattle.call_edges.proofs.calls.push_targets.Goals as goal
 
+pub target-requires : goal.target-requires
+target-requires c = c.requires c.loop-one.one-index _ c.loop-one-test.true
+
 pub loop-one-preserved-in_default : goal.loop-one-preserved-in_default
 loop-one-preserved-in_default c =
     let seen = see_program c.args.program.now in

@@ -22,7 +22,7 @@ loop-body-preserved c =
     let faults = c.loop-body.faults.items in
     let new = c.push_places.new.places.items in
     among_more (IsSeenFault (rows_of (see_program c.args.program.now))) c.args.bodies.now c.loop-body.body-index c.body-item.result [] faults new c.loop-body-test.true c.body-item.is c.loop-body.invariant
-    (body_faults (rows_of (see_program c.args.program.now)) (see_body c.body-item.result) c.walk.new.met.items (see_mets c.clear.new.self.items) faults new (ap see_mets c.clear.ensures.items) c.in_ok-walk.ensures
+    (body_faults (rows_of (see_program c.args.program.now)) (see_body c.body-item.result) c.walk.new.met.items (see_mets c.clear.new.self.items) faults new (ap see_mets c.clear.ensures.items) c.in_ok-walk.ensures.met
     (rw c.deref.ensures.value at c.in_ok-push_places.ensures))
 
 pub returns : goal.returns

@@ -21,7 +21,7 @@ pub loop-body-preserved : goal.loop-body-preserved
 loop-body-preserved c =
     let T = rows_of (see_program c.args.program.now) in
     among_more (IsSeenMet T) c.args.bodies.now c.loop-body.body-index c.body-item.result (see_mets c.args.met.now.items) (see_mets c.loop-body.met.items)
-    (see_mets c.walk.new.met.items) c.loop-body-test.true c.body-item.is c.loop-body.invariant c.in_ok-walk.ensures
+    (see_mets c.walk.new.met.items) c.loop-body-test.true c.body-item.is c.loop-body.invariant c.in_ok-walk.ensures.met
 
 pub returns : goal.returns
 returns c =

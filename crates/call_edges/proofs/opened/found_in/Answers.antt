@@ -2,9 +2,11 @@ use Rattle.std.proofs.Common.{◌≡◌, map, get_or, ap, sym, ◌∙◌, subst,
 use Rattle.std.proofs.lemmas.List.{length-map, get_or-map}
 use Rattle.import_rules.specs.Program.{see_program}
 use Rattle.call_edges.specs.ProgramRows.{rows_of}
+use Rattle.call_edges.specs.Meant.{AreMeant}
 use Rattle.call_edges.specs.Seen.{see_mets}
 use Rattle.call_edges.specs.Bodies.{see_body, IsLight}
 use Rattle.call_edges.proofs.AmongLemmas.{among_more, among_all}
+use Rattle.call_edges.proofs.KeptMeanings.{none_meant}
 use Rattle.call_edges.proofs.CallLemmas.{IsCalledIn, body_goes, bodies_go}
 use Rattle.call_edges.proofs.FaultLemmas.{IsSeenFault, body_faults, seen_faults}
 use Rattle.call_edges.proofs.opened.found_in.Goals as goal
@@ -17,6 +19,11 @@ walk-requires c =
     let within = c.loop-body-test.true in
     let read : get_or (map see_body bodies) k (see_body body) ≡ see_body body = get_or-map see_body bodies k body (see_body body) within ∙ ap see_body (sym c.body-item.is) in
     subst IsLight read (c.requires k (see_body body) (omega (arith, within, length-map bodies see_body)))
+
+pub push_targets-requires : goal.push_targets-requires
+push_targets-requires c =
+    let seen = see_program c.args.program.now in
+    subst (AreMeant seen) (sym c.deref.ensures.value) (c.in_ok-walk.ensures.meant (none_meant seen c.clear.new.self.items c.clear.ensures.items))
 
 pub loop-body-preserved : goal.loop-body-preserved
 loop-body-preserved c =
@@ -33,11 +40,11 @@ loop-body-preserved c =
     let so_far = c.loop-body.invariant in record {
       callees =
           among_more (IsCalledIn seen) bodies k body c.args.callees.now.items callees called c.loop-body-test.true c.body-item.is so_far.callees
-          (body_goes seen (see_body body) met (see_mets c.clear.new.self.items) callees called empty c.in_ok-walk.ensures
+          (body_goes seen (see_body body) met (see_mets c.clear.new.self.items) callees called empty c.in_ok-walk.ensures.met
           (rw c.deref.ensures.value at c.in_ok-push_targets.ensures));
       faults =
           among_more (IsSeenFault (rows_of (see_program c.args.program.now))) bodies k body c.args.faults.now.items faults placed c.loop-body-test.true c.body-item.is so_far.faults
-          (body_faults (rows_of (see_program c.args.program.now)) (see_body body) met (see_mets c.clear.new.self.items) faults placed empty c.in_ok-walk.ensures
+          (body_faults (rows_of (see_program c.args.program.now)) (see_body body) met (see_mets c.clear.new.self.items) faults placed empty c.in_ok-walk.ensures.met
           (rw c.deref-in-loop-body.ensures.value at c.in_ok-push_places.ensures));
     }
 

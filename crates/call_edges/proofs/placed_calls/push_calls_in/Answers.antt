@@ -26,7 +26,7 @@ loop-body-preserved c =
     let new = see_calls c.push_calls.new.calls.items in
     among_more (IsSeenCall T c.args.node) c.args.bodies.now c.loop-body.body-index body (see_calls c.args.calls.now.items) calls new c.loop-body-test.true c.body-item.is
     c.loop-body.invariant
-    (body_called T c.args.node (see_body body) c.walk.new.met.items (see_mets c.clear.new.self.items) calls new (ap see_mets c.clear.ensures.items) c.in_ok-walk.ensures
+    (body_called T c.args.node (see_body body) c.walk.new.met.items (see_mets c.clear.new.self.items) calls new (ap see_mets c.clear.ensures.items) c.in_ok-walk.ensures.met
     (rw c.deref.ensures.value at c.in_ok-push_calls.ensures))
 
 pub returns : goal.returns
