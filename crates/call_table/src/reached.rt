@@ -3,9 +3,10 @@
 ghost use Rattle.std.specs.Prelude.{◌≡◌, ◌<◌, All, IfOk, length};
 ghost use Rattle.call_edges.specs.Opened.{see_call_lists};
 ghost use Rattle.call_edges.specs.Successors.{successor_lists};
-ghost use Rattle.call_table.specs.Reached.{AreLeveled, AreNodes};
+ghost use Rattle.call_table.specs.Reached.{AreNodes};
 ghost use Rattle.graph_law.specs.Graph.{Calls as ListCalls, lists_of};
 ghost use Rattle.import_rules.specs.Program.{see_program};
+ghost use Rattle.loop_report.specs.Reportable.{AreLeveled};
 
 use call_edges::CallLists;
 use group_release::{Level, levels};

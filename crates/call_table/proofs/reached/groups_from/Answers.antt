@@ -4,7 +4,7 @@ use Rattle.call_edges.specs.Successors.{successor_lists}
 use Rattle.graph_law.specs.Classes.{HasMember}
 use Rattle.graph_law.specs.LegalOrder.{IsLegalOrder}
 use Rattle.group_release.specs.Level.{AreLevels}
-use Rattle.call_table.specs.Reached.{AreLeveled}
+use Rattle.loop_report.specs.Reportable.{AreLeveled}
 use Rattle.call_table.proofs.ReachedLemmas.{roots_listed, members_listed, are_nodes, reached_by}
 use Rattle.graph_law.specs.Graph.{lists_of, Calls as ListCalls}
 use Rattle.import_rules.specs.Program.{Seen, see_program}
@@ -26,9 +26,7 @@ pub returns-clause-groups : goal.returns-clause-groups
 returns-clause-groups c =
     subst (λ (s : Seen). AreLeveled (ListCalls (successor_lists s)) c.args.roots.now (lists_of c.in_ok-groups.groups.items) c.in_ok-levels.levels.items) c.requires.calls
     (record {
-      legal = c.in_ok-groups.ensures.legal;
-      complete = c.in_ok-groups.ensures.complete;
-      reached = c.in_ok-groups.ensures.reached;
+      are = record { legal = c.in_ok-groups.ensures.legal; complete = c.in_ok-groups.ensures.complete; reached = c.in_ok-groups.ensures.reached };
       leveled = subst (λ gs. AreLevels (ListCalls (successor_lists (see_call_lists c.args.calls.now))) (lists_of gs) c.in_ok-levels.levels.items) c.deref.ensures.value c.in_ok-levels.ensures;
     })
 
