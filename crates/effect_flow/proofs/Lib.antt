@@ -6,5 +6,6 @@ mod Places
 mod ByHeight
 mod Pieces
 mod Stretches
+mod InTurn
 pub mod Known
 pub mod Moved

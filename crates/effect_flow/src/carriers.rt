@@ -1,7 +1,7 @@
 ghost use Rattle.std.specs.Prelude.{◌≡◌, ℕ, ◌<◌, ◌⊎◌, Some, [], length, slice_index, All, Contains, IfOk, OnOk};
 ghost use Rattle.graph_law.specs.Classes.{group_at};
 ghost use Rattle.graph_law.specs.Graph.{Calls, lists_of};
-ghost use Rattle.effect_flow.specs.Carriers.{IsFirst, IsFlow, first_at, flow_at};
+ghost use Rattle.effect_flow.specs.Carriers.{AreFlows, IsFirst, IsFlow, first_at, flow_at};
 ghost use Rattle.effect_flow.specs.Seen.{see_flow, see_flows};
 ghost use Rattle.effect_flow.specs.Flows.{AreFound, AreReady, IsNext, IsOfCallee};
 
@@ -89,4 +89,23 @@ pub fn push_flows<O: Opener>(
         found.push(flow)?;
     }
     Ok(())
+}
+
+/// The flows of all groups, one after another as they are given, so that those that a group calls are
+/// known before it.
+pub fn flows_in_turn<O: Opener>(
+    alloc: Global,
+    grouped: &Grouped<'_, O>,
+) -> Result<Vec<Flow>, AllocError>
+    requires { AreReady (O.lists grouped.now.opener.now) grouped.now.own.now (lists_of grouped.now.groups.now) grouped.now.places.now }
+    ensures { IfOk result (λ flows. AreFlows (Calls (O.lists grouped.now.opener.now)) grouped.now.own.now
+        (lists_of grouped.now.groups.now) (see_flows flows.items)) }
+{
+    let mut flows = vec![in alloc; Flow::none(); grouped.groups.len()]?;
+    let mut callees = Vec::new(alloc);
+    for place in 0..grouped.groups.len() {
+        let flow = flow_of(grouped, &flows, place, &mut callees)?;
+        flows[place] = flow;
+    }
+    Ok(flows)
 }

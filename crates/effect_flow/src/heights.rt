@@ -9,7 +9,7 @@ ghost use Rattle.effect_flow.specs.Carriers.{AreFlows};
 ghost use Rattle.effect_flow.specs.Flows.{AreAdded, AreFound, ArePieces, AreReady, IsAsked, IsNext, IsPut, piece_of};
 ghost use Rattle.effect_flow.specs.Seen.{see_flows};
 
-use crate::carriers::{flow_there, push_flows};
+use crate::carriers::{flow_there, flows_in_turn, push_flows};
 use crate::firsts::Flow;
 use crate::grouped::Grouped;
 use crate::height_order::{height_end, height_order};
@@ -167,6 +167,49 @@ fn add_flows<R: Threads + Sync, O: Opener>(
     Ok(())
 }
 
+/// The flows of all groups, height by height.
+fn flows_by_height<R: Threads + Sync, O: Opener>(
+    rt: &R,
+    alloc: Global,
+    grouped: &Grouped<'_, O>,
+    levels: &[Level],
+) -> Result<Vec<Flow>, AllocError>
+    requires ready { AreReady (O.lists grouped.now.opener.now) grouped.now.own.now (lists_of grouped.now.groups.now) grouped.now.places.now }
+    requires leveled { AreLevels (Calls (O.lists grouped.now.opener.now)) (lists_of grouped.now.groups.now) levels.now }
+    ensures { IfOk result (λ flows. AreFlows (Calls (O.lists grouped.now.opener.now)) grouped.now.own.now
+        (lists_of grouped.now.groups.now) (see_flows flows.items)) }
+{
+    let order = height_order(rt, alloc, levels)?;
+    let mut flows = vec![in alloc; Flow::none(); grouped.groups.len()]?;
+    let mut callees = Vec::new(alloc);
+    let mut found = Vec::new(alloc);
+    let mut from = 0;
+    while from < order.len() {
+        let to = height_end(levels, &order, from);
+        add_flows(
+            rt,
+            alloc,
+            grouped,
+            &order[from..to],
+            &mut flows,
+            &mut callees,
+            &mut found,
+        )?;
+        from = to;
+    }
+    Ok(flows)
+}
+
+/// Whether a height has, one with another, as many groups as are worth pieces. It decides in which way
+/// flows are found, and not what they are.
+fn are_wide(levels: &[Level]) -> bool {
+    let mut highest = 0;
+    for level in levels {
+        highest = highest.max(level.height);
+    }
+    (highest as usize) < levels.len() / SIZE
+}
+
 /// For each group and each kind of effect the carrier: the least node that a member reaches and that
 /// has the kind itself, by the bits of its number in `own`. The groups are in a legal order, and the
 /// levels are theirs. Each node of them is opened once. Only memory can be wanting.
@@ -191,23 +234,8 @@ pub fn flow<R: Threads + Sync, O: Opener>(
         own,
         places: &places,
     };
-    let order = height_order(rt, alloc, levels)?;
-    let mut flows = vec![in alloc; Flow::none(); groups.len()]?;
-    let mut callees = Vec::new(alloc);
-    let mut found = Vec::new(alloc);
-    let mut from = 0;
-    while from < order.len() {
-        let to = height_end(levels, &order, from);
-        add_flows(
-            rt,
-            alloc,
-            &grouped,
-            &order[from..to],
-            &mut flows,
-            &mut callees,
-            &mut found,
-        )?;
-        from = to;
+    if are_wide(levels) {
+        return flows_by_height(rt, alloc, &grouped, levels);
     }
-    Ok(flows)
+    flows_in_turn(alloc, &grouped)
 }
