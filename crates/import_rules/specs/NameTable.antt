@@ -1,5 +1,5 @@
 -- Names in chains, one for each bucket.
-use Rattle.std.specs.Prelude.{ℕ, ◌≡◌, ◌≢◌, ◌+◌, ◌-◌, ◌*◌, ◌/◌, ◌%◌, ◌^◌, ◌<◌, ◌≤◌, List, length, map, fold, slice_index_or}
+use Rattle.std.specs.Prelude.{ℕ, ◌≡◌, ◌≢◌, ◌+◌, ◌-◌, ◌*◌, ◌%◌, ◌^◌, ◌<◌, ◌≤◌, List, length, map, fold, slice_index_or}
 use Rattle.import_rules.specs.declared.name_table.Link.{Link}
 use Rattle.import_rules.specs.declared.names.PredName.{PredName}
 
@@ -8,11 +8,11 @@ abbrev pub text_hash : ℕ → List ℕ → ℕ
 text_hash state text = fold (λ s b. (s * 1099511628211 % 2 ^ 64 + b) % 2 ^ 64) state text
 
 abbrev pub name_hash : PredName → ℕ
-name_hash p = text_hash (text_hash p.arity p.name) p.module
+name_hash p = text_hash (text_hash p.arity p.module) p.name
 
 -- the bucket of a hash, of so many
 abbrev pub bucket_in : ℕ → ℕ → ℕ
-bucket_in size hash = hash / 2 ^ 32 % size
+bucket_in size hash = hash % size
 
 -- the bucket of a name, of so many
 abbrev pub bucket_of : ℕ → PredName → ℕ

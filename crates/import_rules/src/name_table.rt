@@ -52,19 +52,22 @@ fn text_hash(state: u64, text: &str) -> u64
     state
 }
 
+/// The hash of a name. The bytes of the name itself come last, and so names that differ in their last
+/// byte alone have neighbouring hashes.
 fn name_hash(module: &str, name: &str, arity: u32) -> u64
     ensures { result ≡ name_hash (pred_name module.now name.now arity) }
 {
-    text_hash(text_hash(u64::from(arity), name), module)
+    text_hash(text_hash(u64::from(arity), module), name)
 }
 
-/// The bucket of a hash, of so many.
+/// The bucket of a hash, of so many. Neighbouring hashes have neighbouring buckets, since names that
+/// stand side by side are put into a table and looked up one after another.
 fn bucket_of(hash: u64, size: usize) -> usize
     requires { 0 < size }
     ensures is { result ≡ bucket_in size hash }
     ensures below { result < size }
 {
-    (hash >> 32) as usize % size
+    hash as usize % size
 }
 
 /// Whether it is the name of that hash. `kept` is its own hash: where it is another one, the texts

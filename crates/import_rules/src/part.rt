@@ -47,7 +47,6 @@ fn push_parts<'a>(
     requires { length file.now.defined.items ≤ 4294967295 }
     ensures { OnOk result (map see_part parts.new.items ≡ map see_part parts.old.items ++ parts_of_file place (see_facts file.now)) }
 {
-    parts.reserve(file.defined.len())?;
     for (part, defined) in file.defined.iter().enumerate() {
         parts.push(Part {
             module: &defined.module,
@@ -60,13 +59,22 @@ fn push_parts<'a>(
     Ok(())
 }
 
+/// How many parts there are, so that there is just room for them.
+fn part_count(files: &[FileFacts]) -> usize {
+    let mut count: usize = 0;
+    for file in files {
+        count = count.saturating_add(file.defined.len());
+    }
+    count
+}
+
 /// What the files define, file by file.
 pub(crate) fn parts_of(alloc: Global, files: &[FileFacts]) -> Result<Vec<Part<'_>>, AllocError>
     requires few { length files.now ≤ 4294967295 }
     requires small { All (λ (file : Facts). length file.defined ≤ 4294967295) (map see_facts files.now) }
     ensures { IfOk result (λ parts. map see_part parts.items ≡ parts_in (map see_facts files.now)) }
 {
-    let mut parts = Vec::new(alloc);
+    let mut parts = Vec::with_capacity(alloc, part_count(files))?;
     for (place, file) in files.iter().enumerate() {
         push_parts(place as u32, file, &mut parts)?;
     }
