@@ -1,5 +1,6 @@
 pub mod Effects
 pub mod ImportLoops
+pub mod Lines
 pub mod ModuleGraph
 pub mod Names
 pub mod ReadBack

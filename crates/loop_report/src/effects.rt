@@ -2,17 +2,15 @@
 
 ghost use Rattle.std.specs.Prelude.{◌≡◌, ℕ, ◌<◌, ◌++◌, Some, IfOk, OnOk, length};
 ghost use Rattle.std.specs.String.{string_bytes};
-ghost use Rattle.graph_law.specs.Classes.{group_at};
 ghost use Rattle.graph_law.specs.Graph.{lists_of};
 ghost use Rattle.effect_flow.specs.Carriers.{first_at, flow_at};
 ghost use Rattle.effect_flow.specs.Seen.{see_flow, see_flows};
 ghost use Rattle.import_rules.specs.Program.{see_program};
 ghost use Rattle.loop_report.specs.Effects.{AreEffectLines, effect_line, group_effects, kind_word};
-ghost use Rattle.loop_report.specs.Report.{least_at};
 ghost use Rattle.loop_report.specs.Reportable.{AreReportable};
 
 use crate::last_module::LastModule;
-use crate::line_order::line_order;
+use crate::line_order::lines_in_order;
 use crate::names::push_member;
 use effect_flow::Flow;
 use group_release::Level;
@@ -92,15 +90,6 @@ fn flow_there(flows: &[Flow], place: usize) -> Flow
     flows[place]
 }
 
-/// The least member of the group at a place.
-fn least_there(groups: &[Vec<u32>], place: usize) -> u32
-    requires within { place < length groups.now }
-    requires some { 0 < length (group_at (lists_of groups.now) place) }
-    ensures { result ≡ least_at (lists_of groups.now) place }
-{
-    groups[place][0]
-}
-
 /// A line for each group and each kind of effect that it has a carrier for, in order of height, least
 /// member and kind: `effect`, the least member, the word of the kind and the carrier. The groups are
 /// in a legal order of some graph of the predicates, the levels are theirs there, and there is a flow
@@ -119,13 +108,12 @@ pub fn effect_lines(
     ensures { IfOk result (λ bytes. AreEffectLines (see_program program.now).predicates (lists_of groups.now) levels.now
         (see_flows flows.now) bytes.items) }
 {
-    let order = line_order(alloc, groups, levels)?;
+    let lines = lines_in_order(alloc, groups, levels)?;
     let mut text = String::new(alloc);
     let mut last = LastModule::none(alloc);
-    for &place in &order {
-        let least = least_there(groups, place);
-        let flow = flow_there(flows, place);
-        push_effects(&mut text, program, &mut last, least, flow)?;
+    for line in &lines {
+        let flow = flow_there(flows, line.place);
+        push_effects(&mut text, program, &mut last, line.least, flow)?;
     }
     Ok(text.into_bytes())
 }
