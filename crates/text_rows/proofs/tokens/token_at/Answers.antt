@@ -1,10 +1,10 @@
-use Rattle.std.proofs.Common.{rules, ◌≡◌, ◌<◌, length, slice_get, Some, get_or, sym, subst, arith, ◌∙◌}
+use Rattle.std.proofs.Common.{rules, ◌≡◌, ◌<◌, length, slice_get, Some, get_or, sym, subst, arith}
 use Rattle.std.proofs.lemmas.Option.{slice_get-get_or}
 use Rattle.prolog_tokens.specs.Cut.{IsTokenOf}
-use Rattle.reader_tests.proofs.value_tests.token_at.Goals as goal
+use Rattle.text_rows.proofs.tokens.token_at.Goals as goal
 
 pub returns : goal.returns
-returns g c =
+returns c =
     let found = c.in_ok-found.found.items in
     let lt : c.args.index < length found = search (rules, arith) in
     let read = get_or found c.args.index c.index.result.now in

@@ -1,6 +1,6 @@
 use Rattle.std.proofs.Common.{Some, ap, ◌∙◌, arith}
 use Rattle.std.specs.Prelude.{option_map}
-use Rattle.reader_tests.proofs.term_tests.is_one_clause.Goals as goal
+use Rattle.text_rows.proofs.terms.is_one_clause.Goals as goal
 
 pub returns : goal.returns
 returns c = λ whole.

@@ -1,11 +1,11 @@
 use Rattle.std.proofs.Common.{[], sym, subst, append-nil}
 use Rattle.prolog_tokens.specs.Cut.{IsCut}
 use Rattle.prolog_terms.specs.Clause.{ArePart}
-use Rattle.reader_tests.proofs.term_tests.read_term.Goals as goal
+use Rattle.text_rows.proofs.terms.read_term.Goals as goal
 
 -- the tokens of a text are a part of themselves
 pub read_clause-requires-clause-part : goal.read_clause-requires-clause-part
-read_clause-requires-clause-part g c =
+read_clause-requires-clause-part c =
     let text = c.args.text.now in
     let found = c.in_ok-found.found.items in
     let whole : ArePart text found = record { before = []; after = []; cut = subst (IsCut text) (sym (append-nil found)) c.in_ok-found.ensures.ok } in

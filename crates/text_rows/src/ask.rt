@@ -1,0 +1,152 @@
+ghost use Rattle.std.specs.Prelude.{◌≤◌, length};
+
+use crate::file_facts::{facts_told, file_told, starts_told};
+use crate::operators::{op_fault_told, operator_told};
+use crate::places::place_told;
+use crate::row::bytes_of;
+use crate::terms::{clause_told, parts_told};
+use crate::texts::{count_told, forms_told};
+use crate::tokens::{bare_told, integer_told, less_told, name_text_told, slice_told, tokens_told};
+use crate::words::{made_told, options_told};
+use std::alloc::{AllocError, Global};
+use std::thread::Threads;
+
+/// The most bytes of a text that is read.
+const MOST_BYTES: usize = 8_388_608;
+
+/// What is asked of a row.
+#[derive(Clone, Copy)]
+pub enum Ask {
+    /// The tokens of a text.
+    Tokens,
+    /// The name of its first token.
+    Name,
+    /// The name of its third token.
+    ThirdName,
+    /// The part of the text that its first token is.
+    Slice,
+    /// The value of its first token.
+    Integer,
+    /// Whether it is a name that is written without quotes.
+    Bare,
+    /// Which of two texts, with a bar between, is the lesser one.
+    Less,
+    /// The place of an offset, which stands before the text, or no place where `-` does.
+    Place,
+    /// The operator of a name, behind which `prefix`, `infix` or `postfix` stands.
+    Operator,
+    /// The text of a fault in setting an operator, by its name.
+    OpFault,
+    /// A text's clause as a term.
+    Clause,
+    /// How many arguments or items that term has.
+    Parts,
+    /// The number of its clauses.
+    Clauses,
+    /// How each of its clauses is written inside brackets.
+    Forms,
+    /// What a file says.
+    Facts,
+    /// Its predicates, with the offsets of their clauses.
+    Starts,
+    /// The name of a file, which leads from another one; a bar stands between.
+    File,
+    /// The options that words set. Behind each word stands a bar.
+    Options,
+    /// The made text of so many predicates.
+    Made,
+    /// Nothing that is known.
+    Other,
+}
+
+impl Ask {
+    /// What the first word of a heading asks.
+    pub fn of(heading: &str) -> Ask {
+        let word = heading.split_once(' ').map_or(heading, |parts| parts.0);
+        match word {
+            "tokens" => Ask::Tokens,
+            "name" => Ask::Name,
+            "third_name" => Ask::ThirdName,
+            "slice" => Ask::Slice,
+            "integer" => Ask::Integer,
+            "bare" => Ask::Bare,
+            "less" => Ask::Less,
+            "place" => Ask::Place,
+            "operator" => Ask::Operator,
+            "op_fault" => Ask::OpFault,
+            "clause" => Ask::Clause,
+            "parts" => Ask::Parts,
+            "clauses" => Ask::Clauses,
+            "forms" => Ask::Forms,
+            "facts" => Ask::Facts,
+            "starts" => Ask::Starts,
+            "file" => Ask::File,
+            "options" => Ask::Options,
+            "made" => Ask::Made,
+            _ => Ask::Other,
+        }
+    }
+}
+
+/// What is answered to a row.
+pub fn told<R: Threads + Sync>(
+    rt: &R,
+    alloc: Global,
+    ask: Ask,
+    row: &str,
+) -> Result<String, AllocError> {
+    let (number, text) = match ask {
+        Ask::Place => row.split_once(' ').unwrap_or(("", row)),
+        _ => ("", row),
+    };
+    let bytes = bytes_of(alloc, text)?;
+    if bytes.len() > MOST_BYTES {
+        return String::from_str(alloc, "too long");
+    }
+    let offset = number.parse::<u32>().ok();
+    told_of_bytes(rt, alloc, ask, bytes.as_slice(), offset)
+}
+
+fn told_of_bytes<R: Threads + Sync>(
+    rt: &R,
+    alloc: Global,
+    ask: Ask,
+    bytes: &[u8],
+    offset: Option<u32>,
+) -> Result<String, AllocError>
+    requires { length bytes.now ≤ 8388608 }
+{
+    match ask {
+        Ask::Place => place_told(alloc, bytes, offset),
+        Ask::Clauses => count_told(rt, alloc, bytes),
+        Ask::Forms => forms_told(rt, alloc, bytes),
+        Ask::Facts => facts_told(rt, alloc, bytes),
+        Ask::Starts => starts_told(rt, alloc, bytes),
+        _ => match str::from_utf8(bytes) {
+            Ok(text) => told_of_text(alloc, ask, text),
+            Err(_) => String::from_str(alloc, "no text"),
+        },
+    }
+}
+
+fn told_of_text(alloc: Global, ask: Ask, text: &str) -> Result<String, AllocError>
+    requires { length text.now ≤ 8388608 }
+{
+    match ask {
+        Ask::Tokens => tokens_told(alloc, text),
+        Ask::Name => name_text_told(alloc, text, 0),
+        Ask::ThirdName => name_text_told(alloc, text, 2),
+        Ask::Slice => slice_told(alloc, text),
+        Ask::Integer => integer_told(alloc, text),
+        Ask::Bare => bare_told(alloc, text),
+        Ask::Less => less_told(alloc, text),
+        Ask::Operator => operator_told(alloc, text),
+        Ask::OpFault => op_fault_told(alloc, text),
+        Ask::Clause => clause_told(alloc, text),
+        Ask::Parts => parts_told(alloc, text),
+        Ask::File => file_told(alloc, text),
+        Ask::Options => options_told(alloc, text),
+        Ask::Made => made_told(alloc, text),
+        _ => String::from_str(alloc, "not asked"),
+    }
+}

@@ -1,0 +1,38 @@
+//! Reads rows, one a line, and tells what the calls that read texts answer to each. A line that begins with
+//! `#` and a blank says what is asked of the rows below it, and by its second word what they are for; it is
+//! written as it is. Each other line is a row, and is written with ` => ` and the answer behind it.
+//!
+//! In a row `¶` is a newline. What stands between `«` and `»` is a character by its number in base 16, a byte
+//! where an `x` stands before the number, or text that stands so often as the number before its `*` says.
+#![tactic(auto)]
+
+mod ask;
+mod file_facts;
+mod operators;
+mod places;
+mod row;
+mod terms;
+mod texts;
+mod tokens;
+mod words;
+
+use crate::ask::{Ask, told};
+use crate::row::shown;
+use std::io;
+
+fn main(rt: HostRuntime) -> io::Result<()> {
+    let alloc = rt.alloc();
+    let mut ask = Ask::Tokens;
+    for line in rt.lines(alloc) {
+        let line = line?;
+        if let Some(heading) = line.strip_prefix("# ") {
+            ask = Ask::of(heading);
+            println!(rt; "{line}")?;
+            continue;
+        }
+        let answer = told(&rt, alloc, ask, line.as_str())?;
+        let answer = shown(alloc, answer.as_str())?;
+        println!(rt; "{line} => {answer}")?;
+    }
+    Ok(())
+}

@@ -1,0 +1,28 @@
+ghost use Rattle.std.specs.Prelude.{◌≤◌, length};
+
+use prolog_tokens::{place_of, places_of};
+use std::alloc::{AllocError, Global};
+
+/// The line and the column of an offset: as they are found for it alone, and in a sweep over offsets.
+/// Where there is none, what a sweep over none finds.
+pub fn place_told(alloc: Global, text: &[u8], offset: Option<u32>) -> Result<String, AllocError>
+    requires { length text.now ≤ 8388608 }
+{
+    let Some(offset) = offset else {
+        let swept = places_of(alloc, text, &[])?;
+        return format!(in alloc; "{} places", swept.len());
+    };
+    let end = offset as usize;
+    if end > text.len() {
+        return String::from_str(alloc, "no offset");
+    }
+    match str::from_utf8(&text[..end]) {
+        Ok(_) => {
+            let place = place_of(text, offset);
+            let swept = places_of(alloc, text, &[offset])?;
+            let agree = swept.as_slice() == [place].as_slice();
+            format!(in alloc; "{}:{} swept {agree}", place.line, place.column)
+        }
+        Err(_) => String::from_str(alloc, "no offset"),
+    }
+}

@@ -1,0 +1,235 @@
+ghost use Rattle.std.specs.Prelude.{◌≡◌, ◌≤◌, ◌↔◌, length, slice_get, option_map, Some, IsTrue};
+ghost use Rattle.prolog_terms.specs.Clause.{IsOneClause};
+
+use prolog_ops::{OpFault, OpKind, OpTable};
+use prolog_terms::{ConstKind, Form, ReadFault, Term, read_clause};
+use prolog_tokens::{Kind, Token, TokenFault, tokens};
+use std::alloc::{AllocError, Global};
+
+fn write_number(
+    alloc: Global,
+    out: &mut String,
+    minus: bool,
+    value: Option<u32>,
+) -> Result<(), AllocError> {
+    if minus {
+        out.push_str("-")?;
+    }
+    match value {
+        Some(value) => {
+            let digits = format!(in alloc; "{value}")?;
+            out.push_str(&digits)
+        }
+        None => out.push_str("?"),
+    }
+}
+
+fn form_mark(form: Form) -> &'static str {
+    match form {
+        Form::Functional => "",
+        Form::Prefix => "pre ",
+        Form::Infix => "in ",
+        Form::Postfix => "post ",
+    }
+}
+
+fn write_constant(
+    alloc: Global,
+    out: &mut String,
+    kind: ConstKind,
+    minus: bool,
+    value: Option<u32>,
+) -> Result<(), AllocError> {
+    match kind {
+        ConstKind::Integer => write_number(alloc, out, minus, value),
+        ConstKind::Float => out.push_str(if minus { "-float" } else { "float" }),
+        ConstKind::Str => out.push_str("str"),
+        ConstKind::BackStr => out.push_str("back"),
+    }
+}
+
+/// Writes the terms with spaces between.
+#[cycle(writing)]
+fn write_parts(alloc: Global, out: &mut String, parts: &[Term]) -> Result<(), AllocError> {
+    for k in 0..parts.len() {
+        if k > 0 {
+            out.push_str(" ")?;
+        }
+        write_term(alloc, out, &parts[k])?;
+    }
+    Ok(())
+}
+
+/// Writes the items of a list, up to its closing bracket or its bar.
+#[cycle(writing)]
+fn write_items(
+    alloc: Global,
+    out: &mut String,
+    items: &[Term],
+    close: &str,
+) -> Result<(), AllocError> {
+    out.push_str("[")?;
+    write_parts(alloc, out, items)?;
+    out.push_str(close)
+}
+
+/// Writes a term between brackets.
+#[cycle(writing)]
+fn write_between(
+    alloc: Global,
+    out: &mut String,
+    open: &str,
+    inner: &Term,
+    close: &str,
+) -> Result<(), AllocError> {
+    out.push_str(open)?;
+    write_term(alloc, out, inner)?;
+    out.push_str(close)
+}
+
+/// Writes the term with its form's mark before each operator, and parts in brackets.
+#[cycle(writing)]
+fn write_term(alloc: Global, out: &mut String, term: &Term) -> Result<(), AllocError> {
+    match term {
+        Term::Var { .. } => out.push_str("_"),
+        Term::Const {
+            kind,
+            minus,
+            value,
+            ..
+        } => write_constant(alloc, out, *kind, *minus, *value),
+        Term::Atom { name, .. } => out.push_str(name.as_str()),
+        Term::Compound {
+            name,
+            args,
+            form,
+            ..
+        } => {
+            out.push_str(form_mark(*form))?;
+            out.push_str(name.as_str())?;
+            out.push_str("(")?;
+            write_parts(alloc, out, args)?;
+            out.push_str(")")
+        }
+        Term::List { items, tail, .. } => match tail {
+            None => write_items(alloc, out, items, "]"),
+            Some(tail) => {
+                write_items(alloc, out, items, "|")?;
+                write_term(alloc, out, tail)?;
+                out.push_str("]")
+            }
+        },
+        Term::Curly { inner, .. } => write_between(alloc, out, "{", inner, "}"),
+        Term::Paren { inner, .. } => write_between(alloc, out, "(", inner, ")"),
+    }
+}
+
+fn is_end_at(tokens: &[Token], at: usize) -> bool
+    ensures { IsTrue result ↔ (option_map (λ token. token.kind) (slice_get tokens.now at) ≡ Some Kind.End) }
+{
+    match tokens.get(at) {
+        Some(token) => token.kind == Kind::End,
+        None => false,
+    }
+}
+
+/// Whether the tokens are some, and none but the last is an End.
+fn is_one_clause(tokens: &[Token]) -> bool
+    ensures { IsTrue result → IsOneClause tokens.now }
+{
+    if tokens.len() == 0 {
+        return false;
+    }
+    for k in 0..tokens.len() - 1 {
+        if is_end_at(tokens, k) {
+            return false;
+        }
+    }
+    true
+}
+
+/// Why a text isn't read as a term.
+#[derive(Debug, Drop)]
+enum Unread {
+    Cut(TokenFault),
+    Apart,
+    Clause(ReadFault),
+}
+
+impl From<TokenFault> for Unread {
+    fn from(fault: TokenFault) -> Unread {
+        Unread::Cut(fault)
+    }
+}
+
+/// The term that the text is, which is one clause.
+fn read_term(alloc: Global, table: &OpTable, text: &str) -> Result<Term, Unread>
+    requires { length text.now ≤ 8388608 }
+{
+    let found = tokens(alloc, text)?;
+    if !is_one_clause(found.as_slice()) {
+        return Err(Unread::Apart);
+    }
+    match read_clause(alloc, table, text, found.as_slice()) {
+        Ok(term) => Ok(term),
+        Err(fault) => Err(Unread::Clause(fault)),
+    }
+}
+
+/// Why the text isn't read, in words.
+fn unread_told(alloc: Global, unread: &Unread) -> Result<String, AllocError> {
+    match unread {
+        Unread::Cut(fault) => format!(in alloc; "{fault:?}"),
+        Unread::Apart => String::from_str(alloc, "more than a clause"),
+        Unread::Clause(fault) => format!(in alloc; "{fault:?}"),
+    }
+}
+
+/// The table that each text begins with, but for two more operators behind operands, and for `mode`,
+/// which is none in it. What it holds is no matter to the proofs.
+fn changed_table(alloc: Global) -> Result<OpTable, OpFault> {
+    let mut table = OpTable::opening(alloc)?;
+    table.set(alloc, "once_more", OpKind::Xf, 300)?;
+    table.set(alloc, "again", OpKind::Yf, 300)?;
+    table.set(alloc, "mode", OpKind::Fx, 0)?;
+    Ok(table)
+}
+
+/// The term that the text reads as, in words, or why it doesn't.
+pub fn clause_told(alloc: Global, text: &str) -> Result<String, AllocError>
+    requires { length text.now ≤ 8388608 }
+{
+    let Ok(table) = changed_table(alloc) else {
+        return String::from_str(alloc, "no table");
+    };
+    match read_term(alloc, &table, text) {
+        Ok(term) => {
+            let mut out = String::new(alloc);
+            write_term(alloc, &mut out, &term)?;
+            Ok(out)
+        }
+        Err(unread) => unread_told(alloc, &unread),
+    }
+}
+
+/// How many items or arguments the term has.
+fn count_parts(term: &Term) -> usize {
+    match term {
+        Term::List { items, .. } => items.len(),
+        Term::Compound { args, .. } => args.len(),
+        _ => 0,
+    }
+}
+
+/// How many items or arguments the term has that the text reads as, or why it doesn't.
+pub fn parts_told(alloc: Global, text: &str) -> Result<String, AllocError>
+    requires { length text.now ≤ 8388608 }
+{
+    let Ok(table) = changed_table(alloc) else {
+        return String::from_str(alloc, "no table");
+    };
+    match read_term(alloc, &table, text) {
+        Ok(term) => format!(in alloc; "{}", count_parts(&term)),
+        Err(unread) => unread_told(alloc, &unread),
+    }
+}

@@ -1,0 +1,49 @@
+ghost use Rattle.std.specs.Prelude.{◌≤◌, length};
+
+use clause_text::{Clause, read_text};
+use prolog_terms::{Form, Term, inside};
+use std::alloc::{AllocError, Global};
+use std::thread::Threads;
+
+/// How many clauses the text has, or why it isn't read.
+pub fn count_told<R: Threads + Sync>(
+    rt: &R,
+    alloc: Global,
+    bytes: &[u8],
+) -> Result<String, AllocError>
+    requires { length bytes.now ≤ 8388608 }
+{
+    match read_text(rt, alloc, bytes) {
+        Ok(clauses) => format!(in alloc; "{}", clauses.len()),
+        Err(fault) => format!(in alloc; "{fault:?}"),
+    }
+}
+
+/// How a clause is written inside its brackets, where it is a compound term.
+fn form_of(clause: &Clause) -> Option<Form> {
+    match inside(&clause.term) {
+        Term::Compound { form, .. } => Some(*form),
+        _ => None,
+    }
+}
+
+/// How each clause of the text is written.
+pub fn forms_told<R: Threads + Sync>(
+    rt: &R,
+    alloc: Global,
+    bytes: &[u8],
+) -> Result<String, AllocError>
+    requires { length bytes.now ≤ 8388608 }
+{
+    let clauses = match read_text(rt, alloc, bytes) {
+        Ok(clauses) => clauses,
+        Err(fault) => return format!(in alloc; "{fault:?}"),
+    };
+    let mut out = String::new(alloc);
+    for clause in &clauses {
+        let form = form_of(clause);
+        let text = format!(in alloc; "{form:?};")?;
+        out.push_str(&text)?;
+    }
+    Ok(out)
+}

@@ -1,0 +1,161 @@
+ghost use Rattle.std.specs.Prelude.{◌≤◌, length, IfOk};
+ghost use Rattle.prolog_tokens.specs.Cut.{IsTokenOf};
+
+use prolog_tokens::{
+    Kind, Text, Token, TokenFault, cut_tokens, integer_value, is_bare_name, name_slice, name_text,
+    tokens,
+};
+use std::alloc::{AllocError, Global};
+use std::cmp::Ordering;
+
+/// The letter or sign that stands for a kind.
+fn sign(kind: Kind) -> char {
+    match kind {
+        Kind::Name => 'N',
+        Kind::Quoted => 'Q',
+        Kind::Variable => 'V',
+        Kind::Integer => 'I',
+        Kind::Float => 'F',
+        Kind::Str => 'S',
+        Kind::BackStr => 'B',
+        Kind::OpenRound => '(',
+        Kind::CloseRound => ')',
+        Kind::OpenSquare => '[',
+        Kind::CloseSquare => ']',
+        Kind::OpenCurly => '{',
+        Kind::CloseCurly => '}',
+        Kind::Comma => ',',
+        Kind::Bar => '|',
+        Kind::End => '.',
+    }
+}
+
+/// The tokens in words: the sign of the kind, where the token starts and ends, and `+` before it
+/// where layout or the beginning of the text stands directly before.
+fn words(alloc: Global, tokens: &[Token]) -> Result<String, AllocError> {
+    let mut words = String::new(alloc);
+    for token in tokens {
+        if !words.is_empty() {
+            words.push(' ')?;
+        }
+        if token.after_layout {
+            words.push('+')?;
+        }
+        let sign = sign(token.kind);
+        let word = format!(in alloc; "{sign}{}-{}", token.start, token.end)?;
+        words.push_str(&word)?;
+    }
+    Ok(words)
+}
+
+/// The tokens in words, or why there are none.
+pub fn tokens_told(alloc: Global, text: &str) -> Result<String, AllocError>
+    requires { length text.now ≤ 8388608 }
+{
+    match tokens(alloc, text) {
+        Ok(found) => words(alloc, found.as_slice()),
+        Err(fault) => format!(in alloc; "{fault:?}"),
+    }
+}
+
+/// There is no such token.
+#[derive(Drop)]
+struct NoToken;
+
+impl From<TokenFault> for NoToken {
+    fn from(_fault: TokenFault) -> NoToken {
+        NoToken
+    }
+}
+
+/// The token of the text at an index of its list.
+fn token_at(alloc: Global, text: &str, index: usize) -> Result<Token, NoToken>
+    requires { length text.now ≤ 8388608 }
+    ensures { IfOk result (λ token. IsTokenOf text.now token) }
+{
+    let found = tokens(alloc, text)?;
+    if index >= found.len() {
+        return Err(NoToken);
+    }
+    cut_tokens();
+    Ok(found[index])
+}
+
+/// The kind of a token, and its name.
+fn name_of(alloc: Global, text: &str, token: Token) -> Result<String, AllocError>
+    requires { IsTokenOf text.now token }
+{
+    if token.kind == Kind::Quoted {
+        let name = name_text(alloc, text, token)?;
+        return format!(in alloc; "Q {}", name.as_str());
+    }
+    if token.kind == Kind::Name {
+        let name = name_text(alloc, text, token)?;
+        return format!(in alloc; "N {}", name.as_str());
+    }
+    String::from_str(alloc, "no name")
+}
+
+/// The kind of the token at an index, and its name.
+pub fn name_text_told(alloc: Global, text: &str, index: usize) -> Result<String, AllocError>
+    requires { length text.now ≤ 8388608 }
+{
+    match token_at(alloc, text, index) {
+        Ok(token) => name_of(alloc, text, token),
+        Err(_) => String::from_str(alloc, "no token"),
+    }
+}
+
+fn slice_of(alloc: Global, text: &str, token: Token) -> Result<String, AllocError>
+    requires { IsTokenOf text.now token }
+{
+    if token.kind == Kind::Name {
+        return String::from_str(alloc, name_slice(text, token));
+    }
+    String::from_str(alloc, "no name")
+}
+
+/// The part of the text that its first token is, which is a Name.
+pub fn slice_told(alloc: Global, text: &str) -> Result<String, AllocError>
+    requires { length text.now ≤ 8388608 }
+{
+    match token_at(alloc, text, 0) {
+        Ok(token) => slice_of(alloc, text, token),
+        Err(_) => String::from_str(alloc, "no token"),
+    }
+}
+
+fn value_of(alloc: Global, text: &str, token: Token) -> Result<String, AllocError>
+    requires { IsTokenOf text.now token }
+{
+    let value = integer_value(text, token);
+    format!(in alloc; "{value:?}")
+}
+
+/// The value of the first token.
+pub fn integer_told(alloc: Global, text: &str) -> Result<String, AllocError>
+    requires { length text.now ≤ 8388608 }
+{
+    match token_at(alloc, text, 0) {
+        Ok(token) => value_of(alloc, text, token),
+        Err(_) => String::from_str(alloc, "no token"),
+    }
+}
+
+pub fn bare_told(alloc: Global, text: &str) -> Result<String, AllocError> {
+    let is_bare = is_bare_name(text);
+    format!(in alloc; "{is_bare}")
+}
+
+/// How two texts stand in order, of which one is made of a string. Both are written as they are kept.
+pub fn less_told(alloc: Global, text: &str) -> Result<String, AllocError> {
+    let (first, second) = text.split_once('|').unwrap_or((text, text));
+    let first = Text::new(alloc, first)?;
+    let second = Text::from_string(String::from_str(alloc, second)?);
+    let order = match first.cmp(&second) {
+        Ordering::Less => "less than",
+        Ordering::Equal => "same as",
+        Ordering::Greater => "greater than",
+    };
+    format!(in alloc; "{} {order} {}", first.as_str(), second.as_str())
+}
