@@ -1,12 +1,13 @@
-//! Tests of the libraries of files and of the calls that the program makes.
+//! Tests of the libraries of files and of the calls that the program makes: of files in memory and what is
+//! asked for, of sinks that fail, of limits and of workers. Whole runs over files are rows of `checks/rows/`.
 #![tactic(auto)]
 
 #[cfg(test)]
+mod asking;
+#[cfg(test)]
+mod crowd;
+#[cfg(test)]
 mod drivers;
-#[cfg(test)]
-mod faults;
-#[cfg(test)]
-mod goal_arguments;
 #[cfg(test)]
 mod libraries;
 #[cfg(test)]
@@ -14,20 +15,6 @@ mod limits;
 #[cfg(test)]
 mod loads;
 #[cfg(test)]
-mod options;
-#[cfg(test)]
-mod other_modules;
-#[cfg(test)]
-mod parts;
-#[cfg(test)]
-mod programs;
-#[cfg(test)]
-mod reports;
-#[cfg(test)]
 mod runs;
 #[cfg(test)]
 mod sinks;
-#[cfg(test)]
-mod small_programs;
-#[cfg(test)]
-mod words;

@@ -10,9 +10,6 @@ use std::sync::Wait;
 use std::test::Fail;
 use std::thread::Threads;
 
-/// A text, and of the run on it as the one file the wanted status and bytes on both sinks.
-pub type TextRun = (&'static str, u8, &'static str, &'static str);
-
 /// Words, files and the reads that fail; and the wanted names in the order in which they are asked
 /// for, each behind a space, the status and the bytes on both sinks.
 pub type FilesRun = (
@@ -22,14 +19,6 @@ pub type FilesRun = (
     &'static str,
     u8,
     &'static str,
-    &'static str,
-);
-
-/// Words and files, and the wanted status and bytes, which are on the one sink or the other.
-pub type ProgramRun = (
-    &'static [&'static str],
-    &'static [(&'static str, &'static [u8])],
-    u8,
     &'static str,
 );
 
@@ -73,7 +62,7 @@ pub fn shown(sink: &MemorySink) -> &str {
 }
 
 /// Runs on the words over the library, and compares the status and what both sinks have taken.
-pub fn expect_run<R: Threads + Wait + Sync + Abort>(
+fn expect_run<R: Threads + Wait + Sync + Abort>(
     rt: &R,
     words: &[Text],
     library: &mut MemoryLibrary,
@@ -101,64 +90,5 @@ pub fn expect_files<R: Threads + Wait + Sync + Abort>(
         push_names(&mut names, library.asked())?;
         assert_eq!(rt; names.as_str(), *asked);
     }
-    Ok(())
-}
-
-/// Runs on the words of each row over its files, and compares the status and the bytes on the sink that
-/// it speaks of; the other has taken none.
-pub fn expect_programs<R: Threads + Wait + Sync + Abort>(
-    rt: &R,
-    alloc: Global,
-    rows: &[ProgramRun],
-) -> Result<(), Fail> {
-    for (words, files, status, said) in rows {
-        let mut library = library_of(alloc, files, &[])?;
-        let words = words_of(alloc, words)?;
-        if *status == 0 {
-            expect_run(rt, &words, &mut library, alloc, (0, said, ""))?;
-        } else {
-            expect_run(rt, &words, &mut library, alloc, (*status, "", said))?;
-        }
-    }
-    Ok(())
-}
-
-/// Runs on the file `f.pl` with this text.
-pub fn expect_text<R: Threads + Wait + Sync + Abort>(
-    rt: &R,
-    alloc: Global,
-    text: &str,
-    status: u8,
-    on_out: &str,
-    on_err: &str,
-) -> Result<(), Fail> {
-    let words = words_of(alloc, &["f.pl"])?;
-    let mut library = library_of(alloc, &[("f.pl", text.as_bytes())], &[])?;
-    expect_run(rt, &words, &mut library, alloc, (status, on_out, on_err))
-}
-
-/// Runs on each text as the file `f.pl`.
-pub fn expect_texts<R: Threads + Wait + Sync + Abort>(
-    rt: &R,
-    alloc: Global,
-    rows: &[TextRun],
-) -> Result<(), Fail> {
-    for (text, status, on_out, on_err) in rows {
-        expect_text(rt, alloc, text, *status, on_out, on_err)?;
-    }
-    Ok(())
-}
-
-/// Runs on words that make a program, and compares what `out` has taken; no file is asked for.
-pub fn expect_make<R: Threads + Wait + Sync + Abort>(
-    rt: &R,
-    alloc: Global,
-    words: &[&str],
-    on_out: &str,
-) -> Result<(), Fail> {
-    let words = words_of(alloc, words)?;
-    let mut library = library_of(alloc, &[], &[])?;
-    expect_run(rt, &words, &mut library, alloc, (0, on_out, ""))?;
-    assert_eq!(rt; library.asked().len(), 0);
     Ok(())
 }
