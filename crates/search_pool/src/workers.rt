@@ -7,10 +7,11 @@ ghost use Rattle.search_pool.specs.Driving.{IsIdle, IsThrough};
 ghost use Rattle.search_pool.specs.Worker.{EndsWell};
 
 use crate::ended::Ended;
-use crate::gate::Gate;
+use crate::gate::{Gate, Gated};
 use crate::worker::work;
 use graph_law::Opener;
 use node_claims::{Claims, Pass};
+use search_stack::groups_plain;
 use std::alloc::{AllocError, Global};
 use std::sync::Wait;
 use std::thread;
@@ -34,11 +35,25 @@ pub fn drive_workers<R: Threads + Wait + Sync, O: Opener, G: Gate>(
     ensures reached { IfOk result (λ groups. (v : ℕ) → HasMember (lists_of groups.items) v
         → IsReached (Calls (O.lists opener.now)) roots.now v) }
 {
+    let jobs = useful(jobs, roots.len());
+    if jobs <= 1 {
+        return groups_plain(alloc, &Gated { opener, gate }, roots);
+    }
     let (claims, pass) = Claims::make(alloc, opener, roots)?;
     let passes = split_for(alloc, &claims, pass, jobs)?;
     let ended = run_all(rt, alloc, &claims, passes, opener, gate)?;
     let pass = join_all(&claims, ended)?;
     Ok(claims.finish(rt, pass))
+}
+
+// How many of the workers can have something to do: each of them begins at a root. One alone needs no claims.
+fn useful(jobs: u32, roots: usize) -> u32
+    ensures { result ≤ jobs }
+{
+    if roots < jobs as usize {
+        return roots as u32;
+    }
+    jobs
 }
 
 /// A pass for each of `jobs` workers.
