@@ -15,6 +15,11 @@ use search_stack::{Opening, Search};
 use std::alloc::{AllocError, Global};
 use std::sync::Wait;
 
+// From how many nodes on a search gets more room than it needs, and how much at most.
+const LARGE: u32 = 256;
+
+const MOST_ROOM: u32 = 262_144;
+
 /// Runs a search without the turn until it is ripe, wants a node of another search, or memory is
 /// wanting: it claims the node of each edge, opens those that it wins, and settles the others.
 pub(crate) fn run_free<O: Opener, G: Gate>(
@@ -33,7 +38,7 @@ pub(crate) fn run_free<O: Opener, G: Gate>(
 {
     let _count = opener.count();
     'edges: for _ in rt.forever() {
-        if search.reserve(1).is_err() {
+        if search.reserve(room_for(search.len())).is_err() {
             return Stopped::NoRoom;
         }
         let Some(node) = search.begin() else {
@@ -48,6 +53,21 @@ pub(crate) fn run_free<O: Opener, G: Gate>(
         }
     }
     unreachable!()
+}
+
+// How much room a search of so many nodes is to have. Each time that a large one has grown to twice as much
+// it gets room for eight times as many, since far-off nodes compete for places in a table that is hardly
+// larger than they are many.
+fn room_for(nodes: u32) -> u32
+    ensures { 0 < result }
+{
+    if nodes < LARGE {
+        return 1;
+    }
+    if nodes & (nodes - 1) != 0 {
+        return 1;
+    }
+    nodes.saturating_mul(8).clamp(1, MOST_ROOM)
 }
 
 /// Claims the node of the edge that the top has begun last, and settles the edge where that can be
