@@ -1,0 +1,4 @@
+pub mod Examples
+pub mod ToldLemmas
+pub mod TextLemmas
+pub mod WordLemmas

@@ -1,0 +1,91 @@
+-- The words of the command line, one more at a time.
+use Rattle.std.proofs.Common.{◌≡◌, ℕ, ◌+◌, ◌<◌, ◌≤◌, Bool, true, false, not, cond, List, [], ◌∷◌, ◌++◌, length, take, drop, filter, get_or, inl, inr, ap, sym, subst, ◌∙◌, append-nil, append_assoc, arith}
+use Rattle.std.proofs.lemmas.Bool.{cases_lt}
+use Rattle.std.proofs.lemmas.List.{get_or_default, take-append-drop, take_more}
+use Rattle.std.proofs.lemmas.List.Elements.{filter-append, filter_more}
+use Rattle.std.proofs.lemmas.List.Sums.{position_or_len_is}
+use Rattle.call_told.specs.declared.words.Form.{Form}
+use Rattle.call_told.specs.declared.words.Form.TheVariants.{Lines, Undefined, Dot}
+use Rattle.call_told.specs.Wanted.{form_words, front_count, is_end, is_form, is_other}
+
+-- the first `--`
+pub front_at : (words : List (List ℕ)) (i : ℕ) → i ≤ length words → ((k : ℕ) → k < i → is_end (get_or words k []) ≡ false) → (i < length words → is_end (get_or words i []) ≡ true)
+    → i ≡ front_count words
+front_at words i within before here = sym (position_or_len_is is_end words i [] within before here)
+
+pub at_end : (words : List (List ℕ)) (i : ℕ) (word : List ℕ) (b : Bool) → i < length words → word ≡ get_or words i word → b ≡ is_end word → is_end (get_or words i []) ≡ b
+at_end words i word b less is tested = ap is_end (get_or_default words i [] word less ∙ sym is) ∙ sym tested
+
+pub ends_more : (words : List (List ℕ)) (i : ℕ) → ((k : ℕ) → k < i → is_end (get_or words k []) ≡ false) → is_end (get_or words i []) ≡ false
+    → (k : ℕ) → k < i + 1 → is_end (get_or words k []) ≡ false
+ends_more words i before here k less = elim (cases_lt k i) [
+  | inl lt ↦ before k lt
+  | inr over ↦ let same : k ≡ i = omega (arith, less, over) in subst (λ n. is_end (get_or words n []) ≡ false) (sym same) here
+]
+
+form_step : (words : List (List ℕ)) (i : ℕ) (word : List ℕ) → i < length words → word ≡ get_or words i word
+    → filter is_form (take (i + 1) words) ≡ filter is_form (take i words) ++ cond (is_form word) (word ∷ []) []
+form_step words i word less is =
+    filter_more is_form words i word less ∙ ap (λ w. filter is_form (take i words) ++ cond (is_form w) (w ∷ []) []) (sym is)
+
+-- a word that names no form
+pub form_skip : (words : List (List ℕ)) (i : ℕ) (word : List ℕ) (named : List (List ℕ)) → i < length words → word ≡ get_or words i word → is_form word ≡ false
+    → filter is_form (take i words) ≡ named → filter is_form (take (i + 1) words) ≡ named
+form_skip words i word named less is none before =
+    form_step words i word less is ∙ (ap (λ b. filter is_form (take i words) ++ cond b (word ∷ []) []) none ∙ (append-nil (filter is_form (take i words)) ∙ before))
+
+-- the first that does
+pub form_first : (words : List (List ℕ)) (i : ℕ) (word : List ℕ) (form : Form) → i < length words → word ≡ get_or words i word → is_form word ≡ true
+    → form_words form ≡ word ∷ [] → filter is_form (take i words) ≡ [] → filter is_form (take (i + 1) words) ≡ form_words form
+form_first words i word form less is named names before =
+    form_step words i word less is
+    ∙ (ap (λ b. filter is_form (take i words) ++ cond b (word ∷ []) []) named ∙ (ap (λ fs. fs ++ word ∷ []) before ∙ sym names))
+
+few : (form : Form) → length (form_words form) ≤ 1
+few Lines = omega arith
+few Undefined = omega arith
+few Dot = omega arith
+
+-- and one more
+pub form_twice : (words : List (List ℕ)) (i : ℕ) (word first : List ℕ) → i < length words → word ≡ get_or words i word → is_form word ≡ true
+    → filter is_form (take i words) ≡ first ∷ [] → (form : Form) → filter is_form words ≡ form_words form → ⊥
+form_twice words i word first less is named before form same =
+    let more = filter is_form (drop (i + 1) words) in
+    let step : filter is_form (take (i + 1) words) ≡ first ∷ word ∷ [] =
+    form_step words i word less is
+    ∙ (ap (λ b. filter is_form (take i words) ++ cond b (word ∷ []) []) named ∙ ap (λ fs. fs ++ word ∷ []) before) in
+    let whole : filter is_form words ≡ first ∷ word ∷ more =
+    ap (filter is_form) (sym (take-append-drop (i + 1) words))
+    ∙ (filter-append is_form (take (i + 1) words) (drop (i + 1) words) ∙ ap (λ fs. fs ++ more) step) in
+    let long = ap length (sym same ∙ whole) in
+    omega (arith, long, few form)
+
+other_step : (words : List (List ℕ)) (i : ℕ) (word : List ℕ) → i < length words → word ≡ get_or words i word
+    → filter is_other (take (i + 1) words) ≡ filter is_other (take i words) ++ cond (not (is_form word)) (word ∷ []) []
+other_step words i word less is =
+    filter_more is_other words i word less ∙ ap (λ w. filter is_other (take i words) ++ cond (is_other w) (w ∷ []) []) (sym is)
+
+-- the others without a word that names a form
+pub other_skip : (words : List (List ℕ)) (i : ℕ) (word : List ℕ) (before out : List (List ℕ)) → i < length words → word ≡ get_or words i word → is_form word ≡ true
+    → out ≡ before ++ filter is_other (take i words) → out ≡ before ++ filter is_other (take (i + 1) words)
+other_skip words i word before out less is named so_far =
+    so_far
+    ∙ ap (λ fs. before ++ fs)
+    (sym (other_step words i word less is ∙ (ap (λ b. filter is_other (take i words) ++ cond (not b) (word ∷ []) []) named ∙ append-nil (filter is_other (take i words)))))
+
+-- and with one that names none
+pub other_more : (words : List (List ℕ)) (i : ℕ) (word : List ℕ) (before out next : List (List ℕ)) → i < length words → word ≡ get_or words i word → is_form word ≡ false
+    → out ≡ before ++ filter is_other (take i words) → next ≡ out ++ word ∷ [] → next ≡ before ++ filter is_other (take (i + 1) words)
+other_more words i word before out next less is none so_far pushed =
+    pushed
+    ∙ (ap (λ ws. ws ++ word ∷ []) so_far
+    ∙ (append_assoc before (filter is_other (take i words)) (word ∷ [])
+    ∙ ap (λ fs. before ++ fs) (sym (other_step words i word less is ∙ ap (λ b. filter is_other (take i words) ++ cond (not b) (word ∷ []) []) none))))
+
+-- all words
+pub word_more : (words : List (List ℕ)) (i : ℕ) (word : List ℕ) (before out next : List (List ℕ)) → i < length words → word ≡ get_or words i word
+    → out ≡ before ++ take i words → next ≡ out ++ word ∷ [] → next ≡ before ++ take (i + 1) words
+word_more words i word before out next less is so_far pushed =
+    pushed
+    ∙ (ap (λ ws. ws ++ word ∷ []) so_far
+    ∙ (append_assoc before (take i words) (word ∷ []) ∙ ap (λ ws. before ++ ws) (sym (take_more words i word less ∙ ap (λ w. take i words ++ w ∷ []) (sym is)))))

@@ -1,0 +1,90 @@
+-- What is told of a program.
+use Rattle.std.specs.Prelude.{ℕ, ◌≡◌, ◌<◌, ◌==◌, ◌||◌, List, [], ◌++◌, Bool, true, false, not, All, length, filter, zip, flat_map, slice_index, slice_index_or, if◌then◌else◌, codes}
+use Rattle.std.specs.List.{range_with_len}
+use Rattle.graph_law.specs.Graph.{Calls as ListCalls, lists_of}
+use Rattle.group_release.specs.declared.level.Level.{Level}
+use Rattle.import_rules.specs.Program.{Seen, see_program}
+use Rattle.call_edges.specs.PlacedSeen.{see_calls}
+use Rattle.call_edges.specs.Successors.{successor_lists}
+use Rattle.call_table.specs.Memberships.{AreGroupsOf}
+use Rattle.call_table.specs.Reached.{AreLeveled, AreNodes}
+use Rattle.call_table.specs.Table.{IsTable}
+use Rattle.call_table.specs.declared.table.CallTable.{CallTable}
+use Rattle.call_writer.specs.Dot.{cluster, edge_line, node_line_of}
+use Rattle.call_writer.specs.Lines.{call_line_if, clause_line, predicate_line_of}
+use Rattle.call_told.specs.Wanted.{Asked}
+use Rattle.call_told.specs.declared.told.Told.{Told}
+use Rattle.call_told.specs.declared.words.Form.{Form}
+use Rattle.call_told.specs.declared.words.Form.TheVariants.{Lines, Undefined, Dot}
+
+-- predicates below the count, groups of such predicates with a level each, and which group each predicate is in
+pub record AreTold (count : ℕ) (nodes : List ℕ) (groups : List (List ℕ)) (levels : List Level) (places : List ℕ) : Type 0 where
+  pub nodes_below : All (λ p. p < count) nodes
+  pub levels_each : length levels ≡ length groups
+  pub groups_are : AreNodes count groups
+  pub placed : AreGroupsOf count groups places
+
+-- the predicates, the groups and the places of these are those of one program
+abbrev pub IsTold : Told → Type 0
+IsTold told = AreTold (length (see_program told.program.now).predicates) told.nodes.items (lists_of told.groups.items) told.levels.items told.places.items
+
+-- the predicates that are told, ascending: all, or those whose place among the groups is not 0, which are in a group
+abbrev pub told_nodes : ℕ → List ℕ → Bool → List ℕ
+told_nodes count places all = filter (λ p. all || not (slice_index places p == 0)) (range_with_len 0 count)
+
+-- the groups are the classes of what the roots reach, with their levels; each predicate has the place of its group, and these are told
+pub record IsReach (asked : Asked) (seen : Seen) (roots : List ℕ) (groups : List (List ℕ)) (levels : List Level) (places nodes : List ℕ) : Type 0 where
+  pub leveled : AreLeveled (ListCalls (successor_lists seen)) roots groups levels
+  pub placed : AreGroupsOf (length seen.predicates) groups places
+  pub nodes_are : nodes ≡ told_nodes (length seen.predicates) places asked.settings.unreached
+
+abbrev pub ToldIs : Asked → List ℕ → Told → Type 0
+ToldIs asked roots told = IsReach asked (see_program told.program.now) roots (lists_of told.groups.items) told.levels.items told.places.items told.nodes.items
+
+-- the lines of the predicates
+abbrev pub predicate_lines : Seen → List (List ℕ) → List Level → List ℕ → List ℕ → List ℕ
+predicate_lines seen groups levels places nodes =
+    flat_map (λ p. predicate_line_of seen.predicates groups levels p (slice_index places p)) nodes
+
+-- the lines of the clauses
+abbrev pub clause_lines : Seen → CallTable → List ℕ
+clause_lines seen table = flat_map (λ pair. clause_line seen pair.0 pair.1) (zip table.clauses.items table.clause_places.items)
+
+-- the lines of the calls, or of those alone whose names mean no predicate
+abbrev pub call_lines : Bool → Seen → CallTable → List ℕ
+call_lines undefined seen table =
+    flat_map (λ pair. call_line_if undefined seen pair.0 pair.1) (zip (see_calls table.calls.items) table.call_places.items)
+
+-- the line of a predicate that is in no group
+abbrev pub ungrouped_line : Seen → List ℕ → ℕ → List ℕ
+ungrouped_line seen places p = if slice_index places p == 0 then node_line_of seen.predicates p else []
+
+-- the graph: the groups as clusters, the predicates that are in none, and what calls what
+abbrev pub dot_graph : Seen → List (List ℕ) → List ℕ → List ℕ → List ℕ
+dot_graph seen groups places nodes =
+    codes "digraph calls {\n"
+    ++ (flat_map (cluster seen.predicates) groups
+    ++ (flat_map (ungrouped_line seen places) nodes
+    ++ (flat_map (λ p. flat_map (edge_line p) (slice_index_or (successor_lists seen) p [])) nodes ++ codes "}\n")))
+
+-- the bytes are told of the table of these predicates and groups
+pub record TellsTable (seen : Seen) (groups : List (List ℕ)) (nodes : List ℕ) (text : CallTable → List ℕ) (bytes : List ℕ) : Type 0 where
+  pub table : CallTable
+  pub is_table : IsTable seen nodes groups table
+  pub is : bytes ≡ text table
+
+-- the lines of predicates, clauses and calls; those of undefined calls alone; or the graph
+abbrev pub TellsForm : Form → Seen → List (List ℕ) → List Level → List ℕ → List ℕ → List ℕ → Type 0
+TellsForm Lines seen groups levels places nodes bytes =
+    TellsTable seen groups nodes (λ table. predicate_lines seen groups levels places nodes ++ (clause_lines seen table ++ call_lines false seen table)) bytes
+TellsForm Undefined seen groups levels places nodes bytes = TellsTable seen groups nodes (call_lines true seen) bytes
+TellsForm Dot seen groups levels places nodes bytes = bytes ≡ dot_graph seen groups places nodes
+
+-- the bytes tell of the program what is asked for, where reach begins at these roots
+pub record TellsFrom (asked : Asked) (seen : Seen) (roots bytes : List ℕ) : Type 0 where
+  pub groups : List (List ℕ)
+  pub levels : List Level
+  pub places : List ℕ
+  pub nodes : List ℕ
+  pub reach : IsReach asked seen roots groups levels places nodes
+  pub tells : TellsForm asked.form seen groups levels places nodes bytes

@@ -1,0 +1,248 @@
+//! What is told, as bytes.
+
+ghost use Rattle.std.specs.Prelude.{◌≡◌, ◌<◌, ◌++◌, [], All, IfOk, OnOk, length, slice_index, slice_index_or};
+ghost use Rattle.std.specs.List.{flat_map};
+ghost use Rattle.std.specs.String.{string_bytes};
+ghost use Rattle.call_edges.specs.Opened.{see_call_lists};
+ghost use Rattle.call_edges.specs.Successors.{successor_lists};
+ghost use Rattle.call_table.specs.Table.{IsTable};
+ghost use Rattle.call_writer.specs.Dot.{cluster, edge_line};
+ghost use Rattle.call_writer.specs.Lines.{predicate_line_of};
+ghost use Rattle.call_told.specs.Told.{IsTold, TellsForm, TellsFrom, call_lines, clause_lines, dot_graph, predicate_lines, ungrouped_line};
+ghost use Rattle.call_told.specs.Wanted.{see_wanted};
+ghost use Rattle.call_told.specs.declared.words.Form.TheVariants.{Lines, Undefined};
+ghost use Rattle.graph_law.specs.Classes.{group_at};
+ghost use Rattle.graph_law.specs.Graph.{lists_of};
+ghost use Rattle.import_rules.specs.Program.{see_program};
+
+use crate::told::{Told, make_told};
+use crate::words::{Form, Wanted};
+use call_edges::CallLists;
+use call_table::{CallTable, call_table};
+use call_writer::{
+    push_call_lines, push_clause_lines, push_cluster, push_edges, push_node, push_predicate_line,
+};
+use graph_law::Opener;
+use import_rules::Program;
+use std::alloc::{AllocError, Global};
+use std::mem::forget;
+
+/// Adds the line of a predicate.
+fn push_told(text: &mut String, told: &Told<'_>, node: u32) -> Result<(), AllocError>
+    requires told { IsTold told.now }
+    requires below { node < length (see_program told.now.program.now).predicates }
+    ensures { OnOk result (string_bytes text.new ≡ string_bytes text.old
+        ++ predicate_line_of (see_program told.now.program.now).predicates (lists_of told.now.groups.items) told.now.levels.items node (slice_index told.now.places.items node)) }
+{
+    let place = told.places[node as usize];
+    push_predicate_line(text, told.program, &told.groups, &told.levels, node, place)
+}
+
+/// Adds the lines of the predicates.
+fn push_predicates(text: &mut String, told: &Told<'_>) -> Result<(), AllocError>
+    requires { IsTold told.now }
+    ensures { OnOk result (string_bytes text.new ≡ string_bytes text.old
+        ++ predicate_lines (see_program told.now.program.now) (lists_of told.now.groups.items) told.now.levels.items told.now.places.items told.now.nodes.items) }
+{
+    for node in &told.nodes {
+        push_told(text, told, *node)?;
+    }
+    Ok(())
+}
+
+/// Adds the lines of the clauses.
+fn push_clauses(text: &mut String, told: &Told<'_>, table: &CallTable<'_>) -> Result<(), AllocError>
+    ensures { OnOk result (string_bytes text.new ≡ string_bytes text.old ++ clause_lines (see_program told.now.program.now) table.now) }
+{
+    push_clause_lines(text, told.program, &table.clauses, &table.clause_places)
+}
+
+/// Adds the lines of the calls, or of those alone whose names mean no predicate.
+fn push_calls(
+    text: &mut String,
+    told: &Told<'_>,
+    table: &CallTable<'_>,
+    undefined: bool,
+) -> Result<(), AllocError>
+    ensures { OnOk result (string_bytes text.new ≡ string_bytes text.old ++ call_lines undefined (see_program told.now.program.now) table.now) }
+{
+    push_call_lines(
+        text,
+        told.program,
+        &table.calls,
+        &table.call_places,
+        undefined,
+    )
+}
+
+/// The clauses and calls of what is told.
+fn table_of<'a>(alloc: Global, told: &Told<'a>) -> Result<CallTable<'a>, AllocError>
+    requires { IsTold told.now }
+    ensures { IfOk result (IsTable (see_program told.now.program.now) told.now.nodes.items (lists_of told.now.groups.items)) }
+{
+    call_table(alloc, told.program, &told.nodes, &told.groups)
+}
+
+/// All lines, of predicates, clauses and calls.
+fn lines_text(alloc: Global, told: &Told<'_>) -> Result<String, AllocError>
+    requires { IsTold told.now }
+    ensures { IfOk result (λ text. TellsForm Lines (see_program told.now.program.now) (lists_of told.now.groups.items) told.now.levels.items
+        told.now.places.items told.now.nodes.items (string_bytes text)) }
+{
+    let table = table_of(alloc, told)?;
+    let mut text = String::new(alloc);
+    push_predicates(&mut text, told)?;
+    push_clauses(&mut text, told, &table)?;
+    push_calls(&mut text, told, &table, false)?;
+    forget(table);
+    Ok(text)
+}
+
+/// The lines of the calls whose names mean no predicate.
+fn undefined_text(alloc: Global, told: &Told<'_>) -> Result<String, AllocError>
+    requires { IsTold told.now }
+    ensures { IfOk result (λ text. TellsForm Undefined (see_program told.now.program.now) (lists_of told.now.groups.items) told.now.levels.items
+        told.now.places.items told.now.nodes.items (string_bytes text)) }
+{
+    let table = table_of(alloc, told)?;
+    let mut text = String::new(alloc);
+    push_calls(&mut text, told, &table, true)?;
+    forget(table);
+    Ok(text)
+}
+
+/// Adds the cluster of the group at a place.
+fn push_group(text: &mut String, told: &Told<'_>, place: usize) -> Result<(), AllocError>
+    requires told { IsTold told.now }
+    requires within { place < length told.now.groups.items }
+    ensures { OnOk result (string_bytes text.new ≡ string_bytes text.old
+        ++ cluster (see_program told.now.program.now).predicates (group_at (lists_of told.now.groups.items) place)) }
+{
+    push_cluster(text, told.program, &told.groups[place])
+}
+
+/// Adds the clusters of the groups.
+fn push_clusters(text: &mut String, told: &Told<'_>) -> Result<(), AllocError>
+    requires { IsTold told.now }
+    ensures { OnOk result (string_bytes text.new ≡ string_bytes text.old
+        ++ flat_map (cluster (see_program told.now.program.now).predicates) (lists_of told.now.groups.items)) }
+{
+    for place in 0..told.groups.len() {
+        push_group(text, told, place)?;
+    }
+    Ok(())
+}
+
+/// Adds the node of a predicate that is in no group, and nothing for another.
+fn push_ungrouped(text: &mut String, told: &Told<'_>, node: u32) -> Result<(), AllocError>
+    requires told { IsTold told.now }
+    requires below { node < length (see_program told.now.program.now).predicates }
+    ensures { OnOk result (string_bytes text.new ≡ string_bytes text.old
+        ++ ungrouped_line (see_program told.now.program.now) told.now.places.items node) }
+{
+    if told.places[node as usize] != 0 {
+        return Ok(());
+    }
+    push_node(text, told.program, node)
+}
+
+/// Adds the predicates that are in no group.
+fn push_all_ungrouped(text: &mut String, told: &Told<'_>) -> Result<(), AllocError>
+    requires { IsTold told.now }
+    ensures { OnOk result (string_bytes text.new ≡ string_bytes text.old
+        ++ flat_map (ungrouped_line (see_program told.now.program.now) told.now.places.items) told.now.nodes.items) }
+{
+    for node in &told.nodes {
+        push_ungrouped(text, told, *node)?;
+    }
+    Ok(())
+}
+
+/// Adds what leads from a predicate to those that it calls. What `callees` held is gone then.
+fn push_callees(
+    text: &mut String,
+    told: &Told<'_>,
+    calls: &CallLists<'_>,
+    node: u32,
+    callees: &mut Vec<u32>,
+) -> Result<(), AllocError>
+    requires calls { see_call_lists calls.now ≡ see_program told.now.program.now }
+    requires below { node < length (see_program told.now.program.now).predicates }
+    ensures { OnOk result (string_bytes text.new ≡ string_bytes text.old
+        ++ flat_map (edge_line node) (slice_index_or (successor_lists (see_program told.now.program.now)) node [])) }
+{
+    callees.clear();
+    calls.expand(node, callees)?;
+    push_edges(text, node, callees)
+}
+
+/// Adds what calls what.
+fn push_all_callees(
+    alloc: Global,
+    text: &mut String,
+    told: &Told<'_>,
+    calls: &CallLists<'_>,
+) -> Result<(), AllocError>
+    requires told { IsTold told.now }
+    requires calls { see_call_lists calls.now ≡ see_program told.now.program.now }
+    ensures { OnOk result (string_bytes text.new ≡ string_bytes text.old
+        ++ flat_map (λ p. flat_map (edge_line p) (slice_index_or (successor_lists (see_program told.now.program.now)) p [])) told.now.nodes.items) }
+{
+    let mut callees = Vec::new(alloc);
+    for node in &told.nodes {
+        push_callees(text, told, calls, *node, &mut callees)?;
+    }
+    Ok(())
+}
+
+/// The graph: a cluster for each group, the predicates that are in none, and what calls what.
+fn dot_graph(alloc: Global, told: &Told<'_>, calls: &CallLists<'_>) -> Result<String, AllocError>
+    requires told { IsTold told.now }
+    requires calls { see_call_lists calls.now ≡ see_program told.now.program.now }
+    ensures { IfOk result (λ text. string_bytes text
+        ≡ dot_graph (see_program told.now.program.now) (lists_of told.now.groups.items) told.now.places.items told.now.nodes.items) }
+{
+    let mut text = String::from_str(alloc, "digraph calls {\n")?;
+    push_clusters(&mut text, told)?;
+    push_all_ungrouped(&mut text, told)?;
+    push_all_callees(alloc, &mut text, told, calls)?;
+    text.push_str("}\n")?;
+    Ok(text)
+}
+
+/// What is told, in the form.
+fn text_of(
+    alloc: Global,
+    form: Form,
+    told: &Told<'_>,
+    calls: &CallLists<'_>,
+) -> Result<String, AllocError>
+    requires told { IsTold told.now }
+    requires calls { see_call_lists calls.now ≡ see_program told.now.program.now }
+    ensures { IfOk result (λ text. TellsForm form (see_program told.now.program.now) (lists_of told.now.groups.items) told.now.levels.items
+        told.now.places.items told.now.nodes.items (string_bytes text)) }
+{
+    match form {
+        Form::Lines => lines_text(alloc, told),
+        Form::Undefined => undefined_text(alloc, told),
+        Form::Dot => dot_graph(alloc, told, calls),
+    }
+}
+
+/// The bytes of what is wanted of the program, where reach begins at these roots.
+pub fn told_bytes(
+    alloc: Global,
+    wanted: &Wanted,
+    program: &Program,
+    calls: &CallLists<'_>,
+    roots: &[u32],
+) -> Result<Vec<u8>, AllocError>
+    requires calls { see_call_lists calls.now ≡ see_program program.now }
+    requires below { All (λ q. q < length (see_program program.now).predicates) roots.now }
+    ensures { IfOk result (λ bytes. TellsFrom (see_wanted wanted.now) (see_program program.now) roots.now bytes.items) }
+{
+    let told = make_told(alloc, wanted, program, calls, roots)?;
+    let text = text_of(alloc, wanted.form, &told, calls)?;
+    forget(told);
+    Ok(text.into_bytes())
+}

@@ -1,0 +1,109 @@
+//! What is told of a program, but for its clauses and calls: predicates, and the groups of what the
+//! roots reach.
+
+ghost use Rattle.std.specs.Prelude.{◌≡◌, ◌<◌, ◌==◌, ◌||◌, All, IfOk, length, not};
+ghost use Rattle.call_edges.specs.Opened.{see_call_lists};
+ghost use Rattle.call_edges.specs.Successors.{successor_lists};
+ghost use Rattle.call_table.specs.Reached.{AreLeveled, AreNodes};
+ghost use Rattle.call_told.specs.Told.{IsTold, ToldIs, told_nodes};
+ghost use Rattle.call_told.specs.Wanted.{see_wanted};
+ghost use Rattle.call_told.specs.declared.told.Told.{Told as ToldHere};
+ghost use Rattle.graph_law.specs.Graph.{Calls as ListCalls, lists_of};
+ghost use Rattle.import_rules.specs.Program.{see_program};
+
+use crate::words::Wanted;
+use call_edges::CallLists;
+use call_table::{Reached, groups_from, groups_of};
+use group_release::Level;
+use import_rules::Program;
+use std::alloc::{AllocError, Global};
+
+/// The predicates that are told, ascending; the groups of what the roots reach, with their levels; and
+/// for each predicate of the program one more than the place of its group, or 0 where it is in none.
+#[derive(Drop)]
+pub struct Told<'a> {
+    pub program: &'a Program,
+    pub nodes: Vec<u32>,
+    pub groups: Vec<Vec<u32>>,
+    pub levels: Vec<Level>,
+    pub places: Vec<usize>,
+}
+
+/// Whether a predicate is told: it is in a group, or all are wanted.
+fn is_told(place: usize, all: bool) -> bool
+    ensures { result ≡ (all || not (place == 0)) }
+{
+    if all {
+        return true;
+    }
+    place != 0
+}
+
+/// The predicates that are in a group, or all of them.
+fn told_nodes(
+    alloc: Global,
+    places: &[usize],
+    count: u32,
+    all: bool,
+) -> Result<Vec<u32>, AllocError>
+    requires { length places.now ≡ count }
+    ensures nodes { IfOk result (λ nodes. nodes.items ≡ told_nodes count places.now all) }
+    ensures below { IfOk result (λ nodes. All (λ p. p < count) nodes.items) }
+{
+    let mut nodes = Vec::new(alloc);
+    for node in 0..count {
+        if !is_told(places[node as usize], all) {
+            continue;
+        }
+        nodes.push(node)?;
+    }
+    Ok(nodes)
+}
+
+/// What is told of a program with these calls, where reach begins at these roots.
+pub fn make_told<'a>(
+    alloc: Global,
+    wanted: &Wanted,
+    program: &'a Program,
+    calls: &CallLists<'_>,
+    roots: &[u32],
+) -> Result<Told<'a>, AllocError>
+    requires calls { see_call_lists calls.now ≡ see_program program.now }
+    requires below { All (λ q. q < length (see_program program.now).predicates) roots.now }
+    ensures told { IfOk result IsTold }
+    ensures same { IfOk result (λ (told : ToldHere). see_program told.program.now ≡ see_program program.now) }
+    ensures is { IfOk result (ToldIs (see_wanted wanted.now) roots.now) }
+{
+    let found = groups_from(alloc, program, calls, roots)?;
+    let told = told_of(alloc, wanted, program, roots, found)?;
+    Ok(told)
+}
+
+/// What is told of a program with these groups; where all predicates are wanted, those that are in no
+/// group too.
+fn told_of<'a>(
+    alloc: Global,
+    wanted: &Wanted,
+    program: &'a Program,
+    roots: &[u32],
+    found: Reached,
+) -> Result<Told<'a>, AllocError>
+    requires leveled { AreLeveled (ListCalls (successor_lists (see_program program.now))) roots.now (lists_of found.groups.items) found.levels.items }
+    requires nodes { AreNodes (length (see_program program.now).predicates) (lists_of found.groups.items) }
+    requires levels { length found.levels.items ≡ length found.groups.items }
+    ensures told { IfOk result IsTold }
+    ensures same { IfOk result (λ (told : ToldHere). see_program told.program.now ≡ see_program program.now) }
+    ensures is { IfOk result (ToldIs (see_wanted wanted.now) roots.now) }
+{
+    let _roots = roots;
+    let Reached { groups, levels } = found;
+    let places = groups_of(alloc, program.count(), &groups)?;
+    let nodes = told_nodes(alloc, &places, program.count(), wanted.options.unreached)?;
+    Ok(Told {
+        program,
+        nodes,
+        groups,
+        levels,
+        places,
+    })
+}

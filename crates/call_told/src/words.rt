@@ -1,0 +1,195 @@
+//! The words of the command line.
+
+ghost use Rattle.std.specs.Prelude.{◌≡◌, ◌≤◌, ◌||◌, ◌++◌, ◌∷◌, [], false, true, codes, filter, length, nat_eq, IfOk, IfErr, MatchOption, OnOk};
+ghost use Rattle.std.specs.List.{list_all, starts_with};
+ghost use Rattle.call_told.specs.Wanted.{AreAsked, IsNothingAsked, form_words, front_count, front_words, is_end, is_form, is_known, is_other, is_shared, other_words, see_wanted};
+ghost use Rattle.call_told.specs.declared.words.Form.{Form as FormHere};
+
+use group_words::{Options, WordFault, parse_words};
+use prolog_tokens::Text;
+use std::alloc::{AllocError, Global};
+
+/// What is written.
+#[derive(Clone, Copy, Debug, PartialEq, Eq)]
+pub enum Form {
+    /// Predicates, clauses and calls, an object a line.
+    Lines,
+    /// The calls whose names mean no predicate, an object a line.
+    Undefined,
+    /// The graph of the predicates.
+    Dot,
+}
+
+/// What the words ask for: a form, and of the options of `groups` the roots, whether predicates that
+/// no root reaches are told too, and the files.
+#[derive(Drop)]
+pub struct Wanted {
+    pub form: Form,
+    pub options: Options,
+}
+
+/// Whether no word behind this one is an option.
+fn is_end(word: &Text) -> bool
+    ensures { result ≡ is_end word.now }
+{
+    word.as_str() == "--"
+}
+
+/// Whether the word names a form.
+fn is_form(word: &Text) -> bool
+    ensures { result ≡ is_form word.now }
+{
+    let word = word.as_str();
+    word == "--undefined" || word == "--dot"
+}
+
+/// The form that the word names, where it names one.
+fn form_of(word: &Text) -> Option<Form>
+    ensures { MatchOption result (is_form word.now ≡ false) (λ form. (is_form word.now ≡ true) × (form_words form ≡ word.now ∷ [])) }
+{
+    if word.as_str() == "--undefined" {
+        return Some(Form::Undefined);
+    }
+    if word.as_str() == "--dot" {
+        return Some(Form::Dot);
+    }
+    None
+}
+
+/// Whether the word begins with `--`.
+fn begins_as_option(word: &str) -> bool
+    ensures { result ≡ starts_with nat_eq word.now (codes "--") }
+{
+    word.starts_with("--")
+}
+
+/// Whether the word is `--roots=LIST`.
+fn gives_roots(word: &str) -> bool
+    ensures { result ≡ starts_with nat_eq word.now (codes "--roots=") }
+{
+    word.starts_with("--roots=")
+}
+
+/// Whether the word is no option, or one of `groups` that this program takes too.
+fn is_shared(word: &str) -> bool
+    ensures { result ≡ is_shared word.now }
+{
+    if !begins_as_option(word) {
+        return true;
+    }
+    if word == "--roots" {
+        return true;
+    }
+    if gives_roots(word) {
+        return true;
+    }
+    word == "--unreached"
+}
+
+/// Whether the word is no option, or one that this program takes.
+fn is_known(word: &Text) -> bool
+    ensures { result ≡ is_known word.now }
+{
+    if is_form(word) {
+        return true;
+    }
+    is_shared(word.as_str())
+}
+
+/// How many words stand before the first `--`.
+fn front_count(words: &[Text]) -> usize
+    ensures is { result ≡ front_count words.now }
+    ensures within { result ≤ length words.now }
+{
+    for (at, word) in words.iter().enumerate() {
+        if is_end(word) {
+            return at;
+        }
+    }
+    words.len()
+}
+
+fn are_known(words: &[Text]) -> bool
+    ensures { result ≡ list_all is_known words.now }
+{
+    words.iter().all(|word| is_known(word))
+}
+
+/// The form that the words name, where they name one at most.
+fn named_form(words: &[Text]) -> Option<Form>
+    ensures { MatchOption result ((form : FormHere) → filter is_form words.now ≡ form_words form → ⊥) (λ form. filter is_form words.now ≡ form_words form) }
+{
+    let mut found = Form::Lines;
+    for word in words {
+        let Some(form) = form_of(word) else {
+            continue;
+        };
+        match found {
+            Form::Lines => found = form,
+            Form::Undefined => return None,
+            Form::Dot => return None,
+        }
+    }
+    Some(found)
+}
+
+/// Adds the words that name no form.
+fn push_others(alloc: Global, words: &[Text], others: &mut Vec<Text>) -> Result<(), AllocError>
+    ensures { OnOk result (others.new.items ≡ others.old.items ++ filter is_other words.now) }
+{
+    for word in words {
+        if is_form(word) {
+            continue;
+        }
+        others.push(Text::new(alloc, word.as_str())?)?;
+    }
+    Ok(())
+}
+
+/// Adds the words.
+fn push_words(alloc: Global, words: &[Text], others: &mut Vec<Text>) -> Result<(), AllocError>
+    ensures { OnOk result (others.new.items ≡ others.old.items ++ words.now) }
+{
+    for word in words {
+        others.push(Text::new(alloc, word.as_str())?)?;
+    }
+    Ok(())
+}
+
+/// The words before the first `--`.
+fn front_of(words: &[Text]) -> &[Text]
+    ensures { result.now ≡ front_words words.now }
+{
+    &words[..front_count(words)]
+}
+
+/// All words but those before `--` that name a form.
+fn other_words(alloc: Global, words: &[Text]) -> Result<Vec<Text>, AllocError>
+    ensures { IfOk result (λ more. more.items ≡ other_words words.now) }
+{
+    let count = front_count(words);
+    let mut others = Vec::new(alloc);
+    push_others(alloc, &words[..count], &mut others)?;
+    push_words(alloc, &words[count..], &mut others)?;
+    Ok(others)
+}
+
+/// What the words ask for, or that they aren't lawful: `--undefined` and `--dot` at most one of them
+/// and once, `--roots LIST`, `--unreached` and the files as `groups` takes them, and nothing else.
+pub fn read_wanted(alloc: Global, words: &[Text]) -> Result<Wanted, WordFault>
+    ensures ok { IfOk result (λ wanted. AreAsked words.now (see_wanted wanted)) }
+    ensures usage { IfErr result (λ fault. fault ≡ WordFault.Usage → IsNothingAsked (AreAsked words.now)) }
+{
+    let front = front_of(words);
+    if !are_known(front) {
+        return Err(WordFault::Usage);
+    }
+    let Some(form) = named_form(front) else {
+        return Err(WordFault::Usage);
+    };
+    let others = other_words(alloc, words)?;
+    match parse_words(alloc, &others) {
+        Ok(options) => Ok(Wanted { form, options }),
+        Err(fault) => Err(fault),
+    }
+}

@@ -1,0 +1,5 @@
+pub mod Said
+pub mod LimitLine
+pub mod CarryingLemmas
+pub mod EndLemmas
+pub mod RunLemmas

@@ -1,0 +1,32 @@
+use Rattle.std.proofs.Common.{◌≡◌, ℕ, ◌⊎◌, List, IfOk, MatchResult, Result, Ok, Err, inl, inr, subst}
+use Rattle.std.specs.String.{string_bytes}
+use Rattle.calls_tool.specs.End.{memory_line}
+use Rattle.calls_tool.specs.Lines.{missing_line, unread_line}
+use Rattle.group_tool.specs.Run.{Taking, SaidWith}
+use Rattle.calls_tool.proofs.run.say_stop.Goals as goal
+
+pub returns-in-Usage : goal.returns-in-Usage
+returns-in-Usage g c = rw c.in-Usage.is (inl (rw c.as_bytes.ensures.value at c.say_with.ensures))
+
+-- the lines are said, or that there was no memory for them
+lines_or_wanting : {T E : Type 0} (r : Result T E) (bytes : T → List ℕ) (line : List ℕ) (Said : List ℕ → Type 0) (Wanting : Type 0) → IfOk r (λ text. bytes text ≡ line)
+    → MatchResult r (λ text. Said (bytes text)) (λ _. Wanting) → Said line ⊎ Wanting
+lines_or_wanting {T} {E} (Ok text) bytes line Said Wanting is said = inl (subst Said is said)
+lines_or_wanting {T} {E} (Err error) bytes line Said Wanting is said = inr said
+
+pub returns-in-NoPredicate : goal.returns-in-NoPredicate
+returns-in-NoPredicate g c =
+    let taking : Taking = (g.S.Sink.seen c.args.sink.now, g.S.Sink.seen c.say_lines-in-NoPredicate.new.sink) in
+    rw c.in-NoPredicate.is
+    (lines_or_wanting c.missing_line.result string_bytes (missing_line c.in-NoPredicate.root) (λ bytes. SaidWith bytes 2 c.say_lines-in-NoPredicate.result taking)
+    (SaidWith memory_line 7 c.say_lines-in-NoPredicate.result taking) c.missing_line.ensures c.say_lines-in-NoPredicate.ensures)
+
+pub returns-in-ReadFault : goal.returns-in-ReadFault
+returns-in-ReadFault g c =
+    let taking : Taking = (g.S.Sink.seen c.args.sink.now, g.S.Sink.seen c.say_lines-in-ReadFault.new.sink) in
+    rw c.in-ReadFault.is
+    (lines_or_wanting c.unread_line.result string_bytes (unread_line c.in-ReadFault.name) (λ bytes. SaidWith bytes 4 c.say_lines-in-ReadFault.result taking)
+    (SaidWith memory_line 7 c.say_lines-in-ReadFault.result taking) c.unread_line.ensures c.say_lines-in-ReadFault.ensures)
+
+pub returns-in-NoMemory : goal.returns-in-NoMemory
+returns-in-NoMemory g c = rw c.in-NoMemory.is (inl (rw c.as_bytes-in-NoMemory.ensures.value at c.say_with-in-NoMemory.ensures))

@@ -1,0 +1,8 @@
+pub mod Lines
+pub mod End
+pub mod Told
+pub mod Answer
+pub mod Carrying
+pub mod Roots
+pub mod Stop
+pub mod Run

@@ -1,0 +1,105 @@
+//! The predicates at which a run begins.
+
+ghost use Rattle.std.specs.Prelude.{◌≡◌, ◌<◌, ◌↔◌, ◌++◌, ◌∷◌, [], OnOk, IsTrue, All, Contains, MatchOption, Some, IfOk, IfErr, length};
+ghost use Rattle.std.specs.List.{AllZip};
+ghost use Rattle.import_rules.specs.Program.{see_program};
+ghost use Rattle.calls_tool.specs.Roots.{IsRootStop};
+ghost use Rattle.group_tool.specs.Roots.{AreRoots, HasRoots, IsNamed};
+ghost use Rattle.group_words.specs.Settings.{see_options};
+
+use crate::stop::Stop;
+use call_edges::roots_of;
+use group_words::Options;
+use import_rules::{PredName, Program, found_means};
+use prolog_tokens::Text;
+use std::alloc::{AllocError, Global};
+
+/// Whether the names are those of one predicate.
+fn is_same(name: &PredName, other: &PredName) -> bool
+    ensures { IsTrue result ↔ (name.now ≡ other.now) }
+{
+    if name.arity != other.arity {
+        return false;
+    }
+    if name.name != other.name {
+        return false;
+    }
+    name.module == other.module
+}
+
+/// The number of the program's predicate of that name. What the module imports is none of it.
+fn number_of(program: &Program, name: &PredName) -> Option<u32>
+    ensures { MatchOption result
+        (Contains (see_program program.now).predicates name.now → ⊥)
+        (IsNamed (see_program program.now).predicates name.now) }
+{
+    program.is_known();
+    found_means();
+    let Some(node) = program.find(name.module.as_str(), name.name.as_str(), name.arity) else {
+        return None;
+    };
+    if is_same(program.name_of(node), name) {
+        return Some(node);
+    }
+    None
+}
+
+fn copied(alloc: Global, name: &PredName) -> Result<PredName, AllocError>
+    ensures { IfOk result (λ copy. copy ≡ name.now) }
+{
+    Ok(PredName {
+        module: Text::new(alloc, name.module.as_str())?,
+        name: Text::new(alloc, name.name.as_str())?,
+        arity: name.arity,
+    })
+}
+
+fn push_root(roots: &mut Vec<u32>, node: u32) -> Result<(), AllocError>
+    ensures { OnOk result (roots.new.items ≡ roots.old.items ++ node ∷ []) }
+{
+    roots.push(node)?;
+    Ok(())
+}
+
+/// The numbers of the predicates that the list names, in its order, or the first name that is none.
+fn listed(alloc: Global, program: &Program, list: &[PredName]) -> Result<Vec<u32>, Stop>
+    ensures ok { IfOk result (λ roots. AllZip (IsNamed (see_program program.now).predicates) list.now roots.items) }
+    ensures err { IfErr result (IsRootStop (Some list.now) (see_program program.now)) }
+{
+    let mut roots = Vec::new(alloc);
+    for name in list {
+        let Some(node) = number_of(program, name) else {
+            return Err(Stop::NoPredicate(copied(alloc, name)?));
+        };
+        push_root(&mut roots, node)?;
+    }
+    Ok(roots)
+}
+
+/// The numbers of the predicates that the list names, ascending and each once.
+fn listed_roots(alloc: Global, program: &Program, list: &[PredName]) -> Result<Vec<u32>, Stop>
+    ensures roots { IfOk result (λ roots. AreRoots (Some list.now) (see_program program.now) roots.items) }
+    ensures below { IfOk result (λ roots. All (λ q. q < length (see_program program.now).predicates) roots.items) }
+    ensures rooted { IfOk result (λ _. HasRoots (Some list.now) (see_program program.now)) }
+    ensures err { IfErr result (IsRootStop (Some list.now) (see_program program.now)) }
+{
+    program.is_known();
+    let mut roots = listed(alloc, program, list)?;
+    roots.sort_unstable();
+    roots.dedup();
+    Ok(roots)
+}
+
+/// The predicates at which reach begins, ascending and each once: those that the options list, or
+/// where they list none those of the program.
+pub fn roots_by(alloc: Global, program: &Program, options: &Options) -> Result<Vec<u32>, Stop>
+    ensures roots { IfOk result (λ roots. AreRoots (see_options options.now).roots (see_program program.now) roots.items) }
+    ensures below { IfOk result (λ roots. All (λ q. q < length (see_program program.now).predicates) roots.items) }
+    ensures rooted { IfOk result (λ _. HasRoots (see_options options.now).roots (see_program program.now)) }
+    ensures err { IfErr result (IsRootStop (see_options options.now).roots (see_program program.now)) }
+{
+    match &options.roots {
+        Some(list) => listed_roots(alloc, program, list),
+        None => Ok(roots_of(alloc, program)?),
+    }
+}
