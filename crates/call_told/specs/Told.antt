@@ -7,7 +7,8 @@ use Rattle.import_rules.specs.Program.{Seen, see_program}
 use Rattle.call_edges.specs.PlacedSeen.{see_calls}
 use Rattle.call_edges.specs.Successors.{successor_lists}
 use Rattle.call_table.specs.Memberships.{AreGroupsOf}
-use Rattle.call_table.specs.Reached.{AreLeveled, AreNodes}
+use Rattle.call_table.specs.Reached.{AreNodes}
+use Rattle.loop_report.specs.Reportable.{AreLeveled}
 use Rattle.call_table.specs.Table.{IsTable}
 use Rattle.call_table.specs.declared.table.CallTable.{CallTable}
 use Rattle.call_writer.specs.Dot.{cluster, edge_line, node_line_of}

@@ -4,7 +4,8 @@
 ghost use Rattle.std.specs.Prelude.{◌≡◌, ◌<◌, ◌==◌, ◌||◌, All, IfOk, length, not};
 ghost use Rattle.call_edges.specs.Opened.{see_call_lists};
 ghost use Rattle.call_edges.specs.Successors.{successor_lists};
-ghost use Rattle.call_table.specs.Reached.{AreLeveled, AreNodes};
+ghost use Rattle.call_table.specs.Reached.{AreNodes};
+ghost use Rattle.loop_report.specs.Reportable.{AreLeveled};
 ghost use Rattle.call_told.specs.Told.{IsTold, ToldIs, told_nodes};
 ghost use Rattle.call_told.specs.Wanted.{see_wanted};
 ghost use Rattle.call_told.specs.declared.told.Told.{Told as ToldHere};

@@ -14,12 +14,12 @@ use Rattle.call_edges.specs.GoalFaults.{AreGoalFaults, IsGoalStop}
 use Rattle.group_words.specs.declared.options.WordFault.{WordFault}
 use Rattle.group_words.specs.declared.options.WordFault.TheVariants as of_word
 use Rattle.group_tool.specs.Run.{Asking, EndsAsking, IsLeft, Taking}
-use Rattle.group_tool.proofs.ToldEnd.{told_end}
+use Rattle.file_library.proofs.ToldEnd.{told_end}
 use Rattle.calls_tool.specs.declared.stop.Stop.{Stop}
 use Rattle.calls_tool.specs.declared.stop.Stop.TheVariants as of_stop
 use Rattle.calls_tool.specs.Roots.{IsRootStop}
 use Rattle.call_told.specs.Wanted.{Asked, AreAsked, IsNothingAsked}
-use Rattle.calls_tool.specs.Answer.{ComesTo, IsLoadedEnd, IsLawfulAnswer}
+use Rattle.calls_tool.specs.Answer.{LoadEndComesTo, IsLoadedEnd, IsLawfulAnswer}
 use Rattle.calls_tool.specs.End.{End, usage, faults, missing, unread, limit, output, no_memory}
 use Rattle.calls_tool.specs.Run.{IsJust, IsReadEnd, IsLawfulEnd, EndIs, SaidEnd, IsRun}
 use Rattle.calls_tool.specs.Stop.{of_words, of_loading, of_checking, end_of_stop, end_of}
@@ -37,11 +37,11 @@ told_answer wanted library end is files tells decided = record {
   comes = is.comes;
 }
 
-lawful_end : (asked : Asked) (library : Asking) (load : LoadEnd) (end : End) → EndsAsking library asked.settings.files load → ComesTo asked load end → IsLawfulEnd (IsJust asked) library end
+lawful_end : (asked : Asked) (library : Asking) (load : LoadEnd) (end : End) → EndsAsking library asked.settings.files load → LoadEndComesTo asked load end → IsLawfulEnd (IsJust asked) library end
 lawful_end asked library load end asking comes = record { asked = asked; lawful = refl; load = load; asking = asking; comes = comes }
 
 -- no reading comes to the usage
-never_usage : (asked : Asked) (load : LoadEnd) → ComesTo asked load usage → ⊥
+never_usage : (asked : Asked) (load : LoadEnd) → LoadEndComesTo asked load usage → ⊥
 never_usage asked (loaded found) comes = comes
 never_usage asked (of_load.faults found) comes = cc
 never_usage asked (of_load.unread name) comes = cc
@@ -50,7 +50,7 @@ never_usage asked (too_large name) comes = cc
 never_usage asked too_much comes = cc
 never_usage asked of_load.no_memory comes = cc
 
-comes_end : (asked : Asked) (library : Asking) (load : LoadEnd) → EndsAsking library asked.settings.files load → (end : End) → ComesTo asked load end
+comes_end : (asked : Asked) (library : Asking) (load : LoadEnd) → EndsAsking library asked.settings.files load → (end : End) → LoadEndComesTo asked load end
     → EndIs (IsJust asked) library end
 comes_end asked library load asking usage comes = absurd (never_usage asked load comes)
 comes_end asked library load asking (faults list) comes = lawful_end asked library load (faults list) asking comes

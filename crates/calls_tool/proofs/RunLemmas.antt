@@ -10,7 +10,7 @@ use Rattle.group_tool.specs.Run.{Asking, EndsAsking, IsSettled, IsWritten, Takin
 use Rattle.group_tool.proofs.EndLemmas.{reads_handed}
 use Rattle.group_tool.proofs.RunLemmas.{more_none}
 use Rattle.call_told.specs.Wanted.{Asked}
-use Rattle.calls_tool.specs.Answer.{ComesTo, IsLawfulAnswer, IsAnswer}
+use Rattle.calls_tool.specs.Answer.{LoadEndComesTo, IsLawfulAnswer, IsAnswer}
 use Rattle.calls_tool.specs.End.{End, usage, faults, missing, unread, limit, output, no_memory, status_of, out_of, err_of}
 use Rattle.calls_tool.specs.Run.{IsLawfulEnd, EndIs, EndsBy, IsRun, SaysAnswer, SaysHandedOver, SaysNoMemory}
 use Rattle.calls_tool.proofs.EndLemmas.{told_answer}
@@ -71,7 +71,7 @@ is_said : (result : ℕ) (out err : Taking) (end : End) → EndsBy result out er
 is_said result out err end written whole = elim (said_or_cut result out err end written) [ inl said ↦ said | inr cut ↦ absurd (whole cut.0) ]
 
 -- what is told, faults, a root that is missing and a passed limit are decided by the map
-comes_decided : (asked : Asked) (load : LoadEnd) (end : End) → ComesTo asked load end → ((name : List ℕ) → end ≢ unread name) → end ≢ no_memory → IsDecided load
+comes_decided : (asked : Asked) (load : LoadEnd) (end : End) → LoadEndComesTo asked load end → ((name : List ℕ) → end ≢ unread name) → end ≢ no_memory → IsDecided load
 comes_decided asked (loaded found) end comes not_unread not_wanting = tt
 comes_decided asked (of_load.faults found) end comes not_unread not_wanting = tt
 comes_decided asked (of_load.unread name) end comes not_unread not_wanting = not_unread name comes
@@ -80,7 +80,7 @@ comes_decided asked (too_large name) end comes not_unread not_wanting = tt
 comes_decided asked too_much end comes not_unread not_wanting = tt
 comes_decided asked of_load.no_memory end comes not_unread not_wanting = not_wanting comes
 
-unread_load : (asked : Asked) (load : LoadEnd) (name : List ℕ) → ComesTo asked load (unread name) → load ≡ of_load.unread name
+unread_load : (asked : Asked) (load : LoadEnd) (name : List ℕ) → LoadEndComesTo asked load (unread name) → load ≡ of_load.unread name
 unread_load asked (loaded found) name comes = absurd comes
 unread_load asked (of_load.faults found) name comes = cc
 unread_load asked (of_load.unread other) name comes = cc

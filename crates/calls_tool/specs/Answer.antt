@@ -35,14 +35,14 @@ LoadedComesTo asked found (output bytes) = TellsLoaded asked found bytes
 LoadedComesTo asked found _ = ⊥
 
 -- what the end of the asking for files comes to
-abbrev pub ComesTo : Asked → LoadEnd → End → Type 0
-ComesTo asked (of_load.loaded found) end = LoadedComesTo asked found end
-ComesTo asked (of_load.faults found) end = end ≡ faults found
-ComesTo asked (of_load.unread name) end = end ≡ unread name
-ComesTo asked of_load.too_many end = end ≡ limit TooManyFiles
-ComesTo asked (of_load.too_large name) end = end ≡ limit (FileTooLarge name)
-ComesTo asked of_load.too_much end = end ≡ limit TooMuchText
-ComesTo asked of_load.no_memory end = end ≡ no_memory
+abbrev pub LoadEndComesTo : Asked → LoadEnd → End → Type 0
+LoadEndComesTo asked (of_load.loaded found) end = LoadedComesTo asked found end
+LoadEndComesTo asked (of_load.faults found) end = end ≡ faults found
+LoadEndComesTo asked (of_load.unread name) end = end ≡ unread name
+LoadEndComesTo asked of_load.too_many end = end ≡ limit TooManyFiles
+LoadEndComesTo asked (of_load.too_large name) end = end ≡ limit (FileTooLarge name)
+LoadEndComesTo asked of_load.too_much end = end ≡ limit TooMuchText
+LoadEndComesTo asked of_load.no_memory end = end ≡ no_memory
 
 -- memory was wanting, or this is what loaded files come to
 abbrev pub IsLoadedEnd : Asked → LoadedFiles → End → Type 0
@@ -56,7 +56,7 @@ pub record IsLawfulAnswer (wanted : Asked → Type 0) (files : Files) (end : End
   pub load : LoadEnd
   pub decided : IsDecided load
   pub ends : LoadEndIs files asked.settings.files names load
-  pub comes : ComesTo asked load end
+  pub comes : LoadEndComesTo asked load end
 
 -- the answer to what is wanted over the files
 abbrev pub IsAnswer : (Asked → Type 0) → Files → End → Type 0

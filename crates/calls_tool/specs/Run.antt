@@ -3,7 +3,7 @@ use Rattle.std.specs.Prelude.{◌≡◌, ℕ, ◌⊎◌, List, ◌++◌}
 use Rattle.file_library.specs.Library.{Files, Answered, map_of}
 use Rattle.file_library.specs.Asking.{LoadEnd}
 use Rattle.group_tool.specs.Run.{Asking, EndsAsking, IsLeft, IsWritten, SaidWith, Taking, TookJust, TookNone}
-use Rattle.calls_tool.specs.Answer.{ComesTo, IsAnswer}
+use Rattle.calls_tool.specs.Answer.{LoadEndComesTo, IsAnswer}
 use Rattle.calls_tool.specs.End.{End, usage, output, no_memory, memory_line, status_of, out_of, err_of}
 use Rattle.call_told.specs.Wanted.{Asked, IsNothingAsked}
 
@@ -15,7 +15,7 @@ IsJust asked wanted = wanted ≡ asked
 pub record IsReadEnd (asked : Asked) (names : List (List ℕ)) (library : Asking) (end : End) : Type 0 where
   pub load : LoadEnd
   pub asking : EndsAsking library names load
-  pub comes : (end ≡ no_memory) ⊎ ComesTo asked load end
+  pub comes : (end ≡ no_memory) ⊎ LoadEndComesTo asked load end
 
 -- the run ends by what the asking for the wanted files comes to
 pub record IsLawfulEnd (wanted : Asked → Type 0) (library : Asking) (end : End) : Type 0 where
@@ -23,7 +23,7 @@ pub record IsLawfulEnd (wanted : Asked → Type 0) (library : Asking) (end : End
   pub lawful : wanted asked
   pub load : LoadEnd
   pub asking : EndsAsking library asked.settings.files load
-  pub comes : ComesTo asked load end
+  pub comes : LoadEndComesTo asked load end
 
 -- why a run ends so: the words ask for nothing, and no file was asked for; memory was wanting; or what the files come to
 abbrev pub EndIs : (Asked → Type 0) → Asking → End → Type 0

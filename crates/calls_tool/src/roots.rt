@@ -1,48 +1,18 @@
 //! The predicates at which a run begins.
 
-ghost use Rattle.std.specs.Prelude.{◌≡◌, ◌<◌, ◌↔◌, ◌++◌, ◌∷◌, [], OnOk, IsTrue, All, Contains, MatchOption, Some, IfOk, IfErr, length};
+ghost use Rattle.std.specs.Prelude.{◌≡◌, ◌<◌, ◌++◌, ◌∷◌, [], OnOk, All, Some, IfOk, IfErr, length};
 ghost use Rattle.std.specs.List.{AllZip};
 ghost use Rattle.import_rules.specs.Program.{see_program};
 ghost use Rattle.calls_tool.specs.Roots.{IsRootStop};
-ghost use Rattle.group_tool.specs.Roots.{AreRoots, HasRoots, IsNamed};
+ghost use Rattle.group_tool.specs.Roots.{AreRootNumbers, HasRoots, IsNamed};
 ghost use Rattle.group_words.specs.Settings.{see_options};
 
 use crate::stop::Stop;
 use call_edges::roots_of;
 use group_words::Options;
-use import_rules::{PredName, Program, found_means};
+use import_rules::{PredName, Program};
 use prolog_tokens::Text;
 use std::alloc::{AllocError, Global};
-
-/// Whether the names are those of one predicate.
-fn is_same(name: &PredName, other: &PredName) -> bool
-    ensures { IsTrue result ↔ (name.now ≡ other.now) }
-{
-    if name.arity != other.arity {
-        return false;
-    }
-    if name.name != other.name {
-        return false;
-    }
-    name.module == other.module
-}
-
-/// The number of the program's predicate of that name. What the module imports is none of it.
-fn number_of(program: &Program, name: &PredName) -> Option<u32>
-    ensures { MatchOption result
-        (Contains (see_program program.now).predicates name.now → ⊥)
-        (IsNamed (see_program program.now).predicates name.now) }
-{
-    program.is_known();
-    found_means();
-    let Some(node) = program.find(name.module.as_str(), name.name.as_str(), name.arity) else {
-        return None;
-    };
-    if is_same(program.name_of(node), name) {
-        return Some(node);
-    }
-    None
-}
 
 fn copied(alloc: Global, name: &PredName) -> Result<PredName, AllocError>
     ensures { IfOk result (λ copy. copy ≡ name.now) }
@@ -68,7 +38,7 @@ fn listed(alloc: Global, program: &Program, list: &[PredName]) -> Result<Vec<u32
 {
     let mut roots = Vec::new(alloc);
     for name in list {
-        let Some(node) = number_of(program, name) else {
+        let Some(node) = program.own(name) else {
             return Err(Stop::NoPredicate(copied(alloc, name)?));
         };
         push_root(&mut roots, node)?;
@@ -78,7 +48,7 @@ fn listed(alloc: Global, program: &Program, list: &[PredName]) -> Result<Vec<u32
 
 /// The numbers of the predicates that the list names, ascending and each once.
 fn listed_roots(alloc: Global, program: &Program, list: &[PredName]) -> Result<Vec<u32>, Stop>
-    ensures roots { IfOk result (λ roots. AreRoots (Some list.now) (see_program program.now) roots.items) }
+    ensures roots { IfOk result (λ roots. AreRootNumbers (Some list.now) (see_program program.now) roots.items) }
     ensures below { IfOk result (λ roots. All (λ q. q < length (see_program program.now).predicates) roots.items) }
     ensures rooted { IfOk result (λ _. HasRoots (Some list.now) (see_program program.now)) }
     ensures err { IfErr result (IsRootStop (Some list.now) (see_program program.now)) }
@@ -93,7 +63,7 @@ fn listed_roots(alloc: Global, program: &Program, list: &[PredName]) -> Result<V
 /// The predicates at which reach begins, ascending and each once: those that the options list, or
 /// where they list none those of the program.
 pub fn roots_by(alloc: Global, program: &Program, options: &Options) -> Result<Vec<u32>, Stop>
-    ensures roots { IfOk result (λ roots. AreRoots (see_options options.now).roots (see_program program.now) roots.items) }
+    ensures roots { IfOk result (λ roots. AreRootNumbers (see_options options.now).roots (see_program program.now) roots.items) }
     ensures below { IfOk result (λ roots. All (λ q. q < length (see_program program.now).predicates) roots.items) }
     ensures rooted { IfOk result (λ _. HasRoots (see_options options.now).roots (see_program program.now)) }
     ensures err { IfErr result (IsRootStop (see_options options.now).roots (see_program program.now)) }
