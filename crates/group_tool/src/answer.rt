@@ -150,7 +150,15 @@ fn tell_by_workers<R: Threads + Wait + Sync, G: Gate>(
     ensures { ProgramComesTo (see_options options.now) (see_program program.now) (end_of result) }
 {
     let asked = asked_of(rt, alloc, options, program)?;
-    let groups = groups_by_workers(rt, alloc, options, program, &asked.calls, &asked.roots, gate)?;
+    let groups = groups_by_workers(
+        rt,
+        alloc,
+        options,
+        program,
+        &asked.calls,
+        &asked.roots,
+        gate,
+    )?;
     let bytes = report_groups(rt, alloc, options, program, &asked, &groups)?;
     Ok(bytes)
 }

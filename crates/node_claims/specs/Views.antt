@@ -19,8 +19,10 @@ outline_of book = record {
 -- the word of a node that no pass has claimed yet, of one that stands on the list of a pass or a kept search, and of one that is closed or released
 abbrev pub unseen_word : ℕ
 unseen_word = 0
+
 abbrev pub held_word : ℕ
 held_word = 1
+
 abbrev pub finished_word : ℕ
 finished_word = 2
 
