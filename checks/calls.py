@@ -4,7 +4,7 @@
 The examples and two hundred random programs are told, with names of any characters, over one file and over modules. Of each, the predicates,
 groups and heights are those of the report of `groups`, the clauses and the calls of a random program are those that it was made of, each at its
 place, and the graph has a node for each predicate and an edge for each pair of a caller and a callee. Names with each code point are told
-and read back. Needs `calls`, `groups` and `dot`. Ends with status 1 at the first difference.
+and read back. Needs `calls` and `groups`; where `dot` isn't installed it says so, and reads no graph back. Ends with status 1 at the first difference.
 
 --xref N takes each Nth `.pl` file of the Prolog packages that are installed, and sets the pairs of a caller and a callee inside its module beside
 those that SWI-Prolog's prolog_xref tells, where `calls` reads it: how many are told by both, and each that is told by one alone (docs/calls.md has the
@@ -17,6 +17,7 @@ import json
 import pathlib
 import random
 import re
+import shutil
 import subprocess
 import sys
 import tempfile
@@ -27,6 +28,7 @@ import real_programs
 ROOT = pathlib.Path(__file__).resolve().parent.parent
 CALLS = str(ROOT / "calls")
 GROUPS = str(ROOT / "groups")
+HAS_DOT = shutil.which("dot") is not None
 ODD = ["p", "q", "r2", "aB", "", "it's", 'a"b', "back\\slash", "new\nline", "tab\t", "bell\a", "\x7f", "é", "日本"]
 ODD += ["\U0001f600", "a b", "[]", "<N>", "\\n", "{}x"]
 
@@ -85,6 +87,8 @@ def beside_groups(words, folder, predicates):
 def beside_graph(words, folder, predicates, calls):
     """The graph has the nodes and the edges of the lines."""
     text = output([CALLS, "--dot", *words], folder)
+    if not HAS_DOT:
+        return
     canon = subprocess.run(["dot", "-Tcanon"], input=text.encode(), stdout=subprocess.PIPE, check=True).stdout.decode()
     nodes = set(re.findall(r"^\s*n(\d+)\s*\[", canon, re.M))
     edges = set(re.findall(r"^\s*n(\d+) -> n(\d+)", canon, re.M))
@@ -186,6 +190,8 @@ def main():
             predicates, _, goals = told([path.name], path.parent)
             beside_groups([path.name], path.parent, predicates)
             beside_graph([path.name], path.parent, predicates, goals)
+    if not HAS_DOT:
+        print("dot isn't installed: no graph is read back")
     print(f"200 random programs, each code point and {len(examples)} examples are read back")
 
 
