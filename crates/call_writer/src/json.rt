@@ -1,6 +1,7 @@
 //! Strings and numbers of JSON.
 
-ghost use Rattle.std.specs.Prelude.{◌≡◌, ◌<◌, ◌+◌, ◌++◌, ◌∷◌, ◌/◌, ◌%◌, [], OnOk, chars, codes};
+ghost use Rattle.std.specs.Prelude.{◌≡◌, ◌<◌, ◌+◌, ◌++◌, ◌∷◌, ◌/◌, ◌%◌, [], IsTrue, OnOk, chars, codes};
+ghost use Rattle.std.specs.Char.{encode_utf8};
 ghost use Rattle.std.specs.Fmt.{decimal};
 ghost use Rattle.std.specs.List.{flat_map};
 ghost use Rattle.std.specs.String.{string_bytes};
@@ -65,6 +66,51 @@ fn push_json_char(text: &mut String, character: char) -> Result<(), AllocError>
     text.push(character)
 }
 
+/// Whether the character stands in a string of JSON as it is.
+fn is_plain(character: char) -> bool
+    ensures { IsTrue result → json_char character ≡ encode_utf8 character }
+{
+    if character == '"' {
+        return false;
+    }
+    if character == '\\' {
+        return false;
+    }
+    character >= ' '
+}
+
+/// Whether a text stands in a string of JSON as it is, as most names do.
+fn are_plain(name: &str) -> bool
+    ensures { IsTrue result → flat_map json_char (chars name.now) ≡ name.now }
+{
+    for character in name.chars() {
+        if !is_plain(character) {
+            return false;
+        }
+    }
+    true
+}
+
+/// Adds the characters of a text one by one.
+fn push_escaped(text: &mut String, name: &str) -> Result<(), AllocError>
+    ensures { OnOk result (string_bytes text.new ≡ string_bytes text.old ++ flat_map json_char (chars name.now)) }
+{
+    for character in name.chars() {
+        push_json_char(text, character)?;
+    }
+    Ok(())
+}
+
+/// Adds what stands between the quotes of a string: a text that stands there as it is in one piece.
+fn push_inner(text: &mut String, name: &str) -> Result<(), AllocError>
+    ensures { OnOk result (string_bytes text.new ≡ string_bytes text.old ++ flat_map json_char (chars name.now)) }
+{
+    if are_plain(name) {
+        return text.push_str(name);
+    }
+    push_escaped(text, name)
+}
+
 /// Adds a text as a string of JSON (RFC 8259, section 7): between quotes, a quote as `\"`, a backslash
 /// as `\\`, a character below U+0020 as `\u00HH` with two small hexadecimal digits, and any other as it
 /// is.
@@ -72,8 +118,6 @@ pub fn push_json_string(text: &mut String, name: &str) -> Result<(), AllocError>
     ensures { OnOk result (string_bytes text.new ≡ string_bytes text.old ++ json_string name.now) }
 {
     text.push_str("\"")?;
-    for character in name.chars() {
-        push_json_char(text, character)?;
-    }
+    push_inner(text, name)?;
     text.push_str("\"")
 }
