@@ -32,7 +32,8 @@ fn push_told(text: &mut String, told: &Told<'_>, node: u32) -> Result<(), AllocE
     requires told { IsTold told.now }
     requires below { node < length (see_program told.now.program.now).predicates }
     ensures { OnOk result (string_bytes text.new ≡ string_bytes text.old
-        ++ predicate_line_of (see_program told.now.program.now).predicates (lists_of told.now.groups.items) told.now.levels.items node (slice_index told.now.places.items node)) }
+        ++ predicate_line_of (see_program told.now.program.now).predicates (lists_of told.now.groups.items) told.now.levels.items node
+        (slice_index told.now.places.items node)) }
 {
     let place = told.places[node as usize];
     push_predicate_line(text, told.program, &told.groups, &told.levels, node, place)
@@ -42,7 +43,8 @@ fn push_told(text: &mut String, told: &Told<'_>, node: u32) -> Result<(), AllocE
 fn push_predicates(text: &mut String, told: &Told<'_>) -> Result<(), AllocError>
     requires { IsTold told.now }
     ensures { OnOk result (string_bytes text.new ≡ string_bytes text.old
-        ++ predicate_lines (see_program told.now.program.now) (lists_of told.now.groups.items) told.now.levels.items told.now.places.items told.now.nodes.items) }
+        ++ predicate_lines (see_program told.now.program.now) (lists_of told.now.groups.items) told.now.levels.items told.now.places.items
+        told.now.nodes.items) }
 {
     for node in &told.nodes {
         push_told(text, told, *node)?;

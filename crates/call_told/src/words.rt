@@ -2,7 +2,8 @@
 
 ghost use Rattle.std.specs.Prelude.{◌≡◌, ◌≤◌, ◌||◌, ◌++◌, ◌∷◌, [], false, true, codes, filter, length, nat_eq, IfOk, IfErr, MatchOption, OnOk};
 ghost use Rattle.std.specs.List.{list_all, starts_with};
-ghost use Rattle.call_told.specs.Wanted.{AreAsked, IsNothingAsked, form_words, front_count, front_words, is_end, is_form, is_known, is_other, is_shared, other_words, see_wanted};
+ghost use Rattle.call_told.specs.Wanted.{AreAsked, IsNothingAsked, form_words, front_count, front_words};
+ghost use Rattle.call_told.specs.Wanted.{is_end, is_form, is_known, is_other, is_shared, other_words, see_wanted};
 ghost use Rattle.call_told.specs.declared.words.Form.{Form as FormHere};
 
 use group_words::{Options, WordFault, parse_words};

@@ -5,7 +5,9 @@ ghost use Rattle.std.specs.Fmt.{decimal};
 ghost use Rattle.std.specs.List.{flat_map, zip};
 ghost use Rattle.std.specs.String.{string_bytes};
 ghost use Rattle.call_edges.specs.PlacedSeen.{see_call, see_calls};
-ghost use Rattle.call_writer.specs.Lines.{call_head, call_line_if, call_line_to, clause_line, file_name, group_fields, level_fields, name_fields, number_or_null, place_fields, predicate_head, predicate_line, predicate_line_of, spot_fields, truth};
+ghost use Rattle.call_writer.specs.Lines.{call_head, call_line_if, call_line_to, clause_line, file_name, group_fields, level_fields};
+ghost use Rattle.call_writer.specs.Lines.{name_fields, number_or_null, place_fields, predicate_head, predicate_line, predicate_line_of};
+ghost use Rattle.call_writer.specs.Lines.{spot_fields, truth};
 ghost use Rattle.graph_law.specs.Classes.{group_at, least_member};
 ghost use Rattle.graph_law.specs.Graph.{lists_of};
 ghost use Rattle.import_rules.specs.Names.{pred_name};
@@ -277,7 +279,8 @@ pub fn push_predicate_line(
     requires one_level_each { length levels.now ≡ length groups.now }
     requires inhabited { All (λ members. 0 < length members) (lists_of groups.now) }
     requires within { place ≤ length groups.now }
-    ensures { OnOk result (string_bytes text.new ≡ string_bytes text.old ++ predicate_line_of (see_program program.now).predicates (lists_of groups.now) levels.now node place) }
+    ensures { OnOk result (string_bytes text.new
+        ≡ string_bytes text.old ++ predicate_line_of (see_program program.now).predicates (lists_of groups.now) levels.now node place) }
 {
     push_named(text, groups, levels, node, program.name_of(node), place)?;
     Ok(())
