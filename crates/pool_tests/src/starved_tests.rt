@@ -7,7 +7,7 @@ use std::test::Fail;
 #[test]
 fn fails_where_one_node_cannot_be_opened(rt: HostRuntime) -> Result<(), Fail> {
     let alloc = rt.alloc();
-    let graph = graph_of(alloc, &[&[1], &[2, 0], &[], &[0]], &[3])?;
+    let graph = graph_of(alloc, &[&[1], &[2, 0], &[], &[0]], &[3, 3])?;
     for node in 0..4 {
         let starved = Starved {
             graph: &graph,
