@@ -2,7 +2,7 @@
 """Times whole runs of `groups` with what stands beside its report, and on programs of many modules, files and declarations.
 
 Each row is held against another run of the same kind: with a word more, with a declaration more, or four times as large. Needs the
-built program. Prints a table: the best of five runs of each, in seconds, the most memory that one held, in MB, and the factors. With
+built program. Prints a table: the best of seven runs of each, in turns, in seconds, the most memory that one held, in MB, and the factors. With
 `--keep FOLDER` the texts stay there.
 """
 
@@ -84,6 +84,12 @@ def effects(folder):
     return [name], whole.spelled(0), whole.spelled(199_999)
 
 
+def in_turns(one, other, folder):
+    """The best of seven runs of each, in turns, so that what else the machine does meets both: seconds, and the most MB."""
+    runs = [(whole.once([whole.GROUPS, *one], folder), whole.once([whole.GROUPS, *other], folder)) for _ in range(7)]
+    return [(min(run[side][0] for run in runs), max(run[side][1] for run in runs)) for side in (0, 1)]
+
+
 def main():
     with folders(__doc__) as (folder, texts):
         names, first, last = effects(texts)
@@ -101,8 +107,7 @@ def main():
         ]
         print(f"{'runs':<68}{'s':>8}{'s':>8}{'factor':>8}{'MB':>8}{'MB':>8}{'factor':>8}")
         for name, one, other in pairs:
-            took, mb, _ = whole.best([whole.GROUPS, *one], texts)
-            more, most, _ = whole.best([whole.GROUPS, *other], texts)
+            (took, mb), (more, most) = in_turns(one, other, texts)
             print(f"{name:<68}{took:>8.3f}{more:>8.3f}{more / took:>8.2f}{mb:>8.1f}{most:>8.1f}{most / mb:>8.2f}", flush=True)
 
 
