@@ -2,14 +2,17 @@
 """Times whole runs of `groups` with what stands beside its report, and on programs of many modules, files and declarations.
 
 Each row is held against another run of the same kind: with a word more, with a declaration more, or four times as large. Needs the
-built program. Prints a table: the best of seven runs of each, in turns, in seconds, the most memory that one held, in MB, and the factors. With
+built program. Prints a table: the medians of 21 runs of each, in turns, of the seconds and of the most memory that a run held, in MB, and the factors. With
 `--keep FOLDER` the texts stay there.
 """
 
 import random
+import statistics
 
 import whole
 from common import MOST_BYTES, folders
+
+RUNS = 21
 
 
 def spread(folder, stem, clauses):
@@ -85,9 +88,9 @@ def effects(folder):
 
 
 def in_turns(one, other, folder):
-    """The best of seven runs of each, in turns, so that what else the machine does meets both: seconds, and the most MB."""
-    runs = [(whole.once([whole.GROUPS, *one], folder), whole.once([whole.GROUPS, *other], folder)) for _ in range(7)]
-    return [(min(run[side][0] for run in runs), max(run[side][1] for run in runs)) for side in (0, 1)]
+    """The medians of so many runs of each, in turns, so that what else the machine does meets both: seconds, and MB."""
+    runs = [(whole.once([whole.GROUPS, *one], folder), whole.once([whole.GROUPS, *other], folder)) for _ in range(RUNS)]
+    return [(statistics.median(run[side][0] for run in runs), statistics.median(run[side][1] for run in runs)) for side in (0, 1)]
 
 
 def main():
