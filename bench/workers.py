@@ -9,15 +9,16 @@ and the turn cost. In the other rows opening a node takes about two or twenty mi
 node does whose calls must first be found, so the columns are what more workers gain; the plain search opens
 nodes at the same cost. `one`, `two` and `four` are the times of 1, 2 and 4 workers over that of the plain search.
 
-The second has counts, each of one run under `strace`, which slows what it counts: for each number of workers
-how often a thread slept (until the turn was given back, or because it found nothing to do), how often one was
-woken, how often one let others go on, and all system calls. A turn that is given back while nobody sleeps makes
-none, so where nobody waits the counts stay the same however many groups there are.
+The second has counts, each of one run under `strace` on a tenth of the nodes, since `strace` slows what it counts:
+for each number of workers how often a thread slept (until the turn was given back, or because it found nothing to
+do), how often one was woken, how often one let others go on, and all system calls. A turn that is given back while
+nobody sleeps makes none, so where nobody waits the counts stay the same however many groups there are.
 
 The third has how often the turn was taken, and the millions of instructions of all threads with the making of the
 graph, each of one run under `valgrind`, which lets one thread run at a time, on a twentieth of the nodes.
 
-It stops where two numbers of groups differ.
+It stops where two numbers of groups differ. Once the program is built it takes five minutes or so, and at most ten: a
+run that is counted is cut off after twenty seconds, and its row then has dashes.
 """
 
 import re
@@ -42,14 +43,25 @@ GRAPHS = [
     ("random", 20_000, TWENTY_MICROS),
 ]
 JOBS = [1, 2, 4, 8]
-# Under `valgrind` a graph has so many times fewer nodes.
+# Under `strace` and under `valgrind` a graph has so many times fewer nodes.
+FEWER_TRACED = 10
 FEWER = 20
+MOST_SECONDS = 20.0
+
+
+def ran(*words):
+    """What the run said on its errors, or None where it was cut off."""
+    try:
+        return subprocess.run(words, check=True, capture_output=True, text=True, timeout=MOST_SECONDS).stderr
+    except subprocess.TimeoutExpired:
+        return None
 
 
 def counted(*words):
     """Of one run under `strace`: how often threads slept, were woken and let others go on, and all system calls."""
     with tempfile.NamedTemporaryFile("r") as log:
-        subprocess.run(["strace", "-f", "-qq", "-o", log.name, *words], check=True, capture_output=True)
+        if ran("strace", "-f", "-qq", "-o", log.name, *words) is None:
+            return ("-", "-", "-", "-")
         lines = log.read().splitlines()
     calls = [line for line in lines if "resumed>" not in line]
     return (
@@ -64,7 +76,9 @@ def turns(*words):
     """Of one run under `valgrind`, one thread at a time: how often the turn was taken, and the millions of instructions of all threads."""
     with tempfile.NamedTemporaryFile("r") as log:
         tool = ["valgrind", "--tool=callgrind", f"--callgrind-out-file={log.name}"]
-        told = subprocess.run([*tool, *words], check=True, capture_output=True, text=True).stderr
+        told = ran(*tool, *words)
+        if told is None:
+            return "-", "-"
         names, called, count = {}, "", 0
         for line in log:
             if named := re.match(r"(c?)fn=\((\d+)\)(?: (.*))?", line):
@@ -73,7 +87,8 @@ def turns(*words):
                 called = names[number] if is_call else called
             elif (calls := re.match(r"calls=(\d+)", line)) and "Claims::take" in called:
                 count += int(calls[1])
-    return count, int(re.search(r"Collected : (\d+)", told)[1]) / 1_000_000
+    collected = int(re.search(r"Collected : (\d+)", told)[1])
+    return count, f"{collected / 1_000_000:.1f}"
 
 
 def show_times(program):
@@ -96,8 +111,9 @@ def show_counts(program):
     print(f"{'graph':<8}{'nodes':>10}{'cost':>7}{'at once':>9}{'slept':>10}{'woken':>10}{'yielded':>10}{'system calls':>14}")
     for shape, count, cost in GRAPHS:
         for jobs in JOBS:
-            slept, woken, yielded, calls = counted(program, "workers", shape, str(count), str(jobs), str(cost))
-            print(f"{shape:<8}{count:>10}{cost:>7}{jobs:>9}{slept:>10}{woken:>10}{yielded:>10}{calls:>14}", flush=True)
+            fewer = str(count // FEWER_TRACED)
+            slept, woken, yielded, calls = counted(program, "workers", shape, fewer, str(jobs), str(cost))
+            print(f"{shape:<8}{fewer:>10}{cost:>7}{jobs:>9}{slept:>10}{woken:>10}{yielded:>10}{calls:>14}", flush=True)
 
 
 def show_turns(program):
@@ -106,10 +122,10 @@ def show_turns(program):
         if cost > 0:
             continue
         fewer = str(count // FEWER)
-        print(f"{shape:<8}{fewer:>10}{'plain':>9}{'':>10}{turns(program, 'search', shape, fewer, '0')[1]:>14.1f}", flush=True)
+        print(f"{shape:<8}{fewer:>10}{'plain':>9}{'':>10}{turns(program, 'search', shape, fewer, '0')[1]:>14}", flush=True)
         for jobs in JOBS:
             taken, instructions = turns(program, "workers", shape, fewer, str(jobs), "0")
-            print(f"{shape:<8}{fewer:>10}{jobs:>9}{taken:>10}{instructions:>14.1f}", flush=True)
+            print(f"{shape:<8}{fewer:>10}{jobs:>9}{taken:>10}{instructions:>14}", flush=True)
 
 
 def main():

@@ -1,12 +1,18 @@
 #!/usr/bin/env python3
-"""Runs `groups` with many workers, whose answers must be those of one worker, byte for byte.
+"""Runs `groups` with many workers, whose answers must be those of one worker.
 
-- random small graphs, some to a file: with 1, 2, 3 and 8 workers the report is one, and it has as many groups
-  as the classes of mutual reach that are counted here;
-- the same with `--order --stream`, where the lines of the groups are those of one worker in another order;
-- hard shapes: a ring of 100,000 predicates with 64 workers, from one root and from all; 200,000 predicates that
-  call nothing, each a root; rings of few predicates with more workers than these. Each run ends in time, with
-  the report of one worker, and so do eight searches that take turns.
+Over few predicates `--jobs N` alone is one search, up to the `FEW_PREDICATES` of `group_tool`; with
+`--order --stream` N workers search whatever the size. So most runs here are streams.
+
+- random small graphs, some to a file: the report of one worker has as many groups as the classes of mutual reach
+  that are counted here, with two workers it is the same, and with 2, 3 and 8 workers and `--order --stream` its
+  lines are the same in another order;
+- hard shapes in streams: a ring of 100,000 predicates with 64 workers, from one root and from all; 200,000
+  predicates that call nothing, each a root; rings of few predicates with more workers than these. Each run ends
+  in time, and so do one without a stream and eight searches that take turns, with the report of one worker, byte
+  for byte;
+- more predicates than one search is left to: a ring of them, and as many that call nothing, where 4 and 64 workers
+  search without a stream too, and the report is that of one worker, byte for byte.
 
 Ends with status 1 where an answer is wrong. The whole takes at most five minutes; `--graphs N` and `--runs N` say
 how many graphs and how many runs of hard shapes there are.
@@ -27,6 +33,8 @@ GRAPHS_IN_A_FILE = 20
 RUNS = 1_000
 JOBS = (1, 2, 3, 8)
 MOST_JOBS = 64
+MANY_PREDICATES = 530_000
+MANY_JOBS = (4, 64)
 MOST_SECONDS = 30.0
 
 chosen = []
@@ -47,14 +55,24 @@ def run(folder, jobs, *options):
     return done.stdout
 
 
+def spelled(number):
+    """The name of a predicate, with its number to the base 36, so that a file has room for many."""
+    digits = ""
+    while number or not digits:
+        digits = "0123456789abcdefghijklmnopqrstuvwxyz"[number % 36] + digits
+        number //= 36
+    return "p" + digits
+
+
 def write(folder, calls, roots):
     """A module of these calls that exports the roots, or a file that is no module where all are roots."""
+    words = [spelled(i) for i in range(len(calls))]
     lines = []
     if roots is not None:
-        lines.append(":- module(m, [" + ", ".join(f"p{i}/0" for i in roots) + "]).\n")
-    for i, callees in enumerate(calls):
-        body = ", ".join(f"p{callee}" for callee in callees)
-        lines.append(f"p{i} :- {body}.\n" if body else f"p{i}.\n")
+        lines.append(":- module(m, [" + ", ".join(f"{words[i]}/0" for i in roots) + "]).\n")
+    for word, callees in zip(words, calls):
+        body = ",".join(words[callee] for callee in callees)
+        lines.append(f"{word}:-{body}.\n" if body else f"{word}.\n")
     (folder / "f.pl").write_text("".join(lines))
 
 
@@ -118,8 +136,8 @@ def small_graphs(folder, count):
         classes = class_count(calls, range(len(calls)) if all_roots else roots)
         if group_count(expected) != classes:
             wrong.append(f"graphs from {begun} on: {group_count(expected)} groups for {classes} classes")
+        differ(f"graphs from {begun} on, {JOBS[1]} jobs", run(folder, JOBS[1]), expected)
         for jobs in JOBS[1:]:
-            differ(f"graphs from {begun} on, {jobs} jobs", run(folder, jobs), expected)
             differ_in_lines(f"graphs from {begun} on, {jobs} jobs", run(folder, jobs, "--order", "--stream"), expected)
 
 
@@ -147,10 +165,29 @@ def hard_runs(folder, count):
         if group_count(expected) != groups:
             wrong.append(f"{name}: {group_count(expected)} groups for {groups}")
         differ(f"{name}, eight searches", run(folder, None, "--searches", "8", "--seed", "1"), expected)
+        differ(name, run(folder, MOST_JOBS), expected)
         for _ in range(times):
-            differ(name, run(folder, MOST_JOBS), expected)
             differ_in_lines(name, run(folder, MOST_JOBS, "--order", "--stream"), expected)
         print(f"{name}: {times} runs in {time.monotonic() - begun:.1f} s", flush=True)
+
+
+def many_runs(folder, times):
+    """Runs over more predicates than one search is left to, from all of them."""
+    for name, calls, groups in (
+        ("a ring of many", ring(MANY_PREDICATES), 1),
+        ("many alone", [[] for _ in range(MANY_PREDICATES)], MANY_PREDICATES),
+    ):
+        write(folder, calls, None)
+        begun = time.monotonic()
+        expected = run(folder, 1)
+        if expected is None:
+            continue
+        if group_count(expected) != groups:
+            wrong.append(f"{name}: {group_count(expected)} groups for {groups}")
+        for jobs in MANY_JOBS:
+            for _ in range(times):
+                differ(f"{name}, {jobs} jobs", run(folder, jobs), expected)
+        print(f"{name}: {len(MANY_JOBS) * times} runs in {time.monotonic() - begun:.1f} s", flush=True)
 
 
 def main():
@@ -166,6 +203,7 @@ def main():
         small_graphs(folder, options.graphs)
         print(f"{options.graphs} graphs in {time.monotonic() - begun:.1f} s", flush=True)
         hard_runs(folder, options.runs)
+        many_runs(folder, max(1, options.runs // 200))
     for line in wrong[:20]:
         print(line)
     print(f"{len(wrong)} wrong answers")

@@ -1,7 +1,7 @@
 //! Who finds the groups: one search, many that take turns on one thread, or workers, with or without a
 //! feed of their groups.
 
-ghost use Rattle.std.specs.Prelude.{◌≡◌, ◌<◌, [], List, ℕ, None, true, All, IfOk, length};
+ghost use Rattle.std.specs.Prelude.{◌≡◌, ◌<◌, ◌≤◌, [], List, ℕ, None, true, All, IfOk, length};
 ghost use Rattle.graph_law.specs.Graph.{Calls as ListCalls, lists_of};
 ghost use Rattle.call_edges.specs.Opened.{see_call_lists};
 ghost use Rattle.call_edges.specs.Successors.{successor_lists};
@@ -20,6 +20,13 @@ use search_stack::groups_plain;
 use std::alloc::{AllocError, Global};
 use std::sync::Wait;
 use std::thread::Threads;
+
+// Up to how many predicates one search finds the groups, however many workers are asked for. What the
+// predicates call lies in memory by then, so a node is opened by a copy of its list: an opening has nothing
+// that a second worker could take off the first, while claims and turns cost more than the whole search
+// does. That was so with 2 and with 4 workers and for graphs of each shape, and the search is less than a
+// tenth of the run. Beyond this it lasts a good part of a second, and is left to the workers.
+const FEW_PREDICATES: u32 = 524_288;
 
 /// The groups of all that the roots reach, and of nothing else, in a legal order: found by one search,
 /// or by many that take turns, and then in the order of their schedule.
@@ -44,7 +51,8 @@ pub fn groups_alone(
     }
 }
 
-/// The same, found by workers, each in a thread of its own with a search of its own.
+/// The same, found by workers, each in a thread of its own with a search of its own; by one search where
+/// the predicates are too few for workers to pay.
 pub fn groups_by_workers<R: Threads + Wait + Sync, G: Gate>(
     rt: &R,
     alloc: Global,
@@ -60,8 +68,20 @@ pub fn groups_by_workers<R: Threads + Wait + Sync, G: Gate>(
     ensures { IfOk result (λ groups. AreGroups (ListCalls (successor_lists (see_program program.now))) roots.now (lists_of groups.items)) }
 {
     settings_within();
-    let _program = program;
-    drive_workers(rt, alloc, calls, roots, options.jobs, gate)
+    let jobs = useful_jobs(options.jobs, program.count());
+    drive_workers(rt, alloc, calls, roots, jobs, gate)
+}
+
+// How many of the workers that are asked for can pay.
+fn useful_jobs(jobs: u32, predicates: u32) -> u32
+    requires { 0 < jobs }
+    ensures some { 0 < result }
+    ensures most { result ≤ jobs }
+{
+    if predicates <= FEW_PREDICATES {
+        return 1;
+    }
+    jobs
 }
 
 /// The same, and the taker finds their levels as they come.
