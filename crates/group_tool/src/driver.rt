@@ -23,9 +23,9 @@ use std::thread::Threads;
 
 // Up to how many predicates one search finds the groups, however many workers are asked for. What the
 // predicates call lies in memory by then, so a node is opened by a copy of its list: an opening has nothing
-// that a second worker could take off the first, while claims and turns cost more than the whole search
-// does. That was so with 2 and with 4 workers and for graphs of each shape, and the search is less than a
-// tenth of the run. Beyond this it lasts a good part of a second, and is left to the workers.
+// that a second worker could take off the first, while claims and turns take about as many instructions as
+// the search, and more time. That was so with 2 and with 4 workers and for graphs of each shape, and the
+// search is some 6 to 11 of 100 instructions of a run. Beyond this workers search, as they are asked to.
 const FEW_PREDICATES: u32 = 524_288;
 
 /// The groups of all that the roots reach, and of nothing else, in a legal order: found by one search,
