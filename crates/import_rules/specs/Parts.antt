@@ -5,7 +5,7 @@ use Rattle.import_rules.specs.declared.part.Part.{Part}
 use Rattle.import_rules.specs.Numbers.{DefinedAt}
 
 abbrev pub name_of_part : Part → PredName
-name_of_part p = record { «module» = p.module.now; name = p.name.now; arity = p.arity }
+name_of_part p = record { «module» = p.defined.now.module; name = p.defined.now.name; arity = p.defined.now.arity }
 
 abbrev pub see_part : Part → DefinedAt
 see_part p = record { name = name_of_part p; at = (p.file, p.part) }

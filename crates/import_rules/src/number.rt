@@ -22,10 +22,11 @@ pub(crate) struct Numbered {
 fn name_of(alloc: Global, part: &Part<'_>) -> Result<PredName, AllocError>
     ensures { IfOk result (λ name. name ≡ name_of_part part.now) }
 {
+    let defined = part.defined;
     Ok(PredName {
-        module: Text::new(alloc, part.module.as_str())?,
-        name: Text::new(alloc, part.name.as_str())?,
-        arity: part.arity,
+        module: Text::new(alloc, defined.module.as_str())?,
+        name: Text::new(alloc, defined.name.as_str())?,
+        arity: defined.arity,
     })
 }
 

@@ -6,18 +6,15 @@ ghost use Rattle.import_rules.specs.Names.{pred_cmp, is_same};
 ghost use Rattle.import_rules.specs.Parts.{see_part};
 ghost use Rattle.import_rules.specs.Numbers.{parts_of_file, parts_in};
 
-use module_table::FileFacts;
-use prolog_tokens::Text;
+use module_table::{Defined, FileFacts};
 use std::alloc::{AllocError, Global};
 use std::cmp::Ordering;
 
-/// A predicate, and one place at which it is defined: the place of a file, and that of the predicate
-/// in the file's `defined`.
+/// A predicate of a file, and the place at which it is defined: the place of the file, and that of the
+/// predicate in the file's `defined`. It is small, since a program has as many of them as predicates.
 #[derive(Clone, Copy)]
 pub(crate) struct Part<'a> {
-    pub module: &'a Text,
-    pub name: &'a Text,
-    pub arity: u32,
+    pub defined: &'a Defined,
     pub file: u32,
     pub part: u32,
 }
@@ -26,16 +23,19 @@ pub(crate) struct Part<'a> {
 pub(crate) fn compare(a: &Part<'_>, b: &Part<'_>) -> Ordering
     ensures { result ≡ pred_cmp (see_part a.now).name (see_part b.now).name }
 {
-    a.module
-        .cmp(b.module)
-        .then(a.name.cmp(b.name).then(a.arity.cmp(&b.arity)))
+    let (one, other) = (a.defined, b.defined);
+    one.module.cmp(&other.module).then(one.name.cmp(&other.name).then(one.arity.cmp(&other.arity)))
 }
 
 /// Whether the parts are of one predicate.
 pub(crate) fn is_same(a: &Part<'_>, b: &Part<'_>) -> bool
     ensures { result ≡ is_same (see_part a.now).name (see_part b.now).name }
 {
-    a.module == b.module && (a.name == b.name && a.arity == b.arity)
+    let (one, other) = (a.defined, b.defined);
+    if one.name != other.name {
+        return false;
+    }
+    one.module == other.module && one.arity == other.arity
 }
 
 /// Adds what a file defines.
@@ -49,9 +49,7 @@ fn push_parts<'a>(
 {
     for (part, defined) in file.defined.iter().enumerate() {
         parts.push(Part {
-            module: &defined.module,
-            name: &defined.name,
-            arity: defined.arity,
+            defined,
             file: place,
             part: part as u32,
         })?;
