@@ -30,7 +30,7 @@ pub fn groups_plain<O: Opener>(
     let count = opener.count();
     let mut search = Search::with_room(alloc, count)?;
     let mut seen = vec![in alloc; false; count as usize]?;
-    let mut groups = Vec::new(alloc);
+    let mut groups = Vec::with_capacity(alloc, count as usize)?;
     for &root in roots {
         if seen[root as usize] {
             continue;

@@ -10,8 +10,8 @@ use Rattle.search_stack.proofs.plain_search.groups_plain.Goals as goal
 pub loop-root-init : goal.loop-root-init
 loop-root-init g c =
     let marks = c.in_ok-seen.ensures.items_if_clones_equal (λ y is. is) in
-    IsThrough-start (g.O.Opener.lists c.args.opener.now) c.args.roots.now c.count-count.result c.in_ok-seen.seen.items (lists_of c.new-groups.result.items) c.in_ok-search.search
-    c.count-count.ensures.count marks (ap lists_of c.new-groups.ensures.items) c.in_ok-search.ensures.empty c.in_ok-search.ensures.wants_nothing
+    IsThrough-start (g.O.Opener.lists c.args.opener.now) c.args.roots.now c.count-count.result c.in_ok-seen.seen.items (lists_of c.in_ok-groups.groups.items) c.in_ok-search.search
+    c.count-count.ensures.count marks (ap lists_of c.in_ok-groups.ensures.items) c.in_ok-search.ensures.empty c.in_ok-search.ensures.wants_nothing
 
 pub loop-root-preserved-then-index : goal.loop-root-preserved-then-index
 loop-root-preserved-then-index g c =
