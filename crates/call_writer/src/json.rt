@@ -7,25 +7,15 @@ ghost use Rattle.std.specs.List.{flat_map};
 ghost use Rattle.std.specs.String.{string_bytes};
 ghost use Rattle.call_writer.specs.Json.{hex_digit, json_char, json_string};
 
+use itoa::Buffer;
 use std::alloc::AllocError;
-
-/// The decimal digit of a number below 10.
-fn digit(number: u64) -> u8
-    requires { number < 10 }
-    ensures { result ≡ 48 + number }
-{
-    b'0' + number as u8
-}
 
 /// Adds the number in decimal digits. It takes no memory but that of the text.
 pub(crate) fn push_number(text: &mut String, number: u64) -> Result<(), AllocError>
     ensures { OnOk result (string_bytes text.new ≡ string_bytes text.old ++ decimal number) }
 {
-    if number < 10 {
-        return text.push(digit(number) as char);
-    }
-    push_number(text, number / 10)?;
-    text.push(digit(number % 10) as char)
+    let mut digits = Buffer::new();
+    text.push_str(digits.format(number))
 }
 
 /// The small hexadecimal digit of a number below 16.
