@@ -2,3 +2,5 @@ pub mod Examples
 pub mod ToldLemmas
 pub mod TextLemmas
 pub mod WordLemmas
+pub mod StretchLemmas
+pub mod OneAsked

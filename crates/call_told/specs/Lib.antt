@@ -1,2 +1,3 @@
 pub mod Wanted
 pub mod Told
+pub mod Stretches

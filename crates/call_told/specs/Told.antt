@@ -1,6 +1,8 @@
 -- What is told of a program.
-use Rattle.std.specs.Prelude.{ℕ, ◌≡◌, ◌<◌, ◌==◌, ◌||◌, List, [], ◌++◌, Bool, true, false, not, All, length, filter, zip, flat_map, slice_index, slice_index_or, if◌then◌else◌, codes}
+use Rattle.std.specs.Prelude.{ℕ, ◌≡◌, ◌<◌, ◌==◌, ◌||◌, List, [], ◌++◌, Bool, true, false, not, All, length, filter, zip, flat_map, slice_index, slice_index_or, if◌then◌else◌, codes, String}
 use Rattle.std.specs.List.{range_with_len}
+use Rattle.std.specs.String.{string_bytes}
+use Rattle.std.specs.declared.alloc.Global.{Global}
 use Rattle.graph_law.specs.Graph.{Calls as ListCalls, lists_of}
 use Rattle.group_release.specs.declared.level.Level.{Level}
 use Rattle.import_rules.specs.Program.{Seen, see_program}
@@ -41,6 +43,10 @@ pub record IsReach (asked : Asked) (seen : Seen) (roots : List ℕ) (groups : Li
 
 abbrev pub ToldIs : Asked → List ℕ → Told → Type 0
 ToldIs asked roots told = IsReach asked (see_program told.program.now) roots (lists_of told.groups.items) told.levels.items told.places.items told.nodes.items
+
+-- the bytes of texts, one behind the other
+abbrev pub joined : List (String Global) → List ℕ
+joined texts = flat_map (λ (text : String Global). string_bytes text) texts
 
 -- the lines of the predicates
 abbrev pub predicate_lines : Seen → List (List ℕ) → List Level → List ℕ → List ℕ → List ℕ

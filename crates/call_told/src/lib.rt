@@ -1,7 +1,7 @@
 //! What `calls` is asked for by its words, and what it tells of a program then, as bytes.
 //!
 //! `read_wanted` answers what lawful words ask for, and `Usage` exactly where they aren't lawful;
-//! `told_bytes` tells it of a program: its predicates, clauses and calls, the calls alone whose names
+//! `told_texts` tells it of a program: its predicates, clauses and calls, the calls alone whose names
 //! mean no predicate, or the graph of its predicates.
 //!
 //! ```text
@@ -12,9 +12,10 @@
 //! It reads no file.
 #![tactic(auto)]
 
+mod stretches;
 mod text;
 mod told;
 mod words;
 
-pub use text::told_bytes;
+pub use text::told_texts;
 pub use words::{Form, Wanted, read_wanted};

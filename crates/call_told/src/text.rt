@@ -8,24 +8,24 @@ ghost use Rattle.call_edges.specs.Successors.{successor_lists};
 ghost use Rattle.call_table.specs.Table.{IsTable};
 ghost use Rattle.call_writer.specs.Dot.{cluster, edge_line};
 ghost use Rattle.call_writer.specs.Lines.{predicate_line_of};
-ghost use Rattle.call_told.specs.Told.{IsTold, TellsForm, TellsFrom, call_lines, clause_lines, dot_graph, predicate_lines, ungrouped_line};
+ghost use Rattle.call_told.specs.Told.{IsTold, TellsForm, TellsFrom, dot_graph, joined, predicate_lines, ungrouped_line};
 ghost use Rattle.call_told.specs.Wanted.{see_wanted};
 ghost use Rattle.call_told.specs.declared.words.Form.TheVariants.{Lines, Undefined};
 ghost use Rattle.graph_law.specs.Classes.{group_at};
 ghost use Rattle.graph_law.specs.Graph.{lists_of};
 ghost use Rattle.import_rules.specs.Program.{see_program};
 
+use crate::stretches::{call_texts, clause_texts};
 use crate::told::{Told, make_told};
 use crate::words::{Form, Wanted};
 use call_edges::CallLists;
 use call_table::{CallTable, call_table};
-use call_writer::{
-    push_call_lines, push_clause_lines, push_cluster, push_edges, push_node, push_predicate_line,
-};
+use call_writer::{push_cluster, push_edges, push_node, push_predicate_line};
 use graph_law::Opener;
 use import_rules::Program;
 use std::alloc::{AllocError, Global};
 use std::mem::forget;
+use std::thread::Threads;
 
 /// Adds the line of a predicate.
 fn push_told(text: &mut String, told: &Told<'_>, node: u32) -> Result<(), AllocError>
@@ -52,29 +52,16 @@ fn push_predicates(text: &mut String, told: &Told<'_>) -> Result<(), AllocError>
     Ok(())
 }
 
-/// Adds the lines of the clauses.
-fn push_clauses(text: &mut String, told: &Told<'_>, table: &CallTable<'_>) -> Result<(), AllocError>
-    ensures { OnOk result (string_bytes text.new ≡ string_bytes text.old ++ clause_lines (see_program told.now.program.now) table.now) }
+/// The lines of the predicates.
+fn predicate_text(alloc: Global, told: &Told<'_>) -> Result<String, AllocError>
+    requires { IsTold told.now }
+    ensures { IfOk result (λ text. string_bytes text
+        ≡ predicate_lines (see_program told.now.program.now) (lists_of told.now.groups.items) told.now.levels.items told.now.places.items
+        told.now.nodes.items) }
 {
-    push_clause_lines(text, told.program, &table.clauses, &table.clause_places)
-}
-
-/// Adds the lines of the calls, or of those alone whose names mean no predicate.
-fn push_calls(
-    text: &mut String,
-    told: &Told<'_>,
-    table: &CallTable<'_>,
-    undefined: bool,
-) -> Result<(), AllocError>
-    ensures { OnOk result (string_bytes text.new ≡ string_bytes text.old ++ call_lines undefined (see_program told.now.program.now) table.now) }
-{
-    push_call_lines(
-        text,
-        told.program,
-        &table.calls,
-        &table.call_places,
-        undefined,
-    )
+    let mut text = String::new(alloc);
+    push_predicates(&mut text, told)?;
+    Ok(text)
 }
 
 /// The clauses and calls of what is told.
@@ -85,32 +72,41 @@ fn table_of<'a>(alloc: Global, told: &Told<'a>) -> Result<CallTable<'a>, AllocEr
     call_table(alloc, told.program, &told.nodes, &told.groups)
 }
 
-/// All lines, of predicates, clauses and calls.
-fn lines_text(alloc: Global, told: &Told<'_>) -> Result<String, AllocError>
+/// All lines, of predicates, clauses and calls, in texts one behind the other.
+fn lines_texts<R: Threads + Sync>(
+    rt: &R,
+    alloc: Global,
+    told: &Told<'_>,
+) -> Result<Vec<String>, AllocError>
     requires { IsTold told.now }
-    ensures { IfOk result (λ text. TellsForm Lines (see_program told.now.program.now) (lists_of told.now.groups.items) told.now.levels.items
-        told.now.places.items told.now.nodes.items (string_bytes text)) }
+    ensures { IfOk result (λ texts. TellsForm Lines (see_program told.now.program.now) (lists_of told.now.groups.items) told.now.levels.items
+        told.now.places.items told.now.nodes.items (joined texts.items)) }
 {
     let table = table_of(alloc, told)?;
-    let mut text = String::new(alloc);
-    push_predicates(&mut text, told)?;
-    push_clauses(&mut text, told, &table)?;
-    push_calls(&mut text, told, &table, false)?;
+    let mut texts = Vec::new(alloc);
+    texts.push(predicate_text(alloc, told)?)?;
+    let mut clauses = clause_texts(rt, alloc, told.program, &table)?;
+    let mut calls = call_texts(rt, alloc, told.program, &table, false)?;
+    texts.append(&mut clauses)?;
+    texts.append(&mut calls)?;
     forget(table);
-    Ok(text)
+    Ok(texts)
 }
 
-/// The lines of the calls whose names mean no predicate.
-fn undefined_text(alloc: Global, told: &Told<'_>) -> Result<String, AllocError>
+/// The lines of the calls whose names mean no predicate, in texts one behind the other.
+fn undefined_texts<R: Threads + Sync>(
+    rt: &R,
+    alloc: Global,
+    told: &Told<'_>,
+) -> Result<Vec<String>, AllocError>
     requires { IsTold told.now }
-    ensures { IfOk result (λ text. TellsForm Undefined (see_program told.now.program.now) (lists_of told.now.groups.items) told.now.levels.items
-        told.now.places.items told.now.nodes.items (string_bytes text)) }
+    ensures { IfOk result (λ texts. TellsForm Undefined (see_program told.now.program.now) (lists_of told.now.groups.items) told.now.levels.items
+        told.now.places.items told.now.nodes.items (joined texts.items)) }
 {
     let table = table_of(alloc, told)?;
-    let mut text = String::new(alloc);
-    push_calls(&mut text, told, &table, true)?;
+    let texts = call_texts(rt, alloc, told.program, &table, true)?;
     forget(table);
-    Ok(text)
+    Ok(texts)
 }
 
 /// Adds the cluster of the group at a place.
@@ -212,39 +208,59 @@ fn dot_graph(alloc: Global, told: &Told<'_>, calls: &CallLists<'_>) -> Result<St
     Ok(text)
 }
 
+/// The graph, in one text.
+fn dot_texts(
+    alloc: Global,
+    told: &Told<'_>,
+    calls: &CallLists<'_>,
+) -> Result<Vec<String>, AllocError>
+    requires told { IsTold told.now }
+    requires calls { see_call_lists calls.now ≡ see_program told.now.program.now }
+    ensures { IfOk result (λ texts. joined texts.items
+        ≡ dot_graph (see_program told.now.program.now) (lists_of told.now.groups.items) told.now.places.items told.now.nodes.items) }
+{
+    let text = dot_graph(alloc, told, calls)?;
+    let mut texts = Vec::new(alloc);
+    texts.push(text)?;
+    Ok(texts)
+}
+
 /// What is told, in the form.
-fn text_of(
+fn texts_of<R: Threads + Sync>(
+    rt: &R,
     alloc: Global,
     form: Form,
     told: &Told<'_>,
     calls: &CallLists<'_>,
-) -> Result<String, AllocError>
+) -> Result<Vec<String>, AllocError>
     requires told { IsTold told.now }
     requires calls { see_call_lists calls.now ≡ see_program told.now.program.now }
-    ensures { IfOk result (λ text. TellsForm form (see_program told.now.program.now) (lists_of told.now.groups.items) told.now.levels.items
-        told.now.places.items told.now.nodes.items (string_bytes text)) }
+    ensures { IfOk result (λ texts. TellsForm form (see_program told.now.program.now) (lists_of told.now.groups.items) told.now.levels.items
+        told.now.places.items told.now.nodes.items (joined texts.items)) }
 {
     match form {
-        Form::Lines => lines_text(alloc, told),
-        Form::Undefined => undefined_text(alloc, told),
-        Form::Dot => dot_graph(alloc, told, calls),
+        Form::Lines => lines_texts(rt, alloc, told),
+        Form::Undefined => undefined_texts(rt, alloc, told),
+        Form::Dot => dot_texts(alloc, told, calls),
     }
 }
 
-/// The bytes of what is wanted of the program, where reach begins at these roots.
-pub fn told_bytes(
+/// What is wanted of the program, where reach begins at these roots, in texts that are the bytes one
+/// behind the other. Lines of clauses and of calls are made side by side.
+pub fn told_texts<R: Threads + Sync>(
+    rt: &R,
     alloc: Global,
     wanted: &Wanted,
     program: &Program,
     calls: &CallLists<'_>,
     roots: &[u32],
-) -> Result<Vec<u8>, AllocError>
+) -> Result<Vec<String>, AllocError>
     requires calls { see_call_lists calls.now ≡ see_program program.now }
     requires below { All (λ q. q < length (see_program program.now).predicates) roots.now }
-    ensures { IfOk result (λ bytes. TellsFrom (see_wanted wanted.now) (see_program program.now) roots.now bytes.items) }
+    ensures { IfOk result (λ texts. TellsFrom (see_wanted wanted.now) (see_program program.now) roots.now (joined texts.items)) }
 {
     let told = make_told(alloc, wanted, program, calls, roots)?;
-    let text = text_of(alloc, wanted.form, &told, calls)?;
+    let texts = texts_of(rt, alloc, wanted.form, &told, calls)?;
     forget(told);
-    Ok(text.into_bytes())
+    Ok(texts)
 }

@@ -2,7 +2,7 @@
 
 ghost use Rattle.std.specs.Prelude.{◌≡◌, ◌≤◌, ◌||◌, ◌++◌, ◌∷◌, [], false, true, codes, filter, length, nat_eq, IfOk, IfErr, MatchOption, OnOk};
 ghost use Rattle.std.specs.List.{list_all, starts_with};
-ghost use Rattle.call_told.specs.Wanted.{AreAsked, IsNothingAsked, form_words, front_count, front_words};
+ghost use Rattle.call_told.specs.Wanted.{Asked, AreAsked, IsNothingAsked, form_words, front_count, front_words};
 ghost use Rattle.call_told.specs.Wanted.{is_end, is_form, is_known, is_other, is_shared, other_words, see_wanted};
 ghost use Rattle.call_told.specs.declared.words.Form.{Form as FormHere};
 
@@ -179,6 +179,7 @@ fn other_words(alloc: Global, words: &[Text]) -> Result<Vec<Text>, AllocError>
 /// and once, `--roots LIST`, `--unreached` and the files as `groups` takes them, and nothing else.
 pub fn read_wanted(alloc: Global, words: &[Text]) -> Result<Wanted, WordFault>
     ensures ok { IfOk result (λ wanted. AreAsked words.now (see_wanted wanted)) }
+    ensures only { IfOk result (λ wanted. (asked : Asked) → AreAsked words.now asked → asked ≡ see_wanted wanted) }
     ensures usage { IfErr result (λ fault. fault ≡ WordFault.Usage → IsNothingAsked (AreAsked words.now)) }
 {
     let front = front_of(words);

@@ -1,5 +1,5 @@
 -- From how the reading of files ended to how a run ends.
-use Rattle.std.proofs.Common.{◌≡◌, ℕ, List, [], Some, Result, Ok, Err, Vec, Global, IsErrAnd, refl, sym, subst, inl, inr}
+use Rattle.std.proofs.Common.{◌≡◌, ℕ, List, [], Some, Result, Ok, Err, String, Vec, Global, IsErrAnd, refl, sym, subst, inl, inr}
 use Rattle.file_library.specs.declared.loaded.LoadStop.{LoadStop}
 use Rattle.file_library.specs.declared.loaded.LoadStop.TheVariants.{Faults, ReadFault, TooManyFiles, FileTooLarge, TooMuchText, NoMemory}
 use Rattle.file_library.specs.Library.{Files}
@@ -115,8 +115,8 @@ stop_run wanted library out err result of_stop.NoMemory cause said left = elim s
 ]
 
 -- what holds of the stop holds of the error that was handed on
-pub handed_on : (P : End → Type 0) (r : Result (Vec ℕ Global) Stop) (stop : Stop) → IsErrAnd r (λ found. found ≡ stop) → P (end_of_stop stop) → P (end_of r)
-handed_on P (Ok bytes) stop is cause = absurd is
+pub handed_on : (P : End → Type 0) (r : Result (Vec (String Global) Global) Stop) (stop : Stop) → IsErrAnd r (λ found. found ≡ stop) → P (end_of_stop stop) → P (end_of r)
+handed_on P (Ok texts) stop is cause = absurd is
 handed_on P (Err found) stop is cause = subst (λ s. P (end_of_stop s)) (sym is) cause
 
 -- where goals aren't callable

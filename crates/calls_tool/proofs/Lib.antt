@@ -3,3 +3,5 @@ pub mod LimitLine
 pub mod CarryingLemmas
 pub mod EndLemmas
 pub mod RunLemmas
+pub mod TextsSaid
+pub mod StatusLemmas

@@ -67,7 +67,7 @@ said_or_cut result out err (output bytes) written = elim (whole_or_some bytes 0 
 ]
 said_or_cut result out err no_memory written = lines_said result out err no_memory refl written
 
-is_said : (result : ℕ) (out err : Taking) (end : End) → EndsBy result out err end → result ≢ 5 → IsSaid result out err end
+pub is_said : (result : ℕ) (out err : Taking) (end : End) → EndsBy result out err end → result ≢ 5 → IsSaid result out err end
 is_said result out err end written whole = elim (said_or_cut result out err end written) [ inl said ↦ said | inr cut ↦ absurd (whole cut.0) ]
 
 -- what is told, faults, a root that is missing and a passed limit are decided by the map
@@ -80,7 +80,7 @@ comes_decided asked (too_large name) end comes not_unread not_wanting = tt
 comes_decided asked too_much end comes not_unread not_wanting = tt
 comes_decided asked of_load.no_memory end comes not_unread not_wanting = not_wanting comes
 
-unread_load : (asked : Asked) (load : LoadEnd) (name : List ℕ) → LoadEndComesTo asked load (unread name) → load ≡ of_load.unread name
+pub unread_load : (asked : Asked) (load : LoadEnd) (name : List ℕ) → LoadEndComesTo asked load (unread name) → load ≡ of_load.unread name
 unread_load asked (loaded found) name comes = absurd comes
 unread_load asked (of_load.faults found) name comes = cc
 unread_load asked (of_load.unread other) name comes = cc

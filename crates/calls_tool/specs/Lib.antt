@@ -6,3 +6,4 @@ pub mod Carrying
 pub mod Roots
 pub mod Stop
 pub mod Run
+pub mod Statuses

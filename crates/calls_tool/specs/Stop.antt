@@ -1,5 +1,5 @@
 -- Why nothing is told, and how a run ends by it.
-use Rattle.std.specs.Prelude.{ℕ, Result, Ok, Err, Vec}
+use Rattle.std.specs.Prelude.{Result, Ok, Err, String, Vec}
 use Rattle.std.specs.declared.alloc.Global.{Global}
 use Rattle.file_library.specs.declared.loaded.LoadStop.{LoadStop}
 use Rattle.file_library.specs.declared.loaded.LoadStop.TheVariants as of_load
@@ -7,6 +7,7 @@ use Rattle.import_rules.specs.declared.stop.ImportStop.{ImportStop}
 use Rattle.import_rules.specs.declared.stop.ImportStop.TheVariants as of_import
 use Rattle.call_edges.specs.declared.goal_stop.GoalStop.{GoalStop}
 use Rattle.call_edges.specs.declared.goal_stop.GoalStop.TheVariants as of_check
+use Rattle.call_told.specs.Told.{joined}
 use Rattle.group_words.specs.declared.options.WordFault.{WordFault}
 use Rattle.group_words.specs.declared.options.WordFault.TheVariants as of_word
 use Rattle.calls_tool.specs.declared.stop.Limit.TheVariants.{TooManyFiles, FileTooLarge, TooMuchText, TooManyPredicates}
@@ -49,6 +50,6 @@ end_of_stop (Passed passed) = limit passed
 end_of_stop NoMemory = no_memory
 
 -- how it ends
-abbrev pub end_of : Result (Vec ℕ Global) Stop → End
-end_of (Ok bytes) = output bytes.items
+abbrev pub end_of : Result (Vec (String Global) Global) Stop → End
+end_of (Ok texts) = output (joined texts.items)
 end_of (Err stop) = end_of_stop stop

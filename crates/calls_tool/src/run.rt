@@ -3,20 +3,22 @@ ghost use Rattle.std.specs.String.{string_bytes};
 ghost use Rattle.calls_tool.specs.Carrying.{ProgramComesTo};
 ghost use Rattle.calls_tool.specs.End.{memory_line};
 ghost use Rattle.calls_tool.specs.Run.{EndIs, IsJust, IsRun, SaidEnd, SaysAnswer, SaysHandedOver, SaysNoMemory};
+ghost use Rattle.calls_tool.specs.Statuses.{HasFaults, HasNoRoot, HasPassed, HasTold, HasUnread, HasUsage, IsCutOff};
 ghost use Rattle.calls_tool.specs.Stop.{end_of, end_of_stop};
+ghost use Rattle.call_told.specs.Told.{joined};
 ghost use Rattle.call_told.specs.Wanted.{AreAsked, see_wanted};
 ghost use Rattle.file_library.specs.Counts.{Rose};
 ghost use Rattle.file_library.specs.Library.{Files};
-ghost use Rattle.group_tool.specs.Run.{IsSettled, SaidWith};
+ghost use Rattle.group_tool.specs.Run.{IsSettled, SaidWith, TookNone};
 ghost use Rattle.import_rules.specs.Program.{see_program};
 
 use crate::lines::{fault_lines, limit_line, missing_line, unread_line};
 use crate::loading::load_files;
 use crate::roots::roots_by;
-use crate::say::say;
+use crate::say::{say, say_texts};
 use crate::stop::Stop;
 use call_edges::call_lists;
-use call_told::{Wanted, read_wanted, told_bytes};
+use call_told::{Wanted, read_wanted, told_texts};
 use file_library::Library;
 use group_tool::Sink;
 use import_rules::Program;
@@ -35,14 +37,14 @@ fn tell_program<R: Threads + Sync>(
     alloc: Global,
     wanted: &Wanted,
     program: &Program,
-) -> Result<Vec<u8>, Stop>
+) -> Result<Vec<String>, Stop>
     ensures { ProgramComesTo (see_wanted wanted.now) (see_program program.now) (end_of result) }
 {
     let calls = call_lists(rt, alloc, program)?;
     let roots = roots_by(alloc, program, &wanted.options)?;
-    let bytes = told_bytes(alloc, wanted, program, &calls, &roots)?;
+    let texts = told_texts(rt, alloc, wanted, program, &calls, &roots)?;
     forget(calls);
-    Ok(bytes)
+    Ok(texts)
 }
 
 /// What is wanted of the files, or why it can't be told. The memory of the program is left to the end
@@ -52,7 +54,7 @@ fn tell<R: Threads + Sync, L: Library>(
     alloc: Global,
     wanted: &Wanted,
     library: &mut L,
-) -> Result<Vec<u8>, Stop>
+) -> Result<Vec<String>, Stop>
     ensures { EndIs (IsJust (see_wanted wanted.now)) (L.seen library.old, L.seen library.new) (end_of result) }
 {
     let program = load_files(rt, alloc, &wanted.options.files, library)?;
@@ -67,6 +69,16 @@ fn say_with<S: Sink>(sink: &mut S, bytes: &[u8], status: u8) -> u8
 {
     if say(sink, bytes) {
         return status;
+    }
+    5
+}
+
+/// Says what is told and answers 0, or 5 where the sink failed.
+fn say_told<S: Sink>(sink: &mut S, texts: &[String]) -> u8
+    ensures { SaidWith (joined texts.now) 0 result (S.seen sink.old, S.seen sink.new) }
+{
+    if say_texts(sink, texts) {
+        return 0;
     }
     5
 }
@@ -113,7 +125,7 @@ fn run_wanted<R: Threads + Sync, L: Library, O: Sink, E: Sink>(
     ensures one_left { (out.new ≡ out.old) ⊎ (err.new ≡ err.old) }
 {
     match tell(rt, alloc, wanted, library) {
-        Ok(bytes) => say_with(out, &bytes, 0),
+        Ok(texts) => say_told(out, &texts),
         Err(stop) => say_stop(alloc, err, &stop),
     }
 }
@@ -167,8 +179,27 @@ pub fn run_calls<R: Threads + Sync, L: Library, O: Sink, E: Sink>(
         → SaysHandedOver (AreAsked words.now) (L.seen library.old, L.seen library.new)
         (O.seen out.old, O.seen out.new) (E.seen err.old, E.seen err.new) result }
 
-    // The statuses, and that the sink of the run's bytes is flushed behind them.
+    // Over any library and sinks, what each status says, and that the sink of the run's bytes is flushed
+    // behind them.
     ensures statuses { (result ≡ 0) ⊎ ((result ≡ 2) ⊎ ((result ≡ 3) ⊎ ((result ≡ 4) ⊎ ((result ≡ 5) ⊎ ((result ≡ 6) ⊎ (result ≡ 7)))))) }
+    ensures told { result ≡ 0
+        → HasTold (AreAsked words.now) (L.seen library.old, L.seen library.new) (O.seen out.old, O.seen out.new) (E.seen err.old, E.seen err.new) }
+    ensures refused { result ≡ 2
+        → (HasUsage (AreAsked words.now) (E.seen err.old, E.seen err.new)
+        ⊎ HasNoRoot (AreAsked words.now) (L.seen library.old, L.seen library.new) (E.seen err.old, E.seen err.new))
+        × TookNone (O.seen out.old, O.seen out.new) }
+    ensures faults { result ≡ 3
+        → HasFaults (AreAsked words.now) (L.seen library.old, L.seen library.new) (E.seen err.old, E.seen err.new)
+        × TookNone (O.seen out.old, O.seen out.new) }
+    ensures unread { result ≡ 4
+        → HasUnread (AreAsked words.now) (L.seen library.old, L.seen library.new) (E.seen err.old, E.seen err.new)
+        × TookNone (O.seen out.old, O.seen out.new) }
+    ensures cut_off { result ≡ 5
+        → IsCutOff (AreAsked words.now) (L.seen library.old, L.seen library.new) (O.seen out.old, O.seen out.new) (E.seen err.old, E.seen err.new) }
+    ensures limit { result ≡ 6
+        → HasPassed (AreAsked words.now) (L.seen library.old, L.seen library.new) (E.seen err.old, E.seen err.new)
+        × TookNone (O.seen out.old, O.seen out.new) }
+    ensures no_memory { result ≡ 7 → SaysNoMemory (O.seen out.old, O.seen out.new) (E.seen err.old, E.seen err.new) result }
     ensures settled { result ≢ 5 → IsSettled result (O.seen out.new) (E.seen err.new) }
 
     // How the run ends, why, and what the sinks have taken: the other clauses follow from it.

@@ -3,6 +3,7 @@ use Rattle.std.specs.List.{list_all}
 use Rattle.std.proofs.lemmas.Bool.{false≢true}
 use Rattle.group_words.specs.Settings.{AreLawful, see_options}
 use Rattle.call_told.specs.Wanted.{is_form, is_known}
+use Rattle.call_told.proofs.OneAsked.{one_asked}
 use Rattle.call_told.proofs.words.read_wanted.Goals as goal
 
 pub returns-then-not-are_known-clause-usage : goal.returns-then-not-are_known-clause-usage
@@ -24,3 +25,6 @@ pub returns-clause-usage : goal.returns-clause-usage
 returns-clause-usage c is asked lawful =
     c.in-Err.ensures.usage is asked.settings
     (subst (λ words. AreLawful words asked.settings) (sym (c.deref.ensures.value ∙ c.in_ok-others.ensures)) lawful.lawful)
+
+pub returns-in-Ok-clause-only : goal.returns-in-Ok-clause-only
+returns-in-Ok-clause-only c asked are = one_asked c.args.words.now asked _ are (returns-in-Ok-clause-ok c)

@@ -17,9 +17,9 @@ returns-in_err-roots g c found program =
     handed_on (IsLoadedEnd (see_wanted c.args.wanted.now) found) c.from_residual-in_err-roots.result c.in_err-roots.field-0.0 c.from_residual-in_err-roots.ensures.1
     (root_end (see_wanted c.args.wanted.now) found (see_program c.args.program.now) c.in_err-roots.field-0.0 program c.in_ok-calls.ensures.callable c.in_err-roots.ensures.err)
 
-pub returns-in_err-bytes : goal.returns-in_err-bytes
-returns-in_err-bytes g c found program =
-    handed_on (IsLoadedEnd (see_wanted c.args.wanted.now) found) c.from_residual-in_err-bytes.result NoMemory c.from_residual-in_err-bytes.ensures.1 (inl refl)
+pub returns-in_err-texts : goal.returns-in_err-texts
+returns-in_err-texts g c found program =
+    handed_on (IsLoadedEnd (see_wanted c.args.wanted.now) found) c.from_residual-in_err-texts.result NoMemory c.from_residual-in_err-texts.ensures.1 (inl refl)
 
 pub returns : goal.returns
 returns g c found program =
@@ -27,5 +27,5 @@ returns g c found program =
       seen = see_program c.args.program.now;
       program = record { program = program; callable = c.in_ok-calls.ensures.callable };
       rooted = c.in_ok-roots.ensures.rooted;
-      tells = record { roots = c.in_ok-roots.roots.items; are = c.in_ok-roots.ensures.roots; tells = rw (c.deref.ensures.value) at c.in_ok-bytes.ensures };
+      tells = record { roots = c.in_ok-roots.roots.items; are = c.in_ok-roots.ensures.roots; tells = rw (c.deref.ensures.value) at c.in_ok-texts.ensures };
     })

@@ -1,0 +1,31 @@
+use Rattle.std.proofs.Common.{◌≡◌, ◌++◌, ◌∷◌, [], List, String, Global, ap, ◌∙◌, append_assoc}
+use Rattle.std.specs.String.{string_bytes}
+use Rattle.graph_law.specs.Graph.{lists_of}
+use Rattle.import_rules.specs.Program.{see_program}
+use Rattle.call_told.specs.Told.{call_lines, clause_lines, joined, predicate_lines}
+use Rattle.call_told.proofs.StretchLemmas.{calls_even, clauses_even, lines_joined}
+use Rattle.call_told.proofs.text.lines_texts.Goals as goal
+
+pub clause_texts-requires-clause-even : goal.clause_texts-requires-clause-even
+clause_texts-requires-clause-even g c κs within =
+    let told = c.args.told.now in
+    clauses_even (see_program told.program.now) told.nodes.items (lists_of told.groups.items) c.in_ok-table.table c.in_ok-table.ensures
+
+pub call_texts-requires-clause-even : goal.call_texts-requires-clause-even
+call_texts-requires-clause-even g c κs within =
+    let told = c.args.told.now in
+    calls_even (see_program told.program.now) told.nodes.items (lists_of told.groups.items) c.in_ok-table.table c.in_ok-table.ensures
+
+pub returns : goal.returns
+returns g c =
+    let told = c.args.told.now in
+    let table = c.in_ok-table.table in
+    let seen = see_program told.program.now in
+    let predicates = predicate_lines seen (lists_of told.groups.items) told.levels.items told.places.items told.nodes.items in
+    record {
+      table = table;
+      is_table = c.in_ok-table.ensures;
+      is = lines_joined c.in_ok-predicate_text.field-0 c.new-texts.result.items c.push.new.self.items c.in_ok-clauses.clauses.items c.in_ok-calls.calls.items
+          c.append.new.self.items c.append-2.new.self.items c.new-texts.ensures.items c.in_ok-push.ensures.items c.in_ok-append.ensures.items c.in_ok-append-2.ensures.items
+          ∙ (λ i. c.in_ok-predicate_text.ensures i ++ (c.in_ok-clauses.ensures i ++ c.in_ok-calls.ensures i));
+    }

@@ -1,0 +1,166 @@
+//! Lines of a table, made side by side.
+
+ghost use Rattle.std.specs.Prelude.{◌≡◌, ◌<◌, ◌≤◌, IfOk, length};
+ghost use Rattle.std.specs.List.{flat_map};
+ghost use Rattle.std.specs.String.{string_bytes};
+ghost use Rattle.call_told.specs.Stretches.{AreStretches, call_stretch, clause_stretch};
+ghost use Rattle.call_told.specs.Told.{call_lines, clause_lines, joined};
+ghost use Rattle.import_rules.specs.Program.{see_program};
+
+use call_edges::PlacedCall;
+use call_table::{CallTable, ClauseAt};
+use call_writer::{push_call_lines, push_clause_lines};
+use import_rules::Program;
+use prolog_tokens::Place;
+use rayon::prelude::*;
+use std::alloc::{AllocError, Global};
+use std::thread::Threads;
+
+/// How many lines are made one after another. Only the last stretch has fewer.
+const SIZE: usize = 2_048;
+
+/// How many bytes a stretch has room for from the start: few lines are longer than 160.
+const ROOM: usize = 327_680;
+
+/// Rows that stand side by side in a table, each with its line and column.
+#[derive(Clone, Copy)]
+pub struct Stretch<'a, T> {
+    pub rows: &'a [T],
+    pub places: &'a [Place],
+}
+
+/// How many of the rows that are left the next stretch has.
+fn stretch_size(left: usize) -> usize
+    requires { 0 < left }
+    ensures some { 0 < result }
+    ensures within { result ≤ left }
+{
+    if left < SIZE {
+        return left;
+    }
+    SIZE
+}
+
+/// All rows, cut into stretches.
+fn stretches<'a, T>(
+    alloc: Global,
+    rows: &'a [T],
+    places: &'a [Place],
+) -> Result<Vec<Stretch<'a, T>>, AllocError>
+    requires { length rows.now ≡ length places.now }
+    ensures { IfOk result (λ cut. AreStretches rows.now places.now cut.items) }
+{
+    let mut cut = Vec::new(alloc);
+    let mut rows = rows;
+    let mut places = places;
+    while rows.len() > 0 {
+        let size = stretch_size(rows.len());
+        let (near, far) = rows.split_at(size);
+        let (near_places, far_places) = places.split_at(size);
+        cut.push(Stretch {
+            rows: near,
+            places: near_places,
+        })?;
+        rows = far;
+        places = far_places;
+    }
+    Ok(cut)
+}
+
+/// The lines of a stretch of calls.
+fn call_text(
+    alloc: Global,
+    program: &Program,
+    stretch: &Stretch<'_, PlacedCall<'_>>,
+    undefined: bool,
+) -> Result<String, AllocError>
+    ensures { IfOk result (λ text. string_bytes text ≡ call_stretch undefined (see_program program.now) stretch.now) }
+{
+    let mut text = String::with_capacity(alloc, ROOM)?;
+    push_call_lines(&mut text, program, stretch.rows, stretch.places, undefined)?;
+    Ok(text)
+}
+
+/// The lines of a stretch of clauses.
+fn clause_text(
+    alloc: Global,
+    program: &Program,
+    stretch: &Stretch<'_, ClauseAt>,
+) -> Result<String, AllocError>
+    ensures { IfOk result (λ text. string_bytes text ≡ clause_stretch (see_program program.now) stretch.now) }
+{
+    let mut text = String::with_capacity(alloc, ROOM)?;
+    push_clause_lines(&mut text, program, stretch.rows, stretch.places)?;
+    Ok(text)
+}
+
+/// The lines of each stretch of calls. The stretches are written side by side.
+fn each_call_text<R: Threads + Sync>(
+    rt: &R,
+    alloc: Global,
+    program: &Program,
+    stretches: &[Stretch<'_, PlacedCall<'_>>],
+    undefined: bool,
+) -> Result<Vec<String>, AllocError>
+    ensures { IfOk result (λ texts. joined texts.items ≡ flat_map (call_stretch undefined (see_program program.now)) stretches.now) }
+{
+    stretches
+        .par_iter()
+        .map(
+            |stretch: &Stretch<'_, PlacedCall<'_>>| -> Result<String, AllocError>
+                ensures { IfOk result (λ text. string_bytes text ≡ call_stretch undefined (see_program program.entry.now) stretch.now) }
+            { call_text(alloc, program, stretch, undefined) },
+        )
+        .collect::<Result<Vec<String>, AllocError>>(rt, alloc)?
+}
+
+/// The lines of each stretch of clauses. The stretches are written side by side.
+fn each_clause_text<R: Threads + Sync>(
+    rt: &R,
+    alloc: Global,
+    program: &Program,
+    stretches: &[Stretch<'_, ClauseAt>],
+) -> Result<Vec<String>, AllocError>
+    ensures { IfOk result (λ texts. joined texts.items ≡ flat_map (clause_stretch (see_program program.now)) stretches.now) }
+{
+    stretches
+        .par_iter()
+        .map(
+            |stretch: &Stretch<'_, ClauseAt>| -> Result<String, AllocError>
+                ensures { IfOk result (λ text. string_bytes text ≡ clause_stretch (see_program program.entry.now) stretch.now) }
+            { clause_text(alloc, program, stretch) },
+        )
+        .collect::<Result<Vec<String>, AllocError>>(rt, alloc)?
+}
+
+/// The lines of the calls of a table in texts, one behind the other; where only undefined names are
+/// wanted, those of calls whose names mean no predicate.
+pub(crate) fn call_texts<R: Threads + Sync>(
+    rt: &R,
+    alloc: Global,
+    program: &Program,
+    table: &CallTable<'_>,
+    undefined: bool,
+) -> Result<Vec<String>, AllocError>
+    requires even { length table.now.calls.items ≡ length table.now.call_places.items }
+    ensures { IfOk result (λ texts. joined texts.items ≡ call_lines undefined (see_program program.now) table.now) }
+{
+    let cut = stretches(alloc, &table.calls, &table.call_places)?;
+    let texts = each_call_text(rt, alloc, program, &cut, undefined)?;
+    Ok(texts)
+}
+
+/// The lines of the clauses of a table in texts, one behind the other.
+pub(crate) fn clause_texts<R: Threads + Sync>(
+    rt: &R,
+    alloc: Global,
+    program: &Program,
+    table: &CallTable<'_>,
+) -> Result<Vec<String>, AllocError>
+    requires even { length table.now.clauses.items ≡ length table.now.clause_places.items }
+    ensures { IfOk result (λ texts. joined texts.items ≡ clause_lines (see_program program.now) table.now) }
+{
+    let cut = stretches(alloc, &table.clauses, &table.clause_places)?;
+    let texts = each_clause_text(rt, alloc, program, &cut)?;
+    Ok(texts)
+}

@@ -1,0 +1,10 @@
+use Rattle.call_told.specs.Told.{joined}
+use Rattle.calls_tool.proofs.Said.{taken_unflushed}
+use Rattle.calls_tool.proofs.say.say_texts.Goals as goal
+
+pub returns-in-Failed-clause-said : goal.returns-in-Failed-clause-said
+returns-in-Failed-clause-said c = λ c'.
+    let failed = c'.in-Failed.ensures in
+    let whole = c'.if-not-put_texts.ensures in
+    taken_unflushed (joined c'.args.texts.now) (c.S.Sink.seen c'.args.sink.now) (c.S.Sink.seen c'.put_texts.new.sink) (c.S.Sink.seen c'.flush.new.self) whole.all whole.faults_kept
+    failed.faults_kept (failed.flush.0, failed.flush.2)
