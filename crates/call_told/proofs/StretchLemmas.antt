@@ -1,5 +1,5 @@
 -- Rows of a table that are cut into stretches, and the lines of these one behind the other.
-use Rattle.std.proofs.Common.{◌≡◌, ℕ, suc, ◌+◌, ◌<◌, List, [], ◌∷◌, ◌++◌, All, String, Global, Result, Ok, Err, IfOk, length, map, ap, sym, ◌∙◌, subst, refl, append_assoc, append-nil, arith}
+use Rattle.std.proofs.Common.{◌≡◌, ℕ, suc, ◌+◌, List, [], ◌∷◌, ◌++◌, All, String, Global, Result, Ok, Err, IfOk, length, map, ap, sym, ◌∙◌, subst, refl, append_assoc, append-nil, arith}
 use Rattle.std.specs.Prelude.{Contains, MatchResult}
 use Rattle.std.specs.List.{AllZip, flat_map, zip}
 use Rattle.std.specs.String.{string_bytes}

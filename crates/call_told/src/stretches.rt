@@ -19,6 +19,9 @@ use std::thread::Threads;
 /// How many lines are made one after another. Only the last stretch has fewer.
 const SIZE: usize = 2_048;
 
+/// How few stretches are worth a thread of their own.
+const FEWEST: usize = 1;
+
 /// How many bytes a stretch has room for from the start: few lines are longer than 160.
 const ROOM: usize = 327_680;
 
@@ -106,6 +109,7 @@ fn each_call_text<R: Threads + Sync>(
 {
     stretches
         .par_iter()
+        .with_min_len(FEWEST)
         .map(
             |stretch: &Stretch<'_, PlacedCall<'_>>| -> Result<String, AllocError>
                 ensures { IfOk result (λ text. string_bytes text ≡ call_stretch undefined (see_program program.entry.now) stretch.now) }
@@ -125,6 +129,7 @@ fn each_clause_text<R: Threads + Sync>(
 {
     stretches
         .par_iter()
+        .with_min_len(FEWEST)
         .map(
             |stretch: &Stretch<'_, ClauseAt>| -> Result<String, AllocError>
                 ensures { IfOk result (λ text. string_bytes text ≡ clause_stretch (see_program program.entry.now) stretch.now) }

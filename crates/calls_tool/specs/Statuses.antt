@@ -7,7 +7,7 @@ use Rattle.group_tool.specs.Lines.{fault_lines}
 use Rattle.group_tool.specs.Run.{Asking, IsCutShort, Taking, TookJust, TookNone}
 use Rattle.call_told.specs.Wanted.{Asked, IsNothingAsked}
 use Rattle.calls_tool.specs.declared.stop.Limit.{Limit}
-use Rattle.calls_tool.specs.End.{End, usage, faults, missing, unread, limit, output, no_memory, usage_line, err_of}
+use Rattle.calls_tool.specs.End.{End, faults, missing, limit, output, usage_line, err_of}
 use Rattle.calls_tool.specs.Lines.{limit_line, missing_line, unread_line}
 use Rattle.calls_tool.specs.Run.{EndIs, IsLawfulEnd}
 

@@ -14,7 +14,7 @@ use Rattle.call_told.proofs.stretches.each_clause_text.Goals as goal
 pub returns : goal.returns
 returns g c =
     let stretches = c.args.stretches.now in
-    let slice = ap (λ it. it.slice.now) c.map.ensures.base ∙ c.par_iter.ensures in
+    let slice = ap (λ it. it.base.slice.now) c.map.ensures.base ∙ (ap (λ it. it.slice.now) c.with_min_len.ensures.base ∙ c.par_iter.ensures) in
     let h = c.in_ok-collect.ensures in
     let chain = h.1 in
     let made =

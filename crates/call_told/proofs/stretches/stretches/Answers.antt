@@ -1,6 +1,4 @@
-use Rattle.std.proofs.Common.{◌≡◌, List, [], ap, sym, refl, arith, length}
-use Rattle.std.specs.List.{flat_map}
-use Rattle.call_told.specs.declared.stretches.Stretch.{Stretch}
+use Rattle.std.proofs.Common.{refl, arith}
 use Rattle.call_told.proofs.StretchLemmas.{cutting_done, cutting_more, cutting_none}
 use Rattle.call_told.proofs.stretches.stretches.Goals as goal
 

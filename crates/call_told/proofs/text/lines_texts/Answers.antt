@@ -1,8 +1,7 @@
-use Rattle.std.proofs.Common.{◌≡◌, ◌++◌, ◌∷◌, [], List, String, Global, ap, ◌∙◌, append_assoc}
-use Rattle.std.specs.String.{string_bytes}
+use Rattle.std.proofs.Common.{◌++◌, ◌∙◌}
 use Rattle.graph_law.specs.Graph.{lists_of}
 use Rattle.import_rules.specs.Program.{see_program}
-use Rattle.call_told.specs.Told.{call_lines, clause_lines, joined, predicate_lines}
+use Rattle.call_told.specs.Told.{predicate_lines}
 use Rattle.call_told.proofs.StretchLemmas.{calls_even, clauses_even, lines_joined}
 use Rattle.call_told.proofs.text.lines_texts.Goals as goal
 
