@@ -196,29 +196,6 @@ map_has {X} {Y} f xs y = (to xs, from xs)
 
 -- tests
 
-any_first : {X : Type 0} (p : X → Bool) (x : X) (xs : List X) (b : Bool) → p x ≡ b → (list_any p xs ≡ true → (y : X) × Contains xs y × (p y ≡ true))
-    → list_any p (x ∷ xs) ≡ true → (y : X) × Contains (x ∷ xs) y × (p y ≡ true)
-any_first p x xs true same later is = (x, in_first x xs, same)
-any_first p x xs false same later is =
-    let found = later (rw same at is) in
-    (found.0, in_rest x found.0 xs found.1, found.2)
-
-pub any_is : {X : Type 0} (p : X → Bool) (xs : List X) → list_any p xs ≡ true → (x : X) × Contains xs x × (p x ≡ true)
-any_is p [] is = let both : false ≡ true = is in absurd (cc)
-any_is p (x ∷ xs) is = any_first p x xs (p x) refl (any_is p xs) is
-
-is_first_any : {X : Type 0} (p : X → Bool) (x : X) (xs : List X) (b : Bool) → p x ≡ b → list_any p xs ≡ true → list_any p (x ∷ xs) ≡ true
-is_first_any p x xs true same rest = rw same
-is_first_any p x xs false same rest = rw same rest
-
-pub is_any : {X : Type 0} (p : X → Bool) (xs : List X) (x : X) → Contains xs x → p x ≡ true → list_any p xs ≡ true
-is_any p [] x has is = absurd (nothing_in x has)
-is_any p (y ∷ ys) x has is =
-    elim (first_or_rest y x ys has) [
-      | inl same ↦ let here : p y ≡ true = ap p same ∙ is in rw here
-      | inr later ↦ is_first_any p y ys (p y) refl (is_any p ys x later is)
-    ]
-
 pub filter_has : {X : Type 0} (p : X → Bool) (xs : List X) (x : X) → Contains (filter p xs) x ↔ (Contains xs x × (p x ≡ true))
 filter_has {X} p xs x = (to xs, λ both. from xs both.0 both.1)
   where

@@ -150,12 +150,3 @@ places_there seen node at has = by_name (slice_get seen.predicates node) has
         let is = place_stands seen.loaded.files p at there in
         record { file = is.file; predicate = is.predicate; at_place = is.at_place; at_part = is.at_part }
     by_name None there = absurd (omega (arith, there.1))
-
--- what stands there, by what is seen of it
-pub seen_at : {X Y : Type 0} (f : X → Y) (xs : List X) (i : ℕ) (x : X) (y : Y) → x ≡ get_or xs i x → slice_get (map f xs) i ≡ Some y → f x ≡ y
-seen_at f xs i x y is there =
-    let within : i < length xs = omega (arith, slice_get_within (map f xs) i y there, length-map xs f) in
-    same_Some (f x) y (sym (slice_get-map f xs i ∙ ap (option_map f) (slice_get_read xs (length xs) i x refl within is)) ∙ there)
-
-pub seen_there : {X Y : Type 0} (f : X → Y) (xs : List X) (i : ℕ) (x : X) → i < length xs → x ≡ get_or xs i x → slice_get (map f xs) i ≡ Some (f x)
-seen_there f xs i x lt is = slice_get-map f xs i ∙ ap (option_map f) (slice_get_read xs (length xs) i x refl lt is)

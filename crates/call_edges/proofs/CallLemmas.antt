@@ -102,22 +102,6 @@ module _ (seen : Seen) where
         λ calls. has.1 (goes_as (IsMetIn seen node) (IsAmong (IsMetInBody (rows_of seen)) (bodies_in seen node)) q (λ m. (node_met seen node m).1) calls),
       )
 
--- numbers that are sorted, each once
-
-pub sorted_rises : (sorted kept : List ℕ) → IsSorted nat_cmp sorted → IsFiltered (DiffersFromLast nat_eq) [] sorted kept → IsStrictlyIncreasing kept
-sorted_rises sorted kept in_order filtered =
-    let is = dedup_is nat_eq sorted kept filtered in
-    let P : List ℕ → Type 0 = λ xs. IsStrictlyIncreasing xs in
-    subst P (sym is) (IsStrictlyIncreasing-dedup sorted in_order)
-
-pub sorted_has : (xs sorted kept : List ℕ) (q : ℕ) → IsPermutation xs sorted → IsFiltered (DiffersFromLast nat_eq) [] sorted kept → Contains kept q ↔ Contains xs q
-sorted_has xs sorted kept q moved filtered =
-    let is = dedup_is nat_eq sorted kept filtered in (
-      λ has.
-          Contains-permutation sorted xs q (IsPermutation-sym xs sorted moved) (Contains-from_dedup nat_eq sorted q (subst (λ (ys : List ℕ). Contains ys q) is has)),
-      λ has. subst (λ (ys : List ℕ). Contains ys q) (sym is) (Contains-dedup_nat sorted q (Contains-permutation xs sorted q moved has)),
-    )
-
 pub on_ok_both : {X E : Type 0} {P Q R : Type 0} (r : Result X E) → OnOk r P → OnOk r Q → (P → Q → R) → OnOk r R
 on_ok_both (Ok x) p q then = then p q
 on_ok_both (Err e) p q then = tt

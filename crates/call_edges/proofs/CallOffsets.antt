@@ -5,6 +5,7 @@ use Rattle.std.specs.Prelude.{Contains}
 use Rattle.std.specs.Option.{option_map}
 use Rattle.std.proofs.lemmas.List.Elements.{All-contains}
 use Rattle.std.proofs.lemmas.Option.{none-some, same_Some, slice_get_within, get_or_from_slice_get}
+use Rattle.list_laws.proofs.Members.{all_by}
 use Rattle.prolog_tokens.specs.Places.{IsOffset}
 use Rattle.prolog_terms.specs.Tree.{Tree}
 use Rattle.prolog_terms.specs.Views.{sides_of}
@@ -17,10 +18,10 @@ use Rattle.call_edges.specs.Goals.{call, Place}
 use Rattle.call_edges.specs.ProgramRows.{rows_of}
 use Rattle.call_edges.specs.Calls.{body_of}
 use Rattle.call_edges.specs.Bodies.{Body, body_in, clause_bodies, bodies_at}
-use Rattle.call_edges.specs.CallPlaces.{CallAt, IsCallOf, AreCallsOf, StandsInText}
+use Rattle.file_library.specs.Spots.{StandsInText}
+use Rattle.call_edges.specs.CallPlaces.{CallAt, IsCallOf, AreCallsOf}
 use Rattle.call_edges.proofs.AmongLemmas.{flat_has, among_given}
 use Rattle.call_edges.proofs.BodyLemmas.{places_there, bodies_there}
-use Rattle.call_edges.proofs.LightLemmas.{all_of}
 use Rattle.call_edges.proofs.OffsetLemmas.{by_stands, goal_stands}
 
 -- the body of a clause that stands in the text
@@ -73,5 +74,5 @@ node_stands seen caller c known among =
 pub calls_stand : (seen : Seen) (callers : List ℕ) (calls : List CallAt) → IsKnown seen → AreCallsOf seen callers calls
     → All (λ (c : CallAt). StandsInText seen.loaded.texts c.file c.offset) calls
 calls_stand seen callers calls known are =
-    all_of (λ (c : CallAt). StandsInText seen.loaded.texts c.file c.offset) calls
+    all_by (λ (c : CallAt). StandsInText seen.loaded.texts c.file c.offset) calls
     (λ c has. let among = (are.each c).0 has in node_stands seen among.one c known among.is)

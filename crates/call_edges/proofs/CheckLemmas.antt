@@ -18,6 +18,7 @@ use Rattle.std.proofs.lemmas.List.Kept.{Contains-dedup, Contains-from_dedup, IsS
 use Rattle.std.proofs.lemmas.List.Sorted.{Contains-permutation, IsPermutation-sym}
 use Rattle.std.proofs.lemmas.Map.Keys.{Less-from_sorted}
 use Rattle.std.proofs.lemmas.Option.{slice_get-get_or, slice_get_cases, slice_get_within, get_or_from_slice_get}
+use Rattle.list_laws.proofs.Members.{stands_in}
 use Rattle.module_table.specs.Defined.{Predicate}
 use Rattle.module_table.specs.Facts.{Facts}
 use Rattle.import_rules.specs.declared.names.PredName.{PredName}
@@ -35,7 +36,7 @@ use Rattle.call_edges.specs.FaultPlaces.{HasPlace, IsFaultIn, AreFaultsIn, IsFau
 use Rattle.call_edges.proofs.AmongLemmas.{among_flat, among_map, flat_has, map_has}
 use Rattle.call_edges.proofs.PlaceLemmas.{enumerated, numbered, stands_place}
 use Rattle.call_edges.proofs.BodyLemmas.{place_met, body_file}
-use Rattle.call_edges.proofs.ZipLemmas.{zip_at, zip_count}
+use Rattle.list_laws.proofs.Zips.{zip_at, zip_count}
 
 pub adds_append : {M : Type 0} (old more : List M) → Adds (Contains more) old (old ++ more)
 adds_append old more = record {
@@ -51,9 +52,6 @@ place_adds piece old new same =
     subst P (sym same) (adds_append old piece.faults.items)
 
 -- elements by their places
-
-pub stands_in : {X : Type 0} (xs : List X) (k : ℕ) (x : X) → slice_get xs k ≡ Some x → Contains xs x
-stands_in xs k x is = (k, slice_get_within xs k x is, get_or_from_slice_get xs k x x is)
 
 pub place_in : {X : Type 0} (xs : List X) (x : X) → Contains xs x → (k : ℕ) × (slice_get xs k ≡ Some x)
 place_in xs x (k, lt, is) = (k, slice_get-get_or xs k x lt ∙ ap (λ y. Some y) is)

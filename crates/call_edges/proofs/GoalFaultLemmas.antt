@@ -14,6 +14,7 @@ use Rattle.std.proofs.lemmas.List.Elements.{Contains-get_or, All-contains}
 use Rattle.std.proofs.lemmas.Map.Keys.{Less-from_sorted}
 use Rattle.std.proofs.lemmas.Option.{same_Some, slice_get_within, get_or_from_slice_get}
 use Rattle.list_laws.proofs.OneOrder.{same_order, less_strict}
+use Rattle.list_laws.proofs.Members.{stands_in}
 use Rattle.prolog_tokens.specs.Places.{IsPlace}
 use Rattle.prolog_tokens.proofs.PlaceSteps.{place_once}
 use Rattle.file_library.specs.declared.fault.Fault.{Fault}
@@ -24,9 +25,9 @@ use Rattle.call_edges.specs.Goals.{fault}
 use Rattle.call_edges.specs.ProgramRows.{rows_of}
 use Rattle.call_edges.specs.GoalFaults.{IsMetInFile, IsGoalFault, fault_cmp, AreGoalFaults}
 use Rattle.call_edges.specs.FaultPlaces.{IsFaultPlace, AreFaultPlaces, IsPlaced}
-use Rattle.call_edges.proofs.CheckLemmas.{stands_in, place_in}
+use Rattle.call_edges.proofs.CheckLemmas.{place_in}
 use Rattle.call_edges.proofs.PlacedLemmas.{pair_less, read_at}
-use Rattle.call_edges.proofs.ZipLemmas.{zip_at, zip_count}
+use Rattle.list_laws.proofs.Zips.{zip_at, zip_count}
 
 fault_cmp_total : IsTotalOrder fault_cmp
 fault_cmp_total = then_total (on_total (λ (f : Fault). f.file) nat_list_cmp_total) (on_total (λ (f : Fault). f.offset) nat_cmp_total)

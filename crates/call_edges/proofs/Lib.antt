@@ -23,7 +23,6 @@ pub mod KnownLemmas
 pub mod OffsetLemmas
 pub mod GoalLemmas
 pub mod CheckLemmas
-pub mod ZipLemmas
 pub mod PlacedLemmas
 pub mod GoalFaultLemmas
 pub mod UnresolvedLemmas

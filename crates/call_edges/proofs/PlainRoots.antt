@@ -5,6 +5,7 @@ use Rattle.std.specs.List.{AllZip}
 use Rattle.std.proofs.lemmas.Bool.{cases_lt}
 use Rattle.std.proofs.lemmas.List.{take_more, take_all}
 use Rattle.std.proofs.lemmas.Option.{same_Some, slice_get-get_or, slice_get_within, get_or_from_slice_get}
+use Rattle.list_laws.proofs.Members.{stands_in}
 use Rattle.module_table.specs.declared.file_facts.FileFacts.{FileFacts}
 use Rattle.module_table.specs.Defined.{Predicate}
 use Rattle.module_table.specs.Facts.{Facts, see_facts}
@@ -21,8 +22,8 @@ use Rattle.call_edges.specs.Roots.{Gives, IsGivenByRoot, IsExportedByRoot, IsPla
 use Rattle.call_edges.proofs.AddsLemmas.{adds_as, adds_then, adds_nothing, adds_option}
 use Rattle.call_edges.proofs.AmongLemmas.{among_as, among_map}
 use Rattle.call_edges.proofs.PlaceLemmas.{place_stands, stands_place}
-use Rattle.call_edges.proofs.CheckLemmas.{stands_in, place_in, node_of, defined_there, place_of_node}
-use Rattle.call_edges.proofs.ZipLemmas.{zip_at, zip_append, zip_count}
+use Rattle.call_edges.proofs.CheckLemmas.{place_in, node_of, defined_there, place_of_node}
+use Rattle.list_laws.proofs.Zips.{zip_at, zip_append, zip_count}
 
 -- the name of a predicate means it
 own_found : (seen : Seen) (n : ℕ) (p : PredName) → IsKnown seen → slice_get seen.predicates n ≡ Some p → found seen p.module p.name p.arity ≡ Some n

@@ -11,6 +11,7 @@ use Rattle.std.proofs.lemmas.Cmp.{tied_itself, nat_list_cmp_total}
 use Rattle.std.proofs.lemmas.List.Sorted.{searchable_from_sorted}
 use Rattle.std.proofs.lemmas.Map.Keys.{Less-from_sorted}
 use Rattle.std.proofs.lemmas.Slice.Eq.{bytes_eq-Decides}
+use Rattle.list_laws.proofs.Members.{stands_in}
 use Rattle.module_table.specs.declared.indicator.Indicator.{Indicator}
 use Rattle.module_table.specs.Defined.{Predicate}
 use Rattle.module_table.specs.Facts.{Facts}
@@ -25,7 +26,7 @@ use Rattle.call_edges.specs.Roots.{Gives, IsGivenByRoot, IsCalledByGoal, IsRoot}
 use Rattle.call_edges.proofs.AddsLemmas.{adds_then}
 use Rattle.call_edges.proofs.AmongLemmas.{among_flat, among_map}
 use Rattle.call_edges.proofs.PlaceLemmas.{enumerated, numbered}
-use Rattle.call_edges.proofs.CheckLemmas.{stands_in, place_in}
+use Rattle.call_edges.proofs.CheckLemmas.{place_in}
 use Rattle.call_edges.proofs.CallLemmas.{adds_from_none}
 use Rattle.call_edges.proofs.SuccessorLemmas.{found_below, goes_below}
 

@@ -9,6 +9,7 @@ use Rattle.std.proofs.lemmas.List.FromFn.{length-map-range_with_len, get_or-map-
 use Rattle.std.proofs.lemmas.List.Kept.{IsStrictlyIncreasing-filter}
 use Rattle.std.proofs.lemmas.Option.{same_Some, none-some, cond_some}
 use Rattle.list_laws.proofs.OneOrder.{range_has}
+use Rattle.list_laws.proofs.Members.{any_there, any_from}
 use Rattle.graph_law.specs.Graph.{Calls, IsClosed}
 use Rattle.graph_law.proofs.Unique.{increasing_unique}
 use Rattle.import_rules.specs.declared.names.PredName.{PredName}
@@ -20,7 +21,7 @@ use Rattle.call_edges.specs.ProgramRows.{rows_of}
 use Rattle.call_edges.specs.Calls.{IsMetIn, target, GoesTo, NodeCalls}
 use Rattle.call_edges.specs.Bodies.{bodies_in, IsMetInBody}
 use Rattle.call_edges.specs.Successors.{body_mets, node_mets, is_target, calls_to, successor_lists}
-use Rattle.call_edges.proofs.AmongLemmas.{among_as, flat_has, any_is, is_any, filter_has}
+use Rattle.call_edges.proofs.AmongLemmas.{among_as, flat_has, filter_has}
 use Rattle.call_edges.proofs.ListedMets.{mets_are}
 use Rattle.call_edges.proofs.BodyLemmas.{node_met}
 
@@ -77,12 +78,12 @@ node_mets_are seen node m =
 
 pub calls_are : (seen : Seen) (p q : ℕ) → calls_to seen p q ≡ true → NodeCalls seen p q
 calls_are seen p q is =
-    let some = any_is (λ m. is_target q (target seen m)) (node_mets seen p) is in
+    let some = any_from (λ m. is_target q (target seen m)) (node_mets seen p) is in
     record { met = some.0; is = (node_mets_are seen p some.0).0 some.1; goes = target_is q (target seen some.0) some.2 }
 
 pub calls_true : (seen : Seen) (p q : ℕ) → NodeCalls seen p q → calls_to seen p q ≡ true
 calls_true seen p q calls =
-    is_any (λ m. is_target q (target seen m)) (node_mets seen p) calls.met ((node_mets_are seen p calls.met).1 calls.is)
+    any_there (λ m. is_target q (target seen m)) (node_mets seen p) calls.met ((node_mets_are seen p calls.met).1 calls.is)
     (is_the_target q (target seen calls.met) calls.goes)
 
 -- the lists

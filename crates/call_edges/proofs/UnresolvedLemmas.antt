@@ -13,6 +13,7 @@ use Rattle.std.proofs.lemmas.List.Kept.{Any-dedup, Contains-from_dedup, IsStrict
 use Rattle.std.proofs.lemmas.List.Sorted.{Contains-permutation, IsPermutation-sym}
 use Rattle.std.proofs.lemmas.Map.Keys.{Less-from_sorted}
 use Rattle.std.proofs.lemmas.Option.{none-some, same_Some}
+use Rattle.list_laws.proofs.Members.{all_by}
 use Rattle.import_rules.specs.declared.names.PredName.{PredName}
 use Rattle.import_rules.specs.Names.{pred_cmp, is_same, pred_name}
 use Rattle.import_rules.specs.Program.{Seen, found}
@@ -28,7 +29,6 @@ use Rattle.call_edges.specs.Unresolved.{IsUnresolvedOf, IsUnresolved, AreUnresol
 use Rattle.call_edges.proofs.AddsLemmas.{adds_as}
 use Rattle.call_edges.proofs.AmongLemmas.{among_given, map_has}
 use Rattle.call_edges.proofs.CallLemmas.{adds_from_none}
-use Rattle.call_edges.proofs.LightLemmas.{all_of}
 
 module _ (seen : Seen) where
   abbrev pub IsKeptName : MetKept → PredName → Type 0
@@ -126,7 +126,7 @@ all_names seen node called sorted kept names told moved in_order filtered are =
     subst P (sym (are ∙ ap (map see_called) is))
     (record {
       ordered = all_pairs_map (λ p q. pred_cmp p q ≡ Less) see_called once (λ i j d before lt. Less-from_sorted called_cmp once i j d rises before lt);
-      sound = all_of (IsUnresolved seen node) (map see_called once) (λ name has.
+      sound = all_by (IsUnresolved seen node) (map see_called once) (λ name has.
           let one = (map_has see_called once name).0 has in
           let there = Contains-permutation sorted called one.one (IsPermutation-sym called sorted moved) (Contains-from_dedup called_eq sorted one.one one.has) in
           (told name).0 ((map_has see_called called name).1 (record { one = one.one; has = there; is = one.is })));

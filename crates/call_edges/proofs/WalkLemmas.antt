@@ -27,12 +27,6 @@ pub constant_seen : (found : Term) (kind : ConstKind) (minus : Bool) (value : Op
 constant_seen found kind minus value span is =
     ap tree_of (is ∙ sym (term.rolls-Const kind minus value span)) ∙ fold-roll-Term Tree tree_step (Term-F.Const kind minus value span)
 
--- an argument is less deep than its compound
-pub deepest_one : (args : List Tree) (i : ℕ) (tree : Tree) → slice_get args i ≡ Some tree → depth tree ≤ deepest (trees_from args)
-deepest_one [] i tree is = let both : None ≡ Some tree = is in absurd (cc)
-deepest_one (first ∷ args) zero tree is = omega (arith, ap depth (same_Some first tree is))
-deepest_one (first ∷ args) (suc i) tree is = omega (arith, deepest_one args i tree is)
-
 pub read_seen : (terms : List Term) (i : ℕ) (found : Term) → i < length terms → found ≡ get_or terms i found → slice_get (map tree_of terms) i ≡ Some (tree_of found)
 read_seen terms i found lt is = slice_get-map tree_of terms i ∙ ap (option_map tree_of) (slice_get_read terms (length terms) i found refl lt is)
 

@@ -1,5 +1,6 @@
 -- What is found at predicates, and lists that stand one behind the other.
-use Rattle.std.specs.Prelude.{ℕ, ◌≡◌, ◌<◌, ◌≤◌, ◌+◌, ◌*◌, ◌/◌, ◌↔◌, List, [], Some, Contains, Result, IfOk, length, take, drop, slice_get, slice_index_or, slice_range}
+use Rattle.std.specs.Prelude.{ℕ, ◌≡◌, ◌<◌, ◌≤◌, ◌+◌, ◌*◌, ◌/◌, ◌↔◌, List, [], Some, Contains, Result, IfOk, length, take, drop, slice_get, slice_index_or}
+use Rattle.std.specs.Prelude.{slice_range}
 use Rattle.std.specs.List.{AllZip, range_with_len}
 use Rattle.std.specs.List.Sorted.{IsStrictlyIncreasing}
 use Rattle.std.specs.declared.alloc.AllocError.{AllocError}

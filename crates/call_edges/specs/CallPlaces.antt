@@ -1,10 +1,8 @@
 -- Calls with the places of their goals.
-use Rattle.std.specs.Prelude.{ℕ, ◌≡◌, ◌↔◌, List, Some, AllPairs, Contains, slice_get}
+use Rattle.std.specs.Prelude.{ℕ, ◌≡◌, ◌↔◌, List, AllPairs, Contains}
 use Rattle.std.specs.declared.cmp.Ordering.{Ordering}
 use Rattle.std.specs.declared.cmp.Ordering.TheVariants.{Less}
 use Rattle.std.specs.Ordering.{ordering_then, nat_cmp}
-use Rattle.prolog_tokens.specs.Places.{IsOffset}
-use Rattle.file_library.specs.Loaded.{NamedText}
 use Rattle.import_rules.specs.declared.names.PredName.{PredName}
 use Rattle.import_rules.specs.Names.{pred_cmp}
 use Rattle.import_rules.specs.Program.{Seen}
@@ -44,9 +42,3 @@ call_cmp a b =
 pub record AreCallsOf (seen : Seen) (callers : List ℕ) (calls : List CallAt) : Type 0 where
   pub ordered : AllPairs (λ a b. call_cmp a b ≡ Less) calls
   pub each : (c : CallAt) → Contains calls c ↔ IsAmong (IsCallOf seen) callers c
-
--- the goal starts at an offset of the text of its file
-pub record StandsInText (texts : List NamedText) (file offset : ℕ) : Type 0 where
-  pub text : NamedText
-  pub is : slice_get texts file ≡ Some text
-  pub stands : IsOffset text.1 offset

@@ -12,7 +12,6 @@ pub mod FaultPlaces
 pub mod Roots
 pub mod Unresolved
 pub mod Called
-pub mod Placing
 pub mod CallLists
 pub mod CallPlaces
 pub mod PlacedSeen

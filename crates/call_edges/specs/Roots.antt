@@ -8,9 +8,13 @@ use Rattle.import_rules.specs.Program.{Seen, found}
 use Rattle.call_edges.specs.ProgramRows.{rows_of}
 use Rattle.call_edges.specs.Calls.{IsAmong, IsMetInGoals, GoesTo}
 
+-- what the indicator means in the module
+abbrev pub IsExportOf : Seen → List ℕ → Indicator → ℕ → Type 0
+IsExportOf seen owner i n = found seen owner i.name i.arity ≡ Some n
+
 -- a module file gives the predicates of its exports, and another file those that it defines, in whichever module
 abbrev pub Gives : Seen → Facts → Bool → ℕ → Type 0
-Gives seen file true q = IsAmong (λ (i : Indicator) n. found seen file.module_ i.name i.arity ≡ Some n) file.exports q
+Gives seen file true q = IsAmong (IsExportOf seen file.module_) file.exports q
 Gives seen file false q = IsAmong (λ (p : Predicate) n. found seen p.module_ p.name p.arity ≡ Some n) file.defined q
 
 -- the file is a root file that gives the predicate

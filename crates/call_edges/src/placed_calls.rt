@@ -2,7 +2,8 @@
 
 ghost use Rattle.std.specs.Prelude.{◌≡◌, ◌<◌, ◌↔◌, All, Contains, length, map, option_map, IfOk, OnOk};
 ghost use Rattle.call_edges.specs.Bodies.{see_body, IsLight};
-ghost use Rattle.call_edges.specs.CallPlaces.{AreCallsOf, CallAt, IsCallBy, IsCalledIn, IsCallOf, StandsInText};
+ghost use Rattle.file_library.specs.Spots.{StandsInText};
+ghost use Rattle.call_edges.specs.CallPlaces.{AreCallsOf, CallAt, IsCallBy, IsCalledIn, IsCallOf};
 ghost use Rattle.call_edges.specs.Calls.{IsAmong};
 ghost use Rattle.call_edges.specs.Goals.{Adds};
 ghost use Rattle.call_edges.specs.PlacedSeen.{call_met, see_call, see_calls};

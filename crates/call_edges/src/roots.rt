@@ -2,13 +2,12 @@
 
 ghost use Rattle.std.specs.Prelude.{◌≡◌, ◌↔◌, ◌<◌, ℕ, Some, All, Contains, IsTrue, length, IfOk, OnOk};
 ghost use Rattle.std.specs.List.Sorted.{IsStrictlyIncreasing};
-ghost use Rattle.module_table.specs.declared.indicator.Indicator.{Indicator as Exported};
 ghost use Rattle.module_table.specs.Facts.{see_facts};
 ghost use Rattle.file_library.specs.Asked.{AreInOrder};
-ghost use Rattle.import_rules.specs.Program.{see_program, found};
+ghost use Rattle.import_rules.specs.Program.{see_program};
 ghost use Rattle.call_edges.specs.Goals.{Adds};
 ghost use Rattle.call_edges.specs.Calls.{IsAmong};
-ghost use Rattle.call_edges.specs.Roots.{AreMarked, HasMarked, IsDefinedByRoot, IsExportedByRoot, IsGivenByRoot, IsPlainRoot, IsRoot};
+ghost use Rattle.call_edges.specs.Roots.{AreMarked, HasMarked, IsDefinedByRoot, IsExportOf, IsExportedByRoot, IsGivenByRoot, IsPlainRoot, IsRoot};
 
 use crate::body::goals_of;
 use crate::calls::push_called;
@@ -24,7 +23,7 @@ fn push_exports(
     exports: &[Indicator],
     roots: &mut Vec<u32>,
 ) -> Result<(), AllocError>
-    ensures { OnOk result (Adds (IsAmong (λ (i : Exported) n. found (see_program program.now) owner.now i.name i.arity ≡ Some n) exports.now) roots.old.items roots.new.items) }
+    ensures { OnOk result (Adds (IsAmong (IsExportOf (see_program program.now) owner.now) exports.now) roots.old.items roots.new.items) }
 {
     for export in exports {
         let Some(node) = program.find(owner, export.name.as_str(), export.arity) else {

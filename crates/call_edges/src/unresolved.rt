@@ -50,7 +50,8 @@ fn push_unresolved<'a>(
     met: &[Met<'a>],
     names: &mut Vec<Called<'a>>,
 ) -> Result<(), AllocError>
-    ensures { OnOk result (Adds (IsUnresolvedOf (see_program program.now) (Contains (see_mets met.now))) (map see_called names.old.items) (map see_called names.new.items)) }
+    ensures { OnOk result (Adds (IsUnresolvedOf (see_program program.now) (Contains (see_mets met.now)))
+        (map see_called names.old.items) (map see_called names.new.items)) }
 {
     for one in met {
         let Some(called) = unresolved(program, *one) else {

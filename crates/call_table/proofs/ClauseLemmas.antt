@@ -15,16 +15,16 @@ use Rattle.std.proofs.lemmas.List.Kept.{Any-dedup, Contains-from_dedup, IsStrict
 use Rattle.std.proofs.lemmas.List.Sorted.{Contains-permutation, IsPermutation-sym}
 use Rattle.std.proofs.lemmas.Map.Keys.{Less-from_sorted}
 use Rattle.std.proofs.lemmas.Option.{slice_get_within, get_or_from_slice_get}
+use Rattle.list_laws.proofs.Members.{all_by}
 use Rattle.clause_text.specs.Offsets.{HasOffsets}
 use Rattle.clause_text.proofs.TermOffsets.{start_stands}
 use Rattle.module_table.specs.Defined.{Predicate}
 use Rattle.module_table.specs.Facts.{Facts}
 use Rattle.import_rules.specs.Program.{Seen, places_in, IsKnown}
-use Rattle.call_edges.specs.CallPlaces.{StandsInText}
+use Rattle.file_library.specs.Spots.{StandsInText}
 use Rattle.call_edges.proofs.AmongLemmas.{flat_has, map_has}
 use Rattle.call_edges.proofs.BodyLemmas.{places_there}
 use Rattle.call_edges.proofs.CallOffsets.{zip_text}
-use Rattle.call_edges.proofs.LightLemmas.{all_of}
 use Rattle.call_table.specs.declared.clauses.ClauseAt.{ClauseAt}
 use Rattle.call_table.specs.Clauses.{clause_at, part_clauses, file_clauses, clauses_there, clauses_in, clause_cmp, AreClausesOf}
 
@@ -54,7 +54,7 @@ node_stands seen node c known has =
 pub clauses_stand : (seen : Seen) (nodes : List ℕ) (clauses : List ClauseAt) → IsKnown seen → AreClausesOf seen nodes clauses
     → All (λ (c : ClauseAt). StandsInText seen.loaded.texts c.file c.offset) clauses
 clauses_stand seen nodes clauses known are =
-    all_of (λ (c : ClauseAt). StandsInText seen.loaded.texts c.file c.offset) clauses
+    all_by (λ (c : ClauseAt). StandsInText seen.loaded.texts c.file c.offset) clauses
     (λ c has. let among = (are.each c).0 has in node_stands seen among.one c known among.is)
 
 -- sorted, and each once

@@ -1,4 +1,3 @@
-pub mod SpotLemmas
 pub mod SpotOrder
 pub mod ClauseLemmas
 pub mod MembershipLemmas

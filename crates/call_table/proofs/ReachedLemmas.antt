@@ -39,7 +39,3 @@ are_nodes seen roots groups below legal reach = record {
 pub reached_by : (own seen : Seen) (roots : List ℕ) (groups : List (List ℕ)) → own ≡ seen
     → ((p : ℕ) → HasMember groups p → IsReached (Calls (successor_lists own)) roots p) → (p : ℕ) → HasMember groups p → IsReached (Calls (successor_lists seen)) roots p
 reached_by own seen roots groups same reach p has = subst (λ (s : Seen). IsReached (Calls (successor_lists s)) roots p) same (reach p has)
-
--- as many levels as groups
-pub one_each : {calls : ℕ → ℕ → Type 0} {groups : List (List ℕ)} {levels : List Level} → AreLevels calls groups levels → length levels ≡ length groups
-one_each {calls} {groups} {levels} are = sym (length-map levels (λ (level : Level). level.height)) ∙ are.heights.each

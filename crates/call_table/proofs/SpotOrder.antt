@@ -8,10 +8,11 @@ use Rattle.std.proofs.lemmas.List.Elements.{All-map}
 use Rattle.import_rules.specs.Names.{pred_cmp}
 use Rattle.import_rules.specs.Program.{Seen}
 use Rattle.import_rules.proofs.Lists.{all_pairs_map}
-use Rattle.call_edges.specs.CallPlaces.{CallAt, AreCallsOf, StandsInText}
+use Rattle.file_library.specs.Spots.{StandsInText}
+use Rattle.call_edges.specs.CallPlaces.{CallAt, AreCallsOf}
 use Rattle.call_table.specs.declared.clauses.ClauseAt.{ClauseAt}
 use Rattle.call_table.specs.Clauses.{AreClausesOf}
-use Rattle.call_table.specs.Spots.{IsUpto, AreSpots}
+use Rattle.file_library.specs.Spots.{IsUpto, AreSpots}
 use Rattle.call_table.specs.Table.{clause_spot, call_spot}
 
 second_upto : (o : Ordering) (m n : ℕ) (rest : Ordering) → o ≡ nat_cmp m n → ordering_then o rest ≡ Less → m ≤ n

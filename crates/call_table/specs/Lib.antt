@@ -1,4 +1,3 @@
-pub mod Spots
 pub mod Clauses
 pub mod Memberships
 pub mod Reached

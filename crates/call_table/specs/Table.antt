@@ -9,7 +9,7 @@ use Rattle.call_table.specs.declared.clauses.ClauseAt.{ClauseAt}
 use Rattle.call_table.specs.declared.table.CallTable.{CallTable}
 use Rattle.call_table.specs.Clauses.{AreClausesOf}
 use Rattle.call_table.specs.Memberships.{AreGroupsOf}
-use Rattle.call_table.specs.Spots.{IsSpotPlace}
+use Rattle.file_library.specs.Spots.{IsSpotPlace}
 
 -- where a clause starts
 abbrev pub clause_spot : ClauseAt → ℕ × ℕ

@@ -2,7 +2,7 @@
 
 ghost use Rattle.std.specs.Prelude.{◌≡◌, ◌<◌, ◌++◌, All, length, map, IfOk, OnOk};
 ghost use Rattle.std.specs.List.{flat_map};
-ghost use Rattle.call_edges.specs.CallPlaces.{StandsInText};
+ghost use Rattle.file_library.specs.Spots.{StandsInText};
 ghost use Rattle.call_table.specs.Clauses.{AreClausesOf, clause_at, clauses_in};
 ghost use Rattle.call_table.specs.declared.clauses.ClauseAt.{ClauseAt as Clauses};
 ghost use Rattle.import_rules.specs.Program.{see_program};

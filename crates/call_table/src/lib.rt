@@ -12,11 +12,9 @@
 mod clauses;
 mod memberships;
 mod reached;
-mod spots;
 mod table;
 
 pub use clauses::{ClauseAt, clauses_of};
 pub use memberships::groups_of;
 pub use reached::{Reached, groups_from};
-pub use spots::places_of_spots;
 pub use table::{CallTable, call_table};

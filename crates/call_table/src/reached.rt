@@ -31,7 +31,8 @@ pub fn groups_from(
 ) -> Result<Reached, AllocError>
     requires calls { see_call_lists calls.now ≡ see_program program.now }
     requires below { All (λ q. q < length (see_program program.now).predicates) roots.now }
-    ensures groups { IfOk result (λ found. AreLeveled (ListCalls (successor_lists (see_program program.now))) roots.now (lists_of found.groups.items) found.levels.items) }
+    ensures groups { IfOk result (λ found. AreLeveled (ListCalls (successor_lists (see_program program.now)))
+        roots.now (lists_of found.groups.items) found.levels.items) }
     ensures nodes { IfOk result (λ found. AreNodes (length (see_program program.now).predicates) (lists_of found.groups.items)) }
     ensures one_level_each { IfOk result (λ found. length found.levels.items ≡ length found.groups.items) }
 {

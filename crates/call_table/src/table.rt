@@ -7,7 +7,6 @@ ghost use Rattle.import_rules.specs.Program.{see_program};
 
 use crate::clauses::{ClauseAt, clauses_of};
 use crate::memberships::groups_of;
-use crate::spots::places_of_spots;
 use call_edges::{PlacedCall, calls_of};
 use import_rules::Program;
 use prolog_tokens::Place;
@@ -61,10 +60,10 @@ pub fn call_table<'a>(
 {
     let clauses = clauses_of(alloc, program, nodes)?;
     let clause_spots = clause_spots(alloc, &clauses)?;
-    let clause_places = places_of_spots(alloc, program, &clause_spots)?;
+    let clause_places = program.places_of_spots(alloc, &clause_spots)?;
     let calls = calls_of(alloc, program, nodes)?;
     let call_spots = call_spots(alloc, &calls)?;
-    let call_places = places_of_spots(alloc, program, &call_spots)?;
+    let call_places = program.places_of_spots(alloc, &call_spots)?;
     let groups = groups_of(alloc, program.count(), groups)?;
     Ok(CallTable {
         clauses,

@@ -1,61 +1,15 @@
-//! The lines that say why nothing is told.
+//! The lines that say why nothing is told; those of faults are the same as those of `groups`.
 
-ghost use Rattle.std.specs.Prelude.{◌≡◌, ◌++◌, IfOk, OnOk};
-ghost use Rattle.std.specs.Fmt.{decimal};
+ghost use Rattle.std.specs.Prelude.{◌≡◌, ◌++◌, IfOk};
 ghost use Rattle.std.specs.String.{string_bytes};
 ghost use Rattle.calls_tool.specs.Lines.{limit_line, missing_line, unread_line};
-ghost use Rattle.group_tool.specs.Lines.{fault_line, fault_lines, place_text};
 
 use crate::stop::Limit;
-use clause_text::cause_text;
-use file_library::Fault;
+pub use group_tool::fault_lines;
 use import_rules::PredName;
 use loop_report::predicate_name;
-use prolog_tokens::{Place, Text};
+use prolog_tokens::Text;
 use std::alloc::{AllocError, Global};
-
-/// The lines of the faults, in their order: `FILE:LINE:COLUMN: TEXT`, and `FILE: TEXT` where the
-/// line is 0.
-pub fn fault_lines(alloc: Global, faults: &[Fault]) -> Result<String, AllocError>
-    ensures { IfOk result (λ text. string_bytes text ≡ fault_lines faults.now) }
-{
-    let mut text = String::new(alloc);
-    for fault in faults {
-        push_fault(alloc, &mut text, fault)?;
-    }
-    Ok(text)
-}
-
-fn push_fault(alloc: Global, text: &mut String, fault: &Fault) -> Result<(), AllocError>
-    ensures { OnOk result (string_bytes text.new ≡ string_bytes text.old ++ fault_line fault.now) }
-{
-    text.push_str(fault.file.as_str())?;
-    push_place(alloc, text, fault.place)?;
-    text.push_str(": ")?;
-    text.push_str(cause_text(fault.cause))?;
-    text.push_str("\n")
-}
-
-/// Adds `:LINE:COLUMN`, or nothing where the line is 0.
-fn push_place(alloc: Global, text: &mut String, place: Place) -> Result<(), AllocError>
-    ensures { OnOk result (string_bytes text.new ≡ string_bytes text.old ++ place_text place) }
-{
-    if place.line == 0 {
-        return Ok(());
-    }
-    text.push_str(":")?;
-    push_number(alloc, text, place.line)?;
-    text.push_str(":")?;
-    push_number(alloc, text, place.column)
-}
-
-/// Adds the number in decimal digits.
-fn push_number(alloc: Global, text: &mut String, number: u32) -> Result<(), AllocError>
-    ensures { OnOk result (string_bytes text.new ≡ string_bytes text.old ++ decimal number) }
-{
-    let digits = number.to_string(alloc)?;
-    text.push_str(&digits)
-}
 
 /// The line that says which name of the words is no predicate of the program.
 pub fn missing_line(alloc: Global, root: &PredName) -> Result<String, AllocError>

@@ -2,7 +2,6 @@ pub mod LeastOnes
 pub mod Carried
 mod Found
 mod OneNode
-mod Places
 mod ByHeight
 mod Pieces
 mod Stretches

@@ -8,6 +8,7 @@ use Rattle.std.proofs.lemmas.List.{get_or-set_same, get_or-set_other, get_or_app
 use Rattle.std.proofs.lemmas.List.Elements.{Contains-append_left, Contains-push, Contains-push_cases}
 use Rattle.std.proofs.lemmas.List.FromFn.{get_or-range_with_len, length-range_with_len}
 use Rattle.std.proofs.Math.Seq.{take-add}
+use Rattle.list_laws.proofs.Zips.{zip_at, zip_count}
 use Rattle.graph_law.specs.Classes.{group_at}
 use Rattle.graph_law.specs.Graph.{Calls}
 use Rattle.effect_flow.specs.declared.firsts.Flow.{Flow}
@@ -15,20 +16,6 @@ use Rattle.effect_flow.specs.Carriers.{IsFlow, flow_at}
 use Rattle.effect_flow.specs.Flows.{AreAdded, AreFound, ArePieces, IsPut, piece_of}
 use Rattle.effect_flow.specs.Seen.{see_flow, see_flows}
 use Rattle.effect_flow.proofs.Found.{found_append}
-
--- two lists side by side
-
-pub zip_at : {X Y : Type 0} (R : X → Y → Type 0) (xs : List X) (ys : List Y) (k : ℕ) (d : X) (e : Y) → AllZip R xs ys → k < length xs → R (get_or xs k d) (get_or ys k e)
-zip_at R [] ys k d e zip lt = absurd (omega (arith, lt))
-zip_at R (x ∷ xs) [] k d e zip lt = absurd zip
-zip_at R (x ∷ xs) (y ∷ ys) zero d e zip lt = zip.0
-zip_at R (x ∷ xs) (y ∷ ys) (suc k) d e zip lt = zip_at R xs ys k d e zip.1 (omega (arith, lt))
-
-pub zip_count : {X Y : Type 0} (R : X → Y → Type 0) (xs : List X) (ys : List Y) → AllZip R xs ys → length xs ≡ length ys
-zip_count R [] [] zip = refl
-zip_count R [] (y ∷ ys) zip = absurd zip
-zip_count R (x ∷ xs) [] zip = absurd zip
-zip_count R (x ∷ xs) (y ∷ ys) zip = ap suc (zip_count R xs ys zip.1)
 
 -- a piece as it is sliced
 pub piece_same : (xs : List ℕ) (number m : ℕ) → m ≡ min (length xs - number * 512) 512 → slice_range xs (number * 512) (number * 512 + m) ≡ piece_of xs number

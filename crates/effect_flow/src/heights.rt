@@ -13,8 +13,7 @@ use crate::carriers::{flow_there, flows_in_turn, push_flows};
 use crate::firsts::Flow;
 use crate::grouped::Grouped;
 use crate::height_order::{height_end, height_order};
-use crate::node_places::node_places;
-use graph_law::Opener;
+use graph_law::{Opener, group_places};
 use group_release::Level;
 use rayon::prelude::*;
 use std::alloc::{AllocError, Global};
@@ -227,7 +226,7 @@ pub fn flow<R: Threads + Sync, O: Opener>(
     requires own { length own.now ≡ length (O.lists opener.now) }
     ensures { IfOk result (λ flows. AreFlows (Calls (O.lists opener.now)) own.now (lists_of groups.now) (see_flows flows.items)) }
 {
-    let places = node_places(alloc, opener.count() as usize, groups)?;
+    let places = group_places(alloc, opener.count() as usize, groups)?;
     let grouped = Grouped {
         opener,
         groups,

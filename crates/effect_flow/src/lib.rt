@@ -15,7 +15,6 @@ mod grouped;
 mod height_order;
 mod heights;
 mod kinds;
-mod node_places;
 
 pub use firsts::Flow;
 pub use heights::flow;

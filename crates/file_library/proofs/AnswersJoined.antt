@@ -5,9 +5,10 @@ use Rattle.std.proofs.lemmas.List.{map-append, take-append-drop, take_more, drop
 use Rattle.std.proofs.lemmas.List.Elements.{All-append, All-nil}
 use Rattle.std.proofs.lemmas.List.Sums.{sum_by-append, sum_by-cons}
 use Rattle.std.proofs.Math.Seq.{take-length}
+use Rattle.file_library.specs.declared.limits.TheConstants.{MOST_TEXT}
 use Rattle.file_library.specs.Counts.{Rose}
 use Rattle.file_library.specs.Library.{Files, Answered, names_of, LibrarySeen, IsLater}
-use Rattle.file_library.specs.Loaded.{most_bytes}
+use Rattle.prolog_tokens.specs.declared.limits.TheConstants.{MOST_BYTES}
 use Rattle.file_library.specs.Answers.{bytes_of, IsTrueAnswer, AreAnswers, GivesText, HasGiven, StopsAt, IsPut, StopsWave}
 use Rattle.file_library.specs.declared.loaded.LoadStop.{LoadStop}
 use Rattle.file_library.specs.declared.loaded.LoadStop.TheVariants.{Faults, ReadFault, TooManyFiles, FileTooLarge, TooMuchText, NoMemory}
@@ -53,10 +54,10 @@ true_within a b c d before kept after answer is = record {
 all_true : (a b c d : LibrarySeen) → IsLater a b → IsLater b c → IsLater c d → (answers : List Answered) → All (IsTrueAnswer b c) answers → All (IsTrueAnswer a d) answers
 all_true a b c d before kept after answers are k answer less = true_within a b c d before kept after (get_or answers k answer) (are k answer less)
 
-pub no_answers : (a : LibrarySeen) (total : ℕ) → total ≤ 33554432 → AreAnswers a a total []
+pub no_answers : (a : LibrarySeen) (total : ℕ) → total ≤ MOST_TEXT → AreAnswers a a total []
 no_answers a total fits = record {
   are_true = All-nil (IsTrueAnswer a a);
-  small = All-nil (λ answer. bytes_of answer ≤ most_bytes);
+  small = All-nil (λ answer. bytes_of answer ≤ MOST_BYTES);
   together = omega (arith, fits);
 }
 
@@ -68,7 +69,7 @@ answers_joined a b c total answers more first second are then = record {
       All-append (IsTrueAnswer a c) answers more
       (all_true a a b c (not_later a) first second answers are.are_true)
       (all_true a b c c first second (not_later c) more then.are_true);
-  small = All-append (λ answer. bytes_of answer ≤ most_bytes) answers more are.small then.small;
+  small = All-append (λ answer. bytes_of answer ≤ MOST_BYTES) answers more are.small then.small;
   together = omega (arith, then.together, sum_by-append bytes_of answers more);
 }
 
@@ -101,7 +102,7 @@ pub record ReadSoFar (before after : LibrarySeen) (wave : List (List ℕ)) (tota
   pub counted : count ≡ total + sum_by bytes_of answers
 
 module _ (before : LibrarySeen) (wave : List (List ℕ)) (total : ℕ) where
-  pub read_starts : total ≤ 33554432 → ReadSoFar before before wave total total [] 0
+  pub read_starts : total ≤ MOST_TEXT → ReadSoFar before before wave total total [] 0
   read_starts fits = record {
     names = refl;
     are = no_answers before total fits;

@@ -4,6 +4,7 @@ use Rattle.std.proofs.lemmas.Bool.{cases_lt}
 use Rattle.std.proofs.lemmas.List.{map-append, append_assoc, flat_map_more, length-append, length-map}
 use Rattle.std.proofs.lemmas.List.Elements.{Contains-append_left, All-append, All-nil}
 use Rattle.std.proofs.lemmas.List.Sums.{sum_by-append}
+use Rattle.file_library.specs.declared.limits.TheConstants.{MOST_FILES}
 use Rattle.list_laws.proofs.OneOrder.{nothing_in}
 use Rattle.file_library.specs.Library.{Files, LibrarySeen, IsLater, Answered, names_of, map_of}
 use Rattle.file_library.specs.Asked.{IsInWave, AreInOrder, IsWave, AreFirstWaves, names_in}
@@ -23,7 +24,7 @@ pub record AskedWaves (before after : LibrarySeen) (roots : Names) (total : ℕ)
   pub gained : HasGiven before after (names_of (answers_of found)) (answers_of found)
   pub answers : AreAnswers before after 0 (answers_of found)
   pub counted : total ≡ sum_by bytes_of (answers_of found)
-  pub few : length found ≤ 1024
+  pub few : length found ≤ MOST_FILES
   pub apart : AreApart (answers_of found)
   pub of_texts : All IsOfText found
 
@@ -31,7 +32,7 @@ pub record AskedWaves (before after : LibrarySeen) (roots : Names) (total : ℕ)
 pub record IsNextFor (roots : Names) (found : List FileFound) (waves : List Names) (wave : Names) : Type 0 where
   pub sound : (files : Files) → Agrees files (answers_of found) → (name : List ℕ) → Contains wave name → IsInWave (FileLoads files) roots (length waves) name
   pub whole : ((files : Files) → Agrees files (answers_of found) → (name : List ℕ) → IsInWave (FileLoads files) roots (length waves) name → Contains wave name)
-      ⊎ (1024 < length found + length wave)
+      ⊎ (MOST_FILES < length found + length wave)
 
 -- the set has the names that were asked for
 pub record AreKnown (waves : List Names) (known : Names) : Type 0 where
@@ -51,7 +52,7 @@ pub agrees_first : (files : Files) (answers more : List Answered) → Agrees fil
 agrees_first files answers more agrees answer has = agrees answer (Contains-append_left answers more answer has)
 
 module _ (before : LibrarySeen) (roots : Names) where
-  pub asking_starts : (known wave : Names) → known ≡ [] → AddsFiles [] 1024 [] roots wave → AskedSoFar before before roots 0 [] known wave
+  pub asking_starts : (known wave : Names) → known ≡ [] → AddsFiles [] MOST_FILES [] roots wave → AskedSoFar before before roots 0 [] known wave
   asking_starts known wave none adds = record {
     waves = [];
     past = record {
@@ -71,7 +72,7 @@ module _ (before : LibrarySeen) (roots : Names) where
             first = λ k below leads. let no : ⊥ = omega (arith, below) in no;
           };
       whole =
-          elim (cases_lt 1024 (length wave)) [
+          elim (cases_lt MOST_FILES (length wave)) [
             | inl many ↦ inr (omega (arith, many))
             | inr few ↦ inl (λ files agrees name in_wave.
                 elim (adds.all name in_wave.there) [
@@ -92,7 +93,7 @@ module _ (before : LibrarySeen) (roots : Names) where
   -- a wave that was asked for whole comes behind the others
   pub wave_joined : (mid after : LibrarySeen) (total : ℕ) (found new : List FileFound) (waves : List Names) (wave : Names)
       → AskedWaves before mid roots total found waves → IsNextFor roots found waves wave → HasAskedWave mid after wave total new
-      → IsLater before mid → IsLater mid after → length found + length wave ≤ 1024
+      → IsLater before mid → IsLater mid after → length found + length wave ≤ MOST_FILES
       → AskedWaves before after roots (total + sum_by bytes_of (answers_of new)) (found ++ new) (waves ++ wave ∷ [])
   wave_joined mid after total found new waves wave past next more first second few =
       let both : answers_of (found ++ new) ≡ answers_of found ++ answers_of new = map-append answered_of found new in

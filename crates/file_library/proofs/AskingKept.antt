@@ -8,6 +8,7 @@ use Rattle.std.proofs.lemmas.Map.Lookups.{exact_bytes}
 use Rattle.std.proofs.lemmas.Map.Views.{btree_set_contains_iff}
 use Rattle.std.proofs.lemmas.List.{flat_map_more}
 use Rattle.std.proofs.lemmas.List.Elements.{Contains-append_left, Contains-append_right, Contains-append_cases}
+use Rattle.file_library.specs.declared.limits.TheConstants.{MOST_FILES}
 use Rattle.file_library.specs.Library.{LibrarySeen, IsLater}
 use Rattle.file_library.specs.Asked.{names_in}
 use Rattle.file_library.specs.Answers.{bytes_of}
@@ -47,7 +48,7 @@ module _ (known wave known' : BTreeSet (List ℕ)) (union : (name : List ℕ) �
 module _ (before : LibrarySeen) (roots : Names) where
   pub kept_on : (mid after : LibrarySeen) (total : ℕ) (found new files : List FileFound) (known known' wave next : Names)
       → AskedSoFar before mid roots total found known wave → HasAskedWave mid after wave total new
-      → IsLater before mid → IsLater mid after → length found + length wave ≤ 1024 → IsKept known wave known' found new files next
+      → IsLater before mid → IsLater mid after → length found + length wave ≤ MOST_FILES → IsKept known wave known' found new files next
       → AskedSoFar before after roots (total + sum_by bytes_of (answers_of new)) files known' next
   kept_on mid after total found new files known known' wave next so_far more first second few kept =
       let past = wave_joined before roots mid after total found new so_far.waves wave so_far.past so_far.next more first second few in

@@ -6,6 +6,7 @@ use Rattle.std.proofs.lemmas.List.{map-append, append_assoc, flat_map_more, leng
 use Rattle.std.proofs.lemmas.List.Elements.{Contains-append_right}
 use Rattle.std.proofs.lemmas.List.Sums.{sum_by-append}
 use Rattle.std.proofs.Math.Seq.{get_or-append_seam}
+use Rattle.file_library.specs.declared.limits.TheConstants.{MOST_FILES}
 use Rattle.list_laws.proofs.OneOrder.{nothing_in, holds_of}
 use Rattle.file_library.specs.Library.{Files, LibrarySeen, IsLater, Answered, names_of, map_of}
 use Rattle.file_library.specs.Asked.{IsInWave, wave_at, AreInOrder, AreFirstWaves, names_in}
@@ -25,7 +26,7 @@ use Rattle.file_library.proofs.WaveLaws.{Names, next_sound, next_all, more_waves
 module _ (before : LibrarySeen) (roots : Names) where
   pub asking_goes_on : (after : LibrarySeen) (total : ℕ) (found new : List FileFound) (waves : List Names) (wave known next : Names)
       → AskedWaves before after roots total (found ++ new) (waves ++ wave ∷ []) → names_of (answers_of new) ≡ wave → AreKnown (waves ++ wave ∷ []) known
-      → AddsFiles known (1024 - (length found + length new)) [] (loads_in new) next
+      → AddsFiles known (MOST_FILES - (length found + length new)) [] (loads_in new) next
       → AskedSoFar before after roots total (found ++ new) known next
   asking_goes_on after total found new waves wave known next past named are_known adds = record {
     waves = ws;
@@ -40,7 +41,7 @@ module _ (before : LibrarySeen) (roots : Names) where
           (file_loads files file.name file.found name (there files agrees file from.1) (told_of file from.1) from.2)
           (λ before. added.1 (are_known.all name before)));
       whole =
-          elim (cases_lt (1024 - (length found + length new)) (length next)) [
+          elim (cases_lt (MOST_FILES - (length found + length new)) (length next)) [
             | inl many ↦ inr (omega (arith, many, past.few, length-append found new))
             | inr few ↦ inl (λ files agrees name in_wave.
                 let from = next_all (FileLoads files) roots ws (length waves) (past.are files agrees) count name (subst (λ n. IsInWave (FileLoads files) roots n name) count in_wave) in
@@ -78,7 +79,7 @@ module _ (before : LibrarySeen) (roots : Names) where
 
   -- more names are in the next wave than may be asked for
   pub stops_many : (after : LibrarySeen) (total : ℕ) (found : List FileFound) (known wave : Names) → AskedSoFar before after roots total found known wave
-      → AreInOrder wave → 1024 < length found + length wave → HasStopped before after roots TooManyFiles
+      → AreInOrder wave → MOST_FILES < length found + length wave → HasStopped before after roots TooManyFiles
   stops_many after total found known wave so_far ordered many = record {
     answers = answers_of found;
     are_answers = so_far.past.answers;
@@ -134,7 +135,7 @@ module _ (before : LibrarySeen) (roots : Names) where
 
   -- the asking stopped within a wave
   pub stops_in_wave : (mid after : LibrarySeen) (total : ℕ) (found : List FileFound) (known wave : Names) (stop : LoadStop)
-      → AskedSoFar before mid roots total found known wave → AreInOrder wave → length found + length wave ≤ 1024
+      → AskedSoFar before mid roots total found known wave → AreInOrder wave → length found + length wave ≤ MOST_FILES
       → IsLater before mid → IsLater mid after → StopsInWave mid after wave total stop → HasStopped before after roots stop
   stops_in_wave mid after total found known wave stop so_far ordered fits first second stops =
       elim stops [
@@ -195,7 +196,7 @@ module _ (before : LibrarySeen) (roots : Names) where
           more_waves (FileLoads files) roots so_far.waves wave (so_far.past.are files old)
           (record { ordered = ordered; sound = so_far.next.sound files old; all = whole_all files old })
 
-      few_names : length (names_in ws) ≤ 1024
+      few_names : length (names_in ws) ≤ MOST_FILES
       few_names =
           omega (arith, fits, found_count found, ap (λ (names : Names). length names) so_far.past.names, ap (λ (names : Names). length names) (flat_map_more (λ (w : Names). w) [] so_far.waves wave), length-append (names_in so_far.waves) wave)
 

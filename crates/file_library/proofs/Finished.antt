@@ -1,6 +1,7 @@
 -- What files that were all asked for come to.
 use Rattle.std.proofs.Common.{ℕ, ◌≤◌, List, [], Option, Result, Ok, Err, IfOk, IfErr, Contains, length, refl, sym, subst, ap, ◌∙◌, inl, inr, arith, append-nil}
 use Rattle.std.specs.BTreeSet.{BTreeSet}
+use Rattle.file_library.specs.declared.limits.TheConstants.{MOST_FILES}
 use Rattle.list_laws.proofs.OneOrder.{nothing_in}
 use Rattle.file_library.specs.Asked.{AreInOrder, names_in}
 use Rattle.file_library.specs.FileLoads.{FileLoads}
@@ -65,7 +66,7 @@ module _ (before after : LibrarySeen) (roots : List (List ℕ)) (found : List Fi
     all = λ name is. subst (λ names. Contains names name) (sym all.names) (asked_waves (FileLoads own) roots all.waves (all.are own agrees) name is);
   }
 
-  few : length (names_in all.waves) ≤ 1024
+  few : length (names_in all.waves) ≤ MOST_FILES
   few = omega (arith, all.few, found_count found, ap (λ (names : List (List ℕ)). length names) all.names)
 
   are_all : AreAll own roots (names_of answers)

@@ -19,3 +19,4 @@ pub mod LoadFaults
 pub mod Finished
 pub mod ToldWaves
 pub mod ToldEnd
+pub mod SpotLemmas

@@ -10,6 +10,7 @@ use Rattle.std.proofs.lemmas.List.Elements.{filter_passes, Contains-get_or}
 use Rattle.std.proofs.lemmas.List.Kept.{AllPairs-filter}
 use Rattle.std.proofs.lemmas.List.Sorted.{Contains-permutation, IsPermutation-sym}
 use Rattle.list_laws.proofs.OneOrder.{nothing_in, first_or_rest, in_rest, in_first, before_rest, rest_in_order, holds_of}
+use Rattle.list_laws.proofs.Members.{kept_in, kept_there}
 use Rattle.prolog_tokens.specs.Places.{IsPlace}
 use Rattle.prolog_tokens.proofs.PlaceSteps.{place_once}
 use Rattle.clause_text.specs.declared.cause.Cause.TheVariants.{NoRoot}
@@ -27,30 +28,6 @@ use Rattle.file_library.specs.declared.sorted_out.SortedOut.{SortedOut}
 use Rattle.file_library.proofs.LoadsFound.{answer_in, named_file}
 use Rattle.file_library.proofs.Lookups.{name_in}
 use Rattle.file_library.proofs.NextWaveLemmas.{has_key, has_no_key}
-
--- the items of a list that a test keeps
-
-kept_from : {X : Type 0} (test : X → Bool) (xs : List X) (x : X) → Contains (filter test xs) x → Contains xs x
-kept_from {X} test [] x has = absurd (nothing_in x has)
-kept_from {X} test (y ∷ ys) x has = at (test y) (kept_from test ys x) has
-  where
-    at : (answer : Bool) → (Contains (filter test ys) x → Contains ys x) → Contains (cond answer (y ∷ filter test ys) (filter test ys)) x → Contains (y ∷ ys) x
-    at true rest there = elim (first_or_rest y x (filter test ys) there) [ inl is ↦ subst (Contains (y ∷ ys)) is (in_first y ys) | inr later ↦ in_rest y x ys (rest later) ]
-    at false rest there = in_rest y x ys (rest there)
-
-kept_into : {X : Type 0} (test : X → Bool) (xs : List X) (x : X) → test x ≡ true → Contains xs x → Contains (filter test xs) x
-kept_into {X} test [] x passes has = absurd (nothing_in x has)
-kept_into {X} test (y ∷ ys) x passes has = at (test y) refl (kept_into test ys x passes)
-  where
-    at : (answer : Bool) → test y ≡ answer → (Contains ys x → Contains (filter test ys) x) → Contains (cond answer (y ∷ filter test ys) (filter test ys)) x
-    at true is rest = elim (first_or_rest y x ys has) [
-      | inl same ↦ subst (Contains (y ∷ filter test ys)) same (in_first y (filter test ys))
-      | inr later ↦ in_rest y x (filter test ys) (rest later)
-    ]
-    at false is rest = elim (first_or_rest y x ys has) [
-      | inl same ↦ let both : false ≡ true = sym is ∙ (ap test same ∙ passes) in absurd (cc)
-      | inr later ↦ rest later
-    ]
 
 -- the partners in lists side by side
 
@@ -184,7 +161,7 @@ all_faults files roots found sorted set out agrees asked texts ordered in_set pu
       let fault = get_or out.faults.items k d in
       let from = left_partner IsFaultFor kept out.faults.items fault put.faults (Contains-get_or out.faults.items k d within) in
       let file = from.0 in
-      let in_found = Contains-permutation sorted found file (IsPermutation-sym found sorted ordered.moved) (kept_from (has_fault set) sorted file from.1) in
+      let in_found = Contains-permutation sorted found file (IsPermutation-sym found sorted ordered.moved) (kept_there (has_fault set) sorted file from.1) in
       let passes = holds_of (λ f. has_fault set f ≡ true) kept file (filter_passes (has_fault set) sorted) from.1 in
       fault_loads files roots set in_set file.name file.found fault
       (asked.sound file.name (name_in (answers_of found) (answered_of file) (answer_in found file in_found))) (there file in_found) (told file in_found) passes from.2;
@@ -194,7 +171,7 @@ all_faults files roots found sorted set out agrees asked texts ordered in_set pu
       let same = sym named.2 in
       let passes = loads_kept files roots set in_set file.name file.found fault same (there file named.1) (told file named.1) is in
       let partner = right_partner IsFaultFor kept out.faults.items file put.faults
-      (kept_into (has_fault set) sorted file passes (Contains-permutation found sorted file ordered.moved named.1)) in
+      (kept_in (has_fault set) sorted file (Contains-permutation found sorted file ordered.moved named.1) passes) in
       subst (Contains out.faults.items)
       (one_fault files roots set in_set file.name file.found fault partner.0 same (there file named.1) (told file named.1) is partner.2) partner.1;
 }

@@ -11,6 +11,9 @@ use Rattle.std.proofs.lemmas.List.{map-id}
 use Rattle.std.proofs.lemmas.List.Elements.{Contains-get_or}
 use Rattle.std.proofs.lemmas.List.Sorted.{IsPermutation-sym, IsPermutation-map, Contains-permutation, length_permutation, sum_by-IsPermutation}
 use Rattle.std.proofs.lemmas.List.Sums.{sum_by-cons}
+use Rattle.list_laws.proofs.Members.{map_from, all_by}
+use Rattle.file_library.specs.declared.limits.TheConstants.{MOST_FILES, MOST_TEXT}
+use Rattle.prolog_tokens.specs.declared.limits.TheConstants.{MOST_BYTES}
 use Rattle.list_laws.proofs.OneOrder.{nothing_in, first_or_rest, in_rest, in_first, before_rest, rest_in_order, holds_of}
 use Rattle.module_table.specs.Facts.{Facts, see_facts}
 use Rattle.module_table.specs.FileText.{HasFacts}
@@ -30,9 +33,6 @@ use Rattle.file_library.proofs.NextWaveLemmas.{has_no_key}
 
 pub some_once : {X : Type 0} {x y : X} → Some x ≡ Some y → x ≡ y
 some_once is = cc
-
-pub all_from : {X : Type 0} (P : X → Type 0) (xs : List X) → ((x : X) → Contains xs x → P x) → All P xs
-all_from {X} P xs each k d less = each (get_or xs k d) (Contains-get_or xs k d less)
 
 each_later : {X : Type 0} (P : X → Type 0) (x : X) (xs : List X) → ((y : X) → Contains (x ∷ xs) y → P y) → (y : X) → Contains xs y → P y
 each_later {X} P x xs each y has = each y (in_rest x y xs has)
@@ -63,13 +63,6 @@ given_from {X} {Y} h (first ∷ xs) y has = at (λ there. given_from h xs y ther
       | inr rest ↦ later (on rest)
     ]
 
-pub from_map : {X Y : Type 0} (f : X → Y) (xs : List X) (y : Y) → Contains (map f xs) y → (x : X) × Contains xs x × (f x ≡ y)
-from_map {X} {Y} f [] y has = absurd (nothing_in y has)
-from_map {X} {Y} f (first ∷ xs) y has = elim (first_or_rest (f first) y (map f xs) has) [
-  | inl is ↦ (first, in_first first xs, is)
-  | inr later ↦ let from = from_map f xs y later in (from.0, in_rest first from.0 xs from.1, from.2)
-]
-
 all_of : {X : Type 0} (P : X → Type 0) (xs : List X) → ((x : X) → Contains xs x → P x) → AllByRecursion P xs
 all_of {X} P [] each = tt
 all_of {X} P (x ∷ xs) each = (each x (in_first x xs), all_of P xs (each_later P x xs each))
@@ -85,7 +78,7 @@ given_rise {Y} h key named (file ∷ files) rising = at (given_rise h key named 
     at rest None is = rest
     at rest (Some y) is = (
       all_of (λ n. slice_cmp nat_cmp (key y) n ≡ Less) (map key (filter_map h files)) (λ n has.
-          let on = from_map key (filter_map h files) n has in
+          let on = map_from key (filter_map h files) n has in
           let from = given_from h files on.0 on.1 in
           let same : from.0.name ≡ n = sym (named from.0 on.0 from.2) ∙ on.2 in
           let less = before_rest (λ a b. slice_cmp nat_cmp a.name b.name ≡ Less) file from.0 files rising from.1 in
@@ -188,8 +181,8 @@ sizes_within files (file ∷ sorted) each =
     at (faulty text fault) = omega arith
 
 module _ (files : Files) (roots : List (List ℕ)) (found sorted : List FileFound) (set : BTreeSet (List ℕ)) (out : SortedOut) (agrees : Agrees files (answers_of found))
-    (asked : AreJustAsked files roots (names_of (answers_of found))) (told : All IsOfText found) (few : length found ≤ 1024) (small : All (λ answer. bytes_of answer ≤ 8388608) (answers_of found))
-    (together : sum_by bytes_of (answers_of found) ≤ 33554432) (ordered : AreOrdered found sorted) (set_is : AreRoots roots set) (is : AreSortedOut set sorted out) (none : out.faults.items ≡ []) where
+    (asked : AreJustAsked files roots (names_of (answers_of found))) (told : All IsOfText found) (few : length found ≤ MOST_FILES) (small : All (λ answer. bytes_of answer ≤ MOST_BYTES) (answers_of found))
+    (together : sum_by bytes_of (answers_of found) ≤ MOST_TEXT) (ordered : AreOrdered found sorted) (set_is : AreRoots roots set) (is : AreSortedOut set sorted out) (none : out.faults.items ≡ []) where
   -- the files in order are those that were found
 
   was_found : (file : FileFound) → Contains sorted file → Contains found file
@@ -229,7 +222,7 @@ module _ (files : Files) (roots : List (List ℕ)) (found sorted : List FileFoun
   text_order = given_rise sound_text (λ (text : NamedText). text.0) (λ file text gives. (text_named file.name file.found text gives).0) sorted ordered.rising
 
   are_texts : All (IsTextOf files roots) (filter_map sound_text sorted)
-  are_texts = all_from (IsTextOf files roots) (filter_map sound_text sorted) (λ text has.
+  are_texts = all_by (IsTextOf files roots) (filter_map sound_text sorted) (λ text has.
       let from = given_from sound_text sorted text has in
       let gives = text_named from.0.name from.0.found text from.2 in
       record {
@@ -250,18 +243,18 @@ module _ (files : Files) (roots : List (List ℕ)) (found sorted : List FileFoun
       let nothing : text_of from.0.found ≡ None = sym (is_there from.0 from.1) ∙ (ap files from.2 ∙ empty) in
       no_root set from.0.name from.0.found nothing (is_faultless from.0 from.1) (subst (Contains set.keys) (sym from.2) (set_is.all name has))
 
-  are_few : length (filter_map sound_text sorted) + length (filter_map absent_name sorted) ≤ 1024
+  are_few : length (filter_map sound_text sorted) + length (filter_map absent_name sorted) ≤ MOST_FILES
   are_few = omega (arith, few, fewer sorted, length_permutation found sorted ordered.moved)
 
   are_within : AreWithin files (text_names sorted)
   are_within = record {
-    each = all_from (λ name. size_of files name ≤ 8388608) (text_names sorted) (λ name has.
-        let on = from_map (λ (text : NamedText). text.0) (filter_map sound_text sorted) name has in
+    each = all_by (λ name. size_of files name ≤ MOST_BYTES) (text_names sorted) (λ name has.
+        let on = map_from (λ (text : NamedText). text.0) (filter_map sound_text sorted) name has in
         let from = given_from sound_text sorted on.0 on.1 in
         let same : from.0.name ≡ name = sym (text_named from.0.name from.0.found on.0 from.2).0 ∙ on.2 in
-        let bound : bytes_of (answered_of from.0) ≤ 8388608 = holds_of (λ answer. bytes_of answer ≤ 8388608) (answers_of found) (answered_of from.0) small (answer_in found from.0 (was_found from.0 from.1)) in
-        let own : size_of files from.0.name ≤ 8388608 = omega (arith, bound, size_is files from.0 (is_there from.0 from.1)) in
-        subst (λ n. size_of files n ≤ 8388608) same own);
+        let bound : bytes_of (answered_of from.0) ≤ MOST_BYTES = holds_of (λ answer. bytes_of answer ≤ MOST_BYTES) (answers_of found) (answered_of from.0) small (answer_in found from.0 (was_found from.0 from.1)) in
+        let own : size_of files from.0.name ≤ MOST_BYTES = omega (arith, bound, size_is files from.0 (is_there from.0 from.1)) in
+        subst (λ n. size_of files n ≤ MOST_BYTES) same own);
     together =
         let moved : IsPermutation (answers_of found) (answers_of sorted) = IsPermutation-map answered_of found sorted ordered.moved in
         omega (arith, together, sizes_within files sorted is_there, sum_by-IsPermutation bytes_of (answers_of found) (answers_of sorted) moved);

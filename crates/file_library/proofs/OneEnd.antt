@@ -14,7 +14,8 @@ use Rattle.file_library.specs.declared.fault.Fault.{Fault}
 use Rattle.file_library.specs.Library.{Files}
 use Rattle.file_library.specs.Asked.{IsWave, wave_at, AreFirstWaves, AreWaves, names_in}
 use Rattle.file_library.specs.FileLoads.{FileLoads}
-use Rattle.file_library.specs.Loaded.{IsAskedIn, NamedText, LoadedFiles, size_of, AreWithin, IsTextOf, IsLoaded, IsLoadFault, AreLoadFaults, most_bytes}
+use Rattle.prolog_tokens.specs.declared.limits.TheConstants.{MOST_BYTES}
+use Rattle.file_library.specs.Loaded.{IsAskedIn, NamedText, LoadedFiles, size_of, AreWithin, IsTextOf, IsLoaded, IsLoadFault, AreLoadFaults}
 use Rattle.file_library.specs.Asking.{AreFirst, AreAll, AreTooMany, LeadTo, IsTooMuch, LoadEnd, loaded, faults, unread, too_many, too_large, too_much, no_memory, LoadEndIs, IsDecided}
 use Rattle.file_library.proofs.WaveLaws.{Names, more_waves}
 use Rattle.file_library.proofs.NameLists.{Begins, two_begin, begins_before, same_last, begins_on, extends, empty_waves, names_more, one_by_key, one_in_order, those_one, no_more, zip_once, zip_partner}
@@ -32,7 +33,7 @@ within_begin files a b on within =
     let parts = sum_by-append (size_of files) a on.0 in
     record {
       each = λ k d less.
-          subst (λ name. size_of files name ≤ most_bytes) (get_or_append_left a on.0 d k less) (is.each k d (omega (arith, less, length-append a on.0)));
+          subst (λ name. size_of files name ≤ MOST_BYTES) (get_or_append_left a on.0 d k less) (is.each k d (omega (arith, less, length-append a on.0)));
       together = omega (arith, is.together, parts);
     }
 
@@ -41,13 +42,13 @@ last_there before last =
     let within : length before < length (before ++ last ∷ []) = omega (arith, length-append before (last ∷ [])) in
     (length before, within, get_or-append_seam before last [] last)
 
-large_cut : (files : Files) (roots names : Names) (last : List ℕ) → LeadTo files roots names last → most_bytes < size_of files last → IsCut files roots names last
+large_cut : (files : Files) (roots names : Names) (last : List ℕ) → LeadTo files roots names last → MOST_BYTES < size_of files last → IsCut files roots names last
 large_cut files roots names last leads large =
     record {
       leads = leads;
       over = λ within.
           let has : Contains names last = subst (λ all. Contains all last) (sym leads.is) (last_there leads.before last) in
-          let small : size_of files last ≤ most_bytes = holds_of (λ name. size_of files name ≤ most_bytes) names last within.each has in
+          let small : size_of files last ≤ MOST_BYTES = holds_of (λ name. size_of files name ≤ MOST_BYTES) names last within.each has in
           omega (arith, large, small);
     }
 
@@ -212,10 +213,10 @@ module _ (files : Files) (roots : Names) where
 
   -- so the end is one
 
-  large_or_much : (a b : Names) (x : List ℕ) → LeadTo files roots a x → most_bytes < size_of files x → IsTooMuch files roots b → ⊥
+  large_or_much : (a b : Names) (x : List ℕ) → LeadTo files roots a x → MOST_BYTES < size_of files x → IsTooMuch files roots b → ⊥
   large_or_much a b x leads large is =
       let same : x ≡ is.last = one_cut a b x is.last (large_cut files roots a x leads large) (much_cut files roots b is) in
-      let small : size_of files x ≤ most_bytes = subst (λ name. size_of files name ≤ most_bytes) (sym same) is.small in
+      let small : size_of files x ≤ MOST_BYTES = subst (λ name. size_of files name ≤ MOST_BYTES) (sym same) is.small in
       omega (arith, large, small)
 
   pub one_end : (a b : Names) (end second : LoadEnd) → IsDecided end → IsDecided second → LoadEndIs files roots a end → LoadEndIs files roots b second → end ≡ second

@@ -18,6 +18,7 @@ use Rattle.std.proofs.lemmas.Map.Keys.{IsDistinct-IsPermutation}
 use Rattle.std.proofs.lemmas.Map.Lookups.{exact_bytes}
 use Rattle.std.proofs.lemmas.Slice.Eq.{bytes_eq-Decides}
 use Rattle.list_laws.proofs.OneOrder.{nothing_in, first_or_rest, in_rest, in_first, before_rest, rest_in_order}
+use Rattle.list_laws.proofs.Zips.{zip_append}
 use Rattle.module_table.specs.declared.file_facts.FileFacts.{FileFacts}
 use Rattle.module_table.specs.Facts.{see_facts}
 use Rattle.module_table.specs.Said.{Refusal}
@@ -29,7 +30,6 @@ use Rattle.file_library.specs.declared.asked_file.AskedFile.{AskedFile}
 use Rattle.file_library.specs.declared.fault.Fault.{Fault}
 use Rattle.file_library.specs.declared.sorted_out.SortedOut.{SortedOut}
 use Rattle.file_library.proofs.Lookups.{names_apart}
-use Rattle.file_library.proofs.ParsedFiles.{zip_append}
 
 -- lists of different names
 

@@ -5,6 +5,7 @@ use Rattle.std.specs.declared.alloc.AllocError.{AllocError}
 use Rattle.std.proofs.lemmas.List.{flat_map_more, append_assoc, take-append-drop}
 use Rattle.std.proofs.lemmas.List.Concat.{flat_map-cons}
 use Rattle.std.proofs.lemmas.List.Elements.{Contains-append_left, Contains-append_right, Contains-get_or}
+use Rattle.list_laws.proofs.Zips.{zip_append}
 use Rattle.clause_text.specs.Clauses.{ReadsAs}
 use Rattle.clause_text.proofs.Offsets.{reading_placed}
 use Rattle.module_table.specs.declared.file_facts.FileFacts.{FileFacts}
@@ -29,17 +30,6 @@ facts_fault name text trees (Err fault) reads why = at fault why
       refusals_placed text name trees (record { cause = cause; offset = offset }) (reading_placed text trees reads) said,
     )
     at NoMemory said = tt
-
--- two lists, place by place
-
-pub zip_append : {X Y : Type 0} (R : X → Y → Type 0) (xs also : List X) (ys more : List Y) → AllZip R xs ys → AllZip R also more → AllZip R (xs ++ also) (ys ++ more)
-zip_append {X} {Y} R [] also [] more first then = then
-zip_append {X} {Y} R [] also (y ∷ ys) more first then = absurd first
-zip_append {X} {Y} R (x ∷ xs) also [] more first then = absurd first
-zip_append {X} {Y} R (x ∷ xs) also (y ∷ ys) more first then = (first.0, zip_append R xs also ys more first.1 then)
-
-pub zip_one : {X Y : Type 0} (R : X → Y → Type 0) (xs : List X) (x : X) (ys : List Y) (y : Y) → AllZip R xs ys → R x y → AllZip R (xs ++ x ∷ []) (ys ++ y ∷ [])
-zip_one {X} {Y} R xs x ys y first then = zip_append R xs (x ∷ []) ys (y ∷ []) first (then, tt)
 
 -- a list that is paired with another and one more element has one more itself
 pub record Splits {X Y : Type 0} (R : X → Y → Type 0) (xs : List X) (ys : List Y) (y : Y) : Type 0 where

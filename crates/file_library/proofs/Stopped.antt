@@ -6,7 +6,9 @@ use Rattle.std.proofs.lemmas.List.Elements.{All-append, All-cons, All-nil, Conta
 use Rattle.std.proofs.lemmas.List.Sums.{sum_by-append, sum_by-cons}
 use Rattle.list_laws.proofs.OneOrder.{nothing_in, first_or_rest, in_rest, in_first, holds_of}
 use Rattle.file_library.specs.Library.{Files, LibrarySeen, Answered, names_of, map_of}
-use Rattle.file_library.specs.Loaded.{AreWithin, size_of, most_bytes, most_text}
+use Rattle.prolog_tokens.specs.declared.limits.TheConstants.{MOST_BYTES}
+use Rattle.file_library.specs.declared.limits.TheConstants.{MOST_FILES, MOST_TEXT}
+use Rattle.file_library.specs.Loaded.{AreWithin, size_of}
 use Rattle.file_library.specs.Asked.{AreFirstWaves, names_in}
 use Rattle.file_library.specs.FileLoads.{FileLoads}
 use Rattle.file_library.specs.Asking.{AreFirst, AreTooMany, LeadTo, IsTooMuch, LoadEnd, LoadEndIs, AreAnswered, AreGiven, HasEnded, seen_of}
@@ -55,7 +57,7 @@ sizes_are seen (first ∷ rest) agrees =
     )
 
 module _ (before after : LibrarySeen) (roots : Names) (answers : List Answered) (waves : List Names) (are_answers : AreAnswers before after 0 answers)
-    (are : (files : Files) → Agrees files answers → AreFirstWaves (FileLoads files) roots waves) (few : length (names_in waves) ≤ 1024) (seen : Files) (agrees : Agrees seen answers) where
+    (are : (files : Files) → Agrees files answers → AreFirstWaves (FileLoads files) roots waves) (few : length (names_in waves) ≤ MOST_FILES) (seen : Files) (agrees : Agrees seen answers) where
   -- the answered names are within the limits
   pub within : AreWithin seen (names_of answers)
   within = record {
@@ -63,7 +65,7 @@ module _ (before after : LibrarySeen) (roots : Names) (answers : List Answered) 
         let name = get_or (names_of answers) k d in
         let from = answer_named answers name (Contains-get_or (names_of answers) k d less) in
         let same : size_of seen name ≡ bytes_of from.0 = size_is seen name from.0 (ap seen (sym from.2) ∙ agrees from.0 from.1) in
-        omega (arith, same, holds_of (λ answer. bytes_of answer ≤ most_bytes) answers from.0 are_answers.small from.1);
+        omega (arith, same, holds_of (λ answer. bytes_of answer ≤ MOST_BYTES) answers from.0 are_answers.small from.1);
     together = omega (arith, sizes_are seen answers agrees, are_answers.together);
   }
 
@@ -90,8 +92,8 @@ module _ (before after : LibrarySeen) (roots : Names) (answers : List Answered) 
     many = omega (arith, many.many, length-map answers (λ (a : Answered). a.name));
   }
 
-  too_much_text : (next : List ℕ) (rest : Names) (text : List ℕ) → names_in waves ≡ names_of answers ++ next ∷ rest → seen next ≡ Some text → length text ≤ most_bytes
-      → most_text < sum_by bytes_of answers + length text → IsTooMuch seen roots (names_of answers ++ next ∷ [])
+  too_much_text : (next : List ℕ) (rest : Names) (text : List ℕ) → names_in waves ≡ names_of answers ++ next ∷ rest → seen next ≡ Some text → length text ≤ MOST_BYTES
+      → MOST_TEXT < sum_by bytes_of answers + length text → IsTooMuch seen roots (names_of answers ++ next ∷ [])
   too_much_text next rest text is there small much =
       let size : size_of seen next ≡ length text = size_is seen next (record { name = next; text = Some text }) there in
       record {
@@ -185,11 +187,11 @@ stop_ended before after roots (FileTooLarge file) stopped =
     let agrees = last_agrees before after roots answers stopped.are_answers at.next at.rest once text gives in
     let there = last_there before after roots answers stopped.are_answers at.next at.rest once text gives in
     let size : size_of own at.next ≡ length text = size_is own at.next (record { name = at.next; text = Some text }) there in
-    let large : most_bytes < size_of own at.next = omega (arith, size, at.why.1.1) in
+    let large : MOST_BYTES < size_of own at.next = omega (arith, size, at.why.1.1) in
     ended_with before after roots answers stopped.are_answers at.next at.rest once text gives (end_of_stop (FileTooLarge file)) at.put
     (last_given before after roots answers stopped.are_answers at.next at.rest once text gives)
     (sym (last_named before after roots answers stopped.are_answers at.next at.rest once text gives))
-    (subst (λ name. LeadTo own roots (names_of answers ++ at.next ∷ []) name × (most_bytes < size_of own name)) (sym at.why.0)
+    (subst (λ name. LeadTo own roots (names_of answers ++ at.next ∷ []) name × (MOST_BYTES < size_of own name)) (sym at.why.0)
     (leads_to before after roots answers stopped.waves stopped.are_answers stopped.are stopped.few own agrees at.next at.rest at.is, large))
 stop_ended before after roots TooMuchText stopped =
     let answers = stopped.answers in

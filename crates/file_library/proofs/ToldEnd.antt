@@ -9,7 +9,8 @@ use Rattle.file_library.specs.declared.fault.Fault.{Fault}
 use Rattle.file_library.specs.Library.{Files, LibrarySeen, names_of, map_of}
 use Rattle.file_library.specs.Asked.{IsWave, wave_at, AreFirstWaves, AreWaves, names_in}
 use Rattle.file_library.specs.FileLoads.{FileLoads}
-use Rattle.file_library.specs.Loaded.{IsAskedIn, NamedText, LoadedFiles, size_of, AreWithin, IsLoaded, IsLoadFault, AreLoadFaults, most_bytes}
+use Rattle.prolog_tokens.specs.declared.limits.TheConstants.{MOST_BYTES}
+use Rattle.file_library.specs.Loaded.{IsAskedIn, NamedText, LoadedFiles, size_of, AreWithin, IsLoaded, IsLoadFault, AreLoadFaults}
 use Rattle.file_library.specs.Asking.{AreFirst, AreAll, AreTooMany, LeadTo, IsTooMuch, LoadEnd, loaded, faults, unread, too_many, too_large, too_much, no_memory, LoadEndIs, IsDecided, AreAnswered, AreFirstWithin, EndsAsTold, seen_of, HasEnded}
 use Rattle.file_library.proofs.NameLists.{last_of, same_before}
 use Rattle.file_library.proofs.WaveLaws.{Names, in_names, waves_asked, asked_waves}
@@ -21,20 +22,20 @@ abbrev size : Option (List ℕ) → ℕ
 size text = unwrap_or (option_map (λ bytes. length bytes) text) 0
 
 abbrev seen_text : Option (List ℕ) → Option (List ℕ)
-seen_text text = option_map (λ bytes. take (most_bytes + 1) bytes) text
+seen_text text = option_map (λ bytes. take (MOST_BYTES + 1) bytes) text
 
-text_whole : (seen text : Option (List ℕ)) → seen ≡ seen_text text → size seen ≤ most_bytes → seen ≡ text
+text_whole : (seen text : Option (List ℕ)) → seen ≡ seen_text text → size seen ≤ MOST_BYTES → seen ≡ text
 text_whole seen None is small = is
 text_whole seen (Some bytes) is small =
-    let count : length (take (8388608 + 1) bytes) ≡ min (8388608 + 1) (length bytes) = length-take (8388608 + 1) bytes in
-    let short : length (take (8388608 + 1) bytes) ≤ 8388608 = subst (λ text. size text ≤ most_bytes) is small in
-    is ∙ ap Some (take_all (8388608 + 1) bytes (omega (arith, count, short)))
+    let count : length (take (MOST_BYTES + 1) bytes) ≡ min (MOST_BYTES + 1) (length bytes) = length-take (MOST_BYTES + 1) bytes in
+    let short : length (take (MOST_BYTES + 1) bytes) ≤ MOST_BYTES = subst (λ text. size text ≤ MOST_BYTES) is small in
+    is ∙ ap Some (take_all (MOST_BYTES + 1) bytes (omega (arith, count, short)))
 
-text_large : (seen text : Option (List ℕ)) → seen ≡ seen_text text → most_bytes < size seen → most_bytes < size text
-text_large seen None is large = let none : 8388608 < 0 = subst (λ text. most_bytes < size text) is large in let no : ⊥ = omega (arith, none) in absurd no
+text_large : (seen text : Option (List ℕ)) → seen ≡ seen_text text → MOST_BYTES < size seen → MOST_BYTES < size text
+text_large seen None is large = let none : MOST_BYTES < 0 = subst (λ text. MOST_BYTES < size text) is large in let no : ⊥ = omega (arith, none) in absurd no
 text_large seen (Some bytes) is large =
-    let long : 8388608 < length (take (8388608 + 1) bytes) = subst (λ text. most_bytes < size text) is large in
-    omega (arith, long, length-take (8388608 + 1) bytes)
+    let long : MOST_BYTES < length (take (MOST_BYTES + 1) bytes) = subst (λ text. MOST_BYTES < size text) is large in
+    omega (arith, long, length-take (MOST_BYTES + 1) bytes)
 
 sums_same : (f g : List ℕ → ℕ) (names : Names) → ((name : List ℕ) → Contains names name → f name ≡ g name) → sum_by f names ≡ sum_by g names
 sums_same f g [] same = refl
@@ -46,7 +47,7 @@ within_before : {files : Files} (names more : Names) → AreWithin files (names 
 within_before {files} names more within = record {
   each = λ k d less.
       let lower : k < length (names ++ more) = omega (arith, less, length-append names more) in
-      subst (λ name. size_of files name ≤ most_bytes) (get_or_append_left names more d k less) (within.each k d lower);
+      subst (λ name. size_of files name ≤ MOST_BYTES) (get_or_append_left names more d k less) (within.each k d lower);
   together = omega (arith, sum_by-append (size_of files) names more, within.together);
 }
 
@@ -59,8 +60,8 @@ module _ (seen files : Files) (roots : Names) where
   abbrev AreSeen : Names → Type 0
   AreSeen names = (name : List ℕ) → Contains names name → seen name ≡ seen_of files name
 
-  same_within : (names : Names) → AreSeen names → All (λ name. size_of seen name ≤ most_bytes) names → AreSame names
-  same_within names are small name has = text_whole (seen name) (files name) (are name has) (holds_of (λ n. size_of seen n ≤ most_bytes) names name small has)
+  same_within : (names : Names) → AreSeen names → All (λ name. size_of seen name ≤ MOST_BYTES) names → AreSame names
+  same_within names are small name has = text_whole (seen name) (files name) (are name has) (holds_of (λ n. size_of seen n ≤ MOST_BYTES) names name small has)
 
   loads_to : (user name : List ℕ) → seen user ≡ files user → FileLoads seen user name → FileLoads files user name
   loads_to user name same is = record { text = is.text; there = sym same ∙ is.there; facts = is.facts; has = is.has; loads = is.loads }
@@ -70,7 +71,7 @@ module _ (seen files : Files) (roots : Names) where
 
   within_too : (names : Names) → AreSame names → AreWithin seen names → AreWithin files names
   within_too names same within = record {
-    each = λ k d less. subst (λ text. size text ≤ most_bytes) (same _ (Contains-get_or names k d less)) (within.each k d less);
+    each = λ k d less. subst (λ text. size text ≤ MOST_BYTES) (same _ (Contains-get_or names k d less)) (within.each k d less);
     together =
         let sums : sum_by (size_of seen) names ≡ sum_by (size_of files) names = sums_same (size_of seen) (size_of files) names (λ name has. ap size (same name has)) in
         omega (arith, sums, within.together);
@@ -169,7 +170,7 @@ module _ (seen files : Files) (roots : Names) where
       record {
         last = is.last;
         leads = leads_too names is.last are is.leads;
-        small = subst (λ text. size text ≤ most_bytes) at_last is.small;
+        small = subst (λ text. size text ≤ MOST_BYTES) at_last is.small;
         much = omega (arith, is.much, sums);
       }
     where

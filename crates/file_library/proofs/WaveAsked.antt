@@ -2,10 +2,11 @@
 use Rattle.std.proofs.Common.{◌≡◌, ℕ, zero, suc, ◌<◌, ◌≤◌, List, [], ◌∷◌, ◌++◌, Option, All, length, map, get_or, refl, sym, subst, ◌∙◌, ap, arith, append-nil}
 use Rattle.std.specs.List.{AllZip}
 use Rattle.std.proofs.lemmas.List.{get_or-map, length-map}
+use Rattle.file_library.specs.declared.limits.TheConstants.{MOST_TEXT}
 use Rattle.file_library.specs.Library.{Answered, names_of, LibrarySeen}
 use Rattle.file_library.specs.Asked.{AreInOrder}
 use Rattle.file_library.specs.Answers.{see_answer, bytes_of, AreAnswers, HasGiven}
-use Rattle.file_library.specs.Loaded.{most_bytes}
+use Rattle.prolog_tokens.specs.declared.limits.TheConstants.{MOST_BYTES}
 use Rattle.file_library.specs.AskedFile.{FileFound, see_file, IsOfText, IsParsed, IsSmall}
 use Rattle.file_library.specs.AskAll.{answers_of, HasAskedWave, HasAskedSome}
 use Rattle.file_library.specs.declared.answer.Answer.{Answer}
@@ -27,9 +28,9 @@ parsed_one (answer ∷ answers) [] zip k d less = absurd zip
 parsed_one (answer ∷ answers) (file ∷ files) zip zero d less = zip.0.told
 parsed_one (answer ∷ answers) (file ∷ files) zip (suc k) d less = let below : k < length (map see_file files) = omega (arith, less) in parsed_one answers files zip.1 k d below
 
-pub small_answers : (answers : List Answer) → All (λ (answer : Answered). bytes_of answer ≤ most_bytes) (map see_answer answers) → All IsSmall answers
+pub small_answers : (answers : List Answer) → All (λ (answer : Answered). bytes_of answer ≤ MOST_BYTES) (map see_answer answers) → All IsSmall answers
 small_answers answers small k d less =
-    subst (λ answer. bytes_of answer ≤ most_bytes) (get_or-map see_answer answers k d (see_answer d) less) (small k (see_answer d) (omega (arith, less, length-map answers see_answer)))
+    subst (λ answer. bytes_of answer ≤ MOST_BYTES) (get_or-map see_answer answers k d (see_answer d) less) (small k (see_answer d) (omega (arith, less, length-map answers see_answer)))
 
 pub wave_asked : (before after : LibrarySeen) (wave : List (List ℕ)) (total : ℕ) (answers : List Answer) (files : List AskedFile)
     → AreInOrder wave → names_of (map see_answer answers) ≡ wave → HasGiven before after wave (map see_answer answers) → AreAnswers before after total (map see_answer answers)
@@ -45,7 +46,7 @@ wave_asked before after wave total answers files ordered names gained are zip =
     }
 
 -- memory was wanting before a wave, or behind it
-pub none_asked : (before : LibrarySeen) (wave : List (List ℕ)) (total : ℕ) → total ≤ 33554432 → HasAskedSome before before wave total NoMemory
+pub none_asked : (before : LibrarySeen) (wave : List (List ℕ)) (total : ℕ) → total ≤ MOST_TEXT → HasAskedSome before before wave total NoMemory
 none_asked before wave total fits = record { wanting = refl; answers = []; are = no_answers before total fits; rest = wave; is = refl; gained = none_given before }
 
 pub wave_read : (before after : LibrarySeen) (wave : List (List ℕ)) (total : ℕ) (answers : List Answered)

@@ -2,7 +2,8 @@
 use Rattle.std.specs.Prelude.{◌≡◌, ℕ, ◌+◌, ◌<◌, ◌≤◌, ◌⊎◌, List, [], ◌∷◌, ◌++◌, Option, Some, None, All, length, sum_by, option_map, unwrap_or}
 use Rattle.file_library.specs.Counts.{Rose}
 use Rattle.file_library.specs.Library.{Files, Answered, names_of, LibrarySeen}
-use Rattle.file_library.specs.Loaded.{most_bytes, most_text}
+use Rattle.prolog_tokens.specs.declared.limits.TheConstants.{MOST_BYTES}
+use Rattle.file_library.specs.declared.limits.TheConstants.{MOST_TEXT}
 use Rattle.file_library.specs.Asking.{seen_of}
 use Rattle.file_library.specs.declared.answer.Answer.{Answer}
 use Rattle.file_library.specs.declared.loaded.LoadStop.{LoadStop}
@@ -22,13 +23,13 @@ pub record IsTrueAnswer (before after : LibrarySeen) (answer : Answered) : Type 
 -- the answers are true, no text is too large, and they aren't with what was read before
 pub record AreAnswers (before after : LibrarySeen) (total : ℕ) (answers : List Answered) : Type 0 where
   pub are_true : All (IsTrueAnswer before after) answers
-  pub small : All (λ answer. bytes_of answer ≤ most_bytes) answers
-  pub together : total + sum_by bytes_of answers ≤ most_text
+  pub small : All (λ answer. bytes_of answer ≤ MOST_BYTES) answers
+  pub together : total + sum_by bytes_of answers ≤ MOST_TEXT
 
 -- a text of so many bytes is too large by itself, or with what was read before
 abbrev pub IsTooLong : List ℕ → ℕ → ℕ → LoadStop → Type 0
-IsTooLong name size total (FileTooLarge file) = (file ≡ name) × (most_bytes < size)
-IsTooLong name size total TooMuchText = (size ≤ most_bytes) × (most_text < total + size)
+IsTooLong name size total (FileTooLarge file) = (file ≡ name) × (MOST_BYTES < size)
+IsTooLong name size total TooMuchText = (size ≤ MOST_BYTES) × (MOST_TEXT < total + size)
 IsTooLong name size total (ReadFault file) = ⊥
 IsTooLong name size total (Faults list) = ⊥
 IsTooLong name size total TooManyFiles = ⊥
@@ -47,9 +48,9 @@ MayGive given given' = (given' ≡ given) ⊎ ((last : Answered) × (given' ≡ 
 abbrev pub StopsAt : LibrarySeen → LibrarySeen → List Answered → List ℕ → ℕ → LoadStop → Type 0
 StopsAt before after given name total (ReadFault file) = (file ≡ name) × Rose before.faults after.faults × (after.answers ≡ given)
 StopsAt before after given name total (FileTooLarge file) =
-    (file ≡ name) × ((text : List ℕ) × (most_bytes < length text) × GivesText before after given name text)
+    (file ≡ name) × ((text : List ℕ) × (MOST_BYTES < length text) × GivesText before after given name text)
 StopsAt before after given name total TooMuchText =
-    (text : List ℕ) × (length text ≤ most_bytes) × (most_text < total + length text) × GivesText before after given name text
+    (text : List ℕ) × (length text ≤ MOST_BYTES) × (MOST_TEXT < total + length text) × GivesText before after given name text
 StopsAt before after given name total NoMemory = MayGive given after.answers
 StopsAt before after given name total (Faults list) = ⊥
 StopsAt before after given name total TooManyFiles = ⊥

@@ -1,6 +1,7 @@
 -- What was asked for, wave by wave, over every map that agrees with the answers.
 use Rattle.std.specs.Prelude.{◌≡◌, ℕ, ◌+◌, ◌-◌, ◌<◌, ◌≤◌, ◌⊎◌, List, [], ◌∷◌, ◌++◌, Option, All, Contains, length, map, sum_by}
 use Rattle.std.specs.List.{AllPairs}
+use Rattle.file_library.specs.declared.limits.TheConstants.{MOST_FILES}
 use Rattle.file_library.specs.Library.{Files, Answered, names_of, LibrarySeen}
 use Rattle.file_library.specs.Asked.{IsInWave, AreInOrder, AreFirstWaves, AreWaves, names_in}
 use Rattle.file_library.specs.FileLoads.{FileLoads}
@@ -48,7 +49,7 @@ pub record HasAskedAll (before after : LibrarySeen) (roots : List (List ℕ)) (f
   pub names : names_of (answers_of found) ≡ names_in waves
   pub gained : HasGiven before after (names_of (answers_of found)) (answers_of found)
   pub answers : AreAnswers before after 0 (answers_of found)
-  pub few : length found ≤ 1024
+  pub few : length found ≤ MOST_FILES
   pub apart : AreApart (answers_of found)
   pub of_texts : All IsOfText found
 
@@ -67,7 +68,7 @@ pub record HasTooMany (before after : LibrarySeen) (roots : List (List ℕ)) (an
   pub next : List (List ℕ)
   pub ordered : AreInOrder next
   pub in_wave : (files : Files) → Agrees files answers → (name : List ℕ) → Contains next name → IsInWave (FileLoads files) roots (length waves) name
-  pub many : 1024 < length answers + length next
+  pub many : MOST_FILES < length answers + length next
 
 -- memory was wanting between two names
 pub record StopsBetween (before after : LibrarySeen) (answers : List Answered) (waves : List (List (List ℕ))) : Type 0 where
@@ -86,7 +87,7 @@ pub record HasStopped (before after : LibrarySeen) (roots : List (List ℕ)) (st
   pub are_answers : AreAnswers before after 0 answers
   pub waves : List (List (List ℕ))
   pub are : (files : Files) → Agrees files answers → AreFirstWaves (FileLoads files) roots waves
-  pub few : length (names_in waves) ≤ 1024
+  pub few : length (names_in waves) ≤ MOST_FILES
   pub once : AllPairs (λ a b. a ≡ b → ⊥) (names_in waves)
   pub why : StopsBy before after roots answers waves stop
 
@@ -95,4 +96,4 @@ pub record IsKept (known wave known' : List (List ℕ)) (files found files' : Li
   pub sound : (name : List ℕ) → Contains known' name → Contains known name ⊎ Contains wave name
   pub all : (name : List ℕ) → Contains known name ⊎ Contains wave name → Contains known' name
   pub joined : files' ≡ files ++ found
-  pub adds : AddsFiles known' (1024 - (length files + length found)) [] (loads_in found) next
+  pub adds : AddsFiles known' (MOST_FILES - (length files + length found)) [] (loads_in found) next

@@ -11,7 +11,7 @@ use Rattle.module_table.specs.declared.said.FactFault.{FactFault}
 use Rattle.module_table.specs.declared.said.FactFault.TheVariants.{At, NoMemory}
 use Rattle.file_library.specs.Library.{Answered}
 use Rattle.file_library.specs.Answers.{see_answer, bytes_of}
-use Rattle.file_library.specs.Loaded.{most_bytes}
+use Rattle.prolog_tokens.specs.declared.limits.TheConstants.{MOST_BYTES}
 use Rattle.file_library.specs.declared.answer.Answer.{Answer}
 use Rattle.file_library.specs.declared.asked_file.AskedFile.{AskedFile}
 use Rattle.file_library.specs.declared.asked_file.Content.{Content}
@@ -68,7 +68,7 @@ IsFaultOf name text (At cause offset) = HasFault name text (record { cause = cau
 IsFaultOf name text NoMemory = Unit {0}
 
 abbrev pub IsSmall : Answer → Type 0
-IsSmall answer = bytes_of (see_answer answer) ≤ most_bytes
+IsSmall answer = bytes_of (see_answer answer) ≤ MOST_BYTES
 
 -- the file is that of the answer
 pub record IsParsed (answer : Answer) (file : AskedFile) : Type 0 where

@@ -5,7 +5,9 @@ use Rattle.file_library.specs.declared.fault.Fault.{Fault}
 use Rattle.file_library.specs.Library.{Files, Answered, names_of, map_of, LibrarySeen}
 use Rattle.file_library.specs.Asked.{AreInOrder, IsInWave, AreFirstWaves, AreWaves, names_in}
 use Rattle.file_library.specs.FileLoads.{FileLoads}
-use Rattle.file_library.specs.Loaded.{LoadedFiles, IsLoaded, AreLoadFaults, AreWithin, size_of, most_files, most_bytes, most_text}
+use Rattle.file_library.specs.declared.limits.TheConstants.{MOST_FILES, MOST_TEXT}
+use Rattle.prolog_tokens.specs.declared.limits.TheConstants.{MOST_BYTES}
+use Rattle.file_library.specs.Loaded.{LoadedFiles, IsLoaded, AreLoadFaults, AreWithin, size_of}
 
 -- these names are asked for first
 pub record AreFirst (files : Files) (roots names : List (List ℕ)) : Type 0 where
@@ -13,14 +15,14 @@ pub record AreFirst (files : Files) (roots names : List (List ℕ)) : Type 0 whe
   pub are : AreFirstWaves (FileLoads files) roots waves
   pub rest : List (List ℕ)
   pub is : names_in waves ≡ names ++ rest
-  pub few : length (names_in waves) ≤ most_files
+  pub few : length (names_in waves) ≤ MOST_FILES
 
 -- all that is asked
 pub record AreAll (files : Files) (roots names : List (List ℕ)) : Type 0 where
   pub waves : List (List (List ℕ))
   pub are : AreWaves (FileLoads files) roots waves
   pub is : names ≡ names_in waves
-  pub few : length names ≤ most_files
+  pub few : length names ≤ MOST_FILES
   pub within : AreWithin files names
 
 -- the next wave has more names than may be asked for
@@ -28,12 +30,12 @@ pub record AreTooMany (files : Files) (roots names : List (List ℕ)) : Type 0 w
   pub waves : List (List (List ℕ))
   pub are : AreFirstWaves (FileLoads files) roots waves
   pub is : names ≡ names_in waves
-  pub few : length names ≤ most_files
+  pub few : length names ≤ MOST_FILES
   pub within : AreWithin files names
   pub next : List (List ℕ)
   pub ordered : AreInOrder next
   pub in_wave : (name : List ℕ) → Contains next name → IsInWave (FileLoads files) roots (length waves) name
-  pub many : most_files < length names + length next
+  pub many : MOST_FILES < length names + length next
 
 -- the names up to a last one, all before it within the limits
 pub record LeadTo (files : Files) (roots names : List (List ℕ)) (last : List ℕ) : Type 0 where
@@ -50,8 +52,8 @@ pub record AreFirstWithin (files : Files) (roots names : List (List ℕ)) : Type
 pub record IsTooMuch (files : Files) (roots names : List (List ℕ)) : Type 0 where
   pub last : List ℕ
   pub leads : LeadTo files roots names last
-  pub small : size_of files last ≤ most_bytes
-  pub much : most_text < sum_by (size_of files) names
+  pub small : size_of files last ≤ MOST_BYTES
+  pub much : MOST_TEXT < sum_by (size_of files) names
 
 -- how the asking ends
 pub data LoadEnd : Type 0 where
@@ -75,13 +77,13 @@ LoadEndIs files roots names (loaded found) = AreAll files roots names × IsLoade
 LoadEndIs files roots names (faults found) = AreAll files roots names × AreLoadFaults files roots found × (found ≡ [] → ⊥)
 LoadEndIs files roots names (unread name) = LeadTo files roots names name
 LoadEndIs files roots names too_many = AreTooMany files roots names
-LoadEndIs files roots names (too_large name) = LeadTo files roots names name × (most_bytes < size_of files name)
+LoadEndIs files roots names (too_large name) = LeadTo files roots names name × (MOST_BYTES < size_of files name)
 LoadEndIs files roots names too_much = IsTooMuch files roots names
 LoadEndIs files roots names no_memory = AreFirstWithin files roots names
 
 -- what is seen of a map when no file is read further than one byte past the limit
 abbrev pub seen_of : Files → Files
-seen_of files name = option_map (λ bytes. take (most_bytes + 1) bytes) (files name)
+seen_of files name = option_map (λ bytes. take (MOST_BYTES + 1) bytes) (files name)
 
 -- all names were answered, but for the last where that could not be read or memory was wanting
 abbrev pub AreAnswered : List (List ℕ) → List (List ℕ) → LoadEnd → Type 0
@@ -94,7 +96,8 @@ abbrev pub AreGiven : List Answered → List Answered → List Answered → Load
 AreGiven before after answers no_memory = (after ≡ before ++ answers) ⊎ ((last : Answered) × (after ≡ (before ++ answers) ++ last ∷ []))
 AreGiven before after answers end = after ≡ before ++ answers
 
--- the asking for the roots ended so over the map that the library's answers are, which is what is seen of its own, where it tells that; only a last name that could not be read, or for which memory was wanting, is without an answer
+-- the asking for the roots ended so over the map that the library's answers are, which is what is seen of its own, where it tells that; only a last name that
+-- could not be read, or for which memory was wanting, is without an answer
 pub record HasEnded (before after : LibrarySeen) (roots : List (List ℕ)) (end : LoadEnd) : Type 0 where
   pub names : List (List ℕ)
   pub put : after.asked ≡ before.asked ++ names

@@ -12,3 +12,4 @@ pub mod AskedFile
 pub mod NextWave
 pub mod AskAll
 pub mod SortedOut
+pub mod Spots

@@ -22,7 +22,8 @@ abbrev pub map_of : List Answered → Files
 map_of [] name = None
 map_of (answer ∷ answers) name = if bytes_eq answer.name name then answer.text else map_of answers name
 
--- what is seen of a library: the map that it stands for, where it tells that; the names that it was asked for, and what it answered, in order; and its counts of faults and of misses
+-- what is seen of a library: the map that it stands for, where it tells that; the names that it was asked for, and what it answered, in order; and its counts
+-- of faults and of misses
 pub record LibrarySeen : Type 0 where
   pub told : Option Files
   pub asked : List (List ℕ)

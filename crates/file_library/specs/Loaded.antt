@@ -1,24 +1,16 @@
 -- What comes of the files that are asked for: all of them with their facts, or their faults.
 use Rattle.std.specs.Prelude.{◌≡◌, ℕ, ◌+◌, ◌≤◌, ◌⊎◌, List, Some, None, All, Contains, length, map, sum_by, option_map, unwrap_or}
 use Rattle.std.specs.List.{AllZip}
+use Rattle.prolog_tokens.specs.declared.limits.TheConstants.{MOST_BYTES}
 use Rattle.prolog_tokens.specs.Places.{IsPlace}
 use Rattle.clause_text.specs.declared.cause.Cause.TheVariants.{NoRoot}
 use Rattle.module_table.specs.Facts.{Facts}
 use Rattle.module_table.specs.FileText.{HasFacts, HasFault}
 use Rattle.file_library.specs.declared.fault.Fault.{Fault}
+use Rattle.file_library.specs.declared.limits.TheConstants.{MOST_FILES, MOST_TEXT}
 use Rattle.file_library.specs.Library.{Files}
 use Rattle.file_library.specs.Asked.{IsAsked, AreInOrder}
 use Rattle.file_library.specs.FileLoads.{FileLoads}
-
--- the last accepted numbers of files, of bytes of one of them and of all together
-abbrev pub most_files : ℕ
-most_files = 1024
-
-abbrev pub most_bytes : ℕ
-most_bytes = 8388608
-
-abbrev pub most_text : ℕ
-most_text = 33554432
 
 -- the names of which this holds, in order and each once
 pub record AreThose (holds : List ℕ → Type 0) (names : List (List ℕ)) : Type 0 where
@@ -46,8 +38,8 @@ size_of files name = unwrap_or (option_map (λ bytes. length bytes) (files name)
 
 -- none of the files is too large, nor are they together
 pub record AreWithin (files : Files) (names : List (List ℕ)) : Type 0 where
-  pub each : All (λ name. size_of files name ≤ most_bytes) names
-  pub together : sum_by (size_of files) names ≤ most_text
+  pub each : All (λ name. size_of files name ≤ MOST_BYTES) names
+  pub together : sum_by (size_of files) names ≤ MOST_TEXT
 
 -- a text's name and bytes are those of an asked file
 pub record IsTextOf (files : Files) (roots : List (List ℕ)) (text : NamedText) : Type 0 where
@@ -63,7 +55,7 @@ pub record IsLoaded (files : Files) (roots : List (List ℕ)) (loaded : LoadedFi
   pub all : (name bytes : List ℕ) → IsAskedIn files roots name → files name ≡ Some bytes → Contains loaded.texts (name, bytes)
   pub facts : AllZip (λ (text : NamedText) (facts : Facts). HasFacts text.0 text.1 facts) loaded.texts loaded.files
   pub there : (name : List ℕ) → Contains roots name → files name ≡ None → ⊥
-  pub few : length loaded.texts + length loaded.absent ≤ most_files
+  pub few : length loaded.texts + length loaded.absent ≤ MOST_FILES
   pub within : AreWithin files (map (λ (text : NamedText). text.0) loaded.texts)
 
 -- over some map of files and for some roots this is what was loaded

@@ -1,4 +1,5 @@
 ghost use Rattle.std.specs.Prelude.{◌≡◌, ◌≤◌, ◌+◌, length, map, sum_by, IfOk, IfErr};
+ghost use Rattle.file_library.specs.declared.limits.TheConstants.{MOST_FILES, MOST_TEXT};
 ghost use Rattle.file_library.specs.AskedFile.{see_file, answered_of};
 ghost use Rattle.file_library.specs.Library.{IsLater};
 ghost use Rattle.file_library.specs.Answers.{bytes_of};
@@ -6,6 +7,7 @@ ghost use Rattle.file_library.specs.AskAll.{answers_of, HasAskedWave, StopsInWav
 
 use crate::asked_file::{AskedFile, Content};
 use crate::library::Library;
+use crate::limits::MOST_FILES;
 use crate::loaded::LoadStop;
 use crate::next_wave::{in_order, name_set, next_wave};
 use crate::parsing::parse_wave;
@@ -14,9 +16,6 @@ use prolog_tokens::Text;
 use std::alloc::{AllocError, Global};
 use std::collections::BTreeSet;
 use std::thread::Threads;
-
-/// The most files that are asked for.
-const MOST_FILES: usize = 1024;
 
 /// Asks for the roots and for all that the files load, wave by wave, each file once: what each is
 /// found to be, in the order in which they were asked for.
@@ -61,8 +60,9 @@ fn keep(
     files: &mut Vec<AskedFile>,
     mut found: Vec<AskedFile>,
 ) -> Result<BTreeSet<Text>, AllocError>
-    requires { length files.old.items + length found.items ≤ 1024 }
-    ensures { IfOk result (λ next. IsKept known.old.keys wave.keys known.new.keys (map see_file files.old.items) (map see_file found.items) (map see_file files.new.items) next.keys) }
+    requires { length files.old.items + length found.items ≤ MOST_FILES }
+    ensures { IfOk result (λ next. IsKept known.old.keys wave.keys known.new.keys
+        (map see_file files.old.items) (map see_file found.items) (map see_file files.new.items) next.keys) }
 {
     known.append(&mut wave)?;
     let room = MOST_FILES - (files.len() + found.len());
@@ -73,7 +73,7 @@ fn keep(
 
 /// How many bytes the files have together.
 fn bytes_in(files: &[AskedFile]) -> u32
-    requires { sum_by bytes_of (answers_of (map see_file files.now)) ≤ 33554432 }
+    requires { sum_by bytes_of (answers_of (map see_file files.now)) ≤ MOST_TEXT }
     ensures { result ≡ sum_by bytes_of (answers_of (map see_file files.now)) }
 {
     let mut total = 0;
@@ -84,7 +84,7 @@ fn bytes_in(files: &[AskedFile]) -> u32
 }
 
 fn bytes_of(file: &AskedFile) -> u32
-    requires { bytes_of (answered_of (see_file file.now)) ≤ 33554432 }
+    requires { bytes_of (answered_of (see_file file.now)) ≤ MOST_TEXT }
     ensures { result ≡ bytes_of (answered_of (see_file file.now)) }
 {
     match &file.content {
@@ -102,7 +102,7 @@ fn ask_wave<R: Threads + Sync, L: Library>(
     total: u32,
     library: &mut L,
 ) -> Result<Vec<AskedFile>, LoadStop>
-    requires { total ≤ 33554432 }
+    requires { total ≤ MOST_TEXT }
     ensures later { IsLater (L.seen library.old) (L.seen library.new) }
     ensures asked { IfOk result (λ files. HasAskedWave (L.seen library.old) (L.seen library.new) wave.now.keys total (map see_file files.items)) }
     ensures stops { IfErr result (StopsInWave (L.seen library.old) (L.seen library.new) wave.now.keys total) }

@@ -1,4 +1,6 @@
 ghost use Rattle.std.specs.Prelude.{◌≡◌, ◌≤◌, List, Some, All, IfOk, IfErr, length, map, sum_by};
+ghost use Rattle.file_library.specs.declared.limits.TheConstants.{MOST_FILES, MOST_TEXT};
+ghost use Rattle.prolog_tokens.specs.declared.limits.TheConstants.{MOST_BYTES};
 ghost use Rattle.file_library.specs.Library.{Files, IsLater, names_of};
 ghost use Rattle.file_library.specs.Answers.{bytes_of};
 ghost use Rattle.file_library.specs.AskedFile.{see_file, IsOfText};
@@ -43,11 +45,11 @@ pub fn load_all<R: Threads + Sync, L: Library>(
 fn finish(alloc: Global, roots: &[Text], files: Vec<AskedFile>) -> Result<Loaded, LoadStop>
     requires apart { AreApart (answers_of (map see_file files.items)) }
     requires texts { All IsOfText (map see_file files.items) }
-    requires small { All (λ answer. bytes_of answer ≤ 8388608) (answers_of (map see_file files.items)) }
-    requires together { sum_by bytes_of (answers_of (map see_file files.items)) ≤ 33554432 }
-    requires few { length files.items ≤ 1024 }
-    ensures { (seen : Files) → Agrees seen (answers_of (map see_file files.items)) → AreJustAsked seen roots.now (names_of (answers_of (map see_file files.items)))
-        → FinishIs seen roots.now (end_of result) }
+    requires small { All (λ answer. bytes_of answer ≤ MOST_BYTES) (answers_of (map see_file files.items)) }
+    requires together { sum_by bytes_of (answers_of (map see_file files.items)) ≤ MOST_TEXT }
+    requires few { length files.items ≤ MOST_FILES }
+    ensures { (seen : Files) → Agrees seen (answers_of (map see_file files.items))
+        → AreJustAsked seen roots.now (names_of (answers_of (map see_file files.items))) → FinishIs seen roots.now (end_of result) }
 {
     let set = name_set(alloc, roots, usize::MAX)?;
     let names = in_order(alloc, &set)?;

@@ -1,6 +1,6 @@
-ghost use Rattle.std.specs.Prelude.{◌≡◌, ◌↔◌, ℕ, [], Some, Contains, IsTrue, IfOk};
+ghost use Rattle.std.specs.Prelude.{◌≡◌, ◌↔◌, ℕ, [], Contains, IsTrue, IfOk};
 ghost use Rattle.file_library.specs.Counts.{CountsAre};
-ghost use Rattle.file_library.specs.Library.{library_seen, IsLater, ReadIs, AskedIs, AnsweredIs};
+ghost use Rattle.file_library.specs.Library.{IsLater, ReadIs, AskedIs, AnsweredIs};
 ghost use Rattle.file_library.specs.Notes.{noted};
 ghost use Rattle.file_library.specs.Copied.{CopiedIs};
 
@@ -83,18 +83,16 @@ impl MemoryLibrary {
 }
 
 impl Library for MemoryLibrary {
-    ghost use Rattle.file_library.specs.MemoryLibrary.{files_of, ReadsByOrder};
+    ghost use Rattle.file_library.specs.MemoryLibrary.{memory_seen, ReadsByOrder};
 
-    ghost seen = { λ l. library_seen (Some (files_of l.files)) l.asked.items (noted l.notes.items) l.faults l.misses };
+    ghost seen = { memory_seen };
 
     fn read(&mut self, name: &str, limit: u32, room: &mut Vec<u8>) -> Read
         requires { room.old.items ≡ [] }
-        ensures answer { ReadIs (library_seen (Some (files_of self.old.files)) self.old.asked.items (noted self.old.notes.items) self.old.faults self.old.misses)
-            (library_seen (Some (files_of self.new.files)) self.new.asked.items (noted self.new.notes.items) self.new.faults self.new.misses) name.now limit room.new.items result }
+        ensures answer { ReadIs (memory_seen self.old) (memory_seen self.new) name.now limit room.new.items result }
         ensures asked { AskedIs self.old.asked.items self.new.asked.items name.now result }
         ensures answered { AnsweredIs (noted self.old.notes.items) (noted self.new.notes.items) name.now room.new.items result }
-        ensures later { IsLater (library_seen (Some (files_of self.old.files)) self.old.asked.items (noted self.old.notes.items) self.old.faults self.old.misses)
-            (library_seen (Some (files_of self.new.files)) self.new.asked.items (noted self.new.notes.items) self.new.faults self.new.misses) }
+        ensures later { IsLater (memory_seen self.old) (memory_seen self.new) }
         ensures counts { CountsAre self.old.faults self.new.faults self.old.misses self.new.misses result }
         ensures by_order { ReadsByOrder self.old self.new result }
     {

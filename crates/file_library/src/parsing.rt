@@ -1,5 +1,6 @@
 ghost use Rattle.std.specs.Prelude.{◌≡◌, ◌≢◌, ◌≤◌, List, Some, All, IfOk, IfErr, length};
 ghost use Rattle.std.specs.List.{AllZip, flat_map};
+ghost use Rattle.prolog_tokens.specs.declared.limits.TheConstants.{MOST_BYTES};
 ghost use Rattle.module_table.specs.Facts.{see_facts};
 ghost use Rattle.module_table.specs.FileText.{HasFacts};
 ghost use Rattle.file_library.specs.declared.answer.Answer.{Answer as AnswerOf};
@@ -71,7 +72,8 @@ fn joined(
     alloc: Global,
     lists: Vec<Result<Vec<AskedFile>, AllocError>>,
 ) -> Result<Vec<AskedFile>, AllocError>
-    ensures { IfOk result (λ all. (answers : List (List AnswerOf)) → AllZip AreParsed answers lists.items → AllZip IsParsed (flat_map (λ list. list) answers) all.items) }
+    ensures { IfOk result (λ all. (answers : List (List AnswerOf)) → AllZip AreParsed answers lists.items
+        → AllZip IsParsed (flat_map (λ list. list) answers) all.items) }
 {
     let mut all = Vec::new(alloc);
     for list in lists {
@@ -105,7 +107,7 @@ fn content_of<R: Threads + Sync>(
     name: &str,
     bytes: Vec<u8>,
 ) -> Result<Content, AllocError>
-    requires { length bytes.items ≤ 8388608 }
+    requires { length bytes.items ≤ MOST_BYTES }
     ensures text { IfOk result (λ content. text_of (see_content content) ≡ Some bytes.items) }
     ensures told { IfOk result (λ content. IsTold name.now (see_content content)) }
 {
@@ -124,7 +126,7 @@ fn file_facts<R: Threads + Sync>(
     name: &str,
     bytes: &[u8],
 ) -> Result<FileFacts, FactFault>
-    requires { length bytes.now ≤ 8388608 }
+    requires { length bytes.now ≤ MOST_BYTES }
     ensures facts { IfOk result (λ found. HasFacts name.now bytes.now (see_facts found)) }
     ensures fault { IfErr result (IsFaultOf name.now bytes.now) }
 {

@@ -1,18 +1,15 @@
 ghost use Rattle.std.specs.Prelude.{◌≡◌, ◌≤◌, ◌+◌, ◌++◌, ◌∷◌, [], Some, length, map, IfOk, IfErr, OnOk};
+ghost use Rattle.prolog_tokens.specs.declared.limits.TheConstants.{MOST_BYTES};
+ghost use Rattle.file_library.specs.declared.limits.TheConstants.{MOST_TEXT};
 ghost use Rattle.file_library.specs.Library.{IsLater, names_of};
 ghost use Rattle.file_library.specs.Answers.{see_answer, bytes_of, AreAnswers, HasGiven, StopsAt, IsPut, IsTooLong, StopsWave};
 
 use crate::answer::Answer;
 use crate::library::{Library, Read};
+use crate::limits::MOST_TEXT;
 use crate::loaded::LoadStop;
-use prolog_tokens::Text;
+use prolog_tokens::{MOST_BYTES, Text};
 use std::alloc::{AllocError, Global};
-
-/// The most bytes of one file.
-const MOST_BYTES: u32 = 8_388_608;
-
-/// The most bytes of all files.
-const MOST_TEXT: u32 = 33_554_432;
 
 /// Asks for the files of a wave in turn, when `total` bytes were read before.
 pub(crate) fn read_wave<L: Library>(
@@ -21,7 +18,7 @@ pub(crate) fn read_wave<L: Library>(
     total: u32,
     library: &mut L,
 ) -> Result<Vec<Answer>, LoadStop>
-    requires { total ≤ 33554432 }
+    requires { total ≤ MOST_TEXT }
     ensures later { IsLater (L.seen library.old) (L.seen library.new) }
     ensures names { IfOk result (λ answers. names_of (map see_answer answers.items) ≡ wave.now) }
     ensures answers { IfOk result (λ answers. AreAnswers (L.seen library.old) (L.seen library.new) total (map see_answer answers.items)) }
@@ -52,7 +49,7 @@ fn push_answer(answers: &mut Vec<Answer>, answer: Answer) -> Result<(), AllocErr
 
 /// How many bytes were answered.
 fn size_of(answer: &Answer) -> u32
-    requires { bytes_of (see_answer answer.now) ≤ 8388608 }
+    requires { bytes_of (see_answer answer.now) ≤ MOST_BYTES }
     ensures { result ≡ bytes_of (see_answer answer.now) }
 {
     match &answer.bytes {
@@ -68,7 +65,7 @@ fn read_one<L: Library>(
     total: u32,
     library: &mut L,
 ) -> Result<Answer, LoadStop>
-    requires { total ≤ 33554432 }
+    requires { total ≤ MOST_TEXT }
     ensures later { IsLater (L.seen library.old) (L.seen library.new) }
     ensures name { IfOk result (λ answer. (see_answer answer).name ≡ name.now) }
     ensures answers { IfOk result (λ answer. AreAnswers (L.seen library.old) (L.seen library.new) total (see_answer answer ∷ [])) }
@@ -91,9 +88,9 @@ fn read_one<L: Library>(
 
 /// The answer with these bytes, if they aren't too many.
 fn found(name: Text, bytes: Vec<u8>, total: u32) -> Result<Answer, LoadStop>
-    requires { total ≤ 33554432 }
+    requires { total ≤ MOST_TEXT }
     ensures answer { IfOk result (λ answer. see_answer answer ≡ record { name = name; text = Some bytes.items }) }
-    ensures fits { OnOk result ((length bytes.items ≤ 8388608) × (total + length bytes.items ≤ 33554432)) }
+    ensures fits { OnOk result ((length bytes.items ≤ MOST_BYTES) × (total + length bytes.items ≤ MOST_TEXT)) }
     ensures stops { IfErr result (IsTooLong name (length bytes.items) total) }
 {
     if bytes.len() > MOST_BYTES as usize {

@@ -1,4 +1,5 @@
 ghost use Rattle.std.specs.Prelude.{◌≡◌, ◌≤◌, ◌++◌, ◌∷◌, [], List, All, IfOk, OnOk, map};
+ghost use Rattle.prolog_tokens.specs.declared.limits.TheConstants.{MOST_BYTES};
 ghost use Rattle.file_library.specs.AskedFile.{FileFound, absent, see_file, answered_of, IsOfText};
 ghost use Rattle.file_library.specs.AskAll.{answers_of, AreApart};
 ghost use Rattle.file_library.specs.Answers.{bytes_of};
@@ -38,7 +39,7 @@ pub(crate) fn sorted_out(
     files: Vec<AskedFile>,
 ) -> Result<SortedOut, AllocError>
     requires texts { All IsOfText (map see_file files.items) }
-    requires small { All (λ answer. bytes_of answer ≤ 8388608) (answers_of (map see_file files.items)) }
+    requires small { All (λ answer. bytes_of answer ≤ MOST_BYTES) (answers_of (map see_file files.items)) }
     ensures { IfOk result (AreSortedOut roots.now (map see_file files.items)) }
 {
     let mut out = SortedOut {
@@ -61,7 +62,7 @@ fn put(
     out: &mut SortedOut,
 ) -> Result<(), AllocError>
     requires text { IsOfText (see_file file) }
-    requires small { bytes_of (answered_of (see_file file)) ≤ 8388608 }
+    requires small { bytes_of (answered_of (see_file file)) ≤ MOST_BYTES }
     ensures { OnOk result ((files : List FileFound) → AreSortedOut roots.now files out.old → AreSortedOut roots.now (files ++ see_file file ∷ []) out.new) }
 {
     let AskedFile { name, content } = file;
@@ -92,7 +93,8 @@ fn put_absent(
     name: Text,
     out: &mut SortedOut,
 ) -> Result<(), AllocError>
-    ensures { OnOk result ((files : List FileFound) → AreSortedOut roots.now files out.old → AreSortedOut roots.now (files ++ (record { name = name; found = absent }) ∷ []) out.new) }
+    ensures { OnOk result ((files : List FileFound) → AreSortedOut roots.now files out.old
+        → AreSortedOut roots.now (files ++ (record { name = name; found = absent }) ∷ []) out.new) }
 {
     if !roots.contains(&name) {
         out.absent.push(name)?;

@@ -1,6 +1,7 @@
 -- Graphs as lists of successors.
 use Rattle.std.specs.Prelude.{ℕ, ◌<◌, ◌≤◌, List, [], length, map, slice_index_or, All, Contains}
 use Rattle.std.specs.declared.vec.Vec.{Vec}
+use Rattle.graph_law.specs.declared.graph.TheConstants.{MOST_NODES}
 
 -- what contracts see of a graph: the successors of each node, and the roots
 pub record CallGraph : Type 0 where
@@ -19,7 +20,7 @@ IsClosed lists = (p q : ℕ) → Calls lists p q → q < length lists
 pub record IsGraph (graph : CallGraph) : Type 0 where
   pub closed : IsClosed graph.lists
   pub rooted : All (λ root. root < length graph.lists) graph.roots
-  pub small : length graph.lists ≤ 1048576
+  pub small : length graph.lists ≤ MOST_NODES
 
 -- the contents of each `Vec`
 abbrev pub lists_of : {X A : Type 0} → List (Vec X A) → List (List X)

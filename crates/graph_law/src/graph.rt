@@ -6,7 +6,8 @@ use crate::opener::Opener;
 use std::alloc::AllocError;
 use std::marker::Model;
 
-const MOST_NODES: usize = 1_048_576;
+/// How many nodes a graph has at most.
+pub const MOST_NODES: usize = 1_048_576;
 
 /// A graph in memory: the successors of each node, and the roots.
 #[derive(Drop)]

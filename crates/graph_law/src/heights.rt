@@ -6,8 +6,8 @@ ghost use Rattle.graph_law.specs.CallOrder.{IsJustAbove, LeadsTo, MembersLeadTo}
 
 use crate::call_order::callees_first;
 use crate::graph::Graph;
-use crate::group_places::group_places;
 use crate::opener::Opener;
+use crate::places::group_places;
 use std::alloc::{AllocError, Global};
 
 /// The height of each group: 0 where it calls no other group, else one more than the greatest height

@@ -12,16 +12,17 @@
 mod call_order;
 mod classes;
 mod graph;
-mod group_places;
 mod heights;
 mod laws;
 mod opener;
+mod places;
 mod reach;
 mod stamping;
 
 pub use classes::{classes_slow, is_recursive};
-pub use graph::Graph;
+pub use graph::{Graph, MOST_NODES};
 pub use heights::heights_slow;
 pub use laws::{one_list_of_classes, one_list_of_heights};
 pub use opener::Opener;
+pub use places::group_places;
 pub use stamping::stamp;

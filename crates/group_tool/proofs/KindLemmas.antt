@@ -23,7 +23,7 @@ use Rattle.call_edges.specs.Calls.{IsMetIn}
 use Rattle.call_edges.specs.Called.{unless_found, unresolved}
 use Rattle.call_edges.proofs.BodyLemmas.{given_more}
 use Rattle.call_edges.proofs.UnresolvedLemmas.{met_unresolved}
-use Rattle.call_edges.proofs.ZipLemmas.{zip_at, zip_count}
+use Rattle.list_laws.proofs.Zips.{zip_at, zip_count}
 use Rattle.group_tool.specs.Parts.{AreOwnKinds, IsOwnKinds, SomeHasKind, kinds_given}
 
 -- a bit that is set is 1

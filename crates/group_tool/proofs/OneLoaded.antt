@@ -8,13 +8,15 @@ use Rattle.std.proofs.lemmas.List.{get_or_default, length-append}
 use Rattle.std.proofs.lemmas.List.Elements.{All-tail}
 use Rattle.std.proofs.Math.Seq.{get_or-append_seam}
 use Rattle.list_laws.proofs.OneOrder.{IsStrict, same_order, less_strict, holds_of}
+use Rattle.call_edges.proofs.GoalFaultLemmas.{one_list}
 use Rattle.graph_law.proofs.Increasing.{increasing_far}
 use Rattle.file_library.specs.declared.fault.Fault.{Fault}
 use Rattle.file_library.specs.Loaded.{LoadedFiles, WasLoaded}
 use Rattle.group_release.specs.declared.level.Level.{Level}
 use Rattle.import_rules.specs.declared.names.PredName.{PredName}
 use Rattle.import_rules.specs.Flaws.{IsFaultOf}
-use Rattle.import_rules.specs.Program.{Seen, IsProgram, HasPredicates, most_predicates}
+use Rattle.import_rules.specs.declared.resolve.TheConstants.{MOST_PREDICATES}
+use Rattle.import_rules.specs.Program.{Seen, IsProgram, HasPredicates}
 use Rattle.import_rules.proofs.OneFlaws.{one_list_of_flaws, one_list_of_import_faults}
 use Rattle.import_rules.proofs.OneProgram.{one_program, few_or_many}
 use Rattle.call_edges.specs.GoalFaults.{IsGoalFault, fault_cmp, AreGoalFaults}
@@ -45,11 +47,6 @@ no_import_faults found seen list program is =
 fault_strict : IsStrict (λ a b. fault_cmp a b ≡ Less)
 fault_strict =
     less_strict fault_cmp (then_total (on_total (λ (f : Fault). f.file) nat_list_cmp_total) (on_total (λ (f : Fault). f.offset) nat_cmp_total))
-
-one_goal_list : (seen : Seen) (list other : List Fault) → AreGoalFaults seen list → AreGoalFaults seen other → list ≡ other
-one_goal_list seen list other is also =
-    same_order (λ a b. fault_cmp a b ≡ Less) fault_strict list other is.ordered also.ordered
-    (λ fault has. also.all fault (holds_of (IsGoalFault seen) list fault is.sound has)) (λ fault has. is.all fault (holds_of (IsGoalFault seen) other fault also.sound has))
 
 -- and one report
 
@@ -114,14 +111,14 @@ there_or_missing (Some list) seen root has lacks =
 
 -- so the end is one
 
-few_of : (found : LoadedFiles) (seen : Seen) → IsProgram found seen → HasPredicates found (λ n. n ≤ most_predicates)
+few_of : (found : LoadedFiles) (seen : Seen) → IsProgram found seen → HasPredicates found (λ n. n ≤ MOST_PREDICATES)
 few_of found seen is = record { predicates = seen.predicates; numbered = is.numbered; many_are = is.few }
 
 callable_or_faults : (found : LoadedFiles) (seen : Seen) (list : List Fault) → AreCallable found seen → HaveImportFaults found list ⊎ HaveGoalFaults found list → ⊥
 callable_or_faults found seen list is (inl imports) = no_import_faults found seen list is.program imports
 callable_or_faults found seen list is (inr goals) =
     let same : goals.seen ≡ seen = one_program found goals.seen seen goals.program is.program in
-    goals.some (one_goal_list seen list [] (subst (λ seen. AreGoalFaults seen list) same goals.are) is.callable)
+    goals.some (one_list seen list [] (subst (λ seen. AreGoalFaults seen list) same goals.are) is.callable)
 
 many_or_faults : (found : LoadedFiles) (list : List Fault) → DefineTooMany found → HaveImportFaults found list ⊎ HaveGoalFaults found list → ⊥
 many_or_faults found list many (inl imports) = few_or_many found imports.few many
@@ -137,7 +134,7 @@ same_faults found was list other (inl is) (inr also) = absurd (no_import_faults 
 same_faults found was list other (inr is) (inl also) = absurd (no_import_faults found is.seen other is.program also)
 same_faults found was list other (inr is) (inr also) =
     let same : also.seen ≡ is.seen = one_program found also.seen is.seen also.program is.program in
-    one_goal_list is.seen list other is.are (subst (λ seen. AreGoalFaults seen other) same also.are)
+    one_list is.seen list other is.are (subst (λ seen. AreGoalFaults seen other) same also.are)
 
 module _ (settings : Settings) (unordered : settings.order ≡ false) (found : LoadedFiles) where
   same_missing : (root other : PredName) → LackRoot settings found root → LackRoot settings found other → root ≡ other

@@ -6,7 +6,7 @@ use Rattle.prolog_tokens.specs.declared.token.Place.{Place}
 use Rattle.clause_text.specs.Cause.{cause_text}
 use Rattle.file_library.specs.declared.fault.Fault.{Fault}
 use Rattle.import_rules.specs.declared.names.PredName.{PredName}
-use Rattle.import_rules.specs.Program.{most_predicates}
+use Rattle.import_rules.specs.declared.resolve.TheConstants.{MOST_PREDICATES}
 use Rattle.loop_report.specs.Names.{name_text}
 use Rattle.group_tool.specs.declared.stop.Limit.{Limit}
 use Rattle.group_tool.specs.declared.stop.Limit.TheVariants.{TooManyFiles, FileTooLarge, TooMuchText, TooManyPredicates}
@@ -34,4 +34,4 @@ abbrev pub limit_line : Limit → List ℕ
 limit_line TooManyFiles = codes "groups: more than 1024 files\n"
 limit_line (FileTooLarge name) = codes "groups: " ++ (name ++ codes " is larger than 8388608 bytes\n")
 limit_line TooMuchText = codes "groups: more than 33554432 bytes of text\n"
-limit_line TooManyPredicates = codes "groups: more than " ++ (decimal most_predicates ++ codes " predicates\n")
+limit_line TooManyPredicates = codes "groups: more than " ++ (decimal MOST_PREDICATES ++ codes " predicates\n")

@@ -5,7 +5,8 @@ use Rattle.file_library.specs.declared.fault.Fault.{Fault}
 use Rattle.file_library.specs.Loaded.{LoadedFiles}
 use Rattle.import_rules.specs.declared.names.PredName.{PredName}
 use Rattle.import_rules.specs.Flaws.{AreImportFaults}
-use Rattle.import_rules.specs.Program.{Seen, IsProgram, HasPredicates, most_predicates}
+use Rattle.import_rules.specs.declared.resolve.TheConstants.{MOST_PREDICATES}
+use Rattle.import_rules.specs.Program.{Seen, IsProgram, HasPredicates}
 use Rattle.call_edges.specs.Calls.{NodeCalls}
 use Rattle.call_edges.specs.GoalFaults.{AreGoalFaults}
 use Rattle.call_edges.specs.Successors.{successor_lists}
@@ -20,11 +21,11 @@ use Rattle.group_tool.specs.End.{End, faults, missing, limit, report}
 
 -- they define too many predicates
 abbrev pub DefineTooMany : LoadedFiles → Type 0
-DefineTooMany found = HasPredicates found (λ n. most_predicates < n)
+DefineTooMany found = HasPredicates found (λ n. MOST_PREDICATES < n)
 
 -- they define few enough, and these are their import faults, one at least
 pub record HaveImportFaults (found : LoadedFiles) (list : List Fault) : Type 0 where
-  pub few : HasPredicates found (λ n. n ≤ most_predicates)
+  pub few : HasPredicates found (λ n. n ≤ MOST_PREDICATES)
   pub are : AreImportFaults found list
   pub some : list ≢ []
 
@@ -46,7 +47,8 @@ pub record LackRoot (settings : Settings) (found : LoadedFiles) (root : PredName
   pub program : AreCallable found seen
   pub lacks : LacksRoot (asked_names settings.path settings.roots) seen root
 
--- the bytes are the report of the groups: of a made program the first line; else with the lines of the groups in order of height, or in the order of the groups where that is wanted
+-- the bytes are the report of the groups: of a made program the first line; else with the lines of the groups in order of height, or in the order of the groups
+-- where that is wanted
 abbrev pub IsOutput : Option ℕ → Bool → Bool → Seen → List (List ℕ) → List Level → List ℕ → Type 0
 IsOutput (Some count) order unreached seen groups levels bytes = bytes ≡ head_line groups levels
 IsOutput None true unreached seen groups levels bytes = IsOrderReport seen.predicates seen.loaded.files groups levels unreached bytes

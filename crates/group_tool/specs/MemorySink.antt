@@ -1,11 +1,16 @@
 -- Sinks in memory.
-use Rattle.std.specs.Prelude.{◌≡◌, ℕ, ◌-◌, ◌<◌, ◌≤◌, Bool, List, [], true, false, length, min}
+use Rattle.std.specs.Prelude.{◌≡◌, ℕ, ◌-◌, ◌<◌, ◌≤◌, Bool, List, [], Some, true, false, length, min}
 use Rattle.file_library.specs.Counts.{one_more}
+use Rattle.group_tool.specs.Sink.{SinkSeen, sink_seen}
 use Rattle.group_tool.specs.declared.memory_sink.MemorySink.{MemorySink}
 use Rattle.group_tool.specs.declared.sink.Put.{Put}
 use Rattle.group_tool.specs.declared.sink.Put.TheVariants.{Took, Failed}
 use Rattle.group_tool.specs.declared.sink.Flushed.{Flushed}
 use Rattle.group_tool.specs.declared.sink.Flushed.TheVariants.{Done, Failed as failed_flush}
+
+-- what is seen of it as of a sink: all the bytes that it took
+abbrev pub memory_seen : MemorySink → SinkSeen
+memory_seen s = sink_seen (Some s.bytes.items) s.faults s.settled
 
 -- it has taken nothing, and has room for so many bytes; its flushes are done, or each fails
 pub record IsNewSink (flushes : Bool) (room : ℕ) (sink : MemorySink) : Type 0 where

@@ -185,7 +185,8 @@ pub record IsCutOff (wanted : Settings → Type 0) (library : Asking) (out err :
   pub cause : EndIs wanted library end
   pub cut : CutBy out err end
 
--- the library was asked for the first of the names that these files lead to over some map, each once; for all of them where there is a report, or a fault, or a name that is missing
+-- the library was asked for the first of the names that these files lead to over some map, each once; for all of them where there is a report, or a fault, or a
+-- name that is missing
 pub record AreAskedFor (roots : List (List ℕ)) (library : Asking) (result : ℕ) : Type 0 where
   pub seen : Files
   pub names : List (List ℕ)

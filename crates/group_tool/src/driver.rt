@@ -41,7 +41,8 @@ pub fn groups_alone(
     requires calls { see_call_lists calls.now ≡ see_program program.now }
     requires roots { All (λ q. q < length (see_program program.now).predicates) roots.now }
     ensures groups { IfOk result (λ groups. AreGroups (ListCalls (successor_lists (see_program program.now))) roots.now (lists_of groups.items)) }
-    ensures order { IfOk result (λ groups. AreInScheduleOrder (see_options options.now).searches (successor_lists (see_program program.now)) roots.now (lists_of groups.items)) }
+    ensures order { IfOk result (λ groups.
+        AreInScheduleOrder (see_options options.now).searches (successor_lists (see_program program.now)) roots.now (lists_of groups.items)) }
 {
     settings_within();
     let _program = program;
@@ -101,7 +102,8 @@ pub fn groups_by_stream<R: Threads + Wait + Sync, G: Gate>(
     requires lists { taker.old.lists ≡ successor_lists (see_call_lists calls.now) }
     requires fresh { taker.old.taken ≡ [] }
     ensures groups { IfOk result (λ groups. AreGroups (ListCalls (successor_lists (see_program program.now))) roots.now (lists_of groups.items)) }
-    ensures leveled { IfOk result (λ groups. AreLeveled (ListCalls (successor_lists (see_program program.now))) roots.now (lists_of groups.items) taker.new.levels) }
+    ensures leveled { IfOk result (λ groups.
+        AreLeveled (ListCalls (successor_lists (see_program program.now))) roots.now (lists_of groups.items) taker.new.levels) }
 {
     settings_within();
     let _program = program;

@@ -36,8 +36,9 @@ mod stream_sink;
 
 pub use group_words::{Options, WordFault, parse_words};
 pub use laws::one_answer;
+pub use lines::fault_lines;
 pub use memory_sink::MemorySink;
 pub use run::{run_alone, run_groups};
 pub use search_pool::{Gate, MeetGate, OpenGate};
-pub use sink::{Flushed, Put, Sink};
+pub use sink::{Flushed, MOST_PUT, Put, Sink};
 pub use stream_sink::StreamSink;

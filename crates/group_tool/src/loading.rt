@@ -1,4 +1,5 @@
 ghost use Rattle.std.specs.Prelude.{◌≡◌, ◌≤◌, ℕ, List, [], ◌∷◌, IfOk, Some};
+ghost use Rattle.group_words.specs.declared.limits.TheConstants.{MOST_MADE};
 ghost use Rattle.file_library.specs.SortedOut.{see_loaded};
 ghost use Rattle.file_library.specs.Loaded.{WasLoaded};
 ghost use Rattle.group_words.specs.Made.{made_text};
@@ -47,7 +48,7 @@ fn load_made<R: Threads + Sync>(
     count: u32,
 ) -> Result<Program, Stop>
     requires made { (see_options options.now).make ≡ Some count }
-    requires few { count ≤ 100000 }
+    requires few { count ≤ MOST_MADE }
     ensures { CarriesOn (λ end. (library : Asking) → IsLeft library → EndIs (AreJust (see_options options.now)) library end) (see_options options.now) result }
 {
     let _made = options.make;
@@ -58,7 +59,7 @@ fn load_made<R: Threads + Sync>(
 
 /// The one file that is made.
 fn made_file(alloc: Global, count: u32) -> Result<OneFile, AllocError>
-    requires { count ≤ 100000 }
+    requires { count ≤ MOST_MADE }
     ensures { IfOk result (λ made. IsNewFile made_name (made_text count) made) }
 {
     let name = Text::new(alloc, MADE)?;

@@ -1,4 +1,5 @@
-ghost use Rattle.std.specs.Prelude.{◌≡◌, ◌≤◌, ◌<◌, Some, true, false, IfOk, length, vec_capacity};
+ghost use Rattle.std.specs.Prelude.{◌≡◌, ◌≤◌, ◌<◌, true, false, IfOk, length, vec_capacity};
+ghost use Rattle.group_tool.specs.declared.sink.TheConstants.{MOST_PUT};
 
 use crate::sink::{Flushed, Put, Sink};
 use std::alloc::{AllocError, Global};
@@ -60,15 +61,15 @@ impl MemorySink {
 }
 
 impl Sink for MemorySink {
-    ghost use Rattle.group_tool.specs.Sink.{sink_seen, PutIs, FlushIs};
-    ghost use Rattle.group_tool.specs.MemorySink.{PutsWithin, IsFlushed};
+    ghost use Rattle.group_tool.specs.Sink.{PutIs, FlushIs};
+    ghost use Rattle.group_tool.specs.MemorySink.{memory_seen, PutsWithin, IsFlushed};
 
-    ghost seen = { λ s. sink_seen (Some s.bytes.items) s.faults s.settled };
+    ghost seen = { memory_seen };
 
     fn put(&mut self, bytes: &[u8]) -> Put
         requires some { 0 < length bytes.now }
-        requires most { length bytes.now ≤ 65536 }
-        ensures put { PutIs bytes.now (sink_seen (Some self.old.bytes.items) self.old.faults self.old.settled) (sink_seen (Some self.new.bytes.items) self.new.faults self.new.settled) result }
+        requires most { length bytes.now ≤ MOST_PUT }
+        ensures put { PutIs bytes.now (memory_seen self.old) (memory_seen self.new) result }
         ensures faults_kept { self.old.faults ≤ self.new.faults }
         ensures within { PutsWithin bytes.now self.old self.new result }
     {
@@ -84,7 +85,7 @@ impl Sink for MemorySink {
     }
 
     fn flush(&mut self) -> Flushed
-        ensures flush { FlushIs (sink_seen (Some self.old.bytes.items) self.old.faults self.old.settled) (sink_seen (Some self.new.bytes.items) self.new.faults self.new.settled) result }
+        ensures flush { FlushIs (memory_seen self.old) (memory_seen self.new) result }
         ensures faults_kept { self.old.faults ≤ self.new.faults }
         ensures done { IsFlushed self.old self.new result }
     {

@@ -57,7 +57,8 @@ fn effects_part<R: Threads + Sync>(
     requires calls { see_call_lists calls.now ≡ see_program program.now }
     requires below { All (λ q. q < length (see_program program.now).predicates) roots.now }
     requires leveled { AreLeveled (ListCalls (successor_lists (see_program program.now))) roots.now (lists_of groups.now) levels.now }
-    ensures { IfOk result (λ bytes. IsPart (see_options options.now).effects (TellEffects (see_program program.now) (lists_of groups.now) levels.now) bytes.items) }
+    ensures { IfOk result (λ bytes.
+        IsPart (see_options options.now).effects (TellEffects (see_program program.now) (lists_of groups.now) levels.now) bytes.items) }
 {
     if !options.effects {
         return Ok(Vec::new(alloc));

@@ -3,10 +3,7 @@ ghost use Rattle.std.specs.Bool.{OnTrue, OnFalse};
 ghost use Rattle.group_tool.specs.Say.{SaidIs, TookPart};
 ghost use Rattle.group_tool.specs.Sink.{more_taken};
 
-use crate::sink::{Flushed, Put, Sink};
-
-/// The most bytes of one put.
-const PIECE: usize = 65_536;
+use crate::sink::{Flushed, MOST_PUT, Put, Sink};
 
 /// Puts all of the bytes, each piece again from where it was cut. Whether all were taken.
 fn put_all<S: Sink>(sink: &mut S, bytes: &[u8]) -> bool
@@ -16,7 +13,7 @@ fn put_all<S: Sink>(sink: &mut S, bytes: &[u8]) -> bool
 {
     let mut at = 0;
     while at < bytes.len() {
-        let end = at + (bytes.len() - at).min(PIECE);
+        let end = at + (bytes.len() - at).min(MOST_PUT);
         match sink.put(&bytes[at..end]) {
             Put::Took(count) => at += count as usize,
             Put::Failed => return false,

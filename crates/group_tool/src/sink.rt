@@ -1,5 +1,9 @@
 ghost use Rattle.std.specs.Prelude.{◌≤◌, ◌<◌, length};
+ghost use Rattle.group_tool.specs.declared.sink.TheConstants.{MOST_PUT};
 ghost use Rattle.group_tool.specs.Sink.{SinkSeen, PutIs, FlushIs};
+
+/// How many bytes are put at once at most.
+pub const MOST_PUT: usize = 65_536;
 
 /// What a sink answers to a put: how many of the bytes it took, from the first on, or that it
 /// failed and took none.
@@ -24,7 +28,7 @@ pub trait Sink {
     /// Takes some of the bytes, of which there are 1 to 65,536.
     fn put(&mut self, bytes: &[u8]) -> Put
         requires some { 0 < length bytes.now }
-        requires most { length bytes.now ≤ 65536 }
+        requires most { length bytes.now ≤ MOST_PUT }
         ensures put { PutIs bytes.now (seen self.old) (seen self.new) result }
         ensures faults_kept { (seen self.old).faults ≤ (seen self.new).faults };
 

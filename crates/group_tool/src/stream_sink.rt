@@ -1,5 +1,6 @@
 ghost use Rattle.std.specs.Prelude.{◌≡◌, ◌≤◌, ◌<◌, true, None, length};
 ghost use Rattle.std.specs.Io.KnownBytes.{Keeps};
+ghost use Rattle.group_tool.specs.declared.sink.TheConstants.{MOST_PUT};
 ghost use Rattle.group_tool.specs.Sink.{sink_seen, PutIs, FlushIs};
 ghost use Rattle.group_tool.specs.StreamSink.{WroteIs};
 
@@ -35,7 +36,7 @@ impl<W: Write + Drop> Sink for StreamSink<W> {
 
     fn put(&mut self, bytes: &[u8]) -> Put
         requires some { 0 < length bytes.now }
-        requires most { length bytes.now ≤ 65536 }
+        requires most { length bytes.now ≤ MOST_PUT }
         ensures put { PutIs bytes.now (sink_seen None self.old.faults self.old.settled) (sink_seen None self.new.faults self.new.settled) result }
         ensures faults_kept { self.old.faults ≤ self.new.faults }
         ensures wrote { WroteIs bytes.now (W.contents self.old.writer) (W.contents self.new.writer) result }

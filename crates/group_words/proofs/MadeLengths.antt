@@ -7,6 +7,8 @@ use Rattle.std.proofs.lemmas.List.Concat.{length-flat_map}
 use Rattle.std.proofs.lemmas.List.Elements.{All-from_get_or}
 use Rattle.std.proofs.lemmas.List.FromFn.{get_or-range_with_len, length-range_with_len}
 use Rattle.std.proofs.lemmas.List.Sums.{sum_by-le}
+use Rattle.prolog_tokens.specs.declared.limits.TheConstants.{MOST_BYTES}
+use Rattle.group_words.specs.declared.limits.TheConstants.{MOST_MADE}
 use Rattle.group_words.specs.Made.{body, calls, in_block, line, made_text, name_at, out_of_block}
 
 -- numbers of at most six digits
@@ -32,7 +34,7 @@ short_body (p ∷ q ∷ more) low =
     put_together ((codes " :- " ++ name_at p) ++ codes ", ") (name_at q) 13 7
     (put_together (codes " :- " ++ name_at p) (codes ", ") 11 2 (put_together (codes " :- ") (name_at p) 4 7 (omega arith) (short_name p low.0)) (omega arith)) (short_name q low.1.0)
 
-low_block : (count i : ℕ) → i < 100000 → AreLow (in_block count i)
+low_block : (count i : ℕ) → i < MOST_MADE → AreLow (in_block count i)
 low_block count i low = go ((i % 10) == 9) (nat_lt (i + 1) count)
   where
     go : (last there : Bool) → AreLow (if last then (i - 9) ∷ [] else if there then (i + 1) ∷ [] else [])
@@ -40,20 +42,20 @@ low_block count i low = go ((i % 10) == 9) (nat_lt (i + 1) count)
     go false true = (omega (arith, low), tt)
     go false false = tt
 
-low_outside : (i : ℕ) → i < 100000 → AreLow (out_of_block i)
+low_outside : (i : ℕ) → i < MOST_MADE → AreLow (out_of_block i)
 low_outside i low = go (((i % 10) == 0) && nat_le 10 i)
   where
     go : (first : Bool) → AreLow (if first then (10 * ((i / 10 - 1) / 2)) ∷ [] else [])
     go true = (omega (arith, low), tt)
     go false = tt
 
-short_line : (count i : ℕ) → i < 100000 → length (line count i) ≤ 29
+short_line : (count i : ℕ) → i < MOST_MADE → length (line count i) ≤ 29
 short_line count i low =
     put_together (name_at i ++ body (calls count i)) (codes ".\n") 27 2
     (put_together (name_at i) (body (calls count i)) 7 20 (short_name i (omega (arith, low)))
     (short_body (calls count i) (both_low (in_block count i) (out_of_block i) (low_block count i low) (low_outside i low)))) (omega arith)
 
-pub short_text : (count : ℕ) → count ≤ 100000 → length (made_text count) ≤ 8388608
+pub short_text : (count : ℕ) → count ≤ MOST_MADE → length (made_text count) ≤ MOST_BYTES
 short_text count few =
     let each : All (λ i. length (line count i) ≤ 29) (range_with_len 0 count) =
     All-from_get_or (λ i. length (line count i) ≤ 29) (range_with_len 0 count) 0

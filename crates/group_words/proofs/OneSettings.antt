@@ -1,5 +1,6 @@
 -- Words set one list of options.
 use Rattle.std.proofs.Common.{◌≡◌, ℕ, List, [], ◌∷◌, Option, Some, None, refl, ap, sym, ◌∙◌, subst}
+use Rattle.group_words.specs.declared.limits.TheConstants.{MOST_MADE}
 use Rattle.import_rules.specs.declared.names.PredName.{PredName}
 use Rattle.group_words.specs.Words.{Key, Jobs, Searches, Seed, Roots, Path, Make, IsReading}
 use Rattle.group_words.specs.Numbers.{IsNumberIn}
@@ -60,7 +61,7 @@ make_once None None (Some n) x y = absurd y
 make_once None (Some m) n x y = absurd x
 make_once (Some text) None n x y = absurd x
 make_once (Some text) (Some m) None x y = absurd y
-make_once (Some text) (Some m) (Some n) x y = ap Some (one_number 1 100000 text m n x y)
+make_once (Some text) (Some m) (Some n) x y = ap Some (one_number 1 MOST_MADE text m n x y)
 
 some_same : {A : Type 0} (x y : A) → Some x ≡ Some y → x ≡ y
 some_same x y e = cc

@@ -3,6 +3,7 @@ use Rattle.std.proofs.Common.{◌≡◌, ◌≢◌, ◌∷◌, [], ◌^◌, ◌<
 use Rattle.std.specs.Option.{IfSome}
 use Rattle.std.specs.List.{AllByRecursion, IsDistinct}
 use Rattle.std.specs.Str.{bytes_eq}
+use Rattle.group_words.specs.declared.limits.TheConstants.{MOST_MADE}
 use Rattle.module_table.specs.FileName.{resolved}
 use Rattle.import_rules.specs.declared.names.PredName.{PredName}
 use Rattle.group_words.specs.Words.{Key, Jobs, Searches, Seed, Roots, Path, Make}
@@ -38,7 +39,7 @@ path_within None (Some both) is = absurd is
 path_within (Some text) (Some both) is =
     let fit = arities_fit text (both.0 ∷ both.1 ∷ []) is in (fit 0 both.0 (omega arith), fit 1 both.0 (omega arith))
 
-make_within : (given : Option (List ℕ)) (make : Option ℕ) → MakeIs given make → IfSome make (λ count. (1 ≤ count) × (count ≤ 100000))
+make_within : (given : Option (List ℕ)) (make : Option ℕ) → MakeIs given make → IfSome make (λ count. (1 ≤ count) × (count ≤ MOST_MADE))
 make_within given None is = tt
 make_within None (Some count) is = absurd is
 make_within (Some text) (Some count) is = (is.least, is.most)

@@ -29,8 +29,11 @@ with_flag app name = with_rule app (asked_flag name)
 
 abbrev pub words_app : App
 words_app =
-    let valued = with_valued (with_valued (with_valued (with_valued (with_valued bare_app (codes "jobs")) (codes "searches")) (codes "seed")) (codes "roots")) (codes "path") in
-    with_rule (with_valued (with_flag (with_flag (with_flag (with_flag (with_flag valued (codes "order")) (codes "unreached")) (codes "effects")) (codes "loops")) (codes "stream")) (codes "make")) asked_files
+    let valued = with_valued (with_valued (with_valued (with_valued (with_valued bare_app (codes "jobs")) (codes "searches")) (codes "seed")) (codes "roots"))
+    (codes "path") in
+    with_rule
+    (with_valued (with_flag (with_flag (with_flag (with_flag (with_flag valued (codes "order")) (codes "unreached")) (codes "effects")) (codes "loops"))
+    (codes "stream")) (codes "make")) asked_files
 
 -- whether an option is given, as what it is given
 abbrev pub set_flag : Bool → Option (List ℕ)

@@ -10,6 +10,7 @@ use Rattle.prolog_terms.specs.Clause.{IsClauseOf}
 use Rattle.clause_text.specs.Clauses.{opening_ops}
 use Rattle.import_rules.specs.declared.names.PredName.{PredName}
 use Rattle.import_rules.specs.Names.{pred_name}
+use Rattle.group_words.specs.declared.limits.TheConstants.{MOST_LIST}
 
 abbrev pub named : Option (List ℕ) → Option (List ℕ) → Option ℕ → Option PredName
 named (Some own) (Some name) (Some arity) = Some (pred_name own name arity)
@@ -54,7 +55,7 @@ pub record IsList (text : List ℕ) (tree : Tree) : Type 0 where
 
 -- the list isn't too long, and its term is predicates that commas join
 pub record IsRootList (text : List ℕ) (roots : List PredName) : Type 0 where
-  pub small : length text ≤ 65536
+  pub small : length text ≤ MOST_LIST
   pub tree : Tree
   pub list : IsList text tree
   pub are : all_there (map named_predicate (joined tree)) ≡ Some roots

@@ -1,5 +1,7 @@
 -- The options that are lawful, and what they are by what each option of the words is given.
-use Rattle.std.specs.Prelude.{◌≡◌, ◌≢◌, ℕ, ◌≤◌, ◌<◌, ◌^◌, Bool, true, false, not, List, [], ◌∷◌, Option, Some, None, All, is_some, option_map, map, filter, IfSome}
+use Rattle.std.specs.Prelude.{◌≡◌, ◌≢◌, ℕ, ◌≤◌, ◌<◌, ◌^◌, Bool, true, false, not, List, [], ◌∷◌, Option, Some, None, All, is_some, option_map, map, filter}
+use Rattle.std.specs.Prelude.{IfSome}
+use Rattle.std.specs.Borrow.{Bor}
 use Rattle.std.specs.BTreeSet.{BTreeSet, contains}
 use Rattle.std.specs.Cmp.Lexicographic.{slice_cmp}
 use Rattle.std.specs.List.{IsDistinct, list_any}
@@ -9,6 +11,7 @@ use Rattle.module_table.specs.FileName.{resolved}
 use Rattle.import_rules.specs.declared.names.PredName.{PredName}
 use Rattle.group_words.specs.declared.options.Options.{Options}
 use Rattle.group_words.specs.Words.{Key, Jobs, Searches, Seed, Roots, Path, Order, Unreached, Effects, Loops, Stream, Make, IsReading}
+use Rattle.group_words.specs.declared.limits.TheConstants.{MOST_MADE, MOST_WORKERS}
 use Rattle.group_words.specs.Numbers.{IsNumberIn}
 use Rattle.group_words.specs.RootList.{IsRootList, all_there}
 
@@ -42,15 +45,19 @@ see_options options = record {
   files = options.files.items;
 }
 
+-- the text that an option was given
+abbrev pub text_of : Option (Bor (List ℕ)) → Option (List ℕ)
+text_of lent = option_map (λ t. t.now) lent
+
 -- 1, or the number that is given
 abbrev pub JobsAre : Option (List ℕ) → ℕ → Type 0
 JobsAre None jobs = jobs ≡ 1
-JobsAre (Some text) jobs = IsNumberIn 1 64 text jobs
+JobsAre (Some text) jobs = IsNumberIn 1 MOST_WORKERS text jobs
 
 -- both or none
 abbrev pub SearchesAre : Option (List ℕ) → Option (List ℕ) → Option (ℕ × ℕ) → Type 0
 SearchesAre None None None = Unit {0}
-SearchesAre (Some searches) (Some seed) (Some both) = IsNumberIn 1 64 searches both.0 × IsNumberIn 0 18446744073709551615 seed both.1
+SearchesAre (Some searches) (Some seed) (Some both) = IsNumberIn 1 MOST_WORKERS searches both.0 × IsNumberIn 0 18446744073709551615 seed both.1
 SearchesAre searches seed both = ⊥
 
 abbrev pub RootsAre : Option (List ℕ) → Option (List PredName) → Type 0
@@ -66,7 +73,7 @@ PathIs text both = ⊥
 
 abbrev pub MakeIs : Option (List ℕ) → Option ℕ → Type 0
 MakeIs None None = Unit {0}
-MakeIs (Some text) (Some count) = IsNumberIn 1 100000 text count
+MakeIs (Some text) (Some count) = IsNumberIn 1 MOST_MADE text count
 MakeIs text count = ⊥
 
 -- the texts in order, each once
@@ -112,12 +119,12 @@ pub record AreLawful (words : List (List ℕ)) (s : Settings) : Type 0 where
 
 -- what all lawful options keep to
 pub record AreWithin (s : Settings) : Type 0 where
-  pub jobs : (1 ≤ s.jobs) × (s.jobs ≤ 64)
-  pub searches : IfSome s.searches (λ both. (1 ≤ both.0) × (both.0 ≤ 64) × (both.1 < 2 ^ 64) × (s.jobs ≡ 1))
+  pub jobs : (1 ≤ s.jobs) × (s.jobs ≤ MOST_WORKERS)
+  pub searches : IfSome s.searches (λ both. (1 ≤ both.0) × (both.0 ≤ MOST_WORKERS) × (both.1 < 2 ^ 64) × (s.jobs ≡ 1))
   pub roots : IfSome s.roots (All (λ root. root.arity < 2 ^ 32))
   pub streamed : s.stream ≡ true → (s.order ≡ true) × (s.searches ≡ None)
   pub path : IfSome s.path (λ both. (both.0.arity < 2 ^ 32) × (both.1.arity < 2 ^ 32))
-  pub make : IfSome s.make (λ count. (1 ≤ count) × (count ≤ 100000))
+  pub make : IfSome s.make (λ count. (1 ≤ count) × (count ≤ MOST_MADE))
   pub made : is_some s.make ≡ true
       → (s.roots ≡ None) × (s.path ≡ None) × (s.order ≡ false) × (s.unreached ≡ false) × (s.effects ≡ false) × (s.loops ≡ false)
       × (s.files ≡ [])

@@ -15,6 +15,7 @@
 mod command;
 mod given;
 mod laws;
+mod limits;
 mod made;
 mod numbers;
 mod options;
@@ -23,6 +24,7 @@ mod root_list;
 mod settings;
 
 pub use laws::{made_text_is_short, one_reading, one_settings, settings_within};
+pub use limits::{MOST_LIST, MOST_MADE, MOST_WORKERS};
 pub use made::make_text;
 pub use options::{Options, WordFault};
 pub use parse::parse_words;

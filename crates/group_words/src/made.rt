@@ -1,5 +1,6 @@
 ghost use Rattle.std.specs.Prelude.{◌≡◌, ◌++◌, ◌<◌, ◌≤◌, IfOk, OnOk};
 ghost use Rattle.std.specs.String.{string_bytes};
+ghost use Rattle.group_words.specs.declared.limits.TheConstants.{MOST_MADE};
 ghost use Rattle.group_words.specs.Words.{as_list};
 ghost use Rattle.group_words.specs.Made.{name_at, in_block, out_of_block, body, line, made_text};
 
@@ -7,7 +8,7 @@ use std::alloc::{AllocError, Global};
 
 /// The predicate of the same block that the predicate of a number calls.
 fn call_in_block(count: u32, number: u32) -> Option<u32>
-    requires few { count ≤ 100000 }
+    requires few { count ≤ MOST_MADE }
     requires within { number < count }
     ensures { as_list result ≡ in_block count number }
 {
@@ -22,7 +23,7 @@ fn call_in_block(count: u32, number: u32) -> Option<u32>
 
 /// The predicate of an earlier block that the predicate of a number calls.
 fn call_out_of_block(number: u32) -> Option<u32>
-    requires { number < 100000 }
+    requires { number < MOST_MADE }
     ensures { as_list result ≡ out_of_block number }
 {
     if number % 10 != 0 {
@@ -68,7 +69,7 @@ fn push_body(
 
 /// Adds the line of the predicate of a number.
 fn push_line(alloc: Global, count: u32, number: u32, text: &mut String) -> Result<(), AllocError>
-    requires few { count ≤ 100000 }
+    requires few { count ≤ MOST_MADE }
     requires within { number < count }
     ensures { OnOk result (string_bytes text.new ≡ string_bytes text.old ++ line count number) }
 {
@@ -85,7 +86,7 @@ fn push_line(alloc: Global, count: u32, number: u32, text: &mut String) -> Resul
 /// The text of a program of `count` predicates, 1 to 100,000, a line for each: blocks of ten
 /// predicates that call each other in a ring, and each block but the first calls one before it.
 pub fn make_text(alloc: Global, count: u32) -> Result<String, AllocError>
-    requires { count ≤ 100000 }
+    requires { count ≤ MOST_MADE }
     ensures { IfOk result (λ text. string_bytes text ≡ made_text count) }
 {
     let mut text = String::new(alloc);

@@ -1,5 +1,6 @@
 ghost use Rattle.std.specs.Prelude.{◌≡◌, ◌++◌, ◌≤◌, ◌↔◌, List, length, map, option_map, codes, IsTrue, IfOk, MatchOption};
 ghost use Rattle.std.specs.String.{string_bytes};
+ghost use Rattle.prolog_tokens.specs.declared.limits.TheConstants.{MOST_BYTES};
 ghost use Rattle.prolog_tokens.specs.Cut.{IsCut};
 ghost use Rattle.prolog_ops.specs.Table.{ops_of};
 ghost use Rattle.prolog_terms.specs.Tree.{Tree, tree_of};
@@ -7,16 +8,15 @@ ghost use Rattle.prolog_terms.specs.Words.{table_of};
 ghost use Rattle.prolog_terms.specs.Clause.{IsClauseOf, IsOneClause};
 ghost use Rattle.prolog_terms.specs.Views.{joined};
 ghost use Rattle.clause_text.specs.Clauses.{opening_ops};
+ghost use Rattle.group_words.specs.declared.limits.TheConstants.{MOST_LIST};
 ghost use Rattle.group_words.specs.RootList.{IsRootList, IsList, AddsRoots, arity_of, named, named_predicate, all_there};
 
+use crate::limits::MOST_LIST;
 use import_rules::PredName;
 use prolog_ops::OpTable;
 use prolog_terms::{ConstKind, ReadFault, Term, atom_name, inside, read_clause, sides};
 use prolog_tokens::{Kind, Text, Token, TokenFault, tokens};
 use std::alloc::{AllocError, Global};
-
-/// How many bytes a list of roots may have.
-const MOST_BYTES: usize = 65536;
 
 /// The value of an integer without minus.
 fn arity_of(term: &Term) -> Option<u32>
@@ -113,7 +113,7 @@ fn opening_table(alloc: Global) -> Result<OpTable, AllocError>
 
 /// The one clause that the tokens are.
 fn read_tokens(alloc: Global, text: &str, tokens: &[Token]) -> Result<Option<Term>, AllocError>
-    requires small { length text.now ≤ 8388608 }
+    requires small { length text.now ≤ MOST_BYTES }
     requires cut { IsCut text.now tokens.now }
     ensures { IfOk result (λ found. MatchOption found
         ((tree : Tree) → IsClauseOf (table_of opening_ops) text.now tokens.now tree → ⊥)
@@ -134,7 +134,7 @@ fn read_tokens(alloc: Global, text: &str, tokens: &[Token]) -> Result<Option<Ter
 
 /// The term of the list.
 fn read_list(alloc: Global, list: &str) -> Result<Option<Term>, AllocError>
-    requires { length list.now ≤ 65536 }
+    requires { length list.now ≤ MOST_LIST }
     ensures { IfOk result (λ found. MatchOption found ((tree : Tree) → IsList list.now tree → ⊥) (λ term. IsList list.now (tree_of term))) }
 {
     let mut text = String::from_str(alloc, list)?;
@@ -155,7 +155,7 @@ pub fn read_roots(alloc: Global, list: &str) -> Result<Option<Vec<PredName>>, Al
         ((roots : List PredName) → IsRootList list.now roots → ⊥)
         (λ roots. IsRootList list.now roots.items)) }
 {
-    if list.len() > MOST_BYTES {
+    if list.len() > MOST_LIST {
         return Ok(None);
     }
     let Some(term) = read_list(alloc, list)? else {

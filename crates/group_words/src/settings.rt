@@ -1,10 +1,13 @@
 ghost use Rattle.std.specs.Prelude.{◌≡◌, ◌∷◌, ◌++◌, [], ◌↔◌, ◌≤◌, ◌<◌, ℕ, List, Option, option_map, map, IsTrue, IfOk, IfErr, OnOk, MatchOption};
 ghost use Rattle.import_rules.specs.declared.names.PredName.{PredName};
+ghost use Rattle.group_words.specs.declared.limits.TheConstants.{MOST_WORKERS};
 ghost use Rattle.group_words.specs.Numbers.{IsNumberIn};
 ghost use Rattle.group_words.specs.ClapCommand.{given_of, file_words};
-ghost use Rattle.group_words.specs.Settings.{Settings, JobsAre, SearchesAre, RootsAre, PathIs, MakeIs, FilesAre, GoTogether, AreSettings, IsKept, see_options};
+ghost use Rattle.group_words.specs.Settings.{Settings, JobsAre, SearchesAre, RootsAre, PathIs, MakeIs, FilesAre, GoTogether};
+ghost use Rattle.group_words.specs.Settings.{AreSettings, IsKept, see_options, text_of};
 
 use crate::given::Given;
+use crate::limits::{MOST_MADE, MOST_WORKERS};
 use crate::numbers::read_number;
 use crate::options::{Options, WordFault};
 use crate::root_list::read_roots;
@@ -13,12 +16,6 @@ use module_table::resolve_name;
 use prolog_tokens::Text;
 use std::alloc::{AllocError, Global};
 use std::collections::BTreeSet;
-
-/// How many workers or searches there are at most.
-const MOST_WORKERS: u32 = 64;
-
-/// How many predicates a made text has at most.
-const MOST_MADE: u32 = 100000;
 
 /// A number from 1 on.
 fn read_count(text: &str, most: u32) -> Result<u32, WordFault>
@@ -32,8 +29,8 @@ fn read_count(text: &str, most: u32) -> Result<u32, WordFault>
 }
 
 fn jobs_of(text: Option<&str>) -> Result<u32, WordFault>
-    ensures ok { IfOk result (λ jobs. JobsAre (option_map (λ t. t.now) text.entry) jobs) }
-    ensures usage { IfErr result (λ _. (jobs : ℕ) → JobsAre (option_map (λ t. t.now) text.entry) jobs → ⊥) }
+    ensures ok { IfOk result (λ jobs. JobsAre (text_of text.entry) jobs) }
+    ensures usage { IfErr result (λ _. (jobs : ℕ) → JobsAre (text_of text.entry) jobs → ⊥) }
 {
     match text {
         Some(number) => read_count(number, MOST_WORKERS),
@@ -43,8 +40,9 @@ fn jobs_of(text: Option<&str>) -> Result<u32, WordFault>
 
 /// How many searches there are, and the seed of their schedule.
 fn both_of(searches: &str, seed: &str) -> Result<(u32, u64), WordFault>
-    ensures ok { IfOk result (λ both. IsNumberIn 1 64 searches.now both.0 × IsNumberIn 0 18446744073709551615 seed.now both.1) }
-    ensures usage { IfErr result (λ _. (count start : ℕ) → IsNumberIn 1 64 searches.now count → IsNumberIn 0 18446744073709551615 seed.now start → ⊥) }
+    ensures ok { IfOk result (λ both. IsNumberIn 1 MOST_WORKERS searches.now both.0 × IsNumberIn 0 18446744073709551615 seed.now both.1) }
+    ensures usage { IfErr result (λ _. (count start : ℕ) → IsNumberIn 1 MOST_WORKERS searches.now count
+        → IsNumberIn 0 18446744073709551615 seed.now start → ⊥) }
 {
     let count = read_count(searches, MOST_WORKERS)?;
     match read_number(seed, 0, u64::MAX) {
@@ -54,8 +52,8 @@ fn both_of(searches: &str, seed: &str) -> Result<(u32, u64), WordFault>
 }
 
 fn searches_of(searches: Option<&str>, seed: Option<&str>) -> Result<Option<(u32, u64)>, WordFault>
-    ensures ok { IfOk result (λ both. SearchesAre (option_map (λ t. t.now) searches.entry) (option_map (λ t. t.now) seed.entry) both) }
-    ensures usage { IfErr result (λ _. (both : Option (ℕ × ℕ)) → SearchesAre (option_map (λ t. t.now) searches.entry) (option_map (λ t. t.now) seed.entry) both → ⊥) }
+    ensures ok { IfOk result (λ both. SearchesAre (text_of searches.entry) (text_of seed.entry) both) }
+    ensures usage { IfErr result (λ _. (both : Option (ℕ × ℕ)) → SearchesAre (text_of searches.entry) (text_of seed.entry) both → ⊥) }
 {
     match searches {
         Some(count) => match seed {
@@ -70,8 +68,8 @@ fn searches_of(searches: Option<&str>, seed: Option<&str>) -> Result<Option<(u32
 }
 
 fn make_of(text: Option<&str>) -> Result<Option<u32>, WordFault>
-    ensures ok { IfOk result (λ make. MakeIs (option_map (λ t. t.now) text.entry) make) }
-    ensures usage { IfErr result (λ _. (make : Option ℕ) → MakeIs (option_map (λ t. t.now) text.entry) make → ⊥) }
+    ensures ok { IfOk result (λ make. MakeIs (text_of text.entry) make) }
+    ensures usage { IfErr result (λ _. (make : Option ℕ) → MakeIs (text_of text.entry) make → ⊥) }
 {
     match text {
         Some(number) => Ok(Some(read_count(number, MOST_MADE)?)),
@@ -80,8 +78,8 @@ fn make_of(text: Option<&str>) -> Result<Option<u32>, WordFault>
 }
 
 fn roots_of(alloc: Global, text: Option<&str>) -> Result<Option<Vec<PredName>>, WordFault>
-    ensures ok { IfOk result (λ roots. RootsAre (option_map (λ t. t.now) text.entry) (option_map (λ found. found.items) roots)) }
-    ensures usage { IfErr result (λ fault. fault ≡ WordFault.Usage → (roots : Option (List PredName)) → RootsAre (option_map (λ t. t.now) text.entry) roots → ⊥) }
+    ensures ok { IfOk result (λ roots. RootsAre (text_of text.entry) (option_map (λ found. found.items) roots)) }
+    ensures usage { IfErr result (λ fault. fault ≡ WordFault.Usage → (roots : Option (List PredName)) → RootsAre (text_of text.entry) roots → ⊥) }
 {
     let Some(list) = text else {
         return Ok(None);
@@ -109,9 +107,9 @@ fn just_two(named: Vec<PredName>) -> Option<(PredName, PredName)>
 
 /// The predicates that a path leaves and comes to, where one is asked for.
 fn path_of(alloc: Global, text: Option<&str>) -> Result<Option<(PredName, PredName)>, WordFault>
-    ensures ok { IfOk result (λ path. PathIs (option_map (λ t. t.now) text.entry) path) }
+    ensures ok { IfOk result (λ path. PathIs (text_of text.entry) path) }
     ensures usage { IfErr result (λ fault. fault ≡ WordFault.Usage
-        → (path : Option (PredName × PredName)) → PathIs (option_map (λ t. t.now) text.entry) path → ⊥) }
+        → (path : Option (PredName × PredName)) → PathIs (text_of text.entry) path → ⊥) }
 {
     let Some(list) = text else {
         return Ok(None);
@@ -184,7 +182,8 @@ fn go_together(given: &Given<'_>) -> bool
 /// The options that what the words give sets.
 pub fn options_of(alloc: Global, given: &Given<'_>) -> Result<Options, WordFault>
     ensures ok { IfOk result (λ options. AreSettings (given_of given.now) (file_words given.now) (see_options options)) }
-    ensures usage { IfErr result (λ fault. fault ≡ WordFault.Usage → (settings : Settings) → AreSettings (given_of given.now) (file_words given.now) settings → ⊥) }
+    ensures usage { IfErr result (λ fault. fault ≡ WordFault.Usage
+        → (settings : Settings) → AreSettings (given_of given.now) (file_words given.now) settings → ⊥) }
 {
     if !go_together(given) {
         return Err(WordFault::Usage);

@@ -7,6 +7,7 @@ use Rattle.std.specs.declared.cmp.Ordering.TheVariants.{Less}
 use Rattle.std.proofs.lemmas.List.{length-map, get_or-map}
 use Rattle.std.proofs.lemmas.List.Elements.{All-nil, All-cons}
 use Rattle.std.proofs.lemmas.Map.Keys.{Less-from_sorted}
+use Rattle.prolog_tokens.specs.declared.limits.TheConstants.{MOST_BYTES}
 use Rattle.module_table.specs.Facts.{Facts}
 use Rattle.file_library.specs.Asked.{AreInOrder}
 use Rattle.file_library.specs.Loaded.{LoadedFiles, NamedText, WasLoaded}
@@ -29,10 +30,10 @@ names_same [] (file ∷ files) read = absurd read
 names_same (text ∷ texts) [] read = absurd read
 names_same (text ∷ texts) (file ∷ files) read = λ i. sym read.0.named i ∷ names_same texts files read.1 i
 
-small_each : (texts : List NamedText) (files : List Facts) → AllZip IsReadFrom texts files → All (λ (text : NamedText). length text.1 ≤ 8388608) texts
-small_each [] files read = All-nil (λ (text : NamedText). length text.1 ≤ 8388608)
+pub small_each : (texts : List NamedText) (files : List Facts) → AllZip IsReadFrom texts files → All (λ (text : NamedText). length text.1 ≤ MOST_BYTES) texts
+small_each [] files read = All-nil (λ (text : NamedText). length text.1 ≤ MOST_BYTES)
 small_each (text ∷ texts) [] read = absurd read
-small_each (text ∷ texts) (file ∷ files) read = All-cons (λ (t : NamedText). length t.1 ≤ 8388608) text texts read.0.small (small_each texts files read.1)
+small_each (text ∷ texts) (file ∷ files) read = All-cons (λ (t : NamedText). length t.1 ≤ MOST_BYTES) text texts read.0.small (small_each texts files read.1)
 
 module _ (loaded : LoadedFiles) (was : WasLoaded loaded) where
   pub files_rise : AreRising loaded.files
@@ -46,7 +47,10 @@ module _ (loaded : LoadedFiles) (was : WasLoaded loaded) where
       (Less-from_sorted (slice_cmp nat_cmp) names i j d.file ordered less inside))
 
   pub texts_are : AreTexts loaded.texts
-  texts_are = record { ordered = was.is.ordered; small = small_each loaded.texts loaded.files (was_read loaded was) }
+  texts_are = record {
+    ordered = was.is.ordered;
+    limited = record { few = omega (arith, was.is.few); small = small_each loaded.texts loaded.files (was_read loaded was) };
+  }
 
   -- the look-ups are right
   pub ready : (lookups : Lookups) → AreKnown loaded.files lookups.known.items → absent_of lookups ≡ loaded.absent → AreNumbered loaded.files lookups.predicates.now → IsReady lookups

@@ -11,7 +11,8 @@ use Rattle.import_rules.specs.Flaws.{Flaw, AreFlaws, AreImportFaults, IsFaultOf,
 use Rattle.import_rules.specs.Items.{foreign_items}
 use Rattle.import_rules.specs.declared.stop.ImportStop.{ImportStop}
 use Rattle.import_rules.specs.declared.stop.ImportStop.TheVariants.{Faults, TooManyPredicates, NoMemory}
-use Rattle.import_rules.specs.Program.{Seen, IsProgram, IsImportStop, HasPredicates, most_predicates}
+use Rattle.import_rules.specs.declared.resolve.TheConstants.{MOST_PREDICATES}
+use Rattle.import_rules.specs.Program.{Seen, IsProgram, IsImportStop, HasPredicates}
 use Rattle.import_rules.proofs.OneFlaws.{one_list_of_flaws}
 use Rattle.import_rules.proofs.OneProgram.{few_or_many}
 
@@ -56,6 +57,6 @@ none_beside loaded seen faults program are =
 pub never_stopped : (loaded : LoadedFiles) (seen : Seen) (stop : ImportStop) → IsProgram loaded seen → IsImportStop loaded stop → stop ≡ NoMemory
 never_stopped loaded seen (Faults faults) program is = absurd (is.2 (none_beside loaded seen faults.items program is.1))
 never_stopped loaded seen TooManyPredicates program is =
-    let few : HasPredicates loaded (λ n. n ≤ most_predicates) = record { predicates = seen.predicates; numbered = program.numbered; many_are = program.few } in
+    let few : HasPredicates loaded (λ n. n ≤ MOST_PREDICATES) = record { predicates = seen.predicates; numbered = program.numbered; many_are = program.few } in
     absurd (few_or_many loaded few is)
 never_stopped loaded seen NoMemory program is = refl

@@ -10,7 +10,6 @@ pub mod MetaTold
 pub mod PartsSoFar
 pub mod Numbering
 pub mod NumberLemmas
-pub mod Kept
 pub mod SourceLemmas
 pub mod Targets
 pub mod Faultless
@@ -27,7 +26,8 @@ pub mod Searches
 pub mod FileNames
 pub mod Lookup
 pub mod ImportedNames
-pub mod PlacedRuns
+pub mod FlawSpots
+pub mod Limited
 pub mod FlawsStand
 pub mod AllFound
 pub mod OneFlaws

@@ -7,6 +7,7 @@ use Rattle.std.proofs.lemmas.List.Kept.{AllPairs-cons}
 use Rattle.std.proofs.lemmas.List.{get_or_default, take_more}
 use Rattle.std.proofs.lemmas.Grind.{flat_map-append}
 use Rattle.module_table.specs.Kinds.{first_of}
+pub use Rattle.list_laws.proofs.Members.{all_by, any_from, any_there, kept_there, map_from, map_has}
 use Rattle.list_laws.proofs.OneOrder.{nothing_in, first_or_rest, in_rest, in_first, before_rest, rest_in_order}
 
 -- none of the elements passes, or all of them
@@ -40,31 +41,7 @@ filter-map {X} {Y} p f (x ∷ xs) = at (p (f x)) (filter-map p f xs)
     at true rest = ap (λ ys. f x ∷ ys) rest
     at false rest = rest
 
--- what a function gives of members
-
-pub map_has : {X Y : Type 0} (f : X → Y) (xs : List X) (x : X) → Contains xs x → Contains (map f xs) (f x)
-map_has {X} {Y} f [] x has = absurd (nothing_in x has)
-map_has {X} {Y} f (y ∷ xs) x has =
-    elim (first_or_rest y x xs has) [
-      | inl is ↦ subst (λ z. Contains (map f (y ∷ xs)) (f z)) is (in_first (f y) (map f xs))
-      | inr later ↦ in_rest (f y) (f x) (map f xs) (map_has f xs x later)
-    ]
-
-pub map_from : {X Y : Type 0} (f : X → Y) (xs : List X) (y : Y) → Contains (map f xs) y → (x : X) × Contains xs x × (f x ≡ y)
-map_from {X} {Y} f [] y has = absurd (nothing_in y has)
-map_from {X} {Y} f (x ∷ xs) y has =
-    elim (first_or_rest (f x) y (map f xs) has) [
-      | inl is ↦ (x, in_first x xs, is)
-      | inr later ↦ let from = map_from f xs y later in (from.0, in_rest x from.0 xs from.1, from.2)
-    ]
-
--- all of a list by its members, and the members that pass a test
-
-pub all_by : {X : Type 0} (P : X → Type 0) (xs : List X) → ((x : X) → Contains xs x → P x) → All P xs
-all_by {X} P xs each k d below = each (get_or xs k d) (k, below, get_or_default xs k (get_or xs k d) d below)
-
-pub kept_there : {X : Type 0} (p : X → Bool) (xs : List X) (x : X) → Contains (filter p xs) x → Contains xs x
-kept_there {X} p xs x has = All-contains (Contains xs) (filter p xs) x (All-filter p (Contains xs) xs (All-contains_itself xs)) has
+-- the members that pass a test
 
 pub kept_passes : {X : Type 0} (p : X → Bool) (xs : List X) (x : X) → Contains (filter p xs) x → p x ≡ true
 kept_passes {X} p xs x has = All-contains (λ y. p y ≡ true) (filter p xs) x (filter_passes p xs) has
@@ -128,12 +105,6 @@ any-map {X} {Y} p f (x ∷ xs) = ap (λ b. p (f x) || b) (any-map p f xs)
 pub any_agrees : {X : Type 0} (p q : X → Bool) → ((x : X) → p x ≡ q x) → (xs : List X) → list_any p xs ≡ list_any q xs
 any_agrees {X} p q same [] = refl
 any_agrees {X} p q same (x ∷ xs) = λ i. same x i || any_agrees p q same xs i
-
-pub any_there : {X : Type 0} (p : X → Bool) (xs : List X) (x : X) → Contains xs x → p x ≡ true → list_any p xs ≡ true
-any_there {X} p xs x has passes = list_any-from_Any p xs (has.0, x, has.1, has.2, passes)
-
-pub any_from : {X : Type 0} (p : X → Bool) (xs : List X) → list_any p xs ≡ true → (x : X) × Contains xs x × (p x ≡ true)
-any_from {X} p xs is = let found = Any-from_list_any p xs is in (found.1, (found.0, found.2, found.3), found.4)
 
 pub any_none : {X : Type 0} (p : X → Bool) (xs : List X) → list_any p xs ≡ false → All (λ x. p x ≡ false) xs
 any_none {X} p xs is = all_by (λ x. p x ≡ false) xs each

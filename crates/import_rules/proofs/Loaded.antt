@@ -3,6 +3,7 @@ use Rattle.std.proofs.Common.{◌≡◌, ℕ, suc, ◌≤◌, List, [], ◌∷�
 use Rattle.std.specs.Prelude.{unwrap_or}
 use Rattle.std.specs.List.{AllZip}
 use Rattle.std.proofs.lemmas.List.Elements.{All-head, All-tail, All-nil, All-cons, All-weaker}
+use Rattle.list_laws.proofs.Zips.{zip_count}
 use Rattle.prolog_terms.specs.Tree.{Tree}
 use Rattle.prolog_terms.specs.Weight.{weight}
 use Rattle.prolog_tokens.proofs.Lookups.{cut_fewer}
@@ -17,7 +18,9 @@ use Rattle.module_table.proofs.ClausesOf.{metas_small}
 use Rattle.module_table.proofs.FactWeights.{clauses_light, goals_light, metas_light}
 use Rattle.module_table.proofs.FewDefined.{few_defined, few_metas}
 use Rattle.file_library.specs.Library.{Files}
-use Rattle.file_library.specs.Loaded.{LoadedFiles, NamedText, IsTextOf, size_of, most_bytes, most_files, WasLoaded}
+use Rattle.prolog_tokens.specs.declared.limits.TheConstants.{MOST_BYTES}
+use Rattle.file_library.specs.declared.limits.TheConstants.{MOST_FILES}
+use Rattle.file_library.specs.Loaded.{LoadedFiles, NamedText, IsTextOf, size_of, WasLoaded}
 use Rattle.import_rules.specs.Metas.{HasFewMetas}
 use Rattle.import_rules.specs.Program.{IsReadFrom}
 
@@ -30,14 +33,14 @@ text_light text trees reads =
 few_in : (text : NamedText) (facts : Facts) → HasFacts text.0 text.1 facts → length facts.defined ≤ length text.1
 few_in text facts has = omega (arith, few_defined text.0 has.trees facts has.are, text_light text.1 has.trees has.reads)
 
-read_from : (text : NamedText) (facts : Facts) → HasFacts text.0 text.1 facts → length text.1 ≤ most_bytes → IsReadFrom text facts
+read_from : (text : NamedText) (facts : Facts) → HasFacts text.0 text.1 facts → length text.1 ≤ MOST_BYTES → IsReadFrom text facts
 read_from text facts has small =
-    let light : All (λ tree. weight tree ≤ most_bytes) has.trees = each_light has.trees most_bytes (omega (arith, text_light text.1 has.trees has.reads, small)) in record {
+    let light : All (λ tree. weight tree ≤ MOST_BYTES) has.trees = each_light has.trees MOST_BYTES (omega (arith, text_light text.1 has.trees has.reads, small)) in record {
       named = has.are.are.file;
       small = small;
       placed = facts_placed text.1 text.0 has.trees facts (reading_placed text.1 has.trees has.reads) has.are;
-      light_clauses = clauses_light most_bytes text.0 has.trees facts light has.are;
-      light_goals = goals_light most_bytes text.0 has.trees facts light has.are;
+      light_clauses = clauses_light MOST_BYTES text.0 has.trees facts light has.are;
+      light_goals = goals_light MOST_BYTES text.0 has.trees facts light has.are;
       small_metas = metas_small text.0 has.trees facts has.are;
     }
 
@@ -46,34 +49,27 @@ size_of_text files roots text is = ap (λ found. unwrap_or (option_map (λ (byte
 
 -- what is said of each text and its facts, by what is known of texts that were loaded
 each_read : (P : NamedText → Facts → Type 0) (files : Files) (roots : List (List ℕ))
-    → ((text : NamedText) (facts : Facts) → HasFacts text.0 text.1 facts → length text.1 ≤ most_bytes → P text facts)
+    → ((text : NamedText) (facts : Facts) → HasFacts text.0 text.1 facts → length text.1 ≤ MOST_BYTES → P text facts)
     → (texts : List NamedText) (all : List Facts) → All (IsTextOf files roots) texts
-    → All (λ name. size_of files name ≤ most_bytes) (map (λ (text : NamedText). text.0) texts)
+    → All (λ name. size_of files name ≤ MOST_BYTES) (map (λ (text : NamedText). text.0) texts)
     → AllZip (λ (text : NamedText) (facts : Facts). HasFacts text.0 text.1 facts) texts all → AllZip P texts all
 each_read P files roots holds [] [] are small has = tt
 each_read P files roots holds [] (f ∷ all) are small has = has
 each_read P files roots holds (t ∷ texts) [] are small has = has
 each_read P files roots holds (t ∷ texts) (f ∷ all) are small has =
-    let first : size_of files t.0 ≤ most_bytes = All-head (λ name. size_of files name ≤ most_bytes) t.0 (map (λ (text : NamedText). text.0) texts) small in
+    let first : size_of files t.0 ≤ MOST_BYTES = All-head (λ name. size_of files name ≤ MOST_BYTES) t.0 (map (λ (text : NamedText). text.0) texts) small in
     let long : size_of files t.0 ≡ length t.1 = size_of_text files roots t (All-head (IsTextOf files roots) t texts are) in (
       holds t f has.0 (omega (arith, first, long)),
       each_read P files roots holds texts all (All-tail (IsTextOf files roots) t texts are)
-          (All-tail (λ name. size_of files name ≤ most_bytes) t.0 (map (λ (text : NamedText). text.0) texts) small) has.1,
+          (All-tail (λ name. size_of files name ≤ MOST_BYTES) t.0 (map (λ (text : NamedText). text.0) texts) small) has.1,
     )
 
 pub was_read : (loaded : LoadedFiles) → WasLoaded loaded → AllZip IsReadFrom loaded.texts loaded.files
 was_read loaded was = each_read IsReadFrom was.files was.roots read_from loaded.texts loaded.files was.is.texts was.is.within.each was.is.facts
 
--- there are as many texts as files
-pub zip_length : {A B : Type 0} (R : A → B → Type 0) (xs : List A) (ys : List B) → AllZip R xs ys → length xs ≡ length ys
-zip_length {A} {B} R [] [] all = refl
-zip_length {A} {B} R [] (y ∷ ys) all = absurd all
-zip_length {A} {B} R (x ∷ xs) [] all = absurd all
-zip_length {A} {B} R (x ∷ xs) (y ∷ ys) all = ap suc (zip_length R xs ys all.1)
-
-pub few_files : (loaded : LoadedFiles) → WasLoaded loaded → length loaded.files ≤ most_files
+pub few_files : (loaded : LoadedFiles) → WasLoaded loaded → length loaded.files ≤ MOST_FILES
 few_files loaded was =
-    omega (arith, was.is.few, zip_length (λ (text : NamedText) (facts : Facts). HasFacts text.0 text.1 facts) loaded.texts loaded.files was.is.facts)
+    omega (arith, was.is.few, zip_count (λ (text : NamedText) (facts : Facts). HasFacts text.0 text.1 facts) loaded.texts loaded.files was.is.facts)
 
 -- what holds of each second one
 zip_right : {A B : Type 0} (P : B → Type 0) (xs : List A) (ys : List B) → AllZip (λ x y. P y) xs ys → All P ys
@@ -82,20 +78,20 @@ zip_right {A} {B} P [] (y ∷ ys) all = absurd all
 zip_right {A} {B} P (x ∷ xs) [] all = absurd all
 zip_right {A} {B} P (x ∷ xs) (y ∷ ys) all = All-cons P y ys all.0 (zip_right P xs ys all.1)
 
-pub few_in_each : (loaded : LoadedFiles) → WasLoaded loaded → All (λ (file : Facts). length file.defined ≤ most_bytes) loaded.files
+pub few_in_each : (loaded : LoadedFiles) → WasLoaded loaded → All (λ (file : Facts). length file.defined ≤ MOST_BYTES) loaded.files
 few_in_each loaded was =
-    zip_right (λ (file : Facts). length file.defined ≤ most_bytes) loaded.texts loaded.files
-    (each_read (λ text file. length file.defined ≤ most_bytes) was.files was.roots
+    zip_right (λ (file : Facts). length file.defined ≤ MOST_BYTES) loaded.texts loaded.files
+    (each_read (λ text file. length file.defined ≤ MOST_BYTES) was.files was.roots
     (λ text facts has small. omega (arith, few_in text facts has, small)) loaded.texts loaded.files was.is.texts was.is.within.each was.is.facts)
 
 -- few declarations of goal arguments, with few arguments
 
-few_declared : (text : NamedText) (facts : Facts) → HasFacts text.0 text.1 facts → length text.1 ≤ most_bytes → HasFewMetas facts
+few_declared : (text : NamedText) (facts : Facts) → HasFacts text.0 text.1 facts → length text.1 ≤ MOST_BYTES → HasFewMetas facts
 few_declared text facts has small =
-    let heavy : total_weight has.trees ≤ most_bytes = omega (arith, text_light text.1 has.trees has.reads, small) in
-    let args = metas_light most_bytes text.0 has.trees facts (each_light has.trees most_bytes heavy) has.are in record {
+    let heavy : total_weight has.trees ≤ MOST_BYTES = omega (arith, text_light text.1 has.trees has.reads, small) in
+    let args = metas_light MOST_BYTES text.0 has.trees facts (each_light has.trees MOST_BYTES heavy) has.are in record {
       few = omega (arith, few_metas text.0 has.trees facts has.are, heavy);
-      small = All-weaker (λ (d : Declaration). length d.args ≤ most_bytes) (λ (d : Declaration). length d.args ≤ 4294967295) (λ d le. omega (arith, le)) facts.metas args;
+      small = All-weaker (λ (d : Declaration). length d.args ≤ MOST_BYTES) (λ (d : Declaration). length d.args ≤ 4294967295) (λ d le. omega (arith, le)) facts.metas args;
     }
 
 pub few_metas_in_each : (loaded : LoadedFiles) → WasLoaded loaded → All HasFewMetas loaded.files

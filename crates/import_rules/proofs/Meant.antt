@@ -21,7 +21,7 @@ use Rattle.import_rules.specs.Flaws.{AreFlaws, exported, module_flaws, export_fl
 use Rattle.import_rules.specs.Items.{item, taken, gives, given, items_of_load, items, foreign_items}
 use Rattle.import_rules.specs.Names.{is_same}
 use Rattle.import_rules.proofs.Faultless.{no_clashes, no_flaws}
-use Rattle.import_rules.proofs.Kept.{kept}
+use Rattle.list_laws.proofs.Members.{kept_in as kept}
 use Rattle.import_rules.proofs.Lists.{any_there, any_from, kept_there, kept_passes, map_from}
 use Rattle.import_rules.proofs.Members.{flat_map_from, empty_at}
 use Rattle.import_rules.proofs.NameOrder.{same_parts, same_itself}

@@ -27,7 +27,7 @@ use Rattle.import_rules.specs.Flaws.{AreFlaws, AreImportFaults, Flaw, IsFaultOf,
 use Rattle.import_rules.specs.Names.{pred_cmp}
 use Rattle.import_rules.proofs.Lists.{map_from}
 use Rattle.import_rules.proofs.NameOrder.{pred_cmp_total}
-use Rattle.import_rules.proofs.PlacedRuns.{flaw_cmp_total, one_text}
+use Rattle.import_rules.proofs.FlawSpots.{flaw_cmp_total, one_text}
 use Rattle.import_rules.proofs.Runs.{comes_before, less_on, sorted_rest}
 
 -- lists in one order, of which each has as many of each element as the other

@@ -8,7 +8,8 @@ use Rattle.list_laws.proofs.OneOrder.{less_strict, same_order}
 use Rattle.import_rules.specs.declared.names.PredName.{PredName}
 use Rattle.import_rules.specs.Files.{AreNumbered, all_defined}
 use Rattle.import_rules.specs.Names.{pred_cmp}
-use Rattle.import_rules.specs.Program.{Seen, IsProgram, HasPredicates, most_predicates}
+use Rattle.import_rules.specs.declared.resolve.TheConstants.{MOST_PREDICATES}
+use Rattle.import_rules.specs.Program.{Seen, IsProgram, HasPredicates}
 use Rattle.import_rules.proofs.NameOrder.{pred_cmp_total}
 
 members : (files : List Facts) (predicates others : List PredName) → AreNumbered files predicates → AreNumbered files others
@@ -27,7 +28,7 @@ one_program loaded seen other are also =
     λ i. record { loaded = (are.is ∙ sym also.is) i; predicates = same i }
 
 -- the predicates are few or too many, and never both
-pub few_or_many : (loaded : LoadedFiles) → HasPredicates loaded (λ n. n ≤ most_predicates) → HasPredicates loaded (λ n. most_predicates < n) → ⊥
+pub few_or_many : (loaded : LoadedFiles) → HasPredicates loaded (λ n. n ≤ MOST_PREDICATES) → HasPredicates loaded (λ n. MOST_PREDICATES < n) → ⊥
 few_or_many loaded few many =
     let same = one_numbering loaded.files few.predicates many.predicates few.numbered many.numbered in
     omega (arith, few.many_are, many.many_are, ap (λ (ps : List PredName). length ps) same)

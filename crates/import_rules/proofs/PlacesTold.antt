@@ -14,7 +14,7 @@ use Rattle.import_rules.specs.Files.{name_in, IsDefinedAt, ArePlaces, pair_cmp}
 use Rattle.import_rules.specs.Names.{is_same}
 use Rattle.import_rules.specs.Numbers.{DefinedAt, parts_of_file, parts_in, places_for}
 use Rattle.import_rules.specs.Program.{Seen, places_in, places_at}
-use Rattle.import_rules.proofs.Kept.{kept}
+use Rattle.list_laws.proofs.Members.{kept_in as kept}
 use Rattle.import_rules.proofs.Lists.{all_by, all_pairs_map, kept_there, kept_passes, map_from, map_has}
 use Rattle.import_rules.proofs.Members.{flat_map_from, flat_map_has, counted_from, counted_has, counted_rise}
 use Rattle.import_rules.proofs.NameOrder.{same_parts, same_itself}

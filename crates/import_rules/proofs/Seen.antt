@@ -11,7 +11,8 @@ use Rattle.import_rules.specs.declared.program.Program.{Program}
 use Rattle.import_rules.specs.Names.{is_same, pred_name}
 use Rattle.import_rules.specs.Find.{found_in}
 use Rattle.import_rules.specs.Numbers.{places_for, parts_in, see_places}
-use Rattle.import_rules.specs.Files.{AreNumbered, most_predicates}
+use Rattle.import_rules.specs.declared.resolve.TheConstants.{MOST_PREDICATES}
+use Rattle.import_rules.specs.Files.{AreNumbered}
 use Rattle.import_rules.specs.Flaws.{AreFlaws}
 use Rattle.import_rules.specs.Program.{see_program, places_in, places_at, found, IsProgram}
 
@@ -67,7 +68,7 @@ places_there p node v below is =
     ∙ ap (places_at (see_loaded p.loaded).files) (sym (slice_get-get_or predicates node d below))
 
 pub is_program : (p : Program) (predicates : List PredName) → take p.count p.names ≡ predicates → AreNumbered (see_loaded p.loaded).files predicates
-    → length predicates ≤ most_predicates → AreFlaws (see_loaded p.loaded).files (see_loaded p.loaded).absent [] → IsProgram (see_loaded p.loaded) (see_program p)
+    → length predicates ≤ MOST_PREDICATES → AreFlaws (see_loaded p.loaded).files (see_loaded p.loaded).absent [] → IsProgram (see_loaded p.loaded) (see_program p)
 unfolding see_program
 is_program p predicates are numbered few sound = record {
   is = refl;

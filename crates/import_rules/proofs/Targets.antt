@@ -21,7 +21,7 @@ use Rattle.import_rules.specs.Items.{items, foreign_items, is_foreign}
 use Rattle.import_rules.specs.Meanings.{AreTargets}
 use Rattle.import_rules.specs.Names.{is_same}
 use Rattle.import_rules.specs.Sources.{AreSources}
-use Rattle.import_rules.proofs.Kept.{kept}
+use Rattle.list_laws.proofs.Members.{kept_in as kept}
 use Rattle.import_rules.proofs.Lists.{any_there, kept_there, kept_passes, map_from}
 use Rattle.import_rules.proofs.NameOrder.{same_parts, same_itself, same_from}
 use Rattle.import_rules.proofs.NumberLemmas.{number_at, number_none, numbered_is_local}

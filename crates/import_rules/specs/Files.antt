@@ -13,10 +13,6 @@ use Rattle.module_table.specs.Kinds.{first_of}
 use Rattle.import_rules.specs.declared.names.PredName.{PredName}
 use Rattle.import_rules.specs.Names.{pred_cmp, is_same}
 
--- the last accepted number of predicates
-abbrev pub most_predicates : ℕ
-most_predicates = 1048576
-
 -- the name of a predicate that a file defines, for its own module or for another one
 abbrev pub name_in : Predicate → PredName
 name_in p = record { «module» = p.module_; name = p.name; arity = p.arity }

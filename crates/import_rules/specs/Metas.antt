@@ -1,5 +1,6 @@
 -- Declarations of goal arguments, and the first of them for a predicate.
-use Rattle.std.specs.Prelude.{ℕ, ◌≡◌, ◌≢◌, ◌+◌, ◌==◌, Bool, if◌then◌else◌, ◌≤◌, All, List, [], Option, Some, None, length, map, flat_map, filter, slice_get, slice_index_or}
+use Rattle.std.specs.Prelude.{ℕ, ◌≡◌, ◌≢◌, ◌+◌, ◌==◌, Bool, if◌then◌else◌, ◌≤◌, All, List, [], Option, Some, None, length, map, flat_map, filter, slice_get}
+use Rattle.std.specs.Prelude.{slice_index_or}
 use Rattle.std.specs.List.{enumerate_from}
 use Rattle.module_table.specs.declared.goal_arg.GoalArg.{GoalArg}
 use Rattle.module_table.specs.Metas.{Declaration}

@@ -9,14 +9,15 @@ use Rattle.module_table.specs.Metas.{Declaration, IsSmall}
 use Rattle.module_table.specs.Facts.{Facts}
 use Rattle.module_table.specs.Placed.{ArePlacedIn}
 use Rattle.file_library.specs.Asked.{AreInOrder}
-use Rattle.file_library.specs.Loaded.{LoadedFiles, NamedText, most_bytes}
+use Rattle.prolog_tokens.specs.declared.limits.TheConstants.{MOST_BYTES}
+use Rattle.file_library.specs.Loaded.{LoadedFiles, NamedText}
 use Rattle.file_library.specs.SortedOut.{see_loaded}
 use Rattle.import_rules.specs.declared.names.PredName.{PredName}
 use Rattle.import_rules.specs.declared.program.Program.{Program}
 use Rattle.import_rules.specs.declared.stop.ImportStop.{ImportStop}
 use Rattle.import_rules.specs.declared.stop.ImportStop.TheVariants.{Faults, TooManyPredicates, NoMemory}
 use Rattle.import_rules.specs.Names.{pred_name}
-pub use Rattle.import_rules.specs.Files.{most_predicates}
+use Rattle.import_rules.specs.declared.resolve.TheConstants.{MOST_PREDICATES}
 use Rattle.import_rules.specs.Files.{AreNumbered}
 use Rattle.import_rules.specs.Find.{found_in}
 use Rattle.import_rules.specs.Flaws.{AreFlaws, AreImportFaults}
@@ -63,7 +64,7 @@ meta_meant seen owner name arity = meta_of_found seen (found seen owner name ari
 pub record IsProgram (loaded : LoadedFiles) (seen : Seen) : Type 0 where
   pub is : seen.loaded ≡ loaded
   pub numbered : AreNumbered loaded.files seen.predicates
-  pub few : length seen.predicates ≤ most_predicates
+  pub few : length seen.predicates ≤ MOST_PREDICATES
   pub sound : AreFlaws loaded.files loaded.absent []
 
 -- what was loaded has so many predicates
@@ -74,24 +75,24 @@ pub record HasPredicates (loaded : LoadedFiles) (many : ℕ → Type 0) : Type 0
 
 -- why there is no program: there are too many predicates; else the import faults, one at least
 abbrev pub IsImportStop : LoadedFiles → ImportStop → Type 0
-IsImportStop loaded TooManyPredicates = HasPredicates loaded (λ n. most_predicates < n)
+IsImportStop loaded TooManyPredicates = HasPredicates loaded (λ n. MOST_PREDICATES < n)
 IsImportStop loaded (Faults faults) =
-    HasPredicates loaded (λ n. n ≤ most_predicates) × AreImportFaults loaded faults.items × (faults.items ≢ [])
+    HasPredicates loaded (λ n. n ≤ MOST_PREDICATES) × AreImportFaults loaded faults.items × (faults.items ≢ [])
 IsImportStop loaded NoMemory = Unit {0}
 
 -- the facts are those of a file with this text: they stand in it, none of their terms is too heavy, and no more than
 -- nine arguments are added where it declares goals
 pub record IsReadFrom (text : NamedText) (facts : Facts) : Type 0 where
   pub named : facts.file ≡ text.0
-  pub small : length text.1 ≤ most_bytes
+  pub small : length text.1 ≤ MOST_BYTES
   pub placed : ArePlacedIn text.1 facts
-  pub light_clauses : All (λ (p : Predicate). All (λ (tree : Tree). weight tree ≤ most_bytes) p.clauses) facts.defined
-  pub light_goals : All (λ (tree : Tree). weight tree ≤ most_bytes) facts.goals
+  pub light_clauses : All (λ (p : Predicate). All (λ (tree : Tree). weight tree ≤ MOST_BYTES) p.clauses) facts.defined
+  pub light_goals : All (λ (tree : Tree). weight tree ≤ MOST_BYTES) facts.goals
   pub small_metas : All (λ (d : Declaration). All IsSmall d.args) facts.metas
 
 -- what is known of each program: few predicates, and files in order of name, each read from its text
 pub record IsKnown (seen : Seen) : Type 0 where
   pub numbered : AreNumbered seen.loaded.files seen.predicates
-  pub few : length seen.predicates ≤ most_predicates
+  pub few : length seen.predicates ≤ MOST_PREDICATES
   pub ordered : AreInOrder (map (λ (text : NamedText). text.0) seen.loaded.texts)
   pub read : AllZip IsReadFrom seen.loaded.texts seen.loaded.files

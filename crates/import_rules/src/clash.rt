@@ -37,8 +37,10 @@ pub(crate) fn find_imports<'a>(
 
 /// Adds what the items of one name give.
 fn add<'a>(run: &[Item<'a>], found: &mut Imported<'a>) -> Result<(), AllocError>
-    ensures firsts { OnOk result (map see_item found.new.firsts.items ≡ map see_item found.old.firsts.items ++ option_to_list (first_of (map see_item run.now))) }
-    ensures clashes { OnOk result (map see_item found.new.clashes.items ≡ map see_item found.old.clashes.items ++ option_to_list (first_other (map see_item run.now))) }
+    ensures firsts { OnOk result (map see_item found.new.firsts.items
+        ≡ map see_item found.old.firsts.items ++ option_to_list (first_of (map see_item run.now))) }
+    ensures clashes { OnOk result (map see_item found.new.clashes.items
+        ≡ map see_item found.old.clashes.items ++ option_to_list (first_other (map see_item run.now))) }
 {
     let Some((first, others)) = run.split_first() else {
         return Ok(());

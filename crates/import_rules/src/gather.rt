@@ -32,7 +32,8 @@ pub(crate) fn gather<'a>(
     lookups: &Lookups<'a, '_>,
 ) -> Result<Gathered<'a>, AllocError>
     requires { IsReady lookups.now }
-    ensures flaws { IfOk result (λ found. see_findings found.flaws.items ≡ flat_map (file_flaws (files_of lookups.now) (absent_of lookups.now)) (files_of lookups.now)) }
+    ensures flaws { IfOk result (λ found. see_findings found.flaws.items
+        ≡ flat_map (file_flaws (files_of lookups.now) (absent_of lookups.now)) (files_of lookups.now)) }
     ensures items { IfOk result (λ found. map see_item found.items.items ≡ foreign_items (files_of lookups.now)) }
 {
     let mut found = Gathered {

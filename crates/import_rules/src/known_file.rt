@@ -52,8 +52,10 @@ fn declare(
     file: &FileFacts,
     declared: &mut BTreeSet<Text>,
 ) -> Result<bool, AllocError>
-    ensures new { IfOk result (λ leads. leads ≡ ((see_facts file.now).is_module && not (contains (slice_cmp nat_cmp) declared.old (see_facts file.now).module_))) }
-    ensures more { OnOk result ((own : List ℕ) → contains (slice_cmp nat_cmp) declared.new own ≡ (contains (slice_cmp nat_cmp) declared.old own || declares own (see_facts file.now))) }
+    ensures new { IfOk result (λ leads. leads
+        ≡ ((see_facts file.now).is_module && not (contains (slice_cmp nat_cmp) declared.old (see_facts file.now).module_))) }
+    ensures more { OnOk result ((own : List ℕ) → contains (slice_cmp nat_cmp) declared.new own
+        ≡ (contains (slice_cmp nat_cmp) declared.old own || declares own (see_facts file.now))) }
 {
     if !file.is_module {
         return Ok(false);

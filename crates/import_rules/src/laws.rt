@@ -9,7 +9,8 @@ ghost use Rattle.import_rules.specs.Files.{AreNumbered, ArePlaces};
 ghost use Rattle.import_rules.specs.Find.{Means};
 ghost use Rattle.import_rules.specs.Flaws.{AreFlaws, AreImportFaults, Flaw};
 ghost use Rattle.import_rules.specs.Names.{pred_name};
-ghost use Rattle.import_rules.specs.Program.{Seen, IsProgram, IsImportStop, HasPredicates, most_predicates, found, places_in};
+ghost use Rattle.import_rules.specs.declared.resolve.TheConstants.{MOST_PREDICATES};
+ghost use Rattle.import_rules.specs.Program.{Seen, IsProgram, IsImportStop, HasPredicates, found, places_in};
 
 use crate::stop::ImportStop;
 
@@ -21,14 +22,17 @@ pub fn one_numbering()
 /// What was loaded is one program at most, and then nothing stops it but want of memory.
 pub fn one_program()
     ensures one { (loaded : LoadedFiles) (seen other : Seen) → IsProgram loaded seen → IsProgram loaded other → seen ≡ other }
-    ensures few_or_many { (loaded : LoadedFiles) → HasPredicates loaded (λ n. n ≤ most_predicates) → HasPredicates loaded (λ n. most_predicates < n) → ⊥ }
-    ensures never_stopped { (loaded : LoadedFiles) (seen : Seen) (stop : ImportStop) → IsProgram loaded seen → IsImportStop loaded stop → stop ≡ ImportStop.NoMemory }
+    ensures few_or_many { (loaded : LoadedFiles) → HasPredicates loaded (λ n. n ≤ MOST_PREDICATES) → HasPredicates loaded (λ n. MOST_PREDICATES < n) → ⊥ }
+    ensures never_stopped { (loaded : LoadedFiles) (seen : Seen) (stop : ImportStop) → IsProgram loaded seen
+        → IsImportStop loaded stop → stop ≡ ImportStop.NoMemory }
 {}
 
 /// What was loaded has one list of import faults, with their places.
 pub fn one_list_of_faults()
-    ensures flaws { (files : List Facts) (absent : List (List ℕ)) (flaws others : List Flaw) → AreFlaws files absent flaws → AreFlaws files absent others → flaws ≡ others }
-    ensures faults { (loaded : LoadedFiles) (faults others : List Fault) → WasLoaded loaded → AreImportFaults loaded faults → AreImportFaults loaded others → faults ≡ others }
+    ensures flaws { (files : List Facts) (absent : List (List ℕ)) (flaws others : List Flaw)
+        → AreFlaws files absent flaws → AreFlaws files absent others → flaws ≡ others }
+    ensures faults { (loaded : LoadedFiles) (faults others : List Fault) → WasLoaded loaded
+        → AreImportFaults loaded faults → AreImportFaults loaded others → faults ≡ others }
 {}
 
 /// The places of a predicate are all those at which it is defined, ascending.

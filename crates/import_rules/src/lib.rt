@@ -33,6 +33,7 @@ mod placed;
 mod places;
 mod program;
 mod resolve;
+mod spots;
 mod stop;
 mod taken;
 

@@ -5,7 +5,8 @@ ghost use Rattle.std.specs.List.{range_with_len};
 ghost use Rattle.std.specs.declared.cmp.Ordering.TheVariants.{Less};
 ghost use Rattle.module_table.specs.Facts.{Facts};
 ghost use Rattle.import_rules.specs.Clashes.{see_item, AreClashes, AreFirsts};
-ghost use Rattle.import_rules.specs.Files.{AreNumbered, most_predicates};
+ghost use Rattle.import_rules.specs.declared.resolve.TheConstants.{MOST_PREDICATES};
+ghost use Rattle.import_rules.specs.Files.{AreNumbered};
 ghost use Rattle.import_rules.specs.Items.{foreign_items};
 ghost use Rattle.import_rules.specs.Meanings.{AreTargets};
 ghost use Rattle.import_rules.specs.Names.{pred_cmp};
@@ -61,7 +62,7 @@ fn find_sources(
     items: &[Item<'_>],
 ) -> Result<Sources, AllocError>
     requires in_order { AllPairs (λ p q. pred_cmp p q ≡ Less) predicates.now }
-    requires few { length predicates.now ≤ most_predicates }
+    requires few { length predicates.now ≤ MOST_PREDICATES }
     ensures { IfOk result (λ made. AreSources predicates.now (map see_item items.now) made.names.items made.targets.items) }
 {
     let mut made = Sources {
@@ -85,7 +86,7 @@ pub(crate) fn with_imports(
     items: &[Item<'_>],
 ) -> Result<Meanings, AllocError>
     requires in_order { AllPairs (λ p q. pred_cmp p q ≡ Less) predicates }
-    requires few { length predicates ≤ most_predicates }
+    requires few { length predicates ≤ MOST_PREDICATES }
     ensures kept { IfOk result (λ made. take (length predicates) made.names ≡ predicates) }
     ensures targets { IfOk result (λ made. (files : List Facts) → AreNumbered files predicates → AreClashes (foreign_items files) []
         → AreFirsts (foreign_items files) (map see_item items.now) → AreTargets files predicates made.names made.targets.items) }

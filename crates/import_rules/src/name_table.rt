@@ -140,7 +140,9 @@ impl NameTable {
 
     /// The last place at which the name stands.
     pub(crate) fn find(&self, module: &str, name: &str, arity: u32) -> Option<usize>
-        ensures is { MatchOption result (list_any (is_same (pred_name module.now name.now arity)) self.now ≡ false) (λ n. slice_get self.now n ≡ Some (pred_name module.now name.now arity)) }
+        ensures is { MatchOption result
+            (list_any (is_same (pred_name module.now name.now arity)) self.now ≡ false)
+            (λ n. slice_get self.now n ≡ Some (pred_name module.now name.now arity)) }
         ensures below { IfSome result (λ n. n < length self.now) }
     {
         let hash = name_hash(module, name, arity);

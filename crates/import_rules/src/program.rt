@@ -1,7 +1,8 @@
 ghost use Rattle.std.specs.Prelude.{◌≡◌, ◌<◌, ◌≤◌, ℕ, List, [], true, Some, length, map, take, slice_get};
 ghost use Rattle.std.proofs.Props.{props};
 ghost use Rattle.file_library.specs.SortedOut.{see_loaded};
-ghost use Rattle.import_rules.specs.Files.{AreNumbered, most_predicates};
+ghost use Rattle.import_rules.specs.declared.resolve.TheConstants.{MOST_PREDICATES};
+ghost use Rattle.import_rules.specs.Files.{AreNumbered};
 ghost use Rattle.import_rules.specs.Flaws.{AreFlaws};
 ghost use Rattle.file_library.specs.Loaded.{WasLoaded};
 ghost use Rattle.import_rules.specs.Meanings.{AreTargets};
@@ -32,7 +33,7 @@ pub struct Program {
     pub(crate) meta_places: Vec<(u32, u32)>,
     pub ghost was_loaded: { ∥ WasLoaded (see_loaded loaded) ∥₁ },
     pub ghost within: { count ≤ length names },
-    pub ghost few: { count ≤ most_predicates },
+    pub ghost few: { count ≤ MOST_PREDICATES },
     pub ghost numbered: { ∥ AreNumbered (see_loaded loaded).files (take count names) ∥₁ },
     pub ghost faultless: { ∥ AreFlaws (see_loaded loaded).files (see_loaded loaded).absent [] ∥₁ },
     pub ghost meant: { AreTargets (see_loaded loaded).files (take count names) names targets.items } by { Prim.hlevel props },

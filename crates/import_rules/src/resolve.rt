@@ -3,7 +3,8 @@
 ghost use Rattle.std.specs.Prelude.{◌≡◌, ◌≤◌, [], IfOk, IfErr, length, map, take};
 ghost use Rattle.module_table.specs.Facts.{see_facts};
 ghost use Rattle.file_library.specs.SortedOut.{see_loaded};
-ghost use Rattle.import_rules.specs.Files.{AreNumbered, most_predicates};
+ghost use Rattle.import_rules.specs.declared.resolve.TheConstants.{MOST_PREDICATES};
+ghost use Rattle.import_rules.specs.Files.{AreNumbered};
 ghost use Rattle.import_rules.specs.Flaws.{AreFlaws};
 ghost use Rattle.file_library.specs.Loaded.{WasLoaded};
 ghost use Rattle.import_rules.specs.Meanings.{AreTargets};
@@ -36,7 +37,7 @@ fn numbered(alloc: Global, loaded: &Loaded) -> Result<Numbered, AllocError>
 fn meanings(alloc: Global, loaded: &Loaded, predicates: NameTable) -> Result<Meanings, ImportStop>
     requires loaded { WasLoaded (see_loaded loaded.now) }
     requires numbered { AreNumbered (see_loaded loaded.now).files predicates }
-    requires few { length predicates ≤ most_predicates }
+    requires few { length predicates ≤ MOST_PREDICATES }
     ensures kept { IfOk result (λ made. take (length predicates) made.names ≡ predicates) }
     ensures targets { IfOk result (λ made. AreTargets (see_loaded loaded.now).files predicates made.names made.targets.items) }
     ensures faultless { IfOk result (λ made. AreFlaws (see_loaded loaded.now).files (see_loaded loaded.now).absent []) }

@@ -51,7 +51,8 @@ fn push_listed<'a>(
     requires ready { IsReady lookups.now }
     requires known { IsKnownIn (files_of lookups.now) file.now }
     ensures { OnOk result (map see_item items.new.items ≡ map see_item items.old.items
-        ++ filter (is_foreign (files_of lookups.now)) (map (λ i. item (see_facts user.now) (see_known file.now) i.from i) (filter (has_export (see_known file.now)) load.now.items.items))) }
+        ++ filter (is_foreign (files_of lookups.now))
+        (map (λ i. item (see_facts user.now) (see_known file.now) i.from i) (filter (has_export (see_known file.now)) load.now.items.items))) }
 {
     for indicator in &load.items {
         if !file.has_export(indicator) {
@@ -108,7 +109,8 @@ fn push_item<'a>(
     items: &mut Vec<Item<'a>>,
 ) -> Result<(), AllocError>
     requires { IsReady lookups.now }
-    ensures { OnOk result (map see_item items.new.items ≡ map see_item items.old.items ++ filter (is_foreign (files_of lookups.now)) (see_item item.entry ∷ [])) }
+    ensures { OnOk result (map see_item items.new.items
+        ≡ map see_item items.old.items ++ filter (is_foreign (files_of lookups.now)) (see_item item.entry ∷ [])) }
 {
     if lookups.is_local(item.module, item.name, item.arity) {
         return Ok(());

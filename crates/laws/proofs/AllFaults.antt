@@ -1,6 +1,7 @@
 -- The load faults of the files that are asked for, each with its place.
 use Rattle.std.proofs.Common.{◌≡◌, ℕ, ◌⊎◌, List, Option, Some, None, Contains, refl, sym, subst, ap, ◌∙◌, inl, inr}
 use Rattle.std.specs.List.{filter_map}
+use Rattle.list_laws.proofs.Members.{all_by}
 use Rattle.prolog_tokens.specs.Places.{IsPlace}
 use Rattle.prolog_tokens.proofs.PlaceSteps.{place_once}
 use Rattle.clause_text.specs.declared.cause.Cause.TheVariants.{NoRoot}
@@ -15,7 +16,7 @@ use Rattle.file_library.specs.declared.fault.Fault.{Fault}
 use Rattle.file_library.proofs.WaveLaws.{Names, has_name}
 use Rattle.laws.proofs.FaultPlaces.{place_there}
 use Rattle.laws.proofs.FoundAt.{IsAt}
-use Rattle.file_library.proofs.LoadedFiles.{all_from, some_once}
+use Rattle.file_library.proofs.LoadedFiles.{some_once}
 use Rattle.laws.proofs.Given.{given_in, given_from, given_rise}
 use Rattle.laws.proofs.NextNames.{AreOrderedOf}
 
@@ -112,7 +113,7 @@ module _ (files : Files) (roots : Names) where
     pub all_faults : (names ordered : Names) → AreJustAsked files roots names → AreOrderedOf names ordered → AreLoadFaults files roots (faults_at ordered)
     all_faults names ordered asked are = record {
       ordered = given_rise fault_at (λ (fault : Fault). fault.file) (λ name fault is. fault_named roots name (find name).found fault is) ordered are.up;
-      sound = all_from (IsLoadFault files roots) (faults_at ordered) (λ fault has.
+      sound = all_by (IsLoadFault files roots) (faults_at ordered) (λ fault has.
           let from = given_from fault_at ordered fault has in
           fault_loads from.0 (find from.0).found fault (asked.sound from.0 (are.sound from.0 from.1)) (find from.0).there (find from.0).told from.2);
       all = λ fault is.

@@ -3,16 +3,19 @@ use Rattle.std.proofs.Common.{◌≡◌, ℕ, suc, ◌+◌, ◌≤◌, List, [],
 use Rattle.std.specs.List.{cons_option, filter_map, AllZip}
 use Rattle.std.proofs.lemmas.List.{map-id}
 use Rattle.list_laws.proofs.OneOrder.{holds_of}
+use Rattle.list_laws.proofs.Members.{map_from, all_by}
 use Rattle.module_table.specs.Facts.{Facts}
 use Rattle.module_table.specs.FileText.{HasFacts}
 use Rattle.file_library.specs.Asked.{AreInOrder}
 use Rattle.file_library.specs.Library.{Files}
-use Rattle.file_library.specs.Loaded.{NamedText, LoadedFiles, AreThose, IsAskedIn, size_of, AreWithin, IsTextOf, IsLoaded, most_files, most_bytes}
+use Rattle.file_library.specs.declared.limits.TheConstants.{MOST_FILES}
+use Rattle.prolog_tokens.specs.declared.limits.TheConstants.{MOST_BYTES}
+use Rattle.file_library.specs.Loaded.{NamedText, LoadedFiles, AreThose, IsAskedIn, size_of, AreWithin, IsTextOf, IsLoaded}
 use Rattle.file_library.specs.AskedFile.{Found, absent, sound, faulty, text_of, IsTold}
 use Rattle.file_library.specs.SortedOut.{facts_at, text_at, absent_at, AreJustAsked}
 use Rattle.file_library.proofs.NameLists.{no_more}
 use Rattle.file_library.proofs.WaveLaws.{Names}
-use Rattle.file_library.proofs.LoadedFiles.{absent_given, absent_named, all_from, from_map, some_once, text_named}
+use Rattle.file_library.proofs.LoadedFiles.{absent_given, absent_named, some_once, text_named}
 use Rattle.laws.proofs.AllFaults.{fault_at, faults_at, fault_of, root_absent, faultless}
 use Rattle.laws.proofs.FoundAt.{IsAt}
 use Rattle.laws.proofs.Given.{given_in, given_from, none_given, given_rise, given_sum}
@@ -65,7 +68,7 @@ module _ (files : Files) (roots : Names) (find : (name : List ℕ) → IsAt file
       at rest (sound text facts) = omega (arith, rest)
       at rest (faulty text refusal) = omega (arith, rest)
 
-  module _ (names ordered root_names : Names) (asked : AreJustAsked files roots names) (few : length names ≤ most_files) (within : AreWithin files names)
+  module _ (names ordered root_names : Names) (asked : AreJustAsked files roots names) (few : length names ≤ MOST_FILES) (within : AreWithin files names)
       (are : AreOrderedOf names ordered) (roots_are : AreOrderedOf roots root_names) (none : faults_at files roots find ordered ≡ []) where
     is_asked : (name : List ℕ) → Contains ordered name → IsAskedIn files roots name
     is_asked name has = asked.sound name (are.sound name has)
@@ -114,12 +117,12 @@ module _ (files : Files) (roots : Names) (find : (name : List ℕ) → IsAt file
 
     are_within : AreWithin files (map (λ (text : NamedText). text.0) texts)
     are_within = record {
-      each = all_from (λ name. size_of files name ≤ most_bytes) (map (λ (text : NamedText). text.0) texts) (λ name has.
-          let on = from_map (λ (text : NamedText). text.0) texts name has in
+      each = all_by (λ name. size_of files name ≤ MOST_BYTES) (map (λ (text : NamedText). text.0) texts) (λ name has.
+          let on = map_from (λ (text : NamedText). text.0) texts name has in
           let from = given_from text_for ordered on.0 on.1 in
           let same : from.0 ≡ name = sym (text_named from.0 (find from.0).found on.0 from.2).0 ∙ on.2 in
-          subst (λ n. size_of files n ≤ most_bytes) same
-          (holds_of (λ n. size_of files n ≤ most_bytes) names from.0 within.each (are.sound from.0 from.1)));
+          subst (λ n. size_of files n ≤ MOST_BYTES) same
+          (holds_of (λ n. size_of files n ≤ MOST_BYTES) names from.0 within.each (are.sound from.0 from.1)));
       together =
           omega (
             arith,
@@ -137,7 +140,7 @@ module _ (files : Files) (roots : Names) (find : (name : List ℕ) → IsAt file
       root_names = record { ordered = roots_are.up; sound = roots_are.sound; all = roots_are.all };
       absent_are = missing_are;
       ordered = given_rise text_for (λ (text : NamedText). text.0) (λ name text is. (text_named name (find name).found text is).0) ordered are.up;
-      texts = all_from (IsTextOf files roots) texts are_texts;
+      texts = all_by (IsTextOf files roots) texts are_texts;
       all = all_texts;
       facts = facts_paired ordered;
       there = roots_there;

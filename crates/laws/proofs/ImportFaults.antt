@@ -18,12 +18,13 @@ use Rattle.import_rules.specs.Flaws.{AreFlaws, AreImportFaults, Flaw, IsFaultOf,
 use Rattle.import_rules.specs.Items.{foreign_items}
 use Rattle.import_rules.specs.Names.{pred_cmp}
 use Rattle.import_rules.specs.PlacedFlaws.{StandsIn, fault_at}
-use Rattle.import_rules.specs.Program.{Seen, HasPredicates, IsProgram, most_predicates}
+use Rattle.import_rules.specs.declared.resolve.TheConstants.{MOST_PREDICATES}
+use Rattle.import_rules.specs.Program.{Seen, HasPredicates, IsProgram}
 use Rattle.import_rules.proofs.FlawsStand.{all_stand}
 use Rattle.import_rules.proofs.Lists.{all_by, map_has}
 use Rattle.import_rules.proofs.Loaded.{was_read}
 use Rattle.import_rules.proofs.NameOrder.{pred_cmp_total, same_parts, same_ties}
-use Rattle.import_rules.proofs.PlacedRuns.{flaw_cmp_total}
+use Rattle.import_rules.proofs.FlawSpots.{flaw_cmp_total}
 use Rattle.laws.proofs.Orders.{HasOnce, has_once, HasSorted, has_sorted}
 use Rattle.laws.proofs.Placed.{has_place}
 
@@ -92,10 +93,10 @@ has_flaws loaded was =
 -- too many predicates, or import faults, or a program
 abbrev pub IsProgramOr : LoadedFiles → Type 0
 IsProgramOr loaded =
-    HasPredicates loaded (λ n. most_predicates < n)
-    ⊎ (((faults : List Fault) × (HasPredicates loaded (λ n. n ≤ most_predicates) × (AreImportFaults loaded faults × (faults ≢ [])))) ⊎ ((seen : Seen) × IsProgram loaded seen))
+    HasPredicates loaded (λ n. MOST_PREDICATES < n)
+    ⊎ (((faults : List Fault) × (HasPredicates loaded (λ n. n ≤ MOST_PREDICATES) × (AreImportFaults loaded faults × (faults ≢ [])))) ⊎ ((seen : Seen) × IsProgram loaded seen))
 
-module _ (loaded : LoadedFiles) (predicates : List PredName) (numbered : AreNumbered loaded.files predicates) (few : length predicates ≤ most_predicates) where
+module _ (loaded : LoadedFiles) (predicates : List PredName) (numbered : AreNumbered loaded.files predicates) (few : length predicates ≤ MOST_PREDICATES) where
   by_flaws : (flaws : List Flaw) (faults : List Fault) → AreFlaws loaded.files loaded.absent flaws → AllZip (IsFaultOf loaded.texts) flaws faults → IsProgramOr loaded
   by_flaws [] faults are placed = inr (inr (record { loaded = loaded; predicates = predicates }, record { is = refl; numbered = numbered; few = few; sound = are }))
   by_flaws (flaw ∷ flaws) [] are placed = absurd placed
@@ -113,7 +114,7 @@ pub program_or_faults : (loaded : LoadedFiles) → WasLoaded loaded → IsProgra
 program_or_faults loaded was =
     let names : (predicates : List PredName) × AreNumbered loaded.files predicates = has_numbers loaded.files in
     let wrong = has_flaws loaded was in
-    elim (cases_lt most_predicates (length names.0)) [
+    elim (cases_lt MOST_PREDICATES (length names.0)) [
       | inl many ↦ inl (record { predicates = names.0; numbered = names.1; many_are = many })
       | inr few ↦ by_flaws loaded names.0 names.1 few wrong.flaws wrong.faults wrong.are wrong.placed
     ]

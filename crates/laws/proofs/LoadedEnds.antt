@@ -5,7 +5,8 @@ use Rattle.file_library.specs.declared.fault.Fault.{Fault}
 use Rattle.file_library.specs.Loaded.{LoadedFiles, WasLoaded}
 use Rattle.import_rules.specs.declared.names.PredName.{PredName}
 use Rattle.import_rules.specs.Flaws.{AreImportFaults}
-use Rattle.import_rules.specs.Program.{Seen, IsProgram, HasPredicates, most_predicates}
+use Rattle.import_rules.specs.declared.resolve.TheConstants.{MOST_PREDICATES}
+use Rattle.import_rules.specs.Program.{Seen, IsProgram, HasPredicates}
 use Rattle.call_edges.specs.GoalFaults.{AreGoalFaults}
 use Rattle.call_edges.specs.Roots.{IsRoot}
 use Rattle.group_words.specs.Settings.{Settings}
@@ -21,8 +22,8 @@ use Rattle.laws.proofs.ReportBytes.{GraphLaws, SomeSearch, some_report}
 -- too many predicates, import faults, or a program
 abbrev pub ProgramOrFaults : LoadedFiles → Type 0
 ProgramOrFaults loaded =
-    HasPredicates loaded (λ n. most_predicates < n)
-    ⊎ (((list : List Fault) × (HasPredicates loaded (λ n. n ≤ most_predicates) × (AreImportFaults loaded list × (list ≢ [])))) ⊎ ((seen : Seen) × IsProgram loaded seen))
+    HasPredicates loaded (λ n. MOST_PREDICATES < n)
+    ⊎ (((list : List Fault) × (HasPredicates loaded (λ n. n ≤ MOST_PREDICATES) × (AreImportFaults loaded list × (list ≢ [])))) ⊎ ((seen : Seen) × IsProgram loaded seen))
 
 -- what there is for all loaded files, as the laws say it
 pub record LoadedLaws : Type 0 where

@@ -8,6 +8,7 @@ use Rattle.std.proofs.lemmas.Cmp.{nat_list_cmp_total}
 use Rattle.std.proofs.lemmas.List.Elements.{Contains-get_or}
 use Rattle.std.proofs.lemmas.Option.{same_Some, slice_get_within}
 use Rattle.std.proofs.lemmas.Slice.Eq.{bytes_eq-Decides}
+use Rattle.list_laws.proofs.Members.{map_from, map_has}
 use Rattle.graph_law.specs.Graph.{IsClosed}
 use Rattle.laws.proofs.Choices.{Decided}
 use Rattle.module_table.specs.Said.{Loads}
@@ -15,7 +16,7 @@ use Rattle.module_table.specs.Facts.{Facts}
 use Rattle.laws.proofs.Orders.{HasOnce, has_once}
 use Rattle.loop_report.specs.ImportLoops.{LoadsModule, AreModules, PlaceLoads}
 use Rattle.loop_report.specs.ModuleGraph.{AreLoadLists}
-use Rattle.loop_report.proofs.Lists.{there_in_map, in_map, element_at}
+use Rattle.loop_report.proofs.Lists.{element_at}
 use Rattle.laws.proofs.Decisions.{HasOne, both_or, same_or, one_or_none, AreRows, rows_of}
 
 -- lists of numbers that compare alike are one
@@ -34,10 +35,10 @@ modules_of files =
         in_order = ordered.rising;
         each = λ k d lt.
             let name : List ℕ = get_or ordered.once k d in
-            there_in_map module_of files name ((ordered.each name).0 (Contains-get_or ordered.once k d lt));
+            map_from module_of files name ((ordered.each name).0 (Contains-get_or ordered.once k d lt));
         all = λ k d lt.
             let file : Facts = get_or files k d in
-            (ordered.each file.module_).1 (in_map module_of files file (Contains-get_or files k d lt));
+            (ordered.each file.module_).1 (map_has module_of files file (Contains-get_or files k d lt));
       },
     )
 

@@ -12,6 +12,7 @@ use Rattle.std.proofs.lemmas.List.Elements.{Contains-append_left, Contains-appen
 use Rattle.std.proofs.lemmas.Option.{none-some, same_Some}
 use Rattle.std.proofs.lemmas.Slice.Eq.{bytes_eq-Decides}
 use Rattle.list_laws.proofs.OneOrder.{nothing_in, first_or_rest, in_first}
+use Rattle.list_laws.proofs.Members.{any_there, any_from}
 use Rattle.module_table.specs.declared.indicator.Indicator.{Indicator}
 use Rattle.module_table.specs.Defined.{Predicate}
 use Rattle.module_table.specs.Facts.{Facts}
@@ -19,7 +20,6 @@ use Rattle.import_rules.specs.Program.{Seen, found}
 use Rattle.call_edges.specs.ProgramRows.{rows_of}
 use Rattle.call_edges.specs.Calls.{target}
 use Rattle.call_edges.specs.Roots.{Gives, IsGivenByRoot, IsCalledByGoal, IsRoot}
-use Rattle.call_edges.proofs.AmongLemmas.{any_is, is_any}
 use Rattle.laws.proofs.Mets.{given_has, goal_mets, goals_have}
 use Rattle.laws.proofs.Orders.{HasOnce, has_once}
 
@@ -51,12 +51,12 @@ is_root seen file = list_any (bytes_eq file.file) seen.loaded.roots
 
 root_is : (seen : Seen) (file : Facts) → is_root seen file ≡ true → Contains seen.loaded.roots file.file
 root_is seen file is =
-    let some = any_is (bytes_eq file.file) seen.loaded.roots is in
+    let some = any_from (bytes_eq file.file) seen.loaded.roots is in
     let same : file.file ≡ some.0 = (bytes_eq-Decides file.file some.0).0 some.2 in
     subst (Contains seen.loaded.roots) (sym same) some.1
 
 is_the_root : (seen : Seen) (file : Facts) → Contains seen.loaded.roots file.file → is_root seen file ≡ true
-is_the_root seen file has = is_any (bytes_eq file.file) seen.loaded.roots file.file has ((bytes_eq-Decides file.file file.file).1 refl)
+is_the_root seen file has = any_there (bytes_eq file.file) seen.loaded.roots file.file has ((bytes_eq-Decides file.file file.file).1 refl)
 
 abbrev root_gives : Seen → Facts → List ℕ
 root_gives seen file = cond (is_root seen file) (given_by seen file file.is_module) []

@@ -9,7 +9,9 @@ use Rattle.list_laws.proofs.OneOrder.{nothing_in}
 use Rattle.file_library.specs.Library.{Files}
 use Rattle.file_library.specs.Asked.{IsWave, wave_at, AreFirstWaves, names_in}
 use Rattle.file_library.specs.FileLoads.{FileLoads}
-use Rattle.file_library.specs.Loaded.{AreWithin, size_of, most_files, most_bytes}
+use Rattle.file_library.specs.declared.limits.TheConstants.{MOST_FILES}
+use Rattle.prolog_tokens.specs.declared.limits.TheConstants.{MOST_BYTES}
+use Rattle.file_library.specs.Loaded.{AreWithin, size_of}
 use Rattle.file_library.specs.Asking.{AreAll, LeadTo, LoadEnd, too_many, too_large, too_much, LoadEndIs, IsDecided}
 use Rattle.file_library.proofs.WaveLaws.{Names, first_wave, next_sound, next_all, more_waves, all_waves}
 use Rattle.laws.proofs.FoundAt.{IsAt, loads_at, loaded_from, loaded_into}
@@ -27,7 +29,7 @@ ends_by files roots names load decided is = (names, (load, (decided, is)))
 record HasAsked (files : Files) (roots : Names) (waves : List Names) (wave : Names) : Type 0 where
   are : AreFirstWaves (FileLoads files) roots waves
   next : IsWave (FileLoads files) roots (length waves) wave
-  few : length (names_in waves) ≤ most_files
+  few : length (names_in waves) ≤ MOST_FILES
   within : AreWithin files (names_in waves)
 
 joined : (waves : List Names) (wave : Names) → names_in (waves ++ wave ∷ []) ≡ names_in waves ++ wave
@@ -35,14 +37,14 @@ joined waves wave = sym (flat_map_more (λ (w : Names). w) [] waves wave)
 
 within_more : (files : Files) (names more : Names) → AreWithin files names → AreUnder (size_of files) (sum_by (size_of files) names) more → AreWithin files (names ++ more)
 within_more files names more within under = record {
-  each = All-append (λ name. size_of files name ≤ most_bytes) names more within.each under.each;
+  each = All-append (λ name. size_of files name ≤ MOST_BYTES) names more within.each under.each;
   together = omega (arith, under.together, sum_by-append (size_of files) names more);
 }
 
 module _ (files : Files) (find : (name : List ℕ) → IsAt files name) (roots : Names) where
   -- what the last wave loads and no wave has is the next
 
-  next_wave : (waves : List Names) (wave : Names) → HasAsked files roots waves wave → length (names_in waves) + length wave ≤ most_files
+  next_wave : (waves : List Names) (wave : Names) → HasAsked files roots waves wave → length (names_in waves) + length wave ≤ MOST_FILES
       → AreUnder (size_of files) (sum_by (size_of files) (names_in waves)) wave → (next : Names) × HasAsked files roots (waves ++ wave ∷ []) next
   next_wave waves wave asked fits under = (
     on.0,
@@ -83,7 +85,7 @@ module _ (files : Files) (find : (name : List ℕ) → IsAt files name) (roots :
 
   -- a limit is passed within the wave
 
-  cut_off : (waves : List Names) (wave : Names) → HasAsked files roots waves wave → length (names_in waves) + length wave ≤ most_files
+  cut_off : (waves : List Names) (wave : Names) → HasAsked files roots waves wave → length (names_in waves) + length wave ≤ MOST_FILES
       → IsOver (size_of files) (sum_by (size_of files) (names_in waves)) wave → Ends files roots
   cut_off waves wave asked fits over = elim over.over [
     | inl large ↦ ends_by files roots names (too_large over.next) tt (leads, large)
@@ -123,7 +125,7 @@ module _ (files : Files) (find : (name : List ℕ) → IsAt files name) (roots :
       }
 
   module _ (finish : (names : Names) → AreAll files roots names → Ends files roots) where
-    walk : (left : ℕ) (waves : List Names) (wave : Names) → HasAsked files roots waves wave → most_files < left + length (names_in waves) → Ends files roots
+    walk : (left : ℕ) (waves : List Names) (wave : Names) → HasAsked files roots waves wave → MOST_FILES < left + length (names_in waves) → Ends files roots
     walk zero waves wave asked full = let no : ⊥ = omega (arith, full, asked.few) in absurd no
     walk (suc left) waves [] asked full = finish (names_in waves) (record {
       waves = waves;
@@ -132,7 +134,7 @@ module _ (files : Files) (find : (name : List ℕ) → IsAt files name) (roots :
       few = asked.few;
       within = asked.within;
     })
-    walk (suc left) waves (name ∷ rest) asked full = elim (cases_lt most_files (length (names_in waves) + length (name ∷ rest))) [
+    walk (suc left) waves (name ∷ rest) asked full = elim (cases_lt MOST_FILES (length (names_in waves) + length (name ∷ rest))) [
       | inl many ↦ ends_by files roots (names_in waves) too_many tt (record {
         waves = waves;
         are = asked.are;
@@ -161,5 +163,5 @@ module _ (files : Files) (find : (name : List ℕ) → IsAt files name) (roots :
           are = λ n less. let no : ⊥ = omega (arith, less) in absurd no;
           next = first_wave (FileLoads files) roots first.0 first.1.up first.1.sound first.1.all;
           few = omega arith;
-          within = record { each = All-nil (λ name. size_of files name ≤ most_bytes); together = omega arith };
+          within = record { each = All-nil (λ name. size_of files name ≤ MOST_BYTES); together = omega arith };
         }) (omega arith)

@@ -10,12 +10,14 @@ use Rattle.loop_report.specs.Reportable.{AreReportable}
 
 -- words set some settings, or none
 abbrev pub WordsAreDecided : Type 0
-WordsAreDecided = (words : List (List ℕ)) → All IsUtf8 words → ((settings : Settings) × AreLawful words settings) ⊎ ((settings : Settings) → AreLawful words settings → ⊥)
+WordsAreDecided = (words : List (List ℕ)) → All IsUtf8 words
+    → ((settings : Settings) × AreLawful words settings) ⊎ ((settings : Settings) → AreLawful words settings → ⊥)
 
 -- groups that can be reported have a report
 abbrev pub ReportsExist : Type 0
 ReportsExist =
-    (predicates : List PredName) (files : List Facts) (groups : List (List ℕ)) (levels : List Level) (unreached : Bool) → AreReportable (length predicates) groups levels
+    (predicates : List PredName) (files : List Facts) (groups : List (List ℕ)) (levels : List Level) (unreached : Bool)
+    → AreReportable (length predicates) groups levels
     → (bytes : List ℕ) × IsReport predicates files groups levels unreached bytes
 
 -- groups have a report in their own order

@@ -1,7 +1,9 @@
 -- The causes of refused texts, and those of refused facts.
 use Rattle.std.specs.Prelude.{Bool, true, false}
 use Rattle.clause_text.specs.declared.cause.Cause.{Cause}
-use Rattle.clause_text.specs.declared.cause.Cause.TheVariants.{NotUtf8, BadChar, OpenQuote, OpenComment, BadEscape, Stuck, TooDeep, NoEnd, BadPriority, BadKind, BadName, FixedOp, InfixAndPostfix, LateModule, BadIndicator, BadSpec, ControlHead, BadHead, NotInProfile}
+use Rattle.clause_text.specs.declared.cause.Cause.TheVariants.{NotUtf8, BadChar, OpenQuote, OpenComment, BadEscape, Stuck, TooDeep, NoEnd, BadPriority, BadKind}
+use Rattle.clause_text.specs.declared.cause.Cause.TheVariants.{BadName, FixedOp, InfixAndPostfix, LateModule, BadIndicator, BadSpec, ControlHead, BadHead}
+use Rattle.clause_text.specs.declared.cause.Cause.TheVariants.{NotInProfile}
 
 -- the causes that directives and heads have
 abbrev pub is_fact_cause : Cause → Bool

@@ -11,5 +11,6 @@ use prolog_tokens::Token;
 
 /// A part of the tokens of a text is a clause, or there is a fault of reading it.
 pub fn clause_or_fault()
-    ensures { (ops : Ops) → IsOps ops → (text : List ℕ) (ts : List Token) → ArePart text ts → ((tree : Tree) × IsClauseOf (table_of ops) text ts tree) ⊎ ((fault : ReadFault) × IsReadFault (table_of ops) text ts fault) }
+    ensures { (ops : Ops) → IsOps ops → (text : List ℕ) (ts : List Token) → ArePart text ts
+        → ((tree : Tree) × IsClauseOf (table_of ops) text ts tree) ⊎ ((fault : ReadFault) × IsReadFault (table_of ops) text ts fault) }
 {}

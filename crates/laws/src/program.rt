@@ -5,15 +5,16 @@ ghost use Rattle.std.specs.List.Sorted.{IsStrictlyIncreasing};
 ghost use Rattle.file_library.specs.declared.fault.Fault.{Fault};
 ghost use Rattle.file_library.specs.Loaded.{LoadedFiles, WasLoaded};
 ghost use Rattle.import_rules.specs.Flaws.{AreImportFaults};
-ghost use Rattle.import_rules.specs.Program.{Seen, HasPredicates, IsProgram, most_predicates};
+ghost use Rattle.import_rules.specs.declared.resolve.TheConstants.{MOST_PREDICATES};
+ghost use Rattle.import_rules.specs.Program.{Seen, HasPredicates, IsProgram};
 ghost use Rattle.call_edges.specs.GoalFaults.{AreGoalFaults};
 ghost use Rattle.call_edges.specs.Roots.{IsRoot};
 
 /// Loaded files have too many predicates, or import faults, or are a program.
 pub fn program_or_faults()
     ensures { (loaded : LoadedFiles) → WasLoaded loaded
-        → HasPredicates loaded (λ n. most_predicates < n)
-        ⊎ (((faults : List Fault) × (HasPredicates loaded (λ n. n ≤ most_predicates) × (AreImportFaults loaded faults × (faults ≢ []))))
+        → HasPredicates loaded (λ n. MOST_PREDICATES < n)
+        ⊎ (((faults : List Fault) × (HasPredicates loaded (λ n. n ≤ MOST_PREDICATES) × (AreImportFaults loaded faults × (faults ≢ []))))
         ⊎ ((seen : Seen) × IsProgram loaded seen)) }
 {}
 

@@ -9,7 +9,8 @@ use crate::cut::cut_or_fault;
 
 /// Words are lawful, and set options, or they are not.
 pub fn lawful_or_not()
-    ensures { (words : List (List ℕ)) → All IsUtf8 words → ((settings : Settings) × AreLawful words settings) ⊎ ((settings : Settings) → AreLawful words settings → ⊥) }
+    ensures { (words : List (List ℕ)) → All IsUtf8 words
+        → ((settings : Settings) × AreLawful words settings) ⊎ ((settings : Settings) → AreLawful words settings → ⊥) }
 {
     cut_or_fault();
     clause_or_fault();

@@ -8,7 +8,6 @@ mod ListLaws
 mod Meeting
 pub mod OneLeast
 mod PathLaws
-mod PlaceSteps
 mod Searching
 mod Returns
 mod Sorted

@@ -1,5 +1,4 @@
 ghost use Rattle.std.specs.Prelude.{◌≡◌, ◌<◌, ℕ, true, false, length, slice_index, slice_index_or, All, IfOk};
-ghost use Rattle.graph_law.specs.CallOrder.{AreApart, AreGroupPlaces};
 ghost use Rattle.graph_law.specs.Classes.{HasMember, least_member};
 ghost use Rattle.graph_law.specs.Graph.{Calls, lists_of};
 ghost use Rattle.graph_law.specs.LegalOrder.{IsLegalOrder};
@@ -7,20 +6,8 @@ ghost use Rattle.loop_paths.specs.Circuits.{AreCircuits, AreReturns, circuits_of
 
 use crate::breadth::lead;
 use crate::inner::Inner;
-use graph_law::{Opener, stamp};
+use graph_law::{Opener, group_places};
 use std::alloc::{AllocError, Global};
-
-/// For each of `count` nodes, the place of the group that it is in.
-fn group_places(alloc: Global, count: usize, groups: &[Vec<u32>]) -> Result<Vec<usize>, AllocError>
-    requires { AreApart count (lists_of groups.now) }
-    ensures { IfOk result (λ places. AreGroupPlaces count (lists_of groups.now) places.items) }
-{
-    let mut places = vec![in alloc; 0usize; count]?;
-    for (place, group) in groups.iter().enumerate() {
-        stamp(&mut places, group, place);
-    }
-    Ok(places)
-}
 
 /// The first member of a group, which is its least one.
 fn least_of(group: &[u32]) -> u32

@@ -8,31 +8,10 @@ use Rattle.std.proofs.lemmas.Option.{slice_get_within, slice_get-get_or, get_or_
 use Rattle.list_laws.proofs.OneOrder.{nothing_in, first_or_rest, in_first, in_rest}
 use Rattle.loop_report.specs.ModuleGraph.{AreRising}
 
--- what stands among the images stands there for an element
-pub there_in_map : {X Y : Type 0} (g : X → Y) (xs : List X) (y : Y) → Contains (map g xs) y → (x : X) × Contains xs x × (g x ≡ y)
-there_in_map {X} {Y} g [] y has = absurd (nothing_in y has)
-there_in_map {X} {Y} g (x ∷ xs) y has =
-    elim (first_or_rest (g x) y (map g xs) has) [
-      | inl is ↦ (x, in_first x xs, is)
-      | inr later ↦ let there = there_in_map g xs y later in (there.0, in_rest x there.0 xs there.1, there.2)
-    ]
-
-pub in_map : {X Y : Type 0} (g : X → Y) (xs : List X) (x : X) → Contains xs x → Contains (map g xs) (g x)
-in_map {X} {Y} g [] x has = absurd (nothing_in x has)
-in_map {X} {Y} g (first ∷ xs) x has =
-    elim (first_or_rest first x xs has) [
-      | inl is ↦ subst (λ y. Contains (g first ∷ map g xs) y) (ap g is) (in_first (g first) (map g xs))
-      | inr later ↦ in_rest (g first) (g x) (map g xs) (in_map g xs x later)
-    ]
-
 -- there is an element at each place
 pub element_at : {X : Type 0} (xs : List X) (k : ℕ) → k < length xs → (x : X) × (slice_get xs k ≡ Some x)
 element_at {X} [] k lt = absurd (omega (arith, lt))
 element_at {X} (x ∷ xs) k lt = (get_or (x ∷ xs) k x, slice_get-get_or (x ∷ xs) k x lt)
-
--- what stands at a place is an element
-pub stands : {X : Type 0} (xs : List X) (i : ℕ) (x : X) → slice_get xs i ≡ Some x → Contains xs x
-stands xs i x is = (i, slice_get_within xs i x is, get_or_from_slice_get xs i x x is)
 
 -- and an element has a place
 pub place_there : {X : Type 0} (xs : List X) (x : X) (has : Contains xs x) → slice_get xs has.0 ≡ Some x

@@ -6,13 +6,14 @@ use Rattle.std.proofs.lemmas.List.{get_or-map, get_or_append_left, get_or_push, 
 use Rattle.std.proofs.lemmas.List.Elements.{Contains-push, Contains-push_cases, Contains-append_left}
 use Rattle.std.proofs.lemmas.List.FromFn.{length-range_with_len, get_or-range_with_len}
 use Rattle.std.proofs.lemmas.Option.{slice_get_within, slice_get-get_or, get_or_from_slice_get}
+use Rattle.list_laws.proofs.Members.{map_from, map_has, stands_in}
 use Rattle.graph_law.specs.Graph.{IsGraph}
 use Rattle.module_table.specs.declared.load.Load.{Load}
 use Rattle.module_table.specs.Said.{Loads}
 use Rattle.module_table.specs.Facts.{Facts}
 use Rattle.list_laws.proofs.OneOrder.{nothing_in}
 use Rattle.loop_report.specs.ModuleGraph.{AreRising, AreModulePlaces, HasLoad, AddsLoads, AreLoadLists, file_names}
-use Rattle.loop_report.proofs.Lists.{there_in_map, in_map, element_at, stands, place_there, more_cases, more_old, more_new, one_place}
+use Rattle.loop_report.proofs.Lists.{element_at, place_there, more_cases, more_old, more_new, one_place}
 
 -- the name of the file of a load
 abbrev pub file_of : Load → List ℕ
@@ -68,7 +69,7 @@ loads_skip names places loads old new i name lt is none adds q = (
         | inr h ↦
             elim (more_cases loads i name h.name lt is h.is_load) [
               | inl before ↦ (adds q).1 (inr (record { file = h.file; name = h.name; is_load = before; at = h.at; place = h.place }))
-              | inr same ↦ absurd (none (stands names h.file name (h.at ∙ ap (λ x. Some x) (sym same))))
+              | inr same ↦ absurd (none (stands_in names h.file name (h.at ∙ ap (λ x. Some x) (sym same))))
             ]
       ]),
 )
@@ -118,7 +119,7 @@ loaded_names loads = map (λ (load : Loads). load.file) loads
 leads_to : (files : List Facts) (modules : List (List ℕ)) (places : List ℕ) (loads : List Loads) (q : ℕ) → AreModulePlaces files modules places
     → HasLoad (file_names files) places (loaded_names loads) q → LeadsTo files modules loads q
 leads_to files modules places loads q are h =
-    let load = there_in_map (λ (load : Loads). load.file) loads h.name h.is_load in
+    let load = map_from (λ (load : Loads). load.file) loads h.name h.is_load in
     let within : h.file < length files = omega (arith, slice_get_within (file_names files) h.file h.name h.at, length-map files (λ (f : Facts). f.file)) in
     let file = element_at files h.file within in
     let named : file.0.file ≡ h.name =
@@ -128,7 +129,7 @@ leads_to files modules places loads q are h =
       load = load.0;
       has_load = load.1;
       file = file.0;
-      is_loaded = stands files h.file file.0 file.1;
+      is_loaded = stands_in files h.file file.0 file.1;
       named = named ∙ sym load.2;
       other = ap (slice_get modules) (sym (number_at places h.file q h.place)) ∙ are.at h.file file.0 file.1;
     }
@@ -143,7 +144,7 @@ has_load files modules places loads q up are h =
     record {
       file = k;
       name = h.load.file;
-      is_load = in_map (λ (load : Loads). load.file) loads h.load h.has_load;
+      is_load = map_has (λ (load : Loads). load.file) loads h.load h.has_load;
       at =
           slice_get-get_or (file_names files) k h.load.file (omega (arith, within, length-map files (λ (f : Facts). f.file)))
           ∙ ap (λ x. Some x)

@@ -18,10 +18,10 @@ use Rattle.std.proofs.lemmas.Map.Keys.{sorted_tail}
 use Rattle.std.proofs.lemmas.Map.Views.{All-after_first}
 use Rattle.std.proofs.lemmas.Option.{slice_get-get_or}
 use Rattle.std.proofs.lemmas.Slice.Eq.{bytes_eq-Decides}
+use Rattle.list_laws.proofs.Members.{map_from, map_has}
 use Rattle.module_table.specs.Facts.{Facts}
 use Rattle.loop_report.specs.ImportLoops.{AreModules}
 use Rattle.loop_report.specs.ModuleGraph.{AreRising, texts_of}
-use Rattle.loop_report.proofs.Lists.{there_in_map, in_map}
 
 abbrev pub lent_cmp : Bor (List ℕ) → Bor (List ℕ) → Ordering
 lent_cmp a b = slice_cmp nat_cmp a.now b.now
@@ -56,13 +56,13 @@ modules_made files lent sorted kept are moved up is =
     let there : (b : Bor (List ℕ)) → Contains kept b → (f : Facts) × Contains files f × (f.module_ ≡ b.now) = λ b has.
     let in_sorted = Contains-from_dedup lent_eq sorted b (subst (λ xs. Contains xs b) is has) in
     let in_lent = Contains-permutation sorted lent b (IsPermutation-sym lent sorted moved) in_sorted in
-    there_in_map module_of files b.now (subst (λ names. Contains names b.now) are (in_map lent_now lent b in_lent)) in
+    map_from module_of files b.now (subst (λ names. Contains names b.now) are (map_has lent_now lent b in_lent)) in
     let all : (f : Facts) → Contains files f → Contains (texts_of kept) f.module_ = λ f has.
-    let named = there_in_map lent_now lent f.module_ (subst (λ names. Contains names f.module_) (sym are) (in_map module_of files f has)) in
+    let named = map_from lent_now lent f.module_ (subst (λ names. Contains names f.module_) (sym are) (map_has module_of files f has)) in
     let in_sorted = Contains-permutation lent sorted named.0 moved named.1 in
     let same = Any-dedup lent_equiv sorted named.0 in_sorted in
     let in_kept : Contains kept same.1 = subst (λ xs. Contains xs same.1) (sym is) (same.0, same.2, same.3) in
-    subst (Contains (texts_of kept)) (sym ((bytes_eq-Decides named.0.now same.1.now).0 same.4) ∙ named.2) (in_map lent_now kept same.1 in_kept) in
+    subst (Contains (texts_of kept)) (sym ((bytes_eq-Decides named.0.now same.1.now).0 same.4) ∙ named.2) (map_has lent_now kept same.1 in_kept) in
     record {
       in_order = rising_texts kept (subst (IsStrictlySortedBy lent_cmp) (sym is) (IsStrictlySortedBy-dedup lent_total lent_ties sorted up));
       each =
@@ -94,7 +94,7 @@ pub absent : (names : List (Bor (List ℕ))) (wanted : Bor (List ℕ)) (place : 
     → Contains (texts_of names) wanted.now → ⊥
 absent names wanted place up split has =
     let parts = split (searchable_from_sorted lent_total (λ (x : Bor (List ℕ)). x) names wanted (sorted_from_rising names up)) in
-    let there = there_in_map lent_now names wanted.now has in
+    let there = map_from lent_now names wanted.now has in
     let tie : lent_cmp there.0 wanted ≡ Equal = ap (λ n. slice_cmp nat_cmp n wanted.now) there.2 ∙ tied_itself nat_list_cmp_total wanted.now in
     let at : lent_cmp (get_or names there.1.0 there.0) wanted ≡ Equal = ap (λ (x : Bor (List ℕ)). lent_cmp x wanted) there.1.2 ∙ tie in
     elim (cases_lt there.1.0 place) [

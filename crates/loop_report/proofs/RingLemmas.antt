@@ -15,6 +15,7 @@ use Rattle.std.proofs.lemmas.List.Quantifiers.{all_pairs_push}
 use Rattle.std.proofs.lemmas.List.Sorted.{IsPermutation-map, All-permutation, Contains-permutation, sorted_far, ranks_by}
 use Rattle.std.proofs.lemmas.Map.Keys.{IsDistinct-IsPermutation}
 use Rattle.std.proofs.lemmas.Map.Made.{AllPairs-from_IsDistinct, IsDistinct-from_AllPairs}
+use Rattle.list_laws.proofs.Members.{map_has}
 use Rattle.graph_law.specs.Graph.{Calls, lists_of}
 use Rattle.graph_law.specs.Classes.{IsClass, IsRecursive, HasMember, group_at, least_member}
 use Rattle.graph_law.specs.LegalOrder.{IsLegalOrder, IsComplete}
@@ -24,7 +25,7 @@ use Rattle.list_laws.proofs.OneOrder.{range_has, holds_of, nothing_in}
 use Rattle.loop_report.specs.ImportLoops.{names_at}
 use Rattle.loop_report.specs.ModuleGraph.{IsRing, AreRings}
 use Rattle.loop_report.specs.Reportable.{LeastDiffer}
-use Rattle.loop_report.proofs.Lists.{element_at, in_map}
+use Rattle.loop_report.proofs.Lists.{element_at}
 
 -- the class loads itself, and isn't the module `user` alone
 abbrev pub IsLooping : List (List ℕ) → List (List ℕ) → List ℕ → Type 0
@@ -155,7 +156,7 @@ pub next_there : (before rest all : List (Vec ℕ Global)) (next : Vec ℕ Globa
 next_there before rest all next is =
     let has : Contains (before ++ next ∷ rest) next =
     (length before, omega (arith, length-append before (next ∷ rest)), get_or-append_seam before next rest next) in
-    in_map (λ (v : Vec ℕ Global). v.items) all next (subst (λ vecs. Contains vecs next) is has)
+    map_has (λ (v : Vec ℕ Global). v.items) all next (subst (λ vecs. Contains vecs next) is has)
 
 pub rings_done : (modules lists groups : List (List ℕ)) (roots : List ℕ) (kept sorted : List (Vec ℕ Global)) → length modules ≡ length lists
     → roots ≡ range_with_len 0 (length lists) → IsLegalOrder (Calls lists) groups → IsComplete roots groups

@@ -10,8 +10,3 @@ pub texts_more : {X : Type 0} (f : X → List ℕ) (head before after : List ℕ
 texts_more {X} f head before after xs i x lt is before_is after_is =
     after_is ∙ ap (λ text. text ++ f x) before_is ∙ flat_map_more f head (take i xs) x
     ∙ ap (λ ys. head ++ flat_map f ys) (ap (λ y. take i xs ++ y ∷ []) is ∙ sym (take_more xs i x lt))
-
--- one number more
-pub range_more : (n : ℕ) → range_with_len 0 (n + 1) ≡ range_with_len 0 n ++ n ∷ []
-range_more n =
-    sym (map-id (range_with_len 0 (n + 1))) ∙ (map-range_with_len_more (λ k. k) 0 n n (omega arith) ∙ ap (λ ks. ks ++ n ∷ []) (map-id (range_with_len 0 n)))

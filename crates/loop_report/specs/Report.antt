@@ -1,5 +1,6 @@
 -- The report: a head line, a line for each group, a line for each import loop, and where they are asked for the predicates that are in no group.
-use Rattle.std.specs.Prelude.{◌≡◌, ℕ, ◌+◌, ◌<◌, ◌⊎◌, Bool, not, List, [], ◌++◌, length, max, map, sum_by, count_by, fold, AllPairs, IsPermutation, nat_eq, if◌then◌else◌, codes}
+use Rattle.std.specs.Prelude.{◌≡◌, ℕ, ◌+◌, ◌<◌, ◌⊎◌, Bool, not, List, [], ◌++◌, length, max, map, sum_by, count_by, fold, AllPairs, IsPermutation, nat_eq}
+use Rattle.std.specs.Prelude.{if◌then◌else◌, codes}
 use Rattle.std.specs.Fmt.{decimal}
 use Rattle.std.specs.List.{flat_map, filter, list_any, range_with_len}
 use Rattle.graph_law.specs.Classes.{group_at, least_member}
@@ -73,7 +74,8 @@ abbrev pub unreached_lines : List PredName → List (List ℕ) → List ℕ
 unreached_lines predicates groups = flat_map (unreached_line predicates) (ungrouped groups (length predicates))
 
 -- the bytes are the report with the lines of the groups in this order
-pub record IsReportIn (predicates : List PredName) (files : List Facts) (groups : List (List ℕ)) (levels : List Level) (unreached : Bool) (order bytes : List ℕ) : Type 0 where
+pub record IsReportIn (predicates : List PredName) (files : List Facts) (groups : List (List ℕ)) (levels : List Level) (unreached : Bool)
+    (order bytes : List ℕ) : Type 0 where
   pub loops : List (List (List ℕ))
   pub are_loops : AreImportLoops files loops
   pub is : bytes
@@ -81,7 +83,8 @@ pub record IsReportIn (predicates : List PredName) (files : List Facts) (groups 
       ++ (if unreached then unreached_lines predicates groups else [])
 
 -- the bytes are the report: the lines of the groups are in order of height and least member
-pub record IsReport (predicates : List PredName) (files : List Facts) (groups : List (List ℕ)) (levels : List Level) (unreached : Bool) (bytes : List ℕ) : Type 0 where
+pub record IsReport (predicates : List PredName) (files : List Facts) (groups : List (List ℕ)) (levels : List Level) (unreached : Bool)
+    (bytes : List ℕ) : Type 0 where
   pub order : List ℕ
   pub in_order : IsLineOrder groups levels order
   pub report : IsReportIn predicates files groups levels unreached order bytes

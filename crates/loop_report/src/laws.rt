@@ -29,7 +29,8 @@ pub fn one_list_of_loops()
 
 /// Groups have one report, in whatever legal order they are given.
 pub fn one_report()
-    ensures { (predicates : List PredName) (files : List Facts) (lists : List (List ℕ)) (roots : List ℕ) (groups others : List (List ℕ)) (levels marks : List Level)
-        (unreached : Bool) (bytes other : List ℕ) → AreLeveled (Calls lists) roots groups levels → AreLeveled (Calls lists) roots others marks
+    ensures { (predicates : List PredName) (files : List Facts) (lists : List (List ℕ)) (roots : List ℕ) (groups others : List (List ℕ))
+        (levels marks : List Level) (unreached : Bool) (bytes other : List ℕ)
+        → AreLeveled (Calls lists) roots groups levels → AreLeveled (Calls lists) roots others marks
         → IsReport predicates files groups levels unreached bytes → IsReport predicates files others marks unreached other → bytes ≡ other }
 {}

@@ -60,7 +60,8 @@ fn written(
     requires printable { ArePrintable (length (see_program program.now).predicates) (lists_of groups.now) levels.now }
     requires places { All (λ place. place < length groups.now) order.now }
     ensures { IfOk result (λ bytes.
-        IsReportIn (see_program program.now).predicates (see_program program.now).loaded.files (lists_of groups.now) levels.now unreached order.now bytes.items) }
+        IsReportIn (see_program program.now).predicates (see_program program.now).loaded.files
+        (lists_of groups.now) levels.now unreached order.now bytes.items) }
 {
     let mut text = String::with_capacity(alloc, 32 * program.count() as usize)?;
     push_head(&mut text, groups, levels)?;

@@ -6,6 +6,7 @@ use Rattle.std.proofs.lemmas.List.Concat.{flat_map-append}
 use Rattle.std.proofs.lemmas.List.Elements.{All-nil, All-cons, All-contains, All-from_recursion, Contains-append_cases, Contains-append_left, Contains-append_right, Contains-push, filter_map-append, filter-append}
 use Rattle.std.proofs.lemmas.Slice.Eq.{bytes_eq-Decides}
 use Rattle.std.proofs.lemmas.Bool.Decides.{Decides-eqb}
+use Rattle.list_laws.proofs.Members.{kept_in}
 use Rattle.prolog_terms.specs.Tree.{Tree}
 use Rattle.clause_text.specs.Items.{directive_of}
 use Rattle.module_table.specs.Defined.{Defines, Predicate, clause_for, clauses_for}
@@ -89,18 +90,6 @@ pub clauses_are : (user : List ℕ) (trees : List Tree) (facts : Facts) → AreF
 clauses_are user trees facts are p has = (are.are.defined.each p has).1 ∙ said_clauses p.module_ p.name p.arity user trees are.parts are.said
 
 -- and no clause is left out
-
-filter_has : {A : Type 0} (p : A → Bool) (xs : List A) (x : A) → Contains xs x → p x ≡ true → Contains (filter p xs) x
-filter_has p [] x has passes = absurd (omega (arith, has.1))
-filter_has p (y ∷ xs) x has passes =
-    subst (λ zs. Contains zs x) (sym (filter-append p (y ∷ []) xs))
-    (elim (Contains-append_cases (y ∷ []) xs x has) [
-      | inl first ↦
-          let same : x ≡ y = All-contains (λ z. z ≡ y) (y ∷ []) x (All-cons (λ z. z ≡ y) y [] refl (All-nil (λ z. z ≡ y))) first in
-          Contains-append_left (filter p (y ∷ [])) (filter p xs) x
-          (subst (λ zs. Contains zs x) (ap (λ t. if t then y ∷ [] else []) (sym (ap p (sym same) ∙ passes))) (subst (Contains (y ∷ [])) (sym same) (Contains-push [] y)))
-      | inr later ↦ Contains-append_right (filter p (y ∷ [])) (filter p xs) x (filter_has p xs x later passes)
-    ])
 
 abbrev by_clause : Owned → Tree → Defines
 by_clause named tree = record { module_ = named.module_; name = named.name; arity = named.arity; clause = Some tree }
@@ -189,7 +178,7 @@ clauses_stay user trees facts are tree has none =
       record { module_ = it.named.module_; name = it.named.name; arity = it.named.arity; clauses = clauses },
       are.are.defined.all it.named.module_ it.named.name it.named.arity (record { clause = Some tree; stands = it.has }),
       subst (λ l. Contains l tree) (sym (said_clauses it.named.module_ it.named.name it.named.arity user trees are.parts are.said))
-          (filter_has (is_clause_of own.module_ it.named.module_ it.named.name it.named.arity) trees tree has (is_its_own own.module_ it.named tree none it.heads)),
+          (kept_in (is_clause_of own.module_ it.named.module_ it.named.name it.named.arity) trees tree has (is_its_own own.module_ it.named tree none it.heads)),
     )
 
 -- the files that are loaded have tidy names

@@ -102,7 +102,8 @@ shallow_said user first (compound name (with_more left (with_more right none)) f
     two_said user first name left right (compound name (with_more left (with_more right none)) form span)
 shallow_said user first (compound name (with_more a (with_more b (with_more c none))) form span) =
     three_said name (compound name (with_more a (with_more b (with_more c none))) form span)
-shallow_said user first (atom name span) = if is_among (codes "else" ∷ codes "endif" ∷ []) name then refused NotInProfile (atom name span) else only (goal (atom name span))
+shallow_said user first (atom name span) =
+    if is_among (codes "else" ∷ codes "endif" ∷ []) name then refused NotInProfile (atom name span) else only (goal (atom name span))
 shallow_said user first (listed items span) = loads_said user.file Ensure (trees_in items)
 shallow_said user first (tailed items tail span) = refused BadSpec (tailed items tail span)
 shallow_said user first tree = only (goal tree)

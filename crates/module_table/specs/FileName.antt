@@ -1,5 +1,6 @@
 -- The names of the files that specifications mean.
-use Rattle.std.specs.Prelude.{ℕ, ◌≡◌, ◌==◌, map, List, [], ◌∷◌, ◌++◌, Option, Some, None, Bool, ◌||◌, nat_eq, if◌then◌else◌, codes, fold, reverse, flat_map, refl}
+use Rattle.std.specs.Prelude.{ℕ, ◌≡◌, ◌==◌, map, List, [], ◌∷◌, ◌++◌, Option, Some, None, Bool, ◌||◌, nat_eq, if◌then◌else◌, codes, fold, reverse, flat_map}
+use Rattle.std.specs.Prelude.{refl}
 use Rattle.std.specs.Str.{bytes_eq}
 use Rattle.std.specs.List.{slice_split, starts_with, ends_with}
 use Rattle.std.specs.Borrow.{Bor}

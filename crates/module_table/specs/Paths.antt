@@ -4,7 +4,8 @@ use Rattle.std.specs.Str.{bytes_eq}
 use Rattle.std.specs.List.{ends_with}
 use Rattle.module_table.specs.FileName.{slash, begins_with_slash, segments, with_ending}
 
--- where one more segment leads from a place, whose folders stand the last one first: an empty one and `.` stay there, and `..` leads a level up, where there is one
+-- where one more segment leads from a place, whose folders stand the last one first: an empty one and `.` stay there, and `..` leads a level up, where there is
+-- one
 abbrev pub led_on : List (List ℕ) → List ℕ → List (List ℕ)
 led_on place segment =
     if bytes_eq segment [] || bytes_eq segment (codes ".") then place

@@ -1,6 +1,7 @@
 //! The facts of a file, from its clauses.
 
 ghost use Rattle.std.specs.Prelude.{◌≡◌, ◌≤◌, ◌+◌, IfOk, IfErr, OnOk, Ok, All, ℕ, List, map};
+ghost use Rattle.prolog_tokens.specs.declared.limits.TheConstants.{MOST_BYTES};
 ghost use Rattle.prolog_terms.specs.Tree.{tree_of};
 ghost use Rattle.prolog_terms.specs.Weight.{weight};
 ghost use Rattle.module_table.specs.Defined.{clause_tree};
@@ -45,7 +46,7 @@ pub struct FileFacts {
 
 /// The predicate that a clause defines in a file of the module `owner`.
 fn clause_head<'a>(owner: &'a str, clause: &'a Term) -> Result<OwnedHead<'a>, FactFault>
-    requires { weight (tree_of clause.now) ≤ 8388608 }
+    requires { weight (tree_of clause.now) ≤ MOST_BYTES }
     ensures ok { IfOk result (λ own. clause_head owner.now (tree_of clause.now)
         ≡ Ok (record { module_ = own.module.now; name = own.name.now; arity = own.arity })) }
     ensures refused { IfErr result (λ fault. IsWhy (clause_head owner.now (tree_of clause.now)) fault) }
@@ -77,7 +78,7 @@ fn push_headed(
     clause: Clause,
     kinds: &mut Kinds,
 ) -> Result<(), FactFault>
-    requires { weight (clause_tree clause) ≤ 8388608 }
+    requires { weight (clause_tree clause) ≤ MOST_BYTES }
     ensures ok { OnOk result (with_said (see_kinds kinds.old) (headed (clause_head owner.now (clause_tree clause)) (clause_tree clause))
         ≡ Ok (see_kinds kinds.new)) }
     ensures refused { IfErr result (λ fault. IsWhy (headed (clause_head owner.now (clause_tree clause)) (clause_tree clause)) fault) }
@@ -114,7 +115,7 @@ fn push_clause(
     clause: Clause,
     kinds: &mut Kinds,
 ) -> Result<(), FactFault>
-    requires { weight (clause_tree clause) ≤ 8388608 }
+    requires { weight (clause_tree clause) ≤ MOST_BYTES }
     ensures ok { OnOk result (with_said (see_kinds kinds.old) (clause_said (home file.now owner.now) first (clause_tree clause)) ≡ Ok (see_kinds kinds.new)) }
     ensures refused { IfErr result (λ fault. IsWhy (clause_said (home file.now owner.now) first (clause_tree clause)) fault) }
 {
@@ -145,7 +146,7 @@ fn module_of(clauses: &[Clause]) -> &str
 
 /// All that the clauses say in a file of the module `owner`, by kind.
 fn said(alloc: Global, file: &str, owner: &str, clauses: Vec<Clause>) -> Result<Kinds, FactFault>
-    requires { All (λ tree. weight tree ≤ 8388608) (map clause_tree clauses.items) }
+    requires { All (λ tree. weight tree ≤ MOST_BYTES) (map clause_tree clauses.items) }
     ensures ok { IfOk result (λ kinds. AreSaid (trees_said (home file.now owner.now) (map clause_tree clauses.items)) kinds) }
     ensures refused { IfErr result (λ fault. IsWhy (trees_said (home file.now owner.now) (map clause_tree clauses.items)) fault) }
 {
@@ -160,7 +161,7 @@ fn said(alloc: Global, file: &str, owner: &str, clauses: Vec<Clause>) -> Result<
 
 /// The facts of a file with these clauses (ISO/IEC 13211-1, 7.4).
 pub fn facts(alloc: Global, file: &str, clauses: Vec<Clause>) -> Result<FileFacts, FactFault>
-    requires { All (λ tree. weight tree ≤ 8388608) (map clause_tree clauses.items) }
+    requires { All (λ tree. weight tree ≤ MOST_BYTES) (map clause_tree clauses.items) }
     ensures ok { IfOk result (λ found. AreFacts file.now (map clause_tree clauses.items) (see_facts found)) }
     ensures only { IfOk result (λ found. (other : Facts) → AreFacts file.now (map clause_tree clauses.items) other → other ≡ see_facts found) }
     ensures refused { IfErr result (λ fault. IsWhy (file_said file.now (map clause_tree clauses.items)) fault) }

@@ -23,7 +23,8 @@ pub fn one_facts()
 
 /// A refusal of the facts stands at an offset of the text, where the terms of the clauses do.
 pub fn refusals_placed()
-    ensures { (text user : List ℕ) (trees : List Tree) (refusal : Refusal) → All (HasOffsets text) trees → file_said user trees ≡ Err refusal → IsOffset text refusal.offset }
+    ensures { (text user : List ℕ) (trees : List Tree) (refusal : Refusal) → All (HasOffsets text) trees
+        → file_said user trees ≡ Err refusal → IsOffset text refusal.offset }
 {}
 
 /// All that the facts of a file keep stands at offsets of the text, where the terms of the clauses
@@ -67,8 +68,8 @@ pub fn one_of_text()
 pub fn clauses_kept()
     ensures are { (user : List ℕ) (trees : List Tree) (facts : Facts) → AreFacts user trees facts → (p : Predicate) → Contains facts.defined p
         → p.clauses ≡ filter (is_clause_of (module_of trees) p.module_ p.name p.arity) trees }
-    ensures all { (user : List ℕ) (trees : List Tree) (facts : Facts) → AreFacts user trees facts → (tree : Tree) → Contains trees tree → directive_of tree ≡ None
-        → (p : Predicate) × Contains facts.defined p × Contains p.clauses tree }
+    ensures all { (user : List ℕ) (trees : List Tree) (facts : Facts) → AreFacts user trees facts → (tree : Tree) → Contains trees tree
+        → directive_of tree ≡ None → (p : Predicate) × Contains facts.defined p × Contains p.clauses tree }
 {}
 
 /// Each file that is loaded has the name of a file.
@@ -95,7 +96,8 @@ pub fn names_kept()
 /// Wherever one stands, the name leads to where the specification leads from the folder of the
 /// file, but for the ending.
 pub fn names_lead()
-    ensures { (user spec name : List ℕ) → resolved user spec ≡ Some name → (place : List (List ℕ)) → led place name ≡ as_prolog (led (led place (folder user)) spec) }
+    ensures { (user spec name : List ℕ) → resolved user spec ≡ Some name
+        → (place : List (List ℕ)) → led place name ≡ as_prolog (led (led place (folder user)) spec) }
 {}
 
 /// A specification means no file just where it leads from the root to the root.

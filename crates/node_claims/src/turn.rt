@@ -67,7 +67,11 @@ impl<'a> Turn<'a> {
     pub fn give(self, running: &Search, unopened: Option<u32>) -> Pass
         requires { MayGive self.view self.taken (outline_of self.book) (nodes_with running.now unopened) }
         ensures table { result.table ≡ self.entry.table }
-        ensures view { result.view ≡ record self.entry.view { nodes = nodes_with running.now unopened; seen = self.entry.view.seen ++ flat self.entry.book.groups; told = self.entry.book.failed } }
+        ensures view { result.view ≡ record self.entry.view {
+          nodes = nodes_with running.now unopened;
+          seen = self.entry.view.seen ++ flat self.entry.book.groups;
+          told = self.entry.book.failed;
+        } }
     {
         self.give_named::<Brand>(running, unopened)
     }
@@ -77,7 +81,11 @@ impl<'a> Turn<'a> {
         requires named { nodes_with running.now unopened ≡ N.nodes }
         requires may { MayGive self.view self.taken (outline_of self.book) (nodes_with running.now unopened) }
         ensures table { result.table ≡ self.entry.table }
-        ensures view { result.view ≡ record self.entry.view { nodes = nodes_with running.now unopened; seen = self.entry.view.seen ++ flat self.entry.book.groups; told = self.entry.book.failed } }
+        ensures view { result.view ≡ record self.entry.view {
+          nodes = nodes_with running.now unopened;
+          seen = self.entry.view.seen ++ flat self.entry.book.groups;
+          told = self.entry.book.failed;
+        } }
     {
         let Turn {
             claims,

@@ -1,5 +1,6 @@
 -- The table of operators: a map from a place and a name to an operator.
-use Rattle.std.specs.Prelude.{ℕ, ◌≡◌, ◌≤◌, ◌<◌, ◌==◌, List, [], ◌∷◌, Option, Some, None, Bool, true, false, is_some, not, ◌&&◌, ◌||◌, nat_lt, if◌then◌else◌, codes, fold}
+use Rattle.std.specs.Prelude.{ℕ, ◌≡◌, ◌≤◌, ◌<◌, ◌==◌, List, [], ◌∷◌, Option, Some, None, Bool, true, false, is_some, not, ◌&&◌, ◌||◌, nat_lt, if◌then◌else◌}
+use Rattle.std.specs.Prelude.{codes, fold}
 use Rattle.std.specs.Str.{bytes_eq}
 use Rattle.prolog_ops.specs.ByName.{Entries, ByName, op_at, no_op, with_op, with_each}
 use Rattle.prolog_ops.specs.declared.op.Op.{Op}

@@ -7,7 +7,9 @@ use Rattle.ucd_category.specs.GeneralCategory.{general_category}
 use Rattle.ucd_category.specs.declared.GeneralCategory.{GeneralCategory}
 use Rattle.ucd_category.specs.declared.GeneralCategory.TheVariants.{UppercaseLetter, TitlecaseLetter}
 use Rattle.prolog_tokens.specs.declared.chars.Class.{Class}
-use Rattle.prolog_tokens.specs.declared.chars.Class.TheVariants.{White, Small, Capital, Digit, SingleQuote, DoubleQuote, BackQuote, RoundOpen, RoundClose, SquareOpen, SquareClose, CurlyOpen, CurlyClose, CommaSign, BarSign, Percent, Dot, Slash, Solo, Graphic, Further, OrderMark, Inner, Other}
+use Rattle.prolog_tokens.specs.declared.chars.Class.TheVariants.{White, Small, Capital, Digit, SingleQuote, DoubleQuote, BackQuote, RoundOpen, RoundClose}
+use Rattle.prolog_tokens.specs.declared.chars.Class.TheVariants.{SquareOpen, SquareClose, CurlyOpen, CurlyClose, CommaSign, BarSign, Percent, Dot, Slash, Solo}
+use Rattle.prolog_tokens.specs.declared.chars.Class.TheVariants.{Graphic, Further, OrderMark, Inner, Other}
 
 abbrev pub ascii_class : ℕ → Class
 ascii_class b =

@@ -57,6 +57,9 @@ IsPiece text a b bracketed = IsBracketed text a b
 IsPiece text a b mark = (a ≡ 0) × IsOrderMark text b
 IsPiece text a b hash_bang = IsHashBang text a × GoesToNewline text a b
 
+abbrev pub EndsPiece : List ℕ → ℕ → ℕ → Type 0
+EndsPiece text a b = (sort : Sort) × IsPiece text a b sort
+
 -- pieces one after another, from one place up to another
 abbrev pub ArePieces : List ℕ → ℕ → List Sort → ℕ → Type 0
 ArePieces text a [] b = a ≡ b

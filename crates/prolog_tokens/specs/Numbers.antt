@@ -66,6 +66,10 @@ pub record IsBased (base : ℕ) (text : List ℕ) (a n b : ℕ) : Type 0 where
   pub letter : base_of (slice_index text (a + 1)) ≡ Some base
   pub writes : Writes base text (a + 2) b n
 
+-- and of some base and integer
+abbrev pub EndsBased : List ℕ → ℕ → ℕ → Type 0
+EndsBased text a b = (base : ℕ) × (n : ℕ) × IsBased base text a n b
+
 -- the bytes from a to b write the integer n in this way
 abbrev pub IsIntegerBy : List ℕ → ℕ → ℕ → ℕ → Form → Type 0
 IsIntegerBy text a n b plain_digits = IsDecimal text a n b

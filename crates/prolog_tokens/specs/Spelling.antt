@@ -1,9 +1,11 @@
 -- The spellings of the kinds of tokens (ISO/IEC 13211-1, 6.4).
 use Rattle.std.specs.Prelude.{◌≡◌, ◌≢◌, ℕ, ◌+◌, ◌<◌, ◌≤◌, ◌⊎◌, List, length, true, false, slice_index}
 use Rattle.prolog_tokens.specs.declared.chars.Class.{Class}
-use Rattle.prolog_tokens.specs.declared.chars.Class.TheVariants.{White, Small, Capital, RoundOpen, RoundClose, SquareOpen, SquareClose, CurlyOpen, CurlyClose, CommaSign, BarSign, Percent, Solo, Inner}
+use Rattle.prolog_tokens.specs.declared.chars.Class.TheVariants.{White, Small, Capital, RoundOpen, RoundClose, SquareOpen, SquareClose, CurlyOpen, CurlyClose}
+use Rattle.prolog_tokens.specs.declared.chars.Class.TheVariants.{CommaSign, BarSign, Percent, Solo, Inner}
 use Rattle.prolog_tokens.specs.declared.token.Kind.{Kind}
-use Rattle.prolog_tokens.specs.declared.token.Kind.TheVariants.{Name, Quoted, Variable, Integer, Float, Str, BackStr, OpenRound, CloseRound, OpenSquare, CloseSquare, OpenCurly, CloseCurly, Comma, Bar, End}
+use Rattle.prolog_tokens.specs.declared.token.Kind.TheVariants.{Name, Quoted, Variable, Integer, Float, Str, BackStr, OpenRound, CloseRound, OpenSquare}
+use Rattle.prolog_tokens.specs.declared.token.Kind.TheVariants.{CloseSquare, OpenCurly, CloseCurly, Comma, Bar, End}
 use Rattle.prolog_tokens.specs.Chars.{class_at, continues, is_graphic}
 use Rattle.prolog_tokens.specs.Quoted.{IsQuoted}
 use Rattle.prolog_tokens.specs.Numbers.{IsInteger, IsFloat}

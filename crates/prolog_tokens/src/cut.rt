@@ -1,4 +1,5 @@
 ghost use Rattle.std.specs.Prelude.{◌≡◌, ◌≢◌, ℕ, ◌<◌, ◌≤◌, ◌⊎◌, ◌↔◌, List, length, IsTrue, IfOk, IfErr, IfSome, MatchOption, MatchResult};
+ghost use Rattle.prolog_tokens.specs.declared.limits.TheConstants.{MOST_BYTES};
 ghost use Rattle.prolog_tokens.specs.Chars.{class_at as class_of_place};
 ghost use Rattle.prolog_tokens.specs.Layout.{IsLayout};
 ghost use Rattle.prolog_tokens.specs.Cut.{IsNext, IsCut, IsWrongNext, HasFault};
@@ -24,10 +25,10 @@ fn stands_apart(at: usize, start: usize) -> bool
 
 /// The token that stands next after `at`, behind layout, or None where the text ends.
 fn next_token(text: &str, at: usize) -> Result<Option<Token>, TokenFault>
-    requires small { length text.now ≤ 8388608 }
+    requires small { length text.now ≤ MOST_BYTES }
     requires within { at ≤ length text.now }
     requires begins { class_of_place text.now at ≢ Inner }
-    ensures { MatchResult result (λ next. MatchOption next (IsLayout text.now at (length text.now)) (λ token. IsNext text.now at token)) (λ fault. IsWrongNext text.now at fault) }
+    ensures { MatchResult result (λ next. MatchOption next (IsLayout text.now at (length text.now)) (IsNext text.now at)) (IsWrongNext text.now at) }
 {
     let start = layout_end(text, at)?;
     if start == text.len() {
@@ -45,7 +46,7 @@ fn next_token(text: &str, at: usize) -> Result<Option<Token>, TokenFault>
 /// The tokens of a text of at most 8,388,608 bytes, or what is wrong first in it (ISO/IEC 13211-1,
 /// 6.4; `docs/syntax.md` has the profile).
 pub fn tokens(alloc: Global, text: &str) -> Result<Vec<Token>, TokenFault>
-    requires { length text.now ≤ 8388608 }
+    requires { length text.now ≤ MOST_BYTES }
     ensures ok { IfOk result (λ found. IsCut text.now found.items) }
     ensures only { IfOk result (λ found. (others : List Token) → IsCut text.now others → others ≡ found.items) }
     ensures no_fault { IfOk result (λ _. (fault : TokenFault) → HasFault text.now fault → ⊥) }

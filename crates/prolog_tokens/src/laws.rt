@@ -28,7 +28,8 @@ pub fn cut_tokens()
     ensures spelled { (text : List ℕ) (ts : List Token) → IsCut text ts → (k : ℕ) (t : Token) → slice_get ts k ≡ Some t → IsTokenOf text t }
     ensures some { (text : List ℕ) (t : Token) → IsTokenOf text t → t.start < t.end }
     ensures within { (text : List ℕ) (t : Token) → IsTokenOf text t → t.end ≤ length text }
-    ensures order { (text : List ℕ) (ts : List Token) → IsCut text ts → (j k : ℕ) (t u : Token) → j < k → slice_get ts j ≡ Some t → slice_get ts k ≡ Some u → t.end ≤ u.start }
+    ensures order { (text : List ℕ) (ts : List Token) → IsCut text ts → (j k : ℕ) (t u : Token) → j < k
+        → slice_get ts j ≡ Some t → slice_get ts k ≡ Some u → t.end ≤ u.start }
 {}
 
 /// A cut has no more tokens than the text has bytes.

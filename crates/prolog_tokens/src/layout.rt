@@ -1,6 +1,7 @@
 ghost use Rattle.std.specs.Prelude.{◌≡◌, ◌≢◌, ◌<◌, ◌≤◌, ◌⊎◌, ◌↔◌, length, IsTrue, IfOk, IfErr, MatchOption, MatchResult};
+ghost use Rattle.prolog_tokens.specs.declared.limits.TheConstants.{MOST_BYTES};
 ghost use Rattle.prolog_tokens.specs.Chars.{class_at as class_of_place};
-ghost use Rattle.prolog_tokens.specs.Layout.{GoesToNewline, IsOpener, IsCloser, IsOrderMark, IsBracketed, IsHashBang, Sort, bracketed, IsPiece, IsLayout};
+ghost use Rattle.prolog_tokens.specs.Layout.{GoesToNewline, IsOpener, IsCloser, IsOrderMark, IsBracketed, IsHashBang, EndsPiece, bracketed, IsPiece, IsLayout};
 ghost use Rattle.prolog_tokens.specs.Faults.{IsOpenComment, IsWrong};
 ghost use Rattle.prolog_tokens.specs.Begins.{BeginsNoLayout};
 ghost use Rattle.prolog_tokens.specs.Cut.{IsWrongNext};
@@ -71,9 +72,9 @@ fn bracketed_end(bytes: &[u8], start: usize) -> Option<usize>
 
 /// The end of the bracketed comment that begins at `at`, or None where none does.
 fn comment_end(bytes: &[u8], at: usize) -> Result<Option<usize>, TokenFault>
-    requires small { length bytes.now ≤ 8388608 }
+    requires small { length bytes.now ≤ MOST_BYTES }
     requires within { at < length bytes.now }
-    ensures { MatchResult result (λ found. MatchOption found (IsOpener bytes.now at → ⊥) (λ end. IsPiece bytes.now at end bracketed)) (λ fault. IsWrong bytes.now at fault) }
+    ensures { MatchResult result (λ found. MatchOption found (IsOpener bytes.now at → ⊥) (λ end. IsPiece bytes.now at end bracketed)) (IsWrong bytes.now at) }
 {
     if !begins_comment(bytes, at) {
         return Ok(None);
@@ -119,9 +120,9 @@ fn is_hash_bang(text: &str, at: usize) -> bool
 
 /// The end of the piece of layout that begins at `at`, or None where none does.
 fn piece_end(text: &str, at: usize) -> Result<Option<usize>, TokenFault>
-    requires small { length text.now ≤ 8388608 }
+    requires small { length text.now ≤ MOST_BYTES }
     requires within { at ≤ length text.now }
-    ensures { MatchResult result (λ found. MatchOption found (BeginsNoLayout text.now at) (λ end. (sort : Sort) × IsPiece text.now at end sort)) (λ fault. IsWrong text.now at fault) }
+    ensures { MatchResult result (λ found. MatchOption found (BeginsNoLayout text.now at) (EndsPiece text.now at)) (IsWrong text.now at) }
 {
     let bytes = text.as_bytes();
     match class_at(text, at) {
@@ -146,7 +147,7 @@ fn piece_end(text: &str, at: usize) -> Result<Option<usize>, TokenFault>
 
 /// The end of the layout that begins at `from`.
 pub fn layout_end(text: &str, from: usize) -> Result<usize, TokenFault>
-    requires small { length text.now ≤ 8388608 }
+    requires small { length text.now ≤ MOST_BYTES }
     requires within { from ≤ length text.now }
     requires begins { class_of_place text.now from ≢ Class.Inner }
     ensures layout { IfOk result (λ end. IsLayout text.now from end) }

@@ -1,6 +1,6 @@
 ghost use Rattle.std.specs.Prelude.{◌≡◌, ◌≢◌, ℕ, ◌+◌, ◌<◌, ◌≤◌, ◌↔◌, length, slice_index, IsTrue, IfSome, MatchOption};
 ghost use Rattle.std.specs.Char.{digit_value};
-ghost use Rattle.prolog_tokens.specs.Numbers.{IsCodeMark, base_of, IsBased, is_exponent_mark, is_sign, after_sign, IsExponent, IsFraction};
+ghost use Rattle.prolog_tokens.specs.Numbers.{IsCodeMark, base_of, EndsBased, IsBased, is_exponent_mark, is_sign, after_sign, IsExponent, IsFraction};
 ghost use Rattle.prolog_tokens.specs.Ends.{CodeEndIs, NumberEndIs};
 
 use crate::chars::{char_end, is_inner};
@@ -106,7 +106,7 @@ pub fn base_of(letter: u8) -> Option<u8>
 /// does.
 fn based_end(bytes: &[u8], start: usize) -> Option<usize>
     requires { start < length bytes.now }
-    ensures based { MatchOption result ((base n e : ℕ) → IsBased base bytes.now start n e → ⊥) (λ end. (base : ℕ) × (n : ℕ) × IsBased base bytes.now start n end) }
+    ensures based { MatchOption result ((base n e : ℕ) → IsBased base bytes.now start n e → ⊥) (EndsBased bytes.now start) }
     ensures longest { IfSome result (λ end. (base n e : ℕ) → IsBased base bytes.now start n e → e ≤ end) }
 {
     if bytes[start] != b'0' {

@@ -1,6 +1,7 @@
 //! Places in a text by lines and characters.
 
 ghost use Rattle.std.specs.Prelude.{◌≡◌, ◌≤◌, ◌+◌, All, IfOk, length, slice_index};
+ghost use Rattle.prolog_tokens.specs.declared.limits.TheConstants.{MOST_BYTES};
 ghost use Rattle.prolog_tokens.specs.Places.{IsOffset, IsPlace, IsCounted, ArePlaces, IsAscending, begins_character};
 
 use crate::token::Place;
@@ -18,7 +19,7 @@ fn begins_character(byte: u8) -> bool
 
 /// The place of the offset `to`, where `place` is that of the offset `from`.
 fn advanced(bytes: &[u8], from: usize, place: Place, to: usize) -> Place
-    requires small { length bytes.now ≤ 8388608 }
+    requires small { length bytes.now ≤ MOST_BYTES }
     requires order { from ≤ to }
     requires within { to ≤ length bytes.now }
     requires counted { IsCounted bytes.now from place.line place.column }
@@ -44,7 +45,7 @@ fn advanced(bytes: &[u8], from: usize, place: Place, to: usize) -> Place
 /// The place of an offset in a text of at most 8,388,608 bytes, where the bytes before the offset
 /// are UTF-8.
 pub fn place_of(bytes: &[u8], offset: u32) -> Place
-    requires small { length bytes.now ≤ 8388608 }
+    requires small { length bytes.now ≤ MOST_BYTES }
     requires offset { IsOffset bytes.now offset }
     ensures place { IsPlace bytes.now offset result }
     ensures only { (other : Place) → IsPlace bytes.now offset other → other ≡ result }
@@ -54,7 +55,7 @@ pub fn place_of(bytes: &[u8], offset: u32) -> Place
 
 /// The places of offsets that never fall, found in one sweep over the text.
 pub fn places_of(alloc: Global, bytes: &[u8], offsets: &[u32]) -> Result<Vec<Place>, AllocError>
-    requires small { length bytes.now ≤ 8388608 }
+    requires small { length bytes.now ≤ MOST_BYTES }
     requires offsets { All (IsOffset bytes.now) offsets.now }
     requires ascending { IsAscending offsets.now }
     ensures { IfOk result (λ places. ArePlaces bytes.now offsets.now places.items) }

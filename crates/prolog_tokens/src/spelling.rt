@@ -1,5 +1,6 @@
 ghost use Rattle.std.specs.Prelude.{◌≡◌, ◌≢◌, ℕ, ◌+◌, ◌<◌, ◌≤◌, ◌↔◌, length, true, false, slice_index, IsTrue, MatchResult};
 ghost use Rattle.std.specs.Char.{digit_value};
+ghost use Rattle.prolog_tokens.specs.declared.limits.TheConstants.{MOST_BYTES};
 ghost use Rattle.prolog_tokens.specs.Chars.{class_at as class_of_place, continues, is_graphic};
 ghost use Rattle.prolog_tokens.specs.Quoted.{IsQuote, IsQuoted};
 ghost use Rattle.prolog_tokens.specs.Layout.{IsOpener, IsHashBang};
@@ -94,7 +95,7 @@ fn spell_run(text: &str, start: usize) -> Spelling
 
 /// The quoted item that begins with the quote at `start`, as a token of the kind.
 fn spell_quoted(bytes: &[u8], start: usize, quote: u8, kind: Kind) -> Result<Spelling, TokenFault>
-    requires small { length bytes.now ≤ 8388608 }
+    requires small { length bytes.now ≤ MOST_BYTES }
     requires within { start < length bytes.now }
     requires quote { IsQuote quote }
     requires opens { slice_index bytes.now start ≡ quote }
@@ -109,7 +110,7 @@ fn spell_quoted(bytes: &[u8], start: usize, quote: u8, kind: Kind) -> Result<Spe
 
 /// The number that begins with the digit at `start`.
 fn spell_number(bytes: &[u8], start: usize) -> Result<Spelling, TokenFault>
-    requires small { length bytes.now ≤ 8388608 }
+    requires small { length bytes.now ≤ MOST_BYTES }
     requires within { start < length bytes.now }
     requires digit { digit_value (slice_index bytes.now start) < 10 }
     ensures { MatchResult result (λ spelling. IsSpelled bytes.now spelling.kind start spelling.end) (λ fault. IsWrong bytes.now start fault) }
@@ -129,7 +130,7 @@ fn spell_number(bytes: &[u8], start: usize) -> Result<Spelling, TokenFault>
 
 /// The ASCII character at `start` as a token of the kind.
 fn spell_one(start: usize, kind: Kind) -> Spelling
-    requires { start < 8388608 }
+    requires { start < MOST_BYTES }
     ensures { result ≡ record { kind = kind; end = start + 1 } }
 {
     Spelling {
@@ -140,7 +141,7 @@ fn spell_one(start: usize, kind: Kind) -> Spelling
 
 /// The token that begins at `start`, where no layout does.
 pub fn spell(text: &str, start: usize) -> Result<Spelling, TokenFault>
-    requires small { length text.now ≤ 8388608 }
+    requires small { length text.now ≤ MOST_BYTES }
     requires within { start < length text.now }
     requires begins { class_of_place text.now start ≢ Class.Inner }
     requires no_layout { BeginsNoLayout text.now start }

@@ -2,7 +2,8 @@
 use Rattle.std.specs.Prelude.{◌≡◌, ℕ, ◌<◌, ◌⊎◌, true, List, [], ◌∷◌, length, slice_index_or, slice_set, Option, None, Some}
 use Rattle.graph_law.specs.Classes.{HasMember}
 use Rattle.search_stack.specs.Stack.{Stack, size, node, top, position, low}
-use Rattle.search_stack.specs.Search.{SearchValue, IsDone, IsOn, IsRipe, below_frame, empty_stack, lowered, next_successor, nodes_from, one_more_begun, pushed, retreated}
+use Rattle.search_stack.specs.Search.{SearchValue, IsDone, IsOn, IsRipe, below_frame, empty_stack, lowered, next_successor, nodes_from, one_more_begun, pushed}
+use Rattle.search_stack.specs.Search.{retreated}
 use Rattle.blocked_table.specs.declared.suspended.Suspended.TheVariants.{Kept, Moved}
 use Rattle.blocked_table.specs.Blocked.{HasReady, IsTaken, IsWoken}
 use Rattle.blocked_table.specs.Kept.{kept_at}
@@ -161,7 +162,8 @@ pub record Releases (s : State) (place : ℕ) (t : State) : Type 0 where
   pub stack : Stack
   pub runs : Runs s place stack
   pub ripe : IsRipe stack
-  pub appended : IsAppended (record { count = length s.claimed; groups = s.groups }) (nodes_from stack (top stack)) (record { count = length t.claimed; groups = t.groups })
+  pub appended : IsAppended (record { count = length s.claimed; groups = s.groups }) (nodes_from stack (top stack))
+      (record { count = length t.claimed; groups = t.groups })
   pub woken : IsWoken (nodes_from stack (top stack)) s.kept t.kept
   pub goes_on : GoesOnWith s.running t.running place (below_frame stack (top stack))
   pub only : t ≡ record s { running = t.running; kept = t.kept; groups = t.groups }

@@ -1,4 +1,5 @@
 ghost use Rattle.std.specs.Prelude.{◌≤◌, length};
+ghost use Rattle.prolog_tokens.specs.declared.limits.TheConstants.{MOST_BYTES};
 
 use crate::file_facts::{facts_told, file_told, starts_told};
 use crate::operators::{op_fault_told, operator_told};
@@ -8,11 +9,9 @@ use crate::terms::{clause_told, parts_told};
 use crate::texts::{count_told, forms_told};
 use crate::tokens::{bare_told, integer_told, less_told, name_text_told, slice_told, tokens_told};
 use crate::words::{made_told, options_told};
+use prolog_tokens::MOST_BYTES;
 use std::alloc::{AllocError, Global};
 use std::thread::Threads;
-
-/// The most bytes of a text that is read.
-const MOST_BYTES: usize = 8_388_608;
 
 /// What is asked of a row.
 #[derive(Clone, Copy)]
@@ -100,7 +99,7 @@ pub fn told<R: Threads + Sync>(
         _ => ("", row),
     };
     let bytes = bytes_of(alloc, text)?;
-    if bytes.len() > MOST_BYTES {
+    if bytes.len() > MOST_BYTES as usize {
         return String::from_str(alloc, "too long");
     }
     let offset = number.parse::<u32>().ok();
@@ -114,7 +113,7 @@ fn told_of_bytes<R: Threads + Sync>(
     bytes: &[u8],
     offset: Option<u32>,
 ) -> Result<String, AllocError>
-    requires { length bytes.now ≤ 8388608 }
+    requires { length bytes.now ≤ MOST_BYTES }
 {
     match ask {
         Ask::Place => place_told(alloc, bytes, offset),
@@ -130,7 +129,7 @@ fn told_of_bytes<R: Threads + Sync>(
 }
 
 fn told_of_text(alloc: Global, ask: Ask, text: &str) -> Result<String, AllocError>
-    requires { length text.now ≤ 8388608 }
+    requires { length text.now ≤ MOST_BYTES }
 {
     match ask {
         Ask::Tokens => tokens_told(alloc, text),

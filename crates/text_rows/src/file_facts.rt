@@ -1,4 +1,5 @@
 ghost use Rattle.std.specs.Prelude.{◌≤◌, length};
+ghost use Rattle.prolog_tokens.specs.declared.limits.TheConstants.{MOST_BYTES};
 
 use clause_text::{TextFault, cause_text, read_text};
 use module_table::{
@@ -137,7 +138,7 @@ fn starts(alloc: Global, facts: &FileFacts) -> Result<String, AllocError> {
 
 /// What the text says as the file `d/f.pl`.
 fn facts_in<R: Threads + Sync>(rt: &R, alloc: Global, bytes: &[u8]) -> Result<FileFacts, TextFault>
-    requires { length bytes.now ≤ 8388608 }
+    requires { length bytes.now ≤ MOST_BYTES }
 {
     let clauses = read_text(rt, alloc, bytes)?;
     match facts(alloc, "d/f.pl", clauses) {
@@ -163,7 +164,7 @@ pub fn facts_told<R: Threads + Sync>(
     alloc: Global,
     bytes: &[u8],
 ) -> Result<String, AllocError>
-    requires { length bytes.now ≤ 8388608 }
+    requires { length bytes.now ≤ MOST_BYTES }
 {
     match facts_in(rt, alloc, bytes) {
         Ok(found) => written(alloc, &found),
@@ -177,7 +178,7 @@ pub fn starts_told<R: Threads + Sync>(
     alloc: Global,
     bytes: &[u8],
 ) -> Result<String, AllocError>
-    requires { length bytes.now ≤ 8388608 }
+    requires { length bytes.now ≤ MOST_BYTES }
 {
     match facts_in(rt, alloc, bytes) {
         Ok(found) => starts(alloc, &found),

@@ -1,4 +1,5 @@
 ghost use Rattle.std.specs.Prelude.{◌≤◌, length};
+ghost use Rattle.prolog_tokens.specs.declared.limits.TheConstants.{MOST_BYTES};
 
 use prolog_tokens::{place_of, places_of};
 use std::alloc::{AllocError, Global};
@@ -6,7 +7,7 @@ use std::alloc::{AllocError, Global};
 /// The line and the column of an offset: as they are found for it alone, and in a sweep over offsets.
 /// Where there is none, what a sweep over none finds.
 pub fn place_told(alloc: Global, text: &[u8], offset: Option<u32>) -> Result<String, AllocError>
-    requires { length text.now ≤ 8388608 }
+    requires { length text.now ≤ MOST_BYTES }
 {
     let Some(offset) = offset else {
         let swept = places_of(alloc, text, &[])?;

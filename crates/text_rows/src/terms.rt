@@ -1,4 +1,5 @@
 ghost use Rattle.std.specs.Prelude.{◌≡◌, ◌≤◌, ◌↔◌, length, slice_get, option_map, Some, IsTrue};
+ghost use Rattle.prolog_tokens.specs.declared.limits.TheConstants.{MOST_BYTES};
 ghost use Rattle.prolog_terms.specs.Clause.{IsOneClause};
 
 use prolog_ops::{OpFault, OpKind, OpTable};
@@ -164,7 +165,7 @@ impl From<TokenFault> for Unread {
 
 /// The term that the text is, which is one clause.
 fn read_term(alloc: Global, table: &OpTable, text: &str) -> Result<Term, Unread>
-    requires { length text.now ≤ 8388608 }
+    requires { length text.now ≤ MOST_BYTES }
 {
     let found = tokens(alloc, text)?;
     if !is_one_clause(found.as_slice()) {
@@ -197,7 +198,7 @@ fn changed_table(alloc: Global) -> Result<OpTable, OpFault> {
 
 /// The term that the text reads as, in words, or why it doesn't.
 pub fn clause_told(alloc: Global, text: &str) -> Result<String, AllocError>
-    requires { length text.now ≤ 8388608 }
+    requires { length text.now ≤ MOST_BYTES }
 {
     let Ok(table) = changed_table(alloc) else {
         return String::from_str(alloc, "no table");
@@ -223,7 +224,7 @@ fn count_parts(term: &Term) -> usize {
 
 /// How many items or arguments the term has that the text reads as, or why it doesn't.
 pub fn parts_told(alloc: Global, text: &str) -> Result<String, AllocError>
-    requires { length text.now ≤ 8388608 }
+    requires { length text.now ≤ MOST_BYTES }
 {
     let Ok(table) = changed_table(alloc) else {
         return String::from_str(alloc, "no table");

@@ -1,4 +1,5 @@
 ghost use Rattle.std.specs.Prelude.{◌≤◌, length};
+ghost use Rattle.prolog_tokens.specs.declared.limits.TheConstants.{MOST_BYTES};
 
 use clause_text::{Clause, read_text};
 use prolog_terms::{Form, Term, inside};
@@ -11,7 +12,7 @@ pub fn count_told<R: Threads + Sync>(
     alloc: Global,
     bytes: &[u8],
 ) -> Result<String, AllocError>
-    requires { length bytes.now ≤ 8388608 }
+    requires { length bytes.now ≤ MOST_BYTES }
 {
     match read_text(rt, alloc, bytes) {
         Ok(clauses) => format!(in alloc; "{}", clauses.len()),
@@ -33,7 +34,7 @@ pub fn forms_told<R: Threads + Sync>(
     alloc: Global,
     bytes: &[u8],
 ) -> Result<String, AllocError>
-    requires { length bytes.now ≤ 8388608 }
+    requires { length bytes.now ≤ MOST_BYTES }
 {
     let clauses = match read_text(rt, alloc, bytes) {
         Ok(clauses) => clauses,

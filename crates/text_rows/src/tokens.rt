@@ -1,4 +1,5 @@
 ghost use Rattle.std.specs.Prelude.{◌≤◌, length, IfOk};
+ghost use Rattle.prolog_tokens.specs.declared.limits.TheConstants.{MOST_BYTES};
 ghost use Rattle.prolog_tokens.specs.Cut.{IsTokenOf};
 
 use prolog_tokens::{
@@ -50,7 +51,7 @@ fn words(alloc: Global, tokens: &[Token]) -> Result<String, AllocError> {
 
 /// The tokens in words, or why there are none.
 pub fn tokens_told(alloc: Global, text: &str) -> Result<String, AllocError>
-    requires { length text.now ≤ 8388608 }
+    requires { length text.now ≤ MOST_BYTES }
 {
     match tokens(alloc, text) {
         Ok(found) => words(alloc, found.as_slice()),
@@ -70,7 +71,7 @@ impl From<TokenFault> for NoToken {
 
 /// The token of the text at an index of its list.
 fn token_at(alloc: Global, text: &str, index: usize) -> Result<Token, NoToken>
-    requires { length text.now ≤ 8388608 }
+    requires { length text.now ≤ MOST_BYTES }
     ensures { IfOk result (λ token. IsTokenOf text.now token) }
 {
     let found = tokens(alloc, text)?;
@@ -98,7 +99,7 @@ fn name_of(alloc: Global, text: &str, token: Token) -> Result<String, AllocError
 
 /// The kind of the token at an index, and its name.
 pub fn name_text_told(alloc: Global, text: &str, index: usize) -> Result<String, AllocError>
-    requires { length text.now ≤ 8388608 }
+    requires { length text.now ≤ MOST_BYTES }
 {
     match token_at(alloc, text, index) {
         Ok(token) => name_of(alloc, text, token),
@@ -117,7 +118,7 @@ fn slice_of(alloc: Global, text: &str, token: Token) -> Result<String, AllocErro
 
 /// The part of the text that its first token is, which is a Name.
 pub fn slice_told(alloc: Global, text: &str) -> Result<String, AllocError>
-    requires { length text.now ≤ 8388608 }
+    requires { length text.now ≤ MOST_BYTES }
 {
     match token_at(alloc, text, 0) {
         Ok(token) => slice_of(alloc, text, token),
@@ -134,7 +135,7 @@ fn value_of(alloc: Global, text: &str, token: Token) -> Result<String, AllocErro
 
 /// The value of the first token.
 pub fn integer_told(alloc: Global, text: &str) -> Result<String, AllocError>
-    requires { length text.now ≤ 8388608 }
+    requires { length text.now ≤ MOST_BYTES }
 {
     match token_at(alloc, text, 0) {
         Ok(token) => value_of(alloc, text, token),

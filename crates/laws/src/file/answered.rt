@@ -14,7 +14,8 @@ use crate::cut::cut_or_fault;
 
 /// The clauses of a file have facts, or what they say is refused.
 pub fn facts_or_refusal()
-    ensures { (name : List ℕ) (trees : List Tree) → ((facts : Facts) × AreFacts name trees facts) ⊎ ((refusal : Refusal) × (file_said name trees ≡ Err refusal)) }
+    ensures { (name : List ℕ) (trees : List Tree)
+        → ((facts : Facts) × AreFacts name trees facts) ⊎ ((refusal : Refusal) × (file_said name trees ≡ Err refusal)) }
 {}
 
 /// A text reads as clauses or has a fault.

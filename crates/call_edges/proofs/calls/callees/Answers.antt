@@ -1,4 +1,4 @@
-use Rattle.call_edges.proofs.CallLemmas.{sorted_rises, sorted_has}
+use Rattle.list_laws.proofs.SortedOnce.{sorted_rises, sorted_has}
 use Rattle.call_edges.proofs.calls.callees.Goals as goal
 
 pub returns-in-Ok-clause-ascending : goal.returns-in-Ok-clause-ascending

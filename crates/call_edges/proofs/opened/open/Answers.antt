@@ -1,11 +1,12 @@
 use Rattle.std.proofs.Common.{◌≡◌, List, All, ◌++◌, map, ap, sym, ◌∙◌, subst}
+use Rattle.list_laws.proofs.SortedOnce.{sorted_rises, sorted_has}
 use Rattle.import_rules.specs.Program.{see_program}
 use Rattle.call_edges.specs.Goals.{Adds}
 use Rattle.call_edges.specs.ProgramRows.{rows_of}
 use Rattle.call_edges.specs.Calls.{IsAmong}
 use Rattle.call_edges.specs.Bodies.{Body, see_body, bodies_in, IsLight}
 use Rattle.call_edges.specs.FaultPlaces.{IsFaultIn}
-use Rattle.call_edges.proofs.CallLemmas.{node_goes, sorted_rises, sorted_has}
+use Rattle.call_edges.proofs.CallLemmas.{node_goes}
 use Rattle.call_edges.proofs.LightLemmas.{bodies_light}
 use Rattle.call_edges.proofs.opened.open.Goals as goal
 

@@ -1,8 +1,8 @@
 use Rattle.std.proofs.Common.{◌≡◌, List, All, map, get_or, ap, sym, ◌∙◌, subst}
 use Rattle.std.proofs.lemmas.List.Elements.{Contains-get_or}
+use Rattle.list_laws.proofs.SortedOnce.{sorted_rises, sorted_has}
 use Rattle.import_rules.specs.Program.{see_program}
 use Rattle.call_edges.specs.Bodies.{Body, see_body, goals_in, IsLight}
-use Rattle.call_edges.proofs.CallLemmas.{sorted_rises, sorted_has}
 use Rattle.call_edges.proofs.LightLemmas.{goals_light}
 use Rattle.call_edges.proofs.RootLemmas.{root_below, roots_are}
 use Rattle.call_edges.proofs.roots.roots_of.Goals as goal

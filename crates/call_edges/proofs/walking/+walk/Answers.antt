@@ -1,6 +1,7 @@
 use Rattle.std.proofs.Common.{◌≡◌, ◌++◌, map, length, Some, slice_get, ap, ◌∙◌, subst, refl, arith}
 use Rattle.std.specs.Option.{option_to_list}
 use Rattle.std.proofs.lemmas.List.{length-map}
+use Rattle.module_table.proofs.TakesLemmas.{deepest_one}
 use Rattle.prolog_terms.specs.Tree.{tree_of, depth}
 use Rattle.prolog_terms.specs.Weight.{weight}
 use Rattle.prolog_terms.proofs.ViewLemmas.{compound_seen}
@@ -13,7 +14,7 @@ use Rattle.call_edges.specs.Seen.{see_mets, see_taken}
 use Rattle.call_edges.proofs.AddedLemmas.{rows_within, argument_within, arguments_within}
 use Rattle.call_edges.proofs.KeptMeanings.{meant_more}
 use Rattle.call_edges.proofs.MetLemmas.{first_none, first_more, first_rowless}
-use Rattle.call_edges.proofs.WalkLemmas.{taken_is, on_ok, deepest_one, read_seen, variable_walked, list_walked, constant_walked, atom_walked, curly_walked, paren_walked, compound_walked}
+use Rattle.call_edges.proofs.WalkLemmas.{taken_is, on_ok, read_seen, variable_walked, list_walked, constant_walked, atom_walked, curly_walked, paren_walked, compound_walked}
 use Rattle.call_edges.proofs.walking.+walk.Goals as goal
 
 pub take_apart-taken-requires : goal.take_apart-taken-requires

@@ -4,11 +4,12 @@ use Rattle.std.specs.List.{flat_map}
 use Rattle.std.proofs.lemmas.List.{length-map}
 use Rattle.std.proofs.lemmas.List.Elements.{Contains-get_or}
 use Rattle.std.proofs.lemmas.Option.{slice_get_within}
+use Rattle.import_rules.proofs.MetaTold.{seen_at}
 use Rattle.module_table.specs.Defined.{see_defined, clause_tree}
 use Rattle.module_table.specs.Facts.{see_facts, Facts}
 use Rattle.file_library.specs.Loaded.{LoadedFiles}
 use Rattle.import_rules.specs.Program.{Seen, see_program, places_in}
-use Rattle.call_edges.proofs.BodyLemmas.{IsThere, places_there, flat_more, seen_at}
+use Rattle.call_edges.proofs.BodyLemmas.{IsThere, places_there, flat_more}
 use Rattle.call_table.specs.Clauses.{clause_at, clauses_there}
 use Rattle.call_table.proofs.ClauseLemmas.{clauses_at}
 use Rattle.call_table.proofs.clauses.push_clauses_of.Goals as goal

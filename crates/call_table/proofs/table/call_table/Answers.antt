@@ -5,7 +5,7 @@ use Rattle.call_edges.specs.PlacedSeen.{see_call, see_calls}
 use Rattle.std.specs.List.{AllZip}
 use Rattle.graph_law.specs.Graph.{lists_of}
 use Rattle.call_table.specs.Memberships.{AreGroupsOf}
-use Rattle.call_table.specs.Spots.{AreSpots, IsSpotPlace}
+use Rattle.file_library.specs.Spots.{AreSpots, IsSpotPlace}
 use Rattle.call_table.specs.Table.{call_spot, clause_spot, kept_spot}
 use Rattle.call_table.proofs.SpotOrder.{clauses_are_spots, calls_are_spots}
 use Rattle.call_table.proofs.table.call_table.Goals as goal

@@ -4,6 +4,6 @@ use Rattle.graph_law.specs.CallOrder.{AreApart}
 use Rattle.effect_flow.proofs.Stretches.{apart_of}
 use Rattle.effect_flow.proofs.heights.flow.Goals as goal
 
-pub node_places-requires : goal.node_places-requires
-node_places-requires g c =
+pub group_places-requires : goal.group_places-requires
+group_places-requires g c =
     subst (λ count. AreApart count (lists_of c.args.groups.now)) (sym c.count.ensures.count) (apart_of c.requires.legal c.requires.nodes)

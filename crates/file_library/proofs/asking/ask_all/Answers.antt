@@ -1,6 +1,7 @@
 -- Wave by wave.
 use Rattle.std.proofs.Common.{◌≤◌, ◌+◌, ◌++◌, ◌∷◌, [], ap, map, length, sum_by, subst, sym, arith}
 use Rattle.std.proofs.lemmas.List.{length-map}
+use Rattle.file_library.specs.declared.limits.TheConstants.{MOST_FILES}
 use Rattle.file_library.specs.Answers.{bytes_of}
 use Rattle.file_library.specs.AskedFile.{see_file}
 use Rattle.file_library.specs.AskAll.{answers_of}
@@ -24,7 +25,7 @@ loop-alloc-init g c = (
 pub returns-in-Err-clause-stops : goal.returns-in-Err-clause-stops
 returns-in-Err-clause-stops g c =
     let so_far = c.loop-alloc.invariant.1 in
-    let fits : length (map see_file c.loop-alloc.files.items) + length c.loop-alloc.wave.keys ≤ 1024 =
+    let fits : length (map see_file c.loop-alloc.files.items) + length c.loop-alloc.wave.keys ≤ MOST_FILES =
     omega (arith, c.if-len.false, c.len-in-loop-alloc.ensures.len, c.len-in-loop-alloc-2.ensures, length-map c.loop-alloc.files.items see_file, so_far.past.few) in
     stops_in_wave (g.L.Library.seen c.args.library.now) c.args.roots.now (g.L.Library.seen c.loop-alloc.library) (g.L.Library.seen c.ask_wave.new.library)
     c.loop-alloc.total (map see_file c.loop-alloc.files.items) c.loop-alloc.known.keys c.loop-alloc.wave.keys c.in-Err.stop
@@ -35,7 +36,7 @@ returns-in_default-keep-clause-stops g c =
     let so_far = c.loop-alloc.invariant.1 in
     let found = map see_file c.loop-alloc.files.items in
     let new = map see_file c.in-Ok-ask_wave.found.items in
-    let fits : length (map see_file c.loop-alloc.files.items) + length c.loop-alloc.wave.keys ≤ 1024 =
+    let fits : length (map see_file c.loop-alloc.files.items) + length c.loop-alloc.wave.keys ≤ MOST_FILES =
     omega (arith, c.if-len.false, c.len-in-loop-alloc.ensures.len, c.len-in-loop-alloc-2.ensures, length-map c.loop-alloc.files.items see_file, so_far.past.few) in
     stops_behind (g.L.Library.seen c.args.library.now) c.args.roots.now (g.L.Library.seen c.ask_wave.new.library) (c.loop-alloc.total + sum_by bytes_of (answers_of new))
     (found ++ new) (so_far.waves ++ c.loop-alloc.wave.keys ∷ [])
@@ -48,7 +49,7 @@ loop-alloc-preserved g c =
     let so_far = c.loop-alloc.invariant.1 in
     let found = map see_file c.loop-alloc.files.items in
     let new = map see_file c.in-Ok-ask_wave.found.items in
-    let fits : length (map see_file c.loop-alloc.files.items) + length c.loop-alloc.wave.keys ≤ 1024 =
+    let fits : length (map see_file c.loop-alloc.files.items) + length c.loop-alloc.wave.keys ≤ MOST_FILES =
     omega (arith, c.if-len.false, c.len-in-loop-alloc.ensures.len, c.len-in-loop-alloc-2.ensures, length-map c.loop-alloc.files.items see_file, so_far.past.few) in (
       later_on (g.L.Library.seen c.args.library.now) (g.L.Library.seen c.loop-alloc.library) (g.L.Library.seen c.ask_wave.new.library) c.loop-alloc.invariant.0 c.in-Ok-ask_wave.ensures.later,
       subst (λ n. AskedSoFar (g.L.Library.seen c.args.library.now) (g.L.Library.seen c.ask_wave.new.library) c.args.roots.now

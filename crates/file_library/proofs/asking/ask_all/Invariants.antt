@@ -1,4 +1,5 @@
 use Rattle.std.proofs.Common.{◌-◌, map, length}
+use Rattle.file_library.specs.declared.limits.TheConstants.{MOST_FILES}
 use Rattle.file_library.specs.Library.{IsLater}
 use Rattle.file_library.specs.AskedFile.{see_file}
 use Rattle.file_library.proofs.AskedSoFar.{AskedSoFar}
@@ -9,4 +10,4 @@ invariant-loop-alloc g l = IsLater (g.L.Library.seen l.initial.library) (g.L.Lib
     × AskedSoFar (g.L.Library.seen l.initial.library) (g.L.Library.seen l.library) l.roots l.total (map see_file l.files.items) l.known.keys l.wave.keys
 
 abbrev pub decreases-loop-alloc : goal.decreases-loop-alloc
-decreases-loop-alloc g l = 1024 - length l.files.items
+decreases-loop-alloc g l = MOST_FILES - length l.files.items

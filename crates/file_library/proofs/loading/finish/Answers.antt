@@ -2,6 +2,8 @@
 use Rattle.std.proofs.Common.{◌≡◌, ◌≤◌, [], List, ℕ, Vec, Global, length, map, ap, sym, subst, arith}
 use Rattle.std.proofs.lemmas.List.{nil_from_length, length-map}
 use Rattle.std.proofs.lemmas.List.Sorted.{All-permutation, IsPermutation-map}
+use Rattle.file_library.specs.declared.limits.TheConstants.{MOST_FILES}
+use Rattle.prolog_tokens.specs.declared.limits.TheConstants.{MOST_BYTES}
 use Rattle.module_table.specs.Facts.{see_facts}
 use Rattle.file_library.specs.Answers.{bytes_of}
 use Rattle.file_library.specs.AskedFile.{see_file, answered_of, IsOfText}
@@ -20,7 +22,7 @@ pub sorted_out-requires-clause-small : goal.sorted_out-requires-clause-small
 sorted_out-requires-clause-small c =
     let found = map see_file c.args.files.items in
     let sorted = map see_file c.in_ok-files.files.items in
-    All-permutation (λ answer. bytes_of answer ≤ 8388608) (answers_of found) (answers_of sorted) (IsPermutation-map answered_of found sorted c.in_ok-files.ensures.moved) c.requires.small
+    All-permutation (λ answer. bytes_of answer ≤ MOST_BYTES) (answers_of found) (answers_of sorted) (IsPermutation-map answered_of found sorted c.in_ok-files.ensures.moved) c.requires.small
 
 pub returns-then-len-gt0 : goal.returns-then-len-gt0
 returns-then-len-gt0 c seen agrees asked =
@@ -38,7 +40,7 @@ returns c seen agrees asked =
     let out = c.in_ok-files-2.field-0 in
     let fits : length set.keys ≤ 18446744073709551615 =
     omega (arith, c.in_ok-names.names.ok.0, c.in_ok-names.names.ok.1, c.in_ok-names.names.small, ap (λ names. length names) c.in_ok-names.ensures.same) in
-    let few : length (map see_file c.args.files.items) ≤ 1024 = omega (arith, c.requires.few, length-map c.args.files.items see_file) in
+    let few : length (map see_file c.args.files.items) ≤ MOST_FILES = omega (arith, c.requires.few, length-map c.args.files.items see_file) in
     let none : out.faults.items ≡ [] = nil_from_length out.faults.items (omega (arith, c.len.ensures, c.if-len-gt0.false)) in
     subst (λ names. IsLoaded seen c.args.roots.now (record { files = map see_facts out.files.items; absent = out.absent.items; roots = names; texts = map (λ (text : List ℕ × Vec ℕ Global). (text.0, text.1.items)) out.texts.items }))
     (sym c.in_ok-names.ensures.same)

@@ -2,8 +2,8 @@
 use Rattle.std.proofs.Common.{◌++◌, ◌∷◌, [], subst, sym, ◌∙◌, ap}
 use Rattle.std.specs.List.{AllZip}
 use Rattle.std.proofs.lemmas.List.{append_assoc}
+use Rattle.list_laws.proofs.Zips.{zip_one}
 use Rattle.file_library.specs.AskedFile.{IsParsed}
-use Rattle.file_library.proofs.ParsedFiles.{zip_one}
 use Rattle.file_library.proofs.parsing.parse_list.Goals as goal
 
 pub loop-answer-preserved : goal.loop-answer-preserved

@@ -4,6 +4,7 @@ use Rattle.std.proofs.lemmas.List.{map-append, map-id}
 use Rattle.std.proofs.lemmas.Simd.{map-map}
 use Rattle.std.proofs.lemmas.Iterator.Adapters.{YieldsList-from_vec}
 use Rattle.std.proofs.lemmas.Iterator.Consumers.{YieldsList-end}
+use Rattle.prolog_tokens.specs.declared.limits.TheConstants.{MOST_BYTES}
 use Rattle.file_library.specs.Answers.{bytes_of}
 use Rattle.file_library.specs.AskedFile.{see_file, answered_of, IsOfText}
 use Rattle.file_library.specs.SortedOut.{AreSortedOut}
@@ -23,9 +24,9 @@ put-requires-clause-text c =
 
 pub put-requires-clause-small : goal.put-requires-clause-small
 put-requires-clause-small c =
-    all_at (λ file. answered_of (see_file file)) (λ answer. bytes_of answer ≤ 8388608) c.loop-file.yielded c.next.new.self.rest.items c.args.files.items c.in-Some.file
+    all_at (λ file. answered_of (see_file file)) (λ answer. bytes_of answer ≤ MOST_BYTES) c.loop-file.yielded c.next.new.self.rest.items c.args.files.items c.in-Some.file
     (ap (λ rest. c.loop-file.yielded ++ rest) (sym c.in-Some.ensures.steps.0) ∙ c.loop-file.invariant.0)
-    (subst (All (λ answer. bytes_of answer ≤ 8388608)) (map-map answered_of see_file c.args.files.items) c.requires.small)
+    (subst (All (λ answer. bytes_of answer ≤ MOST_BYTES)) (map-map answered_of see_file c.args.files.items) c.requires.small)
 
 pub loop-file-preserved : goal.loop-file-preserved
 loop-file-preserved c = (

@@ -1,7 +1,7 @@
 use Rattle.std.proofs.Common.{get_or}
 use Rattle.std.proofs.lemmas.List.Elements.{Contains-get_or}
+use Rattle.list_laws.proofs.SortedOnce.{sorted_rises, sorted_has}
 use Rattle.import_rules.specs.Program.{see_program}
-use Rattle.call_edges.proofs.CallLemmas.{sorted_rises, sorted_has}
 use Rattle.group_tool.proofs.RootLemmas.{listed_are, named_below, zip_there}
 use Rattle.group_tool.proofs.roots.listed_roots.Goals as goal
 

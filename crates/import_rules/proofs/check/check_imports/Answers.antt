@@ -6,7 +6,8 @@ use Rattle.import_rules.specs.Findings.{see_findings}
 use Rattle.import_rules.specs.Flaws.{clash_flaw}
 use Rattle.import_rules.specs.Items.{foreign_items}
 use Rattle.import_rules.specs.KnownFiles.{AreKnown, AreRising, see_known}
-use Rattle.import_rules.specs.PlacedFlaws.{ArePlacedFlaws, AreTexts, StandsIn, texts_of}
+use Rattle.file_library.specs.Spots.{texts_of}
+use Rattle.import_rules.specs.PlacedFlaws.{ArePlacedFlaws, AreTexts, StandsIn}
 use Rattle.import_rules.proofs.AllFound.{files_rise, texts_are, ready, found_in_all, all_in_texts, are_faults}
 use Rattle.import_rules.proofs.check.check_imports.Goals as goal
 

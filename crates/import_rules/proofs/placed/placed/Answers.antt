@@ -1,38 +1,49 @@
-use Rattle.std.proofs.Common.{rules, ◌≡◌, ◌++◌, ◌∙◌, length, ap, sym, subst, append-nil}
-use Rattle.std.specs.List.{AllZip, IsChunkByPrefix}
-use Rattle.std.specs.Str.{bytes_eq}
-use Rattle.std.proofs.lemmas.List.{nil_from_length}
+use Rattle.std.proofs.Common.{rules, ◌≡◌, ◌∙◌, List, All, ap, sym, subst}
+use Rattle.std.specs.List.{AllZip}
+use Rattle.std.specs.List.Sorted.{IsSorted}
 use Rattle.std.proofs.lemmas.List.Sorted.{answers_always, ranks_by, All-permutation, IsPermutation-map}
+use Rattle.file_library.specs.Spots.{AreSpots, IsSpotPlace, texts_of}
 use Rattle.import_rules.specs.declared.finding.Finding.{Finding}
 use Rattle.import_rules.specs.Findings.{see_finding, see_findings}
 use Rattle.import_rules.specs.Flaws.{flaw_cmp, IsFaultOf}
-use Rattle.import_rules.specs.PlacedFlaws.{StandsIn, texts_of}
-use Rattle.import_rules.proofs.PlacedRuns.{flaw_cmp_total, all_of, next_of_file, seen_sorted}
+use Rattle.import_rules.specs.PlacedFlaws.{StandsIn, IsSpotOf, faults_at}
+use Rattle.import_rules.proofs.FlawSpots.{flaw_cmp_total, seen_sorted, are_spots, are_placed}
 use Rattle.import_rules.proofs.Runs.{comes_before}
 use Rattle.import_rules.proofs.placed.placed.Goals as goal
 
-pub push_file_faults-requires-clause-file : goal.push_file_faults-requires-clause-file
-push_file_faults-requires-clause-file c =
-    let steps = c.in-Some.ensures.steps in
-    let chunk = steps.2 (λ a b. bytes_eq a.file.now b.file.now) (answers_always _ _ _ (λ f a r g called. search rules)) in
-    let sorted = c.in_ok-sort_by.ensures.sorted (comes_before flaw_cmp see_finding) (ranks_by flaw_cmp_total see_finding) (answers_always _ _ _ (λ f a r g called. search rules)) in
-    let whole = ap (λ (x : _). x.rest.now) c.into_iter-run-iterator.ensures.into_iter_gives ∙ c.chunk_by-run-items.ensures.rest ∙ c.deref.ensures.value in
-    next_of_file (texts_of c.args.texts.now) c.sort_by.new.self.items (all_of c.loop-run.yielded) c.in-Some.run'.now c.next.new.self.rest.now c.requires.texts
-    (All-permutation (StandsIn (texts_of c.args.texts.now)) (see_findings c.args.flaws.items) (see_findings c.sort_by.new.self.items)
-    (IsPermutation-map see_finding c.args.flaws.items c.sort_by.new.self.items c.in_ok-sort_by.ensures.permutation) c.requires.stand)
-    sorted (ap (λ rest. all_of c.loop-run.yielded ++ rest) (sym steps.0) ∙ (c.loop-run.invariant.0 ∙ whole)) steps.1
-    (subst (λ items. IsChunkByPrefix (λ (a b : Finding). bytes_eq a.file.now b.file.now) items (length c.in-Some.run'.now)) steps.0 chunk.1)
+pub spots_of-requires-clause-stand : goal.spots_of-requires-clause-stand
+spots_of-requires-clause-stand c =
+    let texts = texts_of c.args.texts.now in
+    let sorted = c.sort_by.new.self.items in
+    subst (λ (fs : List Finding). All (StandsIn texts) (see_findings fs)) (sym c.deref.ensures.value)
+    (All-permutation (StandsIn texts) (see_findings c.args.flaws.items) (see_findings sorted)
+    (IsPermutation-map see_finding c.args.flaws.items sorted c.in_ok-sort_by.ensures.permutation) c.requires.stand)
+
+pub places_of_spots-requires-clause-spots : goal.places_of_spots-requires-clause-spots
+places_of_spots-requires-clause-spots c =
+    let texts = texts_of c.args.texts.now in
+    let sorted = c.sort_by.new.self.items in
+    let up = c.in_ok-sort_by.ensures.sorted (comes_before flaw_cmp see_finding) (ranks_by flaw_cmp_total see_finding) (answers_always _ _ _ (λ f a r g called. search rules)) in
+    let stand =
+    All-permutation (StandsIn texts) (see_findings c.args.flaws.items) (see_findings sorted)
+    (IsPermutation-map see_finding c.args.flaws.items sorted c.in_ok-sort_by.ensures.permutation) c.requires.stand in
+    let zip = subst (λ (fs : List Finding). AllZip (IsSpotOf texts) (see_findings fs) c.in_ok-spots.spots.items) c.deref.ensures.value c.in_ok-spots.ensures in
+    subst (AreSpots texts) (sym c.deref-2.ensures.value)
+    (are_spots texts (see_findings sorted) c.in_ok-spots.spots.items c.requires.texts.ordered stand (seen_sorted sorted up) zip)
 
 pub returns : goal.returns
 returns c =
-    let sorted = c.in_ok-sort_by.ensures.sorted (comes_before flaw_cmp see_finding) (ranks_by flaw_cmp_total see_finding) (answers_always _ _ _ (λ f a r g called. search rules)) in
-    let whole = ap (λ (x : _). x.rest.now) c.into_iter-run-iterator.ensures.into_iter_gives ∙ c.chunk_by-run-items.ensures.rest ∙ c.deref.ensures.value in
-    let all : all_of c.loop-run.yielded ≡ c.sort_by.new.self.items =
-    sym (append-nil (all_of c.loop-run.yielded))
-    ∙ (ap (λ rest. all_of c.loop-run.yielded ++ rest) (sym (nil_from_length c.loop-run.run-iterator.rest.now c.in-None.ensures.steps.0)) ∙ (c.loop-run.invariant.0 ∙ whole)) in
+    let texts = texts_of c.args.texts.now in
+    let sorted = c.sort_by.new.self.items in
+    let up = c.in_ok-sort_by.ensures.sorted (comes_before flaw_cmp see_finding) (ranks_by flaw_cmp_total see_finding) (answers_always _ _ _ (λ f a r g called. search rules)) in
+    let zip = subst (λ (fs : List Finding). AllZip (IsSpotOf texts) (see_findings fs) c.in_ok-spots.spots.items) c.deref.ensures.value c.in_ok-spots.ensures in
+    let stand = subst (λ spots. AllZip (IsSpotPlace texts) spots c.in_ok-places.places.items) c.deref-2.ensures.value c.in_ok-places.ensures in
+    let are : c.in_ok-faults.faults.items ≡ faults_at (see_findings sorted) c.in_ok-places.places.items =
+    c.in_ok-faults.ensures ∙ (λ i. faults_at (see_findings (c.deref-3.ensures.value i)) (c.deref-4.ensures.value i)) in
     record {
-      sorted = see_findings c.sort_by.new.self.items;
-      moved = IsPermutation-map see_finding c.args.flaws.items c.sort_by.new.self.items c.in_ok-sort_by.ensures.permutation;
-      in_order = seen_sorted c.sort_by.new.self.items sorted;
-      placed = subst (λ flaws. AllZip (IsFaultOf (texts_of c.args.texts.now)) (see_findings flaws) c.loop-run.faults.items) all c.loop-run.invariant.1;
+      sorted = see_findings sorted;
+      moved = IsPermutation-map see_finding c.args.flaws.items sorted c.in_ok-sort_by.ensures.permutation;
+      in_order = seen_sorted sorted up;
+      placed = subst (AllZip (IsFaultOf texts) (see_findings sorted)) (sym are)
+          (are_placed texts (see_findings sorted) c.in_ok-spots.spots.items c.in_ok-places.places.items zip stand);
     }

@@ -1,4 +1,5 @@
-use Rattle.loop_paths.proofs.Sorted.{sorted_rises, sorted_has, as_calls}
+use Rattle.list_laws.proofs.SortedOnce.{sorted_rises, sorted_has}
+use Rattle.loop_paths.proofs.Sorted.{as_calls}
 use Rattle.loop_paths.proofs.breadth.open.Goals as goal
 
 pub returns-clause-ascending : goal.returns-clause-ascending

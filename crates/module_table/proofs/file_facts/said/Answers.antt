@@ -9,6 +9,7 @@ use Rattle.std.proofs.lemmas.List.{map-append, map-id, take-append-drop}
 use Rattle.std.proofs.lemmas.List.Elements.{All-get_or}
 use Rattle.std.proofs.Math.ListN.{get_or-map}
 use Rattle.std.proofs.Math.Seq.{drop-cons}
+use Rattle.prolog_tokens.specs.declared.limits.TheConstants.{MOST_BYTES}
 use Rattle.prolog_terms.specs.Tree.{Tree}
 use Rattle.prolog_terms.specs.Weight.{weight}
 use Rattle.clause_text.specs.declared.Clause.{Clause}
@@ -39,8 +40,8 @@ push_clause-requires c =
     let turn = YieldsList-turn road done c.loop-clause.clause-iterator c.loop-clause.yielded_by c.next.result c.next.new.self clause c.in-Some.is c.next.ensures.steps in
     let same : get_or (map clause_tree clauses) (length done) (clause_tree clause) ≡ clause_tree clause =
     get_or-map clause_tree clauses (length done) clause ∙ ap clause_tree (sym turn.1) in
-    subst (λ (tree : Tree). weight tree ≤ 8388608) same
-    (All-get_or (λ (tree : Tree). weight tree ≤ 8388608) (map clause_tree clauses) (length done) (clause_tree clause) (omega (arith, turn.0, length-map clauses clause_tree)) c.requires)
+    subst (λ (tree : Tree). weight tree ≤ MOST_BYTES) same
+    (All-get_or (λ (tree : Tree). weight tree ≤ MOST_BYTES) (map clause_tree clauses) (length done) (clause_tree clause) (omega (arith, turn.0, length-map clauses clause_tree)) c.requires)
 
 pub returns-in_err-push_clause-clause-refused : goal.returns-in_err-push_clause-clause-refused
 returns-in_err-push_clause-clause-refused c =

@@ -1,6 +1,0 @@
-use Rattle.std.proofs.Common.{◌≡◌, ℕ, ◌<◌, get_or}
-use Rattle.call_table.proofs.spots.run_end.Given as goal
-
--- the spots so far are of the file
-abbrev pub invariant-loop-at : goal.invariant-loop-at
-invariant-loop-at l = (k : ℕ) → k < l.at → (get_or l.spots k (0, 0)).0 ≡ l.file

@@ -1,0 +1,25 @@
+use crate::program::Program;
+use file_library::places_of_spots;
+use prolog_tokens::Place;
+use std::alloc::{AllocError, Global};
+
+impl Program {
+    ghost use Rattle.std.specs.Prelude.{IfOk};
+    ghost use Rattle.std.specs.List.{AllZip};
+    ghost use Rattle.file_library.specs.Spots.{AreSpots, IsSpotPlace};
+    ghost use Rattle.import_rules.specs.Program.{see_program};
+
+    /// The line and the column of each of the spots, which are in order of file and offset: one sweep
+    /// a file. A spot is the place of a file in `loaded().texts`, and a byte offset of its text.
+    pub fn places_of_spots(
+        &self,
+        alloc: Global,
+        spots: &[(u32, u32)],
+    ) -> Result<Vec<Place>, AllocError>
+        requires { AreSpots (see_program self.now).loaded.texts spots.now }
+        ensures { IfOk result (λ places. AllZip (IsSpotPlace (see_program self.now).loaded.texts) spots.now places.items) }
+    {
+        let places = places_of_spots(alloc, &self.loaded().texts, spots)?;
+        Ok(places)
+    }
+}
