@@ -21,13 +21,8 @@ const TWO_REPORT: &str =
 const THREE_REPORT: &str =
     "predicates 3 groups 3 recursive 0 levels 1\n0 plain x:p/0\n0 plain x:q/0\n0 plain x:r/0\n";
 
-const REPORT: &str = "predicates 7 groups 5 recursive 3 levels 5
-0 recursive user:f/0
-1 recursive user:d/0 user:e/0
-2 plain user:c/0
-3 recursive user:a/0 user:b/0
-4 plain user:g/0
-";
+const REPORT: &str =
+    "predicates 7 groups 5 recursive 3 levels 5\n0 recursive user:f/0\n1 recursive user:d/0 user:e/0\n2 plain user:c/0\n3 recursive user:a/0 user:b/0\n4 plain user:g/0\n";
 
 #[test]
 fn opens_two_nodes_at_once_with_two_workers(rt: HostRuntime) -> Result<(), Fail> {
