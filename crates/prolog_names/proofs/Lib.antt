@@ -1,0 +1,4 @@
+pub mod Chains
+pub mod NumberedParts
+pub mod GrownTable
+pub mod PlainNames

@@ -1,0 +1,37 @@
+use Rattle.std.proofs.Common.{◌+◌, ◌++◌, ◌∙◌, length, take, sym, ap, subst, arith, length-append}
+use Rattle.std.proofs.lemmas.Option.{slice_get-get_or}
+use Rattle.prolog_names.specs.Numbers.{AreNumbered}
+use Rattle.prolog_names.proofs.NumberedParts.{numbered_more}
+use Rattle.prolog_names.proofs.numbers.number_names.Goals as goal
+
+pub opening_table-requires : goal.opening_table-requires
+opening_table-requires c =
+    omega (arith, c.requires.small, c.cut_fewer.ensures c.args.text.now c.args.tokens.now c.requires.cut)
+
+pub number_of-requires-clause-spelled : goal.number_of-requires-clause-spelled
+number_of-requires-clause-spelled c =
+    let i = c.loop-token.token-index in
+    let tokens = c.args.tokens.now in
+    c.cut_tokens.ensures.spelled c.args.text.now tokens c.requires.cut i _ (slice_get-get_or tokens i _ c.loop-token-test.true)
+
+pub number_of-requires-clause-room : goal.number_of-requires-clause-room
+number_of-requires-clause-room c =
+    omega (arith, c.loop-token.invariant.few, c.loop-token-test.true, c.requires.small, c.cut_fewer.ensures c.args.text.now c.args.tokens.now c.requires.cut)
+
+pub loop-token-preserved : goal.loop-token-preserved
+loop-token-preserved c =
+    let text = c.args.text.now in
+    let tokens = c.args.tokens.now in
+    let i = c.loop-token.token-index in
+    let names = c.loop-token.table in
+    let number = c.in_ok-number.number in
+    let kept = c.in_ok-number.ensures.kept in
+    let more = kept.0 in
+    record {
+      numbered =
+          subst (AreNumbered text c.number_of.new.table (take (i + 1) tokens)) (sym c.in_ok-push.ensures.items)
+          (numbered_more text names more c.number_of.new.table tokens c.loop-token.numbers.items i number _ kept.1 c.loop-token-test.true
+          c.loop-token.invariant.numbered c.in_ok-number.ensures.number);
+      opened = (c.loop-token.invariant.opened.0 ++ more, kept.1 ∙ ap (λ ns. ns ++ more) c.loop-token.invariant.opened.1);
+      few = omega (arith, c.loop-token.invariant.few, ap length kept.1, length-append names more, kept.2);
+    }

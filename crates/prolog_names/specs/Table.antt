@@ -1,0 +1,60 @@
+-- Names in chains, one for each bucket of a hash.
+use Rattle.std.specs.Prelude.{ℕ, ◌≡◌, ◌≢◌, ◌+◌, ◌-◌, ◌*◌, ◌%◌, ◌^◌, ◌<◌, ◌≤◌, ◌++◌, [], ◌∷◌, List, length, map, fold, All, slice_index_or, if◌then◌else◌}
+use Rattle.std.specs.List.{list_any}
+use Rattle.std.specs.Str.{bytes_eq}
+use Rattle.prolog_names.specs.declared.table.Entry.{Entry}
+use Rattle.prolog_names.specs.Names.{AreDistinct}
+
+-- the names with one more, where it doesn't stand among them yet
+abbrev pub with_name : List (List ℕ) → List ℕ → List (List ℕ)
+with_name names name = if list_any (bytes_eq name) names then names else names ++ name ∷ []
+
+abbrev pub text_hash : List ℕ → ℕ
+text_hash text = fold (λ s b. (s * 16777619 % 2 ^ 32 + b) % 2 ^ 32) 0 text
+
+-- the bucket of a hash, of so many
+abbrev pub bucket_in : ℕ → ℕ → ℕ
+bucket_in size hash = hash % size
+
+-- the bucket of a name, of so many
+abbrev pub bucket_of : ℕ → List ℕ → ℕ
+bucket_of size name = bucket_in size (text_hash name)
+
+abbrev pub buckets_of : ℕ → List (List ℕ) → List ℕ
+buckets_of size names = map (bucket_of size) names
+
+abbrev pub bucket_at : List ℕ → ℕ → ℕ
+bucket_at buckets place = slice_index_or buckets place 0
+
+-- of the places below one, the last that is in the bucket stands before x; x is 0 where there is none
+pub record IsLast (buckets : List ℕ) (below bucket x : ℕ) : Type 0 where
+  pub within : x ≤ below
+  pub none_behind : (m : ℕ) → x ≤ m → m < below → bucket_at buckets m ≢ bucket
+  pub is : 0 < x → bucket_at buckets (x - 1) ≡ bucket
+
+-- for each bucket its last place, and for each place the last one before it in its bucket
+pub record AreChains (buckets : List ℕ) (count : ℕ) (heads next : List ℕ) : Type 0 where
+  pub as_many : length next ≡ count
+  pub last : (b : ℕ) → b < length heads → IsLast buckets count b (slice_index_or heads b 0)
+  pub earlier : (n : ℕ) → n < count → IsLast buckets n (bucket_at buckets n) (slice_index_or next n 0)
+
+abbrev pub names_of : List Entry → List (List ℕ)
+names_of entries = map (λ (entry : Entry). entry.text) entries
+
+abbrev pub next_of : List Entry → List ℕ
+next_of entries = map (λ (entry : Entry). entry.next) entries
+
+-- the hash that stands beside a name is its own
+abbrev pub IsHashed : Entry → Type 0
+IsHashed entry = entry.hash ≡ text_hash entry.text
+
+-- the names stand in the chains of one bucket or more
+pub record IsChained (names : List (List ℕ)) (heads next : List ℕ) : Type 0 where
+  pub some : 0 < length heads
+  pub chains : AreChains (buckets_of (length heads) names) (length names) heads next
+
+-- each name stands once, in the chain of its bucket, with its hash beside it
+pub record IsTable (entries : List Entry) (heads : List ℕ) : Type 0 where
+  pub chained : IsChained (names_of entries) heads (next_of entries)
+  pub hashed : All IsHashed entries
+  pub distinct : AreDistinct (names_of entries)

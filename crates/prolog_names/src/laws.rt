@@ -1,0 +1,30 @@
+//! What holds of each table and of numbers, as laws.
+
+ghost use Rattle.std.specs.Prelude.{◌≡◌, ◌≢◌, ◌<◌, ◌≤◌, ℕ, [], List, length, codes, slice_range};
+ghost use Rattle.prolog_tokens.specs.declared.token.Token.{Token as TokenOf};
+ghost use Rattle.prolog_names.specs.Names.{name_at, AreDistinct, IsOpened};
+ghost use Rattle.prolog_names.specs.Numbers.{AreNumbered};
+
+use crate::names::{BAR, COMMA, CURLY, EMPTY, MINUS, Names, SQUARE};
+
+/// Each table begins with the opening names. No name stands twice in it, so a name that isn't empty is
+/// that of one number alone.
+pub fn names_law(names: &Names)
+    ensures opened { IsOpened names.now }
+    ensures empty { name_at names.now EMPTY ≡ [] }
+    ensures comma { name_at names.now COMMA ≡ codes "," }
+    ensures bar { name_at names.now BAR ≡ codes "|" }
+    ensures square { name_at names.now SQUARE ≡ codes "[]" }
+    ensures curly { name_at names.now CURLY ≡ codes "{}" }
+    ensures minus { name_at names.now MINUS ≡ codes "-" }
+    ensures distinct { AreDistinct names.now }
+    ensures only { (a b : ℕ) → name_at names.now a ≡ name_at names.now b → name_at names.now b ≢ [] → a ≡ b }
+{
+    let _count = names.table.len();
+}
+
+/// Of numbered tokens a part is numbered by the part of the numbers.
+pub fn numbered_part()
+    ensures { (text : List ℕ) (names : List (List ℕ)) (ts : List TokenOf) (numbers : List ℕ) (from to : ℕ) → AreNumbered text names ts numbers
+        → from ≤ to → to ≤ length ts → AreNumbered text names (slice_range ts from to) (slice_range numbers from to) }
+{}

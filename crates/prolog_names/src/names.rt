@@ -1,0 +1,45 @@
+ghost use Rattle.std.specs.Prelude.{◌≡◌};
+ghost use Rattle.prolog_names.specs.Names.{name_at};
+
+use crate::table::NameTable;
+use std::marker::Model;
+
+/// The number of the empty name, and that of each token without a name.
+pub const EMPTY: u32 = 0;
+/// The number of `,`.
+pub const COMMA: u32 = 1;
+/// The number of `|`.
+pub const BAR: u32 = 2;
+/// The number of `[]`.
+pub const SQUARE: u32 = 3;
+/// The number of `{}`.
+pub const CURLY: u32 = 4;
+/// The number of `-`.
+pub const MINUS: u32 = 5;
+
+/// The names of a text, each once. A name's number is its place; the constants are numbers in each
+/// table.
+#[derive(Drop)]
+pub struct Names {
+    pub(crate) table: NameTable,
+}
+
+impl Model for Names {
+    ghost use Rattle.std.specs.Prelude.{List, ℕ};
+    ghost use Rattle.prolog_names.specs.Names.{IsOpened};
+
+    ghost Value = { List (List ℕ) };
+
+    ghost view = { λ names. names.table };
+
+    ghost invariant = { λ names. IsOpened names.table };
+}
+
+impl Names {
+    /// The name of the number, or none for a number that is no name's.
+    pub fn text(&self, number: u32) -> &str
+        ensures { result.now ≡ name_at self.now number }
+    {
+        self.table.text(number as usize)
+    }
+}

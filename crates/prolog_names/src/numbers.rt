@@ -1,0 +1,101 @@
+ghost use Rattle.std.specs.Prelude.{◌≡◌, ◌<◌, ◌≤◌, ◌^◌, ◌++◌, ℕ, List, length, IfOk, OnOk, IfSome};
+ghost use Rattle.prolog_tokens.specs.Cut.{IsCut, IsTokenOf};
+ghost use Rattle.prolog_tokens.specs.Quoted.{IsQuoted};
+ghost use Rattle.prolog_tokens.specs.Values.{IsQuotedText};
+ghost use Rattle.prolog_names.specs.Names.{opening_names};
+ghost use Rattle.prolog_names.specs.Numbers.{IsNumberOf, AreNumbered};
+
+use crate::names::Names;
+use crate::table::NameTable;
+use prolog_tokens::{Kind, Token, cut_fewer, cut_tokens, name_slice, name_text};
+use std::alloc::{AllocError, Global};
+
+/// How many tokens of a text one bucket is made for.
+const BUCKET_TOKENS: usize = 4;
+
+/// The names that each table begins with, whose places are constants.
+const OPENING: [&str; 6] = ["", ",", "|", "[]", "{}", "-"];
+
+/// The numbers of a text's tokens, one for each, and the names that they mean.
+#[derive(Drop)]
+pub struct Numbered {
+    pub names: Names,
+    pub numbers: Vec<u32>,
+}
+
+/// The table of the opening names, with so many buckets and one more.
+fn opening_table(alloc: Global, buckets: usize) -> Result<NameTable, AllocError>
+    requires { buckets < 2 ^ 32 }
+    ensures { IfOk result (λ table. table ≡ opening_names) }
+{
+    let mut table = NameTable::new(alloc, buckets)?;
+    for name in OPENING {
+        table.place_of(alloc, name)?;
+    }
+    Ok(table)
+}
+
+/// What stands between the quotes of a Quoted token, where it is the name as it stands: no quote is
+/// written twice in it, and no escape stands there.
+fn plain_name(text: &str, token: Token) -> Option<&str>
+    requires { IsQuoted text.now 39 token.start token.end }
+    ensures { IfSome result (λ name. IsQuotedText text.now 39 token.start token.end name.now) }
+{
+    let from = token.start as usize + 1;
+    let to = token.end as usize - 1;
+    let inner = &text[from..to];
+    for byte in inner.as_bytes() {
+        if *byte == b'\'' {
+            return None;
+        }
+        if *byte == b'\\' {
+            return None;
+        }
+    }
+    Some(inner)
+}
+
+/// The number of the token's name, which is put into the table where it isn't there yet.
+fn number_of(
+    alloc: Global,
+    table: &mut NameTable,
+    text: &str,
+    token: Token,
+) -> Result<u32, AllocError>
+    requires spelled { IsTokenOf text.now token }
+    requires some { 0 < length table.old }
+    requires room { length table.old < 4294967295 }
+    ensures number { IfOk result (λ number. IsNumberOf text.now table.new token number) }
+    ensures kept { OnOk result ((more : List (List ℕ)) × (table.new ≡ table.old ++ more) × (length more ≤ 1)) }
+{
+    match token.kind {
+        Kind::Name => table.place_of(alloc, name_slice(text, token)),
+        Kind::Quoted => {
+            if let Some(name) = plain_name(text, token) {
+                return table.place_of(alloc, name);
+            }
+            let name = name_text(alloc, text, token)?;
+            table.place_of(alloc, name.as_str())
+        }
+        _ => Ok(0),
+    }
+}
+
+/// The number of the name of each token of a text of at most 8,388,608 bytes; 0 for a token without a
+/// name. Fails only where memory runs out.
+pub fn number_names(alloc: Global, text: &str, tokens: &[Token]) -> Result<Numbered, AllocError>
+    requires small { length text.now ≤ 8388608 }
+    requires cut { IsCut text.now tokens.now }
+    ensures { IfOk result (λ numbered. AreNumbered text.now numbered.names tokens.now numbered.numbers.items) }
+{
+    cut_fewer();
+    cut_tokens();
+    let mut table = opening_table(alloc, tokens.len() / BUCKET_TOKENS)?;
+    let mut numbers = Vec::with_capacity(alloc, tokens.len())?;
+    for token in tokens {
+        let number = number_of(alloc, &mut table, text, *token)?;
+        numbers.push(number)?;
+    }
+    let names = Names { table };
+    Ok(Numbered { names, numbers })
+}
