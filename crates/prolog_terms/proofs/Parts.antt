@@ -1,10 +1,11 @@
 -- The tokens of a part of a text are spelled in it.
-use Rattle.std.proofs.Common.{◌≡◌, ℕ, ◌+◌, ◌<◌, List, [], ◌∷◌, ◌++◌, length, get_or, Some, slice_get, sym, ◌∙◌, subst, arith, zero, suc, length-append, append-nil}
+use Rattle.std.proofs.Common.{◌≡◌, ℕ, ◌+◌, ◌<◌, ◌≤◌, List, [], ◌∷◌, ◌++◌, length, get_or, Some, slice_get, sym, ◌∙◌, subst, arith, zero, suc, length-append, append-nil}
 use Rattle.std.proofs.lemmas.Option.{get_or_from_slice_get, slice_get_within}
 use Rattle.std.proofs.lemmas.List.{get_or_append_left, get_or-append-add}
 use Rattle.prolog_tokens.specs.declared.token.Token.{Token}
 use Rattle.prolog_tokens.specs.Spelling.{IsSpelled}
 use Rattle.prolog_tokens.specs.Cut.{StandBetween, IsCut}
+use Rattle.prolog_tokens.proofs.Lookups.{cut_fewer}
 use Rattle.prolog_terms.specs.Clause.{ArePart}
 
 pub record IsToken (text : List ℕ) (t : Token) : Type 0 where
@@ -30,3 +31,8 @@ part_spelled text ts part k t is =
 -- the tokens of a text are a part of themselves
 pub whole_part : (text : List ℕ) (ts : List Token) → IsCut text ts → ArePart text ts
 whole_part text ts cut = record { before = []; after = []; cut = subst (IsCut text) (sym (append-nil ts)) cut }
+
+-- and are no more than its bytes
+pub part_few : (text : List ℕ) (ts : List Token) → ArePart text ts → length ts ≤ length text
+part_few text ts part =
+    omega (arith, cut_fewer text (part.before ++ (ts ++ part.after)) part.cut, length-append part.before (ts ++ part.after), length-append ts part.after)

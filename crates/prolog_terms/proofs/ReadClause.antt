@@ -1,5 +1,5 @@
 -- What the reader has read of a clause, and what it is where it stops.
-use Rattle.std.proofs.Common.{◌≡◌, ℕ, zero, suc, ◌+◌, ◌-◌, ◌<◌, ◌≤◌, min, Bool, true, false, not, cond, ◌&&◌, ◌||◌, List, [], ◌∷◌, ◌++◌, length, take, drop, Option, Some, None, is_some, nat_le, slice_get, refl, ap, sym, ◌∙◌, subst, inl, inr, arith, append_assoc, append-nil, ◌^◌}
+use Rattle.std.proofs.Common.{◌≡◌, ℕ, zero, suc, ◌+◌, ◌-◌, ◌<◌, ◌≤◌, min, Bool, true, false, not, cond, ◌&&◌, ◌||◌, List, [], ◌∷◌, ◌++◌, length, take, drop, Option, Some, None, is_some, nat_le, slice_get, refl, ap, sym, ◌∙◌, subst, inl, inr, arith, append_assoc, append-nil, length-append, ◌^◌}
 use Rattle.std.proofs.lemmas.List.{take-append-drop, take-append-le, length-take-le, take_more}
 use Rattle.std.proofs.lemmas.Option.{slice_get_within, get_or_from_slice_get}
 use Rattle.std.proofs.lemmas.Bool.{cases_order}
@@ -15,7 +15,7 @@ use Rattle.prolog_terms.specs.StuckPlace.{IsRefusedAt, IsStuckAt, IsTooDeepAt, H
 use Rattle.prolog_terms.specs.ReaderSteps.{infix_open, Stack, Mode, want, minus, functor, have, done, State, at, goes, bound, reduced, infix_on, with_tree, want_step, act, next, run}
 use Rattle.prolog_terms.specs.ReaderWaiting.{Waiting, ready, named, doubt, feed}
 use Rattle.prolog_terms.specs.ReaderDepth.{waiting_floor}
-use Rattle.prolog_terms.specs.ReaderSeen.{WaitingSeen, ready_seen, wants, finished, OperandSeen, StackSeen, feed_seen, waiting_floor_seen, is_finished}
+use Rattle.prolog_terms.specs.ReaderSeen.{WaitingSeen, ready_seen, wants, finished, OperandSeen, StackSeen, feed_seen, waiting_floor_seen, waiting_parts, is_finished}
 use Rattle.prolog_terms.proofs.Parts.{IsToken}
 use Rattle.prolog_terms.proofs.WordsOf.{have_words, are_append, are_take, are_length, are_last}
 use Rattle.prolog_terms.proofs.NoEndWithin.{kept_none, before_none, none_at}
@@ -24,6 +24,7 @@ use Rattle.prolog_terms.proofs.ReaderComplete.{bare_step, name_kind_goes, reads_
 use Rattle.prolog_terms.proofs.ReaderSound.{read_sound}
 use Rattle.prolog_terms.proofs.ReaderPlaces.{from_start, Fits, Goes, feed_goes, fits_none, refused, step_doubt}
 use Rattle.prolog_terms.proofs.ReaderEnds.{waiting_ends, waiting_low}
+use Rattle.prolog_terms.proofs.ReaderRoom.{WaitsWithin, feed_room}
 use Rattle.prolog_terms.proofs.ReaderJoin.{parse_seen}
 use Rattle.prolog_terms.proofs.ReaderJoinWaiting.{waiting_seen, fed_seen, fits_names, feed_is, waiting_floor_is, infix_some, infix_name_step}
 
@@ -73,21 +74,30 @@ pub record HasRead (T : Table) (text : List ℕ) (ts : List Token) (seen : Waiti
   pub fits : Fits T words waiting
   pub seen_is : seen ≡ waiting_seen T waiting
   pub low : waiting_floor T waiting ≤ 1000
+  -- no more parts wait in brackets than tokens have been read
+  pub few : waiting_parts seen ≤ length ts
 
 no_others : (text : List ℕ) (others : List Word) → AreWords text [] others → others ≡ []
 no_others text [] h = refl
 no_others text (w ∷ ws) h = absurd h
 
-pub read_nothing : (T : Table) (text : List ℕ) (S : StackSeen) → S ≡ [] → HasRead T text [] (ready_seen S wants)
-read_nothing T text S empty = record {
+pub read_nothing : (T : Table) (text : List ℕ) (seen : WaitingSeen) → seen ≡ ready_seen [] wants → HasRead T text [] seen
+read_nothing T text seen empty = record {
   words = [];
   are = tt;
   only = no_others text;
   waiting = ready [] want;
   fits = fits_none T;
-  seen_is = ap (λ s. ready_seen s wants) empty;
+  seen_is = empty;
   low = omega arith;
+  few = let none : waiting_parts seen ≡ 0 = ap waiting_parts empty in omega (arith, none);
 }
+
+few_more : (T : Table) (ts : List Token) (t : Token) (seen later : WaitingSeen) (w : Word) → Some later ≡ feed_seen T seen w → waiting_parts seen ≤ length ts
+    → waiting_parts later ≤ length (ts ++ t ∷ [])
+few_more T ts t seen later w step few =
+    let more : waiting_parts later ≤ suc (waiting_parts seen) = subst (WaitsWithin (suc (waiting_parts seen))) (sym step) (feed_room T seen w) in
+    omega (arith, more, few, length-append ts (t ∷ []))
 
 -- one word more is fed
 
@@ -136,6 +146,7 @@ module _ (T : Table) (ok : IsTable T) (text : List ℕ) where
         seen_is = fed.seen_is;
         low = below_cap (2 ^ 64 - 1) (waiting_floor T fed.waiting) (omega arith)
             (subst (λ n. n ≤ 1000) (ap waiting_floor_seen fed.seen_is ∙ waiting_floor_is T fed.waiting) low);
+        few = few_more T ts t seen later w step read.few;
       }
 
   -- the reader stops at a token

@@ -2,18 +2,13 @@
 use Rattle.std.proofs.Common.{ℕ, ◌≡◌, ◌+◌, ◌^◌, ◌-◌, max, min, suc, Bool, true, false, cond, ◌&&◌, [], ◌∷◌, Option, Some, None, is_some, nat_lt, nat_le, length, arith, refl, ap, sym, ◌∙◌}
 use Rattle.prolog_tokens.specs.declared.token.Kind.{Kind}
 use Rattle.prolog_tokens.specs.declared.token.Kind.TheVariants as kind
-use Rattle.prolog_terms.specs.declared.term.Span.{Span}
-use Rattle.prolog_terms.specs.declared.term.Form.TheVariants.{Prefix, Infix, Postfix}
-use Rattle.prolog_terms.specs.declared.pending.Opened.{Opened}
-use Rattle.prolog_terms.specs.declared.pending.Opened.TheVariants.{Call, Square}
 use Rattle.prolog_terms.specs.Words.{Word, Table, Sides, sides_of}
-use Rattle.prolog_terms.specs.Grammar.{Parse, Parts, GroupStart, call, square, leaf, negative, bare, pair, group, tailed, wrapped, prefixed, infixed, postfixed, one, more, priority, parse_depth, parts_depth}
-use Rattle.prolog_terms.specs.Tree.{Tree, compound, none, more as with_more, span_of}
-use Rattle.prolog_terms.specs.Clause.{tree_from, trees_of, trees_more, span_between, from_of, to_of, joined_span, leaf_tree, negative_tree, wrapped_tree, infix_text}
+use Rattle.prolog_terms.specs.Grammar.{Parse, Parts, GroupStart, call, square, pair, group, tailed, wrapped, prefixed, infixed, postfixed, one, more, priority, parse_depth, parts_depth}
+use Rattle.prolog_terms.specs.Clause.{tree_from, trees_of, trees_more, span_between, from_of, to_of}
 use Rattle.prolog_terms.specs.ReaderSteps.{Pending, prefix_open, infix_open, first_open, next_open, tail_open, wrap_open, Stack, Mode, want, minus, functor, have, done, State, at, goes, bound, reduced, closed, is_curly, square_pair, curly_pair, want_other, infix_on, postfix_on, with_tree, infix_step, name_step, comma_on, bar_on, round_on, square_on, curly_on, end_on, have_step, act}
 use Rattle.prolog_terms.specs.ReaderDepth.{pending_depth, reach}
 use Rattle.prolog_terms.specs.ReaderSeen as seen
-use Rattle.prolog_terms.specs.ReaderSeen.{plus, OperandSeen, PartsSeen, operand, parts, built, PendingSeen, pending_operator, pending_bracket, first_in, next_in, tail_in, wrap_in, entry, StackSeen, ModeSeen, wants, minus_of, functor_of, has, finished, StateSeen, Held, held, goes_seen, pushed, reach_seen, separates_seen, bound_seen, inner_depth, pending_has_parts, reduced_seen, closed_seen, with_held, infix_held, postfix_held, infix_step_seen, name_step_seen, separator_seen, comma_in, bar_in, round_in, square_in, curly_in, end_in, have_step_seen, want_other_seen, square_pair_seen, curly_pair_seen, act_seen, postfixed_operand, parts_one, parts_more, group_operand, tailed_operand, wrapped_operand}
+use Rattle.prolog_terms.specs.ReaderSeen.{plus, OpenedSeen, Call, Square, OperandSeen, PartsSeen, operand, parts, built, PendingSeen, pending_operator, pending_bracket, first_in, next_in, tail_in, wrap_in, entry, StackSeen, ModeSeen, wants, minus_of, functor_of, has, finished, StateSeen, Held, held, goes_seen, pushed, reach_seen, separates_seen, bound_seen, inner_depth, pending_has_parts, reduced_seen, closed_seen, with_held, infix_held, postfix_held, infix_step_seen, name_step_seen, separator_seen, comma_in, bar_in, round_in, square_in, curly_in, end_in, have_step_seen, want_other_seen, square_pair_seen, curly_pair_seen, act_seen, postfixed_operand, parts_one, parts_more, group_operand, tailed_operand, wrapped_operand}
 
 -- depths are told apart up to the greatest number
 abbrev pub cap : ℕ → ℕ
@@ -40,76 +35,7 @@ cap_reach r d n = below_reach (2 ^ 64 - 1) r d n
 pub cap_max_suc : (a b : ℕ) → plus (max (cap a) (cap b)) 1 ≡ cap (suc (max a b))
 cap_max_suc a b = ap (λ d. plus d 1) (cap_max a b) ∙ cap_suc (max a b)
 
--- where trees stand
-
-leaf_span : (k : Kind) (value : Option ℕ) (span : Span) → span_of (leaf_tree k value span) ≡ span
-leaf_span kind.Integer value span = refl
-leaf_span kind.Float value span = refl
-leaf_span kind.Str value span = refl
-leaf_span kind.BackStr value span = refl
-leaf_span kind.Name value span = refl
-leaf_span kind.Quoted value span = refl
-leaf_span kind.Variable value span = refl
-leaf_span kind.OpenRound value span = refl
-leaf_span kind.CloseRound value span = refl
-leaf_span kind.OpenSquare value span = refl
-leaf_span kind.CloseSquare value span = refl
-leaf_span kind.OpenCurly value span = refl
-leaf_span kind.CloseCurly value span = refl
-leaf_span kind.Comma value span = refl
-leaf_span kind.Bar value span = refl
-leaf_span kind.End value span = refl
-
-negative_span : (k : Kind) (value : Option ℕ) (span : Span) → span_of (negative_tree k value span) ≡ span
-negative_span kind.Integer value span = refl
-negative_span kind.Float value span = refl
-negative_span kind.Str value span = refl
-negative_span kind.BackStr value span = refl
-negative_span kind.Name value span = refl
-negative_span kind.Quoted value span = refl
-negative_span kind.Variable value span = refl
-negative_span kind.OpenRound value span = refl
-negative_span kind.CloseRound value span = refl
-negative_span kind.OpenSquare value span = refl
-negative_span kind.CloseSquare value span = refl
-negative_span kind.OpenCurly value span = refl
-negative_span kind.CloseCurly value span = refl
-negative_span kind.Comma value span = refl
-negative_span kind.Bar value span = refl
-negative_span kind.End value span = refl
-
-wrapped_span : (k : Kind) (inner : Tree) (span : Span) → span_of (wrapped_tree k inner span) ≡ span
-wrapped_span kind.Integer inner span = refl
-wrapped_span kind.Float inner span = refl
-wrapped_span kind.Str inner span = refl
-wrapped_span kind.BackStr inner span = refl
-wrapped_span kind.Name inner span = refl
-wrapped_span kind.Quoted inner span = refl
-wrapped_span kind.Variable inner span = refl
-wrapped_span kind.OpenRound inner span = refl
-wrapped_span kind.CloseRound inner span = refl
-wrapped_span kind.OpenSquare inner span = refl
-wrapped_span kind.CloseSquare inner span = refl
-wrapped_span kind.OpenCurly inner span = refl
-wrapped_span kind.CloseCurly inner span = refl
-wrapped_span kind.Comma inner span = refl
-wrapped_span kind.Bar inner span = refl
-wrapped_span kind.End inner span = refl
-
-pub span_is : (t : Parse) → span_of (tree_from t) ≡ span_between (from_of t) (to_of t)
-span_is (leaf w) = leaf_span w.kind w.value w.span
-span_is (negative w n) = negative_span n.kind n.value (joined_span w.span n.span)
-span_is (bare w) = refl
-span_is (pair o c) = refl
-span_is (group (call f o) xs c) = refl
-span_is (group (square o) xs c) = refl
-span_is (tailed o xs b t c) = refl
-span_is (wrapped o t c) = wrapped_span o.kind (tree_from t) (joined_span o.span c.span)
-span_is (prefixed w r) = refl
-span_is (infixed l w r) = refl
-span_is (postfixed l w) = refl
-
-abbrev pub start_seen : GroupStart → Opened
+abbrev pub start_seen : GroupStart → OpenedSeen
 start_seen (call f o) = Call f
 start_seen (square o) = Square o
 
@@ -129,7 +55,11 @@ parted (wrap_open o ∷ S) = false
 
 module _ (T : Table) where
   abbrev pub parse_seen : Parse → OperandSeen
-  parse_seen t = operand (tree_from t) (priority T t) (cap (parse_depth t))
+  parse_seen t = operand (tree_from t) (priority T t) (cap (parse_depth t)) (span_between (from_of t) (to_of t))
+
+  -- operands of one depth
+  deeper : (t : Parse) {d e : ℕ} → d ≡ e → operand (tree_from t) (priority T t) d (span_between (from_of t) (to_of t)) ≡ operand (tree_from t) (priority T t) e (span_between (from_of t) (to_of t))
+  deeper t same = ap (λ n. operand (tree_from t) (priority T t) n (span_between (from_of t) (to_of t))) same
 
   abbrev pub parts_seen : Parts → PartsSeen
   parts_seen xs = parts (trees_of xs) (cap (parts_depth xs))
@@ -163,35 +93,26 @@ module _ (T : Table) where
   -- nodes
 
   prefixed_is : (w : Word) (t : Parse) → built (seen.prefix_on w (sides_of (T.prefix w))) (parse_seen t) ≡ parse_seen (prefixed w t)
-  prefixed_is w t =
-      ap (λ span. operand (compound w.text (with_more (tree_from t) none) Prefix (joined_span w.span span)) (sides_of (T.prefix w)).priority (plus (cap (parse_depth t)) 1)) (span_is t)
-      ∙ ap (operand (tree_from (prefixed w t)) (sides_of (T.prefix w)).priority) (cap_suc (parse_depth t))
+  prefixed_is w t = deeper (prefixed w t) (cap_suc (parse_depth t))
 
   infixed_is : (l : Parse) (w : Word) (t : Parse) → built (seen.infix_on (parse_seen l) w (sides_of (T.infix_ w))) (parse_seen t) ≡ parse_seen (infixed l w t)
-  infixed_is l w t =
-      ap (λ span. operand (compound (infix_text w.kind w.text) (with_more (tree_from l) (with_more (tree_from t) none)) Infix (joined_span span (span_of (tree_from t))))
-      (sides_of (T.infix_ w)).priority (plus (max (cap (parse_depth l)) (cap (parse_depth t))) 1)) (span_is l)
-      ∙ (ap (λ span. operand (compound (infix_text w.kind w.text) (with_more (tree_from l) (with_more (tree_from t) none)) Infix (joined_span (span_between (from_of l) (to_of l)) span))
-      (sides_of (T.infix_ w)).priority (plus (max (cap (parse_depth l)) (cap (parse_depth t))) 1)) (span_is t)
-      ∙ ap (operand (tree_from (infixed l w t)) (sides_of (T.infix_ w)).priority) (cap_max_suc (parse_depth l) (parse_depth t)))
+  infixed_is l w t = deeper (infixed l w t) (cap_max_suc (parse_depth l) (parse_depth t))
 
   postfixed_is : (l : Parse) (w : Word) → postfixed_operand (parse_seen l) w (sides_of (T.postfix w)) ≡ parse_seen (postfixed l w)
-  postfixed_is l w =
-      ap (λ span. operand (compound w.text (with_more (tree_from l) none) Postfix (joined_span span w.span)) (sides_of (T.postfix w)).priority (plus (cap (parse_depth l)) 1)) (span_is l)
-      ∙ ap (operand (tree_from (postfixed l w)) (sides_of (T.postfix w)).priority) (cap_suc (parse_depth l))
+  postfixed_is l w = deeper (postfixed l w) (cap_suc (parse_depth l))
 
   parts_more_is : (xs : Parts) (w : Word) (t : Parse) → parts_more (parts_seen xs) (parse_seen t) ≡ parts_seen (more xs w t)
   parts_more_is xs w t = ap (parts (trees_more (trees_of xs) (tree_from t))) (cap_max (parts_depth xs) (parse_depth t))
 
   group_is : (g : GroupStart) (xs : Parts) (w : Word) → group_operand (start_seen g) (parts_seen xs) w ≡ parse_seen (group g xs w)
-  group_is (call f o) xs w = ap (operand (tree_from (group (call f o) xs w)) 0) (cap_suc (parts_depth xs))
-  group_is (square o) xs w = ap (operand (tree_from (group (square o) xs w)) 0) (cap_suc (parts_depth xs))
+  group_is (call f o) xs w = deeper (group (call f o) xs w) (cap_suc (parts_depth xs))
+  group_is (square o) xs w = deeper (group (square o) xs w) (cap_suc (parts_depth xs))
 
   tailed_is : (o : Word) (xs : Parts) (b : Word) (t : Parse) (w : Word) → tailed_operand o (parts_seen xs) (parse_seen t) w ≡ parse_seen (tailed o xs b t w)
-  tailed_is o xs b t w = ap (operand (tree_from (tailed o xs b t w)) 0) (cap_max_suc (parts_depth xs) (parse_depth t))
+  tailed_is o xs b t w = deeper (tailed o xs b t w) (cap_max_suc (parts_depth xs) (parse_depth t))
 
   wrapped_is : (o : Word) (t : Parse) (w : Word) → wrapped_operand o (parse_seen t) w ≡ parse_seen (wrapped o t w)
-  wrapped_is o t w = ap (operand (tree_from (wrapped o t w)) 0) (cap_suc (parse_depth t))
+  wrapped_is o t w = deeper (wrapped o t w) (cap_suc (parse_depth t))
 
   -- the stack
 

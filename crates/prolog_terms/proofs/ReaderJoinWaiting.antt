@@ -1,12 +1,11 @@
 -- What waits in the reader over what it keeps goes as what waits over trees with all their words.
 use Rattle.std.proofs.Common.{ℕ, ◌≡◌, ◌≤◌, ◌+◌, ◌^◌, ◌-◌, max, min, suc, Bool, true, false, cond, not, ◌&&◌, ◌||◌, List, [], ◌∷◌, Option, Some, None, is_some, nat_lt, nat_le, length, arith, refl, ap, sym, ◌∙◌}
-use Rattle.prolog_terms.specs.declared.pending.Opened.TheVariants.{Call}
 use Rattle.prolog_terms.specs.Words.{Word, Table, sides_of, is_name, begins_term, opens, number_next, atom_rule, is_negative}
 use Rattle.prolog_terms.specs.Grammar.{Parse, call, square, bare, prefixed, infixed, priority, parse_depth}
 use Rattle.prolog_terms.specs.ReaderSteps.{prefix_open, infix_open, first_open, next_open, tail_open, wrap_open, Stack, Mode, want, minus, functor, have, done, State, at, goes, bound, reduced, is_curly, want_other, want_step, infix_on, postfix_on, with_tree, infix_step, name_step, act}
 use Rattle.prolog_terms.specs.ReaderWaiting.{Waiting, ready, named, doubt, settled, enter, then_enter, then_second, is_infix_only, leaves_doubt, can_go_on, feed}
 use Rattle.prolog_terms.specs.ReaderDepth.{reach, floor_of, want_floor, floor, least_floor, waiting_floor}
-use Rattle.prolog_terms.specs.ReaderSeen.{plus, pending_bracket, first_in, wants, functor_of, minus_of, has, StateSeen, Measure, goes_seen, pushed, reduced_measure, measure, prefix_step_seen, want_name_seen, want_other_seen, act_seen, settled_seen, WaitingSeen, ready_seen, named_seen, doubt_seen, enter_seen, then_enter_seen, infix_fits, infix_floor, doubt_step, call_step, feed_named_seen, feed_doubt_seen, feed_seen, floor_seen, want_floor_seen, waiting_floor_seen, atom_operand, reduced_seen, infix_held}
+use Rattle.prolog_terms.specs.ReaderSeen.{plus, Call, pending_bracket, first_in, wants, functor_of, minus_of, has, StateSeen, Measure, goes_seen, pushed, reduced_measure, measure, prefix_step_seen, want_name_seen, want_other_seen, act_seen, settled_seen, WaitingSeen, ready_seen, named_seen, doubt_seen, enter_seen, then_enter_seen, infix_fits, infix_floor, doubt_step, call_step, feed_named_seen, feed_doubt_seen, feed_seen, floor_seen, want_floor_seen, waiting_floor_seen, atom_operand, reduced_seen, infix_held}
 use Rattle.prolog_terms.proofs.ReaderComplete.{and_left, and_right, and_both, other_step, functor_step, name_kind_goes}
 use Rattle.prolog_terms.proofs.ReaderPlaces.{step_doubt, Fits}
 use Rattle.prolog_terms.proofs.ReaderJoin.{cap, cap_max_suc, parse_seen, stack_seen, mode_seen, result_seen, pending_seen, length_is, bound_is, reach_is, pushed_is, pushed_goes, allowed, want_other_is, have_is, infix_reduced}

@@ -8,6 +8,7 @@ use Rattle.prolog_ops.specs.declared.op.Op.{Op}
 use Rattle.prolog_ops.specs.declared.op.OpKind.{OpKind}
 use Rattle.prolog_ops.specs.declared.op.OpKind.TheVariants.{Xfx, Xfy, Yfx, Fy, Fx, Xf, Yf}
 use Rattle.prolog_ops.specs.Table.{Ops, Prefix, Infix, Postfix, IsOps}
+use Rattle.prolog_terms.specs.ReaderSeen.{comma_sides, bar_sides}
 use Rattle.prolog_terms.specs.Words.{Word, Table, sides, sides_of, left_side, right_side, kind_operator, table_of, is_name}
 
 -- a name, a comma or a bar
@@ -161,3 +162,11 @@ module _ (ops : Ops) (is : IsOps ops) where
     infix_left = λ w. lefts (kind_operator (ops Infix) w.kind w.text);
     postfix_left = λ w. lefts (kind_operator (ops Postfix) w.kind w.text);
   }
+
+  -- the sides of a Comma and of a Bar
+
+  pub comma_is : (w : Word) → w.kind ≡ Comma → (table_of ops).infix_ w ≡ Some comma_sides
+  comma_is w kind_is = ap (λ k. option_map sides (kind_operator (ops Infix) k w.text)) kind_is ∙ ap (option_map sides) (is.fixed Infix (codes ",") refl)
+
+  pub bar_is : (w : Word) → w.kind ≡ Bar → (table_of ops).infix_ w ≡ Some bar_sides
+  bar_is w kind_is = ap (λ k. option_map sides (kind_operator (ops Infix) k w.text)) kind_is ∙ ap (option_map sides) (is.fixed Infix (codes "|") refl)

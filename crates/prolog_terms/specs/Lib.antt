@@ -1,6 +1,7 @@
 pub mod Tree
 pub mod Views
 pub mod Weight
+pub mod Forest
 pub mod Clause
 pub mod Words
 pub mod Grammar
@@ -10,3 +11,4 @@ pub mod ReaderDepth
 pub mod StuckPlace
 pub mod ReaderSeen
 pub mod StackSeen
+pub mod Boxed

@@ -1,24 +1,11 @@
 -- Reading as the words come, over what the reader keeps of them: terms with their priorities and depths, and operators with their sides.
-use Rattle.std.specs.Prelude.{ℕ, ◌+◌, ◌-◌, ◌^◌, max, min, Bool, true, false, cond, not, ◌&&◌, ◌||◌, List, [], ◌∷◌, Option, Some, None, is_some, nat_lt, nat_le, length, map}
+use Rattle.std.specs.Prelude.{ℕ, ◌+◌, ◌-◌, ◌^◌, max, min, Bool, true, false, cond, not, ◌&&◌, ◌||◌, List, [], ◌∷◌, Option, Some, None, is_some, nat_lt, nat_le, length}
 use Rattle.prolog_tokens.specs.declared.token.Kind.{Kind}
 use Rattle.prolog_tokens.specs.declared.token.Kind.TheVariants as kind
 use Rattle.prolog_terms.specs.declared.term.Form.TheVariants.{Prefix, Infix, Postfix, Functional}
-use Rattle.prolog_terms.specs.declared.operand.Operand.{Operand}
-use Rattle.prolog_terms.specs.declared.operand.Parts.{Parts}
-use Rattle.prolog_terms.specs.declared.pending.Operator.{Operator}
-use Rattle.prolog_terms.specs.declared.pending.Operator.TheVariants as operator
-use Rattle.prolog_terms.specs.declared.pending.Opened.{Opened}
-use Rattle.prolog_terms.specs.declared.pending.Opened.TheVariants.{Call, Square}
-use Rattle.prolog_terms.specs.declared.pending.Bracket.{Bracket}
-use Rattle.prolog_terms.specs.declared.pending.Bracket.TheVariants as bracket
-use Rattle.prolog_terms.specs.declared.pending.Pending.{Pending}
-use Rattle.prolog_terms.specs.declared.pending.Pending.TheVariants as pending
-use Rattle.prolog_terms.specs.declared.waiting.Mode.{Mode}
-use Rattle.prolog_terms.specs.declared.waiting.Mode.TheVariants as mode
-use Rattle.prolog_terms.specs.declared.waiting.Waiting.{Waiting}
 pub use Rattle.prolog_terms.specs.declared.measure.Measure.{Measure}
-use Rattle.prolog_terms.specs.declared.waiting.Waiting.TheVariants as waiting
-use Rattle.prolog_terms.specs.Tree.{Tree, Trees, atom, compound, listed, tailed as with_tail, none, more as with_more, tree_of, trees_from, span_of}
+use Rattle.prolog_terms.specs.declared.term.Span.{Span}
+use Rattle.prolog_terms.specs.Tree.{Tree, Trees, atom, compound, listed, tailed as with_tail, none, more as with_more, count}
 use Rattle.prolog_terms.specs.Words.{Word, Table, Sides, sides_of, is_name, is_minus, begins_term, opens, number_next}
 use Rattle.prolog_terms.specs.Clause.{joined_span, infix_text, pair_text, leaf_tree, negative_tree, wrapped_tree, trees_more}
 use Rattle.prolog_terms.specs.ReaderSteps.{is_curly}
@@ -28,19 +15,25 @@ use Rattle.prolog_terms.specs.ReaderWaiting.{is_infix_only}
 abbrev pub plus : ℕ → ℕ → ℕ
 plus a b = min (a + b) (2 ^ 64 - 1)
 
--- a term with its priority and depth
+-- what stands before arguments or items: a functor and its bracket, or a `[`
+pub data OpenedSeen : Type 0 where
+  Call : Word → OpenedSeen
+  Square : Word → OpenedSeen
+
+-- a term with its priority and depth, and where it stands
 pub record OperandSeen : Type 0 where
   pub tree : Tree
   pub priority : ℕ
   pub depth : ℕ
+  pub span : Span
 
 -- terms with the depth of the deepest
 pub record PartsSeen : Type 0 where
   pub trees : Trees
   pub depth : ℕ
 
-abbrev pub operand : Tree → ℕ → ℕ → OperandSeen
-operand tree priority depth = record { tree = tree; priority = priority; depth = depth }
+abbrev pub operand : Tree → ℕ → ℕ → Span → OperandSeen
+operand tree priority depth span = record { tree = tree; priority = priority; depth = depth; span = span }
 
 abbrev pub parts : Trees → ℕ → PartsSeen
 parts trees depth = record { trees = trees; depth = depth }
@@ -54,39 +47,40 @@ parts_more xs t = parts (trees_more xs.trees t.tree) (max xs.depth t.depth)
 -- the operands of each form
 
 abbrev pub leaf_operand : Word → OperandSeen
-leaf_operand w = operand (leaf_tree w.kind w.value w.span) 0 1
+leaf_operand w = operand (leaf_tree w.kind w.value w.span) 0 1 w.span
 
 abbrev pub negative_operand : Word → Word → OperandSeen
-negative_operand w n = operand (negative_tree n.kind n.value (joined_span w.span n.span)) 0 1
+negative_operand w n = operand (negative_tree n.kind n.value (joined_span w.span n.span)) 0 1 (joined_span w.span n.span)
 
 abbrev pub atom_operand : Word → OperandSeen
-atom_operand w = operand (atom w.text w.span) 0 1
+atom_operand w = operand (atom w.text w.span) 0 1 w.span
 
 abbrev pub pair_operand : Word → Word → OperandSeen
-pair_operand o c = operand (atom (pair_text o.kind) (joined_span o.span c.span)) 0 1
+pair_operand o c = operand (atom (pair_text o.kind) (joined_span o.span c.span)) 0 1 (joined_span o.span c.span)
 
-abbrev pub group_operand : Opened → PartsSeen → Word → OperandSeen
-group_operand (Call f) xs c = operand (compound f.text xs.trees Functional (joined_span f.span c.span)) 0 (plus xs.depth 1)
-group_operand (Square o) xs c = operand (listed xs.trees (joined_span o.span c.span)) 0 (plus xs.depth 1)
+abbrev pub group_operand : OpenedSeen → PartsSeen → Word → OperandSeen
+group_operand (Call f) xs c = operand (compound f.text xs.trees Functional (joined_span f.span c.span)) 0 (plus xs.depth 1) (joined_span f.span c.span)
+group_operand (Square o) xs c = operand (listed xs.trees (joined_span o.span c.span)) 0 (plus xs.depth 1) (joined_span o.span c.span)
 
 abbrev pub tailed_operand : Word → PartsSeen → OperandSeen → Word → OperandSeen
-tailed_operand o xs t c = operand (with_tail xs.trees t.tree (joined_span o.span c.span)) 0 (plus (max xs.depth t.depth) 1)
+tailed_operand o xs t c =
+    operand (with_tail xs.trees t.tree (joined_span o.span c.span)) 0 (plus (max xs.depth t.depth) 1) (joined_span o.span c.span)
 
 abbrev pub wrapped_operand : Word → OperandSeen → Word → OperandSeen
-wrapped_operand o t c = operand (wrapped_tree o.kind t.tree (joined_span o.span c.span)) 0 (plus t.depth 1)
+wrapped_operand o t c = operand (wrapped_tree o.kind t.tree (joined_span o.span c.span)) 0 (plus t.depth 1) (joined_span o.span c.span)
 
 abbrev pub prefixed_operand : Word → Sides → OperandSeen → OperandSeen
 prefixed_operand w s r =
-    operand (compound w.text (with_more r.tree none) Prefix (joined_span w.span (span_of r.tree))) s.priority (plus r.depth 1)
+    operand (compound w.text (with_more r.tree none) Prefix (joined_span w.span r.span)) s.priority (plus r.depth 1) (joined_span w.span r.span)
 
 abbrev pub infixed_operand : OperandSeen → Word → Sides → OperandSeen → OperandSeen
 infixed_operand l w s r =
-    operand (compound (infix_text w.kind w.text) (with_more l.tree (with_more r.tree none)) Infix (joined_span (span_of l.tree) (span_of r.tree)))
-    s.priority (plus (max l.depth r.depth) 1)
+    operand (compound (infix_text w.kind w.text) (with_more l.tree (with_more r.tree none)) Infix (joined_span l.span r.span))
+    s.priority (plus (max l.depth r.depth) 1) (joined_span l.span r.span)
 
 abbrev pub postfixed_operand : OperandSeen → Word → Sides → OperandSeen
 postfixed_operand l w s =
-    operand (compound w.text (with_more l.tree none) Postfix (joined_span (span_of l.tree) w.span)) s.priority (plus l.depth 1)
+    operand (compound w.text (with_more l.tree none) Postfix (joined_span l.span w.span)) s.priority (plus l.depth 1) (joined_span l.span w.span)
 
 -- what is open
 
@@ -95,8 +89,8 @@ pub data OperatorSeen : Type 0 where
   infix_on : OperandSeen → Word → Sides → OperatorSeen
 
 pub data BracketSeen : Type 0 where
-  first_in : Opened → BracketSeen
-  next_in : Opened → PartsSeen → BracketSeen
+  first_in : OpenedSeen → BracketSeen
+  next_in : OpenedSeen → PartsSeen → BracketSeen
   tail_in : Word → PartsSeen → BracketSeen
   wrap_in : Word → BracketSeen
 
@@ -303,6 +297,14 @@ end_in _ t = None
 abbrev pub with_held : Held → (StackSeen → OperandSeen → Option StateSeen) → Option StateSeen
 with_held h go = go h.stack h.operand
 
+-- the operators of a Comma and a Bar can't be changed
+
+abbrev pub comma_sides : Sides
+comma_sides = record { priority = 1000; left = 999; right = 1000 }
+
+abbrev pub bar_sides : Sides
+bar_sides = record { priority = 1100; left = 1099; right = 1100 }
+
 -- a comma or bar separates where the innermost bracket has parts, and is an operator elsewhere
 abbrev pub separator_seen : StackSeen → OperandSeen → Word → Option Sides → (StackSeen → OperandSeen → Option StateSeen) → Option StateSeen
 separator_seen S t w infix_ go = cond (separates_seen S) (with_held (closed_seen S t) go) (infix_step_seen S t w infix_)
@@ -421,45 +423,15 @@ waiting_floor_seen (ready_seen S m) = mode_floor_seen S m
 waiting_floor_seen (named_seen S w prefix) = floor_seen S 1
 waiting_floor_seen (doubt_seen S p s n i floor) = floor
 
--- what the reader keeps, seen
+-- how many parts stand in the open brackets
 
-abbrev pub see_operand : Operand → OperandSeen
-see_operand o = operand (tree_of o.term) o.priority o.depth
+abbrev pub parts_held : StackSeen → ℕ
+parts_held [] = 0
+parts_held (entry (pending_bracket (next_in g xs)) r b ∷ S) = count xs.trees + parts_held S
+parts_held (entry (pending_bracket (tail_in o xs)) r b ∷ S) = count xs.trees + parts_held S
+parts_held (entry f r b ∷ S) = parts_held S
 
-abbrev pub see_parts : Parts → PartsSeen
-see_parts xs = parts (trees_from (map tree_of xs.terms.items)) xs.depth
-
-abbrev pub see_operator : Operator → OperatorSeen
-see_operator (operator.Prefix word sides) = prefix_on word sides
-see_operator (operator.Infix left word sides) = infix_on (see_operand left.value) word sides
-
-abbrev pub see_bracket : Bracket → BracketSeen
-see_bracket (bracket.First opened) = first_in opened
-see_bracket (bracket.Next opened xs) = next_in opened (see_parts xs)
-see_bracket (bracket.Tail square xs) = tail_in square (see_parts xs)
-see_bracket (bracket.Wrap word) = wrap_in word
-
-abbrev pub see_pending : Pending → PendingSeen
-see_pending (pending.Operator o) = pending_operator (see_operator o)
-see_pending (pending.Bracket k) = pending_bracket (see_bracket k)
-
-abbrev pub see_mode : Mode → ModeSeen
-see_mode mode.Want = wants
-see_mode (mode.Minus word) = minus_of word.value
-see_mode (mode.Functor word) = functor_of word.value
-see_mode (mode.Have t) = has (see_operand t.value)
-see_mode (mode.Done t) = finished (see_operand t.value)
-
-abbrev pub see_waiting : StackSeen → Waiting → WaitingSeen
-see_waiting S (waiting.Ready m) = ready_seen S (see_mode m)
-see_waiting S (waiting.Named word prefix) = named_seen S word.value prefix
-see_waiting S (waiting.Doubt d) = doubt_seen S d.value.first d.value.prefix d.value.second d.value.between d.value.floor
-
--- a step that may be refused, with the stack behind it
-abbrev pub see_step : StackSeen → Option Mode → Option StateSeen
-see_step S None = None
-see_step S (Some m) = goes_seen S (see_mode m)
-
-abbrev pub see_fed : StackSeen → Option Waiting → Option WaitingSeen
-see_fed S None = None
-see_fed S (Some l) = Some (see_waiting S l)
+abbrev pub waiting_parts : WaitingSeen → ℕ
+waiting_parts (ready_seen S m) = parts_held S
+waiting_parts (named_seen S w prefix) = parts_held S
+waiting_parts (doubt_seen S p s n i floor) = parts_held S

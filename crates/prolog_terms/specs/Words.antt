@@ -3,17 +3,24 @@ use Rattle.std.specs.Prelude.{ℕ, ◌-◌, Bool, true, false, not, ◌&&◌, �
 use Rattle.std.specs.Str.{bytes_eq}
 use Rattle.prolog_tokens.specs.declared.token.Kind.{Kind}
 use Rattle.prolog_tokens.specs.declared.token.Kind.TheVariants.{Name, Quoted, Variable, Integer, Float, Str, BackStr, OpenRound, OpenSquare, OpenCurly, Comma, Bar}
+use Rattle.prolog_names.specs.Numbers.{has_name}
 use Rattle.prolog_ops.specs.Table.{Ops, Prefix, Infix, Postfix}
 use Rattle.prolog_ops.specs.declared.op.Op.{Op}
 use Rattle.prolog_ops.specs.declared.op.OpKind.{OpKind}
 use Rattle.prolog_ops.specs.declared.op.OpKind.TheVariants.{Xfx, Xfy, Yfx, Fy, Fx, Xf, Yf}
-pub use Rattle.prolog_terms.specs.declared.word.Word.{Word}
 pub use Rattle.prolog_terms.specs.declared.operator_sides.Sides.{Sides}
+use Rattle.prolog_terms.specs.declared.term.Span.{Span}
+
+-- a token as terms see it: the text is the name of a Name or Quoted token, and empty for any other
+pub record Word : Type 0 where
+  pub kind : Kind
+  pub after_layout : Bool
+  pub span : Span
+  pub value : Option ℕ
+  pub text : List ℕ
 
 abbrev pub is_name : Kind → Bool
-is_name Name = true
-is_name Quoted = true
-is_name _ = false
+is_name kind = has_name kind
 
 abbrev pub is_unquoted : Kind → Bool
 is_unquoted Name = true

@@ -1,247 +1,272 @@
 //! Separators, closing brackets and the End, behind an operand.
 
-ghost use Rattle.std.specs.Prelude.{◌≡◌, IfOk};
-ghost use Rattle.prolog_ops.specs.Table.{ops_of};
-ghost use Rattle.prolog_terms.specs.Words.{table_of};
-ghost use Rattle.prolog_terms.specs.ReaderSeen.{see_operand, see_parts, see_step, goes_seen, wants, has, pushed, pending_bracket, next_in, tail_in, separator_seen, comma_in, bar_in, round_in, square_in, curly_in, end_in, wrapped_operand, StackSeen};
-ghost use Rattle.prolog_terms.specs.declared.pending.Opened.TheVariants.{Call};
-ghost use Rattle.prolog_terms.specs.StackSeen.{see_stack};
+ghost use Rattle.std.specs.Prelude.{◌≡◌, ◌<◌, Some, IfOk};
+ghost use Rattle.prolog_terms.specs.Tree.{none};
+ghost use Rattle.prolog_terms.specs.Forest.{before_last, parts_of, without};
+ghost use Rattle.prolog_terms.specs.ReaderSeen.{parts, parts_held, goes_seen, wants, has, pushed, pending_bracket, next_in, tail_in, separator_seen, comma_sides, bar_sides, comma_in, bar_in, round_in, square_in, curly_in, end_in, group_operand, tailed_operand, wrapped_operand};
+ghost use Rattle.prolog_terms.specs.StackSeen.{Names as NamesSeen, see_word, see_opened, see_entries, innermost, trees_in, see_held, see_step};
 
-use crate::groups::{first_part, group, more_parts, one_part, tailed, wrapped};
-use crate::operand::{Operand, Parts};
-use crate::operators::{close, have, infix_step};
+use crate::nodes::{group, tailed, wrapped};
+use crate::operand::Operand;
+use crate::operator_sides::{BAR_SIDES, COMMA_SIDES};
+use crate::operators::{close, infix_step};
 use crate::pending::{Bracket, Opened, Pending};
-use crate::stack::Stack;
-use crate::waiting::Mode;
+use crate::state::{Mode, State};
 use crate::word::Word;
-use prolog_ops::OpTable;
+use prolog_names::Names;
 use prolog_tokens::Kind;
-use std::alloc::{AllocError, Global};
+use std::alloc::AllocError;
 
-/// One argument or item more is wanted.
-fn next_part(stack: &mut Stack, opened: Opened, parts: Parts) -> Result<Option<Mode>, AllocError>
-    ensures { IfOk result (λ next. see_step (see_stack stack.new) next ≡ goes_seen (pushed (see_stack stack.old) (pending_bracket (next_in opened (see_parts parts)))) wants) }
+/// One argument or item more is wanted, behind so many.
+fn next_part(
+    state: &mut State,
+    opened: Opened,
+    count: u32,
+    depth: usize,
+) -> Result<bool, AllocError>
+    ensures { IfOk result (λ goes. (names : NamesSeen) → see_step names state.new goes ≡ goes_seen (pushed (see_entries names (innermost state.old.stack) (without count (trees_in names state.old))) (pending_bracket (next_in (see_opened names opened) (parts (parts_of count (trees_in names state.old) none) depth)))) wants) }
 {
-    stack.push(Pending::Bracket(Bracket::Next { opened, parts }))?;
-    Ok(Some(Mode::Want))
+    state.stack.push(Pending::Bracket(Bracket::Next {
+        opened,
+        count,
+        depth,
+    }))?;
+    state.mode = Mode::Want;
+    Ok(true)
 }
 
 /// A Comma between arguments (ISO/IEC 13211-1, 6.3.3.1) or items (6.3.5.1).
-fn comma_behind(
-    alloc: Global,
-    stack: &mut Stack,
-    last: Box<Operand>,
-) -> Result<Option<Mode>, AllocError>
-    ensures { IfOk result (λ next. see_step (see_stack stack.new) next ≡ comma_in (see_stack stack.old) (see_operand last.value)) }
+fn comma_behind(state: &mut State, last: Operand) -> Result<bool, AllocError>
+    requires room { (names : NamesSeen) → parts_held (see_held names state.old last).stack < 4294967295 }
+    ensures { IfOk result (λ goes. (names : NamesSeen) → see_step names state.new goes ≡ comma_in (see_held names state.old last).stack (see_held names state.old last).operand) }
 {
-    let Some(bracket) = stack.pop_bracket() else {
-        return Ok(None);
+    let Some(bracket) = state.stack.pop_bracket() else {
+        return Ok(false);
     };
     match bracket {
-        Bracket::First(opened) => {
-            let parts = first_part(alloc, Box::into_inner(last))?;
-            next_part(stack, opened, parts)
-        }
-        Bracket::Next { opened, parts } => {
-            let parts = more_parts(parts, Box::into_inner(last))?;
-            next_part(stack, opened, parts)
-        }
-        Bracket::Tail { .. } => Ok(None),
-        Bracket::Wrap(_) => Ok(None),
+        Bracket::First(opened) => next_part(state, opened, 1, last.depth),
+        Bracket::Next {
+            opened,
+            count,
+            depth,
+        } => next_part(state, opened, count + 1, depth.max(last.depth)),
+        Bracket::Tail { .. } => Ok(false),
+        Bracket::Wrap(_) => Ok(false),
     }
 }
 
 /// A Comma: a separator where the innermost bracket has parts, else an operator (ISO/IEC 13211-1,
 /// 6.3.4.3).
 pub fn comma(
-    alloc: Global,
-    table: &OpTable,
-    stack: &mut Stack,
-    operand: Box<Operand>,
+    names: &Names,
+    state: &mut State,
+    operand: Operand,
     word: Word,
-) -> Result<Option<Mode>, AllocError>
-    ensures { IfOk result (λ next. see_step (see_stack stack.new) next ≡ separator_seen (see_stack stack.old) (see_operand operand.value) word ((table_of (ops_of table.now)).infix_ word) comma_in) }
+) -> Result<bool, AllocError>
+    requires room { parts_held (see_held names.now state.old operand).stack < 4294967295 }
+    ensures { IfOk result (λ goes. see_step names.now state.new goes ≡ separator_seen (see_held names.now state.old operand).stack (see_held names.now state.old operand).operand (see_word names.now word) (Some comma_sides) comma_in) }
 {
-    if !stack.separates() {
-        return infix_step(alloc, table, stack, operand, word);
+    if !state.stack.separates() {
+        return infix_step(names, state, operand, word, COMMA_SIDES);
     }
-    let last = close(alloc, stack, operand)?;
-    comma_behind(alloc, stack, last)
+    let last = close(names, state, operand)?;
+    comma_behind(state, last)
 }
 
-/// The tail of a list is wanted.
-fn tail_part(stack: &mut Stack, square: Word, parts: Parts) -> Result<Option<Mode>, AllocError>
-    ensures { IfOk result (λ next. see_step (see_stack stack.new) next ≡ goes_seen (pushed (see_stack stack.old) (pending_bracket (tail_in square (see_parts parts)))) wants) }
+/// The tail of a list is wanted, behind so many items.
+fn tail_part(state: &mut State, square: Word, count: u32, depth: usize) -> Result<bool, AllocError>
+    ensures { IfOk result (λ goes. (names : NamesSeen) → see_step names state.new goes ≡ goes_seen (pushed (see_entries names (innermost state.old.stack) (without count (trees_in names state.old))) (pending_bracket (tail_in (see_word names square) (parts (parts_of count (trees_in names state.old) none) depth)))) wants) }
 {
-    stack.push(Pending::Bracket(Bracket::Tail { square, parts }))?;
-    Ok(Some(Mode::Want))
+    state.stack.push(Pending::Bracket(Bracket::Tail {
+        square,
+        count,
+        depth,
+    }))?;
+    state.mode = Mode::Want;
+    Ok(true)
 }
 
 /// The Bar of a list, behind its items (ISO/IEC 13211-1, 6.3.5.1).
-fn bar_behind(
-    alloc: Global,
-    stack: &mut Stack,
-    last: Box<Operand>,
-) -> Result<Option<Mode>, AllocError>
-    ensures { IfOk result (λ next. see_step (see_stack stack.new) next ≡ bar_in (see_stack stack.old) (see_operand last.value)) }
+fn bar_behind(state: &mut State, last: Operand) -> Result<bool, AllocError>
+    requires room { (names : NamesSeen) → parts_held (see_held names state.old last).stack < 4294967295 }
+    ensures { IfOk result (λ goes. (names : NamesSeen) → see_step names state.new goes ≡ bar_in (see_held names state.old last).stack (see_held names state.old last).operand) }
 {
-    let Some(bracket) = stack.pop_bracket() else {
-        return Ok(None);
+    let Some(bracket) = state.stack.pop_bracket() else {
+        return Ok(false);
     };
     match bracket {
         Bracket::First(opened) => match opened {
-            Opened::Square(square) => {
-                let parts = one_part(alloc, Box::into_inner(last))?;
-                tail_part(stack, square, parts)
-            }
-            Opened::Call(_) => Ok(None),
+            Opened::Square(square) => tail_part(state, square, 1, last.depth),
+            Opened::Call(_) => Ok(false),
         },
-        Bracket::Next { opened, parts } => match opened {
-            Opened::Square(square) => {
-                let parts = more_parts(parts, Box::into_inner(last))?;
-                tail_part(stack, square, parts)
-            }
-            Opened::Call(_) => Ok(None),
+        Bracket::Next {
+            opened,
+            count,
+            depth,
+        } => match opened {
+            Opened::Square(square) => { tail_part(state, square, count + 1, depth.max(last.depth)) }
+            Opened::Call(_) => Ok(false),
         },
-        Bracket::Tail { .. } => Ok(None),
-        Bracket::Wrap(_) => Ok(None),
+        Bracket::Tail { .. } => Ok(false),
+        Bracket::Wrap(_) => Ok(false),
     }
 }
 
 /// A Bar: before a tail where the innermost bracket has parts, else an operator (ISO/IEC 13211-1,
 /// 6.3.4.3).
 pub fn bar(
-    alloc: Global,
-    table: &OpTable,
-    stack: &mut Stack,
-    operand: Box<Operand>,
+    names: &Names,
+    state: &mut State,
+    operand: Operand,
     word: Word,
-) -> Result<Option<Mode>, AllocError>
-    ensures { IfOk result (λ next. see_step (see_stack stack.new) next ≡ separator_seen (see_stack stack.old) (see_operand operand.value) word ((table_of (ops_of table.now)).infix_ word) bar_in) }
+) -> Result<bool, AllocError>
+    requires room { parts_held (see_held names.now state.old operand).stack < 4294967295 }
+    ensures { IfOk result (λ goes. see_step names.now state.new goes ≡ separator_seen (see_held names.now state.old operand).stack (see_held names.now state.old operand).operand (see_word names.now word) (Some bar_sides) bar_in) }
 {
-    if !stack.separates() {
-        return infix_step(alloc, table, stack, operand, word);
+    if !state.stack.separates() {
+        return infix_step(names, state, operand, word, BAR_SIDES);
     }
-    let last = close(alloc, stack, operand)?;
-    bar_behind(alloc, stack, last)
+    let last = close(names, state, operand)?;
+    bar_behind(state, last)
+}
+
+/// The arguments or items are complete.
+fn close_group(
+    state: &mut State,
+    opened: Opened,
+    count: u32,
+    depth: usize,
+    word: Word,
+) -> Result<bool, AllocError>
+    ensures { IfOk result (λ goes. (names : NamesSeen) → see_step names state.new goes ≡ goes_seen (see_entries names (innermost state.old.stack) (without count (trees_in names state.old))) (has (group_operand (see_opened names opened) (parts (parts_of count (trees_in names state.old) none) depth) (see_word names word)))) }
+{
+    let made = group(&mut state.nodes, opened, count, depth, word)?;
+    state.mode = Mode::Have(made);
+    Ok(true)
 }
 
 /// The term that `)` or `}` closes.
-fn wrap(
-    alloc: Global,
-    opening: &Word,
-    inner: Box<Operand>,
-    word: &Word,
-) -> Result<Option<Mode>, AllocError>
-    ensures { IfOk result (λ next. (S : StackSeen) → see_step S next ≡ goes_seen S (has (wrapped_operand opening.now (see_operand inner.value) word.now))) }
+fn close_wrap(
+    state: &mut State,
+    opening: Word,
+    inner: Operand,
+    word: Word,
+) -> Result<bool, AllocError>
+    ensures { IfOk result (λ goes. (names : NamesSeen) → see_step names state.new goes ≡ goes_seen (see_held names state.old inner).stack (has (wrapped_operand (see_word names opening) (see_held names state.old inner).operand (see_word names word)))) }
 {
-    let made = wrapped(alloc, opening, Box::into_inner(inner), word)?;
-    have(alloc, made)
+    let made = wrapped(&mut state.nodes, opening, inner, word)?;
+    state.mode = Mode::Have(made);
+    Ok(true)
 }
 
 /// The `)` behind arguments (ISO/IEC 13211-1, 6.3.3) or behind a term in brackets (6.3.4.1).
-pub fn round_behind(
-    alloc: Global,
-    stack: &mut Stack,
-    last: Box<Operand>,
-    word: &Word,
-) -> Result<Option<Mode>, AllocError>
-    ensures { IfOk result (λ next. see_step (see_stack stack.new) next ≡ round_in word.now (see_stack stack.old) (see_operand last.value)) }
+pub fn round_behind(state: &mut State, last: Operand, word: Word) -> Result<bool, AllocError>
+    requires room { (names : NamesSeen) → parts_held (see_held names state.old last).stack < 4294967295 }
+    ensures { IfOk result (λ goes. (names : NamesSeen) → see_step names state.new goes ≡ round_in (see_word names word) (see_held names state.old last).stack (see_held names state.old last).operand) }
 {
-    let Some(bracket) = stack.pop_bracket() else {
-        return Ok(None);
+    let Some(bracket) = state.stack.pop_bracket() else {
+        return Ok(false);
     };
     match bracket {
         Bracket::First(opened) => match opened {
-            Opened::Call(functor) => {
-                let parts = one_part(alloc, Box::into_inner(last))?;
-                have(alloc, group(Opened::Call(functor), parts, word))
-            }
-            Opened::Square(_) => Ok(None),
+            Opened::Call(_) => close_group(state, opened, 1, last.depth, word),
+            Opened::Square(_) => Ok(false),
         },
-        Bracket::Next { opened, parts } => match opened {
-            Opened::Call(functor) => {
-                let parts = more_parts(parts, Box::into_inner(last))?;
-                have(alloc, group(Opened::Call(functor), parts, word))
+        Bracket::Next {
+            opened,
+            count,
+            depth,
+        } => match opened {
+            Opened::Call(_) => {
+                close_group(state, opened, count + 1, depth.max(last.depth), word)
             }
-            Opened::Square(_) => Ok(None),
+            Opened::Square(_) => Ok(false),
         },
         Bracket::Wrap(open) => {
             if open.kind == Kind::OpenCurly {
-                return Ok(None);
+                return Ok(false);
             }
-            wrap(alloc, &open, last, word)
+            close_wrap(state, open, last, word)
         }
-        Bracket::Tail { .. } => Ok(None),
+        Bracket::Tail { .. } => Ok(false),
     }
 }
 
-/// The `]` of a list (ISO/IEC 13211-1, 6.3.5).
-pub fn square_behind(
-    alloc: Global,
-    stack: &mut Stack,
-    last: Box<Operand>,
-    word: &Word,
-) -> Result<Option<Mode>, AllocError>
-    ensures { IfOk result (λ next. see_step (see_stack stack.new) next ≡ square_in word.now (see_stack stack.old) (see_operand last.value)) }
+/// The `]` behind the tail of a list (ISO/IEC 13211-1, 6.3.5).
+fn close_tailed(
+    state: &mut State,
+    square: Word,
+    count: u32,
+    depth: usize,
+    tail: Operand,
+    word: Word,
+) -> Result<bool, AllocError>
+    ensures { IfOk result (λ goes. (names : NamesSeen) → see_step names state.new goes ≡ goes_seen (see_entries names (innermost state.old.stack) (without count (before_last (trees_in names state.old)))) (has (tailed_operand (see_word names square) (parts (parts_of count (before_last (trees_in names state.old)) none) depth) (see_held names state.old tail).operand (see_word names word)))) }
 {
-    let Some(bracket) = stack.pop_bracket() else {
-        return Ok(None);
+    let made = tailed(&mut state.nodes, square, count, depth, tail, word)?;
+    state.mode = Mode::Have(made);
+    Ok(true)
+}
+
+/// The `]` of a list (ISO/IEC 13211-1, 6.3.5).
+pub fn square_behind(state: &mut State, last: Operand, word: Word) -> Result<bool, AllocError>
+    requires room { (names : NamesSeen) → parts_held (see_held names state.old last).stack < 4294967295 }
+    ensures { IfOk result (λ goes. (names : NamesSeen) → see_step names state.new goes ≡ square_in (see_word names word) (see_held names state.old last).stack (see_held names state.old last).operand) }
+{
+    let Some(bracket) = state.stack.pop_bracket() else {
+        return Ok(false);
     };
     match bracket {
         Bracket::First(opened) => match opened {
-            Opened::Square(square) => {
-                let parts = one_part(alloc, Box::into_inner(last))?;
-                have(alloc, group(Opened::Square(square), parts, word))
-            }
-            Opened::Call(_) => Ok(None),
+            Opened::Square(_) => close_group(state, opened, 1, last.depth, word),
+            Opened::Call(_) => Ok(false),
         },
-        Bracket::Next { opened, parts } => match opened {
-            Opened::Square(square) => {
-                let parts = more_parts(parts, Box::into_inner(last))?;
-                have(alloc, group(Opened::Square(square), parts, word))
+        Bracket::Next {
+            opened,
+            count,
+            depth,
+        } => match opened {
+            Opened::Square(_) => {
+                close_group(state, opened, count + 1, depth.max(last.depth), word)
             }
-            Opened::Call(_) => Ok(None),
+            Opened::Call(_) => Ok(false),
         },
-        Bracket::Tail { square, parts } => {
-            let made = tailed(alloc, &square, parts, Box::into_inner(last), word)?;
-            have(alloc, made)
-        }
-        Bracket::Wrap(_) => Ok(None),
+        Bracket::Tail {
+            square,
+            count,
+            depth,
+        } => close_tailed(state, square, count, depth, last, word),
+        Bracket::Wrap(_) => Ok(false),
     }
 }
 
 /// The `}` behind a term in curly brackets (ISO/IEC 13211-1, 6.3.6).
-pub fn curly_behind(
-    alloc: Global,
-    stack: &mut Stack,
-    last: Box<Operand>,
-    word: &Word,
-) -> Result<Option<Mode>, AllocError>
-    ensures { IfOk result (λ next. see_step (see_stack stack.new) next ≡ curly_in word.now (see_stack stack.old) (see_operand last.value)) }
+pub fn curly_behind(state: &mut State, last: Operand, word: Word) -> Result<bool, AllocError>
+    ensures { IfOk result (λ goes. (names : NamesSeen) → see_step names state.new goes ≡ curly_in (see_word names word) (see_held names state.old last).stack (see_held names state.old last).operand) }
 {
-    let Some(bracket) = stack.pop_bracket() else {
-        return Ok(None);
+    let Some(bracket) = state.stack.pop_bracket() else {
+        return Ok(false);
     };
     match bracket {
         Bracket::Wrap(open) => {
             if open.kind == Kind::OpenCurly {
-                return wrap(alloc, &open, last, word);
+                return close_wrap(state, open, last, word);
             }
-            Ok(None)
+            Ok(false)
         }
-        Bracket::First(_) => Ok(None),
-        Bracket::Next { .. } => Ok(None),
-        Bracket::Tail { .. } => Ok(None),
+        Bracket::First(_) => Ok(false),
+        Bracket::Next { .. } => Ok(false),
+        Bracket::Tail { .. } => Ok(false),
     }
 }
 
 /// The End of the clause, where nothing is open (ISO/IEC 13211-1, 6.2.2).
-pub fn end_behind(stack: &Stack, last: Box<Operand>) -> Option<Mode>
-    ensures { see_step (see_stack stack.now) result ≡ end_in (see_stack stack.now) (see_operand last.value) }
+pub fn end_behind(state: &mut State, last: Operand) -> bool
+    ensures { (names : NamesSeen) → see_step names state.new result ≡ end_in (see_held names state.old last).stack (see_held names state.old last).operand }
 {
-    if stack.height() > 0 {
-        return None;
+    if state.stack.height() > 0 {
+        return false;
     }
-    Some(Mode::Done(last))
+    state.mode = Mode::Done(last);
+    true
 }

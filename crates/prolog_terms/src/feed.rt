@@ -1,72 +1,59 @@
 //! The reader: one word at a time.
 
-ghost use Rattle.std.specs.Prelude.{◌≡◌, ◌&&◌, min, IfOk, None, Some, true, false, MatchOption};
-ghost use Rattle.prolog_ops.specs.Table.{ops_of};
-ghost use Rattle.prolog_terms.specs.Words.{table_of};
+ghost use Rattle.std.specs.Prelude.{◌≡◌, ◌&&◌, ◌<◌, ◌∷◌, [], not, IfOk, Some, false, true, MatchOption};
+ghost use Rattle.prolog_ops.specs.Table.{ops_of, IsOps};
+ghost use Rattle.prolog_terms.specs.Words.{table_of, opens, number_next, begins_term};
 ghost use Rattle.prolog_terms.specs.ReaderWaiting.{is_infix_only};
-ghost use Rattle.prolog_terms.specs.ReaderSeen.{StackSeen, doubt_seen, see_mode, see_step, see_waiting, see_fed, enter_seen, then_enter_seen, infix_fits, infix_floor, doubt_step, call_step, feed_named_seen, feed_doubt_seen, feed_seen, mode_floor_seen, waiting_floor_seen, reduced_measure};
-ghost use Rattle.prolog_terms.specs.StackSeen.{see_stack};
+ghost use Rattle.prolog_terms.specs.ReaderSeen.{parts_held, want_name_seen, waiting_parts, enter_seen, then_enter_seen, infix_fits, infix_floor, doubt_step, call_step, feed_named_seen, feed_doubt_seen, feed_seen, mode_floor_seen, waiting_floor_seen, reduced_measure, infix_held, reduced_seen, atom_operand};
+ghost use Rattle.prolog_terms.specs.StackSeen.{Names as NamesSeen, see_word, see_stack, see_state, see_step, see_reader, see_fed};
 
 use crate::measure::Measure;
-use crate::nodes::{atom, boxed};
+use crate::nodes::atom;
 use crate::operator_sides::{Sides, infix_of, prefix_of};
-use crate::operators::{infix_behind, reduce};
+use crate::operators::infix_step;
 use crate::pending::{Bracket, Opened, Operator, Pending};
-use crate::stack::Stack;
+use crate::state::{Mode, State};
 use crate::steps::{Behind, act, want_name};
-use crate::waiting::{Doubt, Mode, Waiting};
+use crate::waiting::{Reader, Waiting};
 use crate::word::{Word, begins_term, is_name, is_near_number, is_opening};
+use prolog_names::Names;
 use prolog_ops::OpTable;
-use std::alloc::{AllocError, Global};
+use std::alloc::AllocError;
 
 /// A word where nothing waits.
 fn enter(
-    alloc: Global,
     table: &OpTable,
-    stack: &mut Stack,
-    mode: Mode,
+    names: &Names,
+    reader: &mut Reader,
     word: Word,
-) -> Result<Option<Waiting>, AllocError>
-    ensures { IfOk result (λ next. see_fed (see_stack stack.new) next ≡ enter_seen (table_of (ops_of table.now)) (see_stack stack.old) (see_mode mode) word) }
+) -> Result<bool, AllocError>
+    requires law { IsOps (ops_of table.now) }
+    requires room { parts_held (see_state names.now reader.old.state).stack < 4294967295 }
+    ensures { IfOk result (λ goes. see_fed names.now reader.new goes ≡ enter_seen (table_of (ops_of table.now)) (see_state names.now reader.old.state).stack (see_state names.now reader.old.state).mode (see_word names.now word)) }
 {
-    if let Mode::Want = mode {
+    if let Mode::Want = reader.state.mode {
         if is_name(word.kind) {
-            let prefix = prefix_of(table, &word);
-            let word = Box::new(alloc, word)?;
-            return Ok(Some(Waiting::Named { word, prefix }));
+            let prefix = prefix_of(table, names, word);
+            reader.waiting = Waiting::Named { word, prefix };
+            return Ok(true);
         }
     }
-    match act(alloc, table, stack, mode, word)? {
-        None => Ok(None),
-        Some(next) => Ok(Some(Waiting::Ready(next))),
+    if !act(table, names, &mut reader.state, word)? {
+        return Ok(false);
     }
-}
-
-/// A word behind the step that those before it made.
-fn then_enter(
-    alloc: Global,
-    table: &OpTable,
-    stack: &mut Stack,
-    step: Option<Mode>,
-    word: Word,
-) -> Result<Option<Waiting>, AllocError>
-    ensures { IfOk result (λ next. see_fed (see_stack stack.new) next ≡ then_enter_seen (table_of (ops_of table.now)) (see_step (see_stack stack.old) step) word) }
-{
-    match step {
-        None => Ok(None),
-        Some(mode) => enter(alloc, table, stack, mode, word),
-    }
+    reader.waiting = Waiting::Nothing;
+    Ok(true)
 }
 
 /// The sides of the word where it is an infix operator and no prefix operator.
-fn infix_only(table: &OpTable, word: &Word) -> Option<Sides>
-    ensures { MatchOption result (is_infix_only (table_of (ops_of table.now)) word.now ≡ false) (λ sides. (is_infix_only (table_of (ops_of table.now)) word.now ≡ true) × ((table_of (ops_of table.now)).infix_ word.now ≡ Some sides)) }
+fn infix_only(table: &OpTable, names: &Names, word: Word) -> Option<Sides>
+    ensures { MatchOption result (is_infix_only (table_of (ops_of table.now)) (see_word names.now word) ≡ false) (λ sides. (is_infix_only (table_of (ops_of table.now)) (see_word names.now word) ≡ true) × ((table_of (ops_of table.now)).infix_ (see_word names.now word) ≡ Some sides)) }
 {
     if !is_name(word.kind) {
         return None;
     }
-    let sides = infix_of(table, word)?;
-    match prefix_of(table, word) {
+    let sides = infix_of(table, names, word)?;
+    match prefix_of(table, names, word) {
         None => Some(sides),
         Some(_) => None,
     }
@@ -90,173 +77,191 @@ fn infix_floor(measure: Measure) -> usize
     measure.reach.max(inner)
 }
 
-/// The two words wait for one more.
-fn in_doubt(
-    alloc: Global,
-    first: Word,
-    prefix: Sides,
-    second: Word,
-    between: Sides,
-    floor: usize,
-) -> Result<Option<Waiting>, AllocError>
-    ensures { IfOk result (λ next. (S : StackSeen) → see_fed S next ≡ Some (doubt_seen S first prefix second between floor)) }
+/// Two words that one more has to decide: an atom and its infix operator, or a prefix operator and
+/// a functor.
+fn doubt(reader: &mut Reader, first: Word, prefix: Sides, second: Word, between: Sides) -> bool
+    ensures { (names : NamesSeen) → see_fed names reader.new result ≡ doubt_step (see_stack names reader.old.state) (see_word names first) prefix (see_word names second) between (reduced_measure between.priority (see_stack names reader.old.state) 0 1) }
 {
-    let doubt = Box::new(
-        alloc,
-        Doubt {
+    let measure = reader.state.stack.reduced_measure(between.priority);
+    let calls = prefix.priority <= reader.state.stack.bound();
+    if infix_fits(measure, between) {
+        let joined = infix_floor(measure);
+        let floor = if calls {
+            joined.min(reader.state.stack.floor(3))
+        } else {
+            joined
+        };
+        reader.waiting = Waiting::Doubt {
             first,
             prefix,
             second,
             between,
             floor,
-        },
-    )?;
-    Ok(Some(Waiting::Doubt(doubt)))
-}
-
-/// Two words that one more has to decide: an atom and its infix operator, or a prefix operator and
-/// a functor.
-fn doubt(
-    alloc: Global,
-    stack: &Stack,
-    first: Word,
-    prefix: Sides,
-    second: Word,
-    between: Sides,
-) -> Result<Option<Waiting>, AllocError>
-    ensures { IfOk result (λ next. see_fed (see_stack stack.now) next ≡ doubt_step (see_stack stack.now) first prefix second between (reduced_measure between.priority (see_stack stack.now) 0 1)) }
-{
-    let measure = stack.reduced_measure(between.priority);
-    let calls = prefix.priority <= stack.bound();
-    if infix_fits(measure, between) {
-        let joined = infix_floor(measure);
-        let floor = if calls {
-            joined.min(stack.floor(3))
-        } else {
-            joined
         };
-        return in_doubt(alloc, first, prefix, second, between, floor);
+        return true;
     }
     if !calls {
-        return Ok(None);
+        return false;
     }
-    in_doubt(alloc, first, prefix, second, between, stack.floor(3))
+    reader.waiting = Waiting::Doubt {
+        first,
+        prefix,
+        second,
+        between,
+        floor: reader.state.stack.floor(3),
+    };
+    true
 }
 
 /// A prefix operator, and a functor with its `(`.
-fn call(
-    stack: &mut Stack,
-    first: Word,
-    prefix: Sides,
-    second: Word,
-) -> Result<Option<Waiting>, AllocError>
-    ensures { IfOk result (λ next. see_fed (see_stack stack.new) next ≡ call_step (see_stack stack.old) first prefix second) }
+fn call(reader: &mut Reader, first: Word, prefix: Sides, second: Word) -> Result<bool, AllocError>
+    ensures { IfOk result (λ goes. (names : NamesSeen) → see_fed names reader.new goes ≡ call_step (see_stack names reader.old.state) (see_word names first) prefix (see_word names second)) }
 {
-    if prefix.priority > stack.bound() {
-        return Ok(None);
+    if prefix.priority > reader.state.stack.bound() {
+        return Ok(false);
     }
-    stack.push(Pending::Operator(Operator::Prefix {
+    reader.state.stack.push(Pending::Operator(Operator::Prefix {
         word: first,
         sides: prefix,
     }))?;
-    stack.push(Pending::Bracket(Bracket::First(Opened::Call(second))))?;
-    Ok(Some(Waiting::Ready(Mode::Want)))
+    reader
+        .state
+        .stack
+        .push(Pending::Bracket(Bracket::First(Opened::Call(second))))?;
+    reader.state.mode = Mode::Want;
+    reader.waiting = Waiting::Nothing;
+    Ok(true)
+}
+
+/// A name by the word behind it, and then this word.
+fn enter_named(
+    table: &OpTable,
+    names: &Names,
+    reader: &mut Reader,
+    name: Word,
+    prefix: Option<Sides>,
+    word: Word,
+) -> Result<bool, AllocError>
+    requires law { IsOps (ops_of table.now) }
+    requires room { parts_held (see_stack names.now reader.old.state) < 4294967295 }
+    ensures { IfOk result (λ goes. see_fed names.now reader.new goes ≡ then_enter_seen (table_of (ops_of table.now)) (want_name_seen (see_stack names.now reader.old.state) (see_word names.now name) prefix (opens (see_word names.now word ∷ [])) (number_next (see_word names.now word ∷ [])) (not (begins_term word.kind))) (see_word names.now word)) }
+{
+    let behind = Behind {
+        bracket: is_opening(word),
+        number: is_near_number(word),
+        ends: !begins_term(word.kind),
+    };
+    if !want_name(names, &mut reader.state, name, prefix, behind)? {
+        return Ok(false);
+    }
+    enter(table, names, reader, word)
 }
 
 /// A word behind a name that waited for it.
 fn feed_named(
-    alloc: Global,
     table: &OpTable,
-    stack: &mut Stack,
-    name: Box<Word>,
+    names: &Names,
+    reader: &mut Reader,
+    name: Word,
     prefix: Option<Sides>,
     word: Word,
-) -> Result<Option<Waiting>, AllocError>
-    ensures { IfOk result (λ next. see_fed (see_stack stack.new) next ≡ feed_named_seen (table_of (ops_of table.now)) (see_stack stack.old) name.value prefix word) }
+) -> Result<bool, AllocError>
+    requires law { IsOps (ops_of table.now) }
+    requires room { parts_held (see_stack names.now reader.old.state) < 4294967295 }
+    ensures { IfOk result (λ goes. see_fed names.now reader.new goes ≡ feed_named_seen (table_of (ops_of table.now)) (see_stack names.now reader.old.state) (see_word names.now name) prefix (see_word names.now word)) }
 {
-    if let Some(sides) = prefix {
-        if let Some(infix) = infix_only(table, &word) {
-            return doubt(alloc, stack, Box::into_inner(name), sides, word, infix);
-        }
+    match prefix {
+        None => enter_named(table, names, reader, name, prefix, word),
+        Some(sides) => match infix_only(table, names, word) {
+            Some(infix) => Ok(doubt(reader, name, sides, word, infix)),
+            None => enter_named(table, names, reader, name, prefix, word),
+        },
     }
-    let behind = Behind {
-        bracket: is_opening(&word),
-        number: is_near_number(&word),
-        ends: !begins_term(word.kind),
-    };
-    let step = want_name(alloc, stack, name, prefix, behind)?;
-    then_enter(alloc, table, stack, step, word)
+}
+
+/// An atom and the infix operator behind it.
+fn join(
+    names: &Names,
+    state: &mut State,
+    first: Word,
+    second: Word,
+    between: Sides,
+) -> Result<bool, AllocError>
+    ensures { IfOk result (λ goes. see_step names.now state.new goes ≡ infix_held (reduced_seen between.priority (see_stack names.now state.old) (atom_operand (see_word names.now first))) (see_word names.now second) between) }
+{
+    let made = atom(&mut state.nodes, first)?;
+    infix_step(names, state, made, second, between)
 }
 
 /// The one word more that decides the two in doubt.
 fn feed_doubt(
-    alloc: Global,
     table: &OpTable,
-    stack: &mut Stack,
+    names: &Names,
+    reader: &mut Reader,
     first: Word,
     prefix: Sides,
     second: Word,
     between: Sides,
     word: Word,
-) -> Result<Option<Waiting>, AllocError>
-    ensures { IfOk result (λ next. see_fed (see_stack stack.new) next ≡ feed_doubt_seen (table_of (ops_of table.now)) (see_stack stack.old) first prefix second between word) }
+) -> Result<bool, AllocError>
+    requires law { IsOps (ops_of table.now) }
+    requires room { parts_held (see_stack names.now reader.old.state) < 4294967295 }
+    ensures { IfOk result (λ goes. see_fed names.now reader.new goes ≡ feed_doubt_seen (table_of (ops_of table.now)) (see_stack names.now reader.old.state) (see_word names.now first) prefix (see_word names.now second) between (see_word names.now word)) }
 {
-    if is_opening(&word) {
-        return call(stack, first, prefix, second);
+    if is_opening(word) {
+        return call(reader, first, prefix, second);
     }
-    let first = boxed(alloc, atom(first))?;
-    let left = reduce(alloc, stack, first, between.priority)?;
-    let step = infix_behind(stack, left, second, between)?;
-    then_enter(alloc, table, stack, step, word)
+    if !join(names, &mut reader.state, first, second, between)? {
+        return Ok(false);
+    }
+    enter(table, names, reader, word)
 }
 
-/// One word more. None where no clause goes on with it.
+/// One word more. False where no clause goes on with it.
 pub fn feed(
-    alloc: Global,
     table: &OpTable,
-    stack: &mut Stack,
-    waiting: Waiting,
+    names: &Names,
+    reader: &mut Reader,
     word: Word,
-) -> Result<Option<Waiting>, AllocError>
-    ensures { IfOk result (λ next. see_fed (see_stack stack.new) next ≡ feed_seen (table_of (ops_of table.now)) (see_waiting (see_stack stack.old) waiting) word) }
+) -> Result<bool, AllocError>
+    requires law { IsOps (ops_of table.now) }
+    requires room { waiting_parts (see_reader names.now reader.old) < 4294967295 }
+    ensures { IfOk result (λ goes. see_fed names.now reader.new goes ≡ feed_seen (table_of (ops_of table.now)) (see_reader names.now reader.old) (see_word names.now word)) }
 {
-    match waiting {
-        Waiting::Ready(mode) => enter(alloc, table, stack, mode, word),
+    match reader.waiting {
+        Waiting::Nothing => enter(table, names, reader, word),
         Waiting::Named { word: name, prefix } => {
-            feed_named(alloc, table, stack, name, prefix, word)
+            feed_named(table, names, reader, name, prefix, word)
         }
-        Waiting::Doubt(doubt) => {
-            let Doubt {
-                first,
-                prefix,
-                second,
-                between,
-                ..
-            } = Box::into_inner(doubt);
-            feed_doubt(alloc, table, stack, first, prefix, second, between, word)
-        }
+        Waiting::Doubt {
+            first,
+            prefix,
+            second,
+            between,
+            ..
+        } => feed_doubt(table, names, reader, first, prefix, second, between, word),
     }
 }
 
-fn mode_floor(stack: &Stack, mode: &Mode) -> usize
-    ensures { result ≡ mode_floor_seen (see_stack stack.now) (see_mode mode.now) }
+fn mode_floor(state: &State) -> usize
+    ensures { (names : NamesSeen) → result ≡ mode_floor_seen (see_state names state.now).stack (see_state names state.now).mode }
 {
-    match mode {
-        Mode::Want => stack.want_floor(),
-        Mode::Minus(_) => stack.floor(1),
-        Mode::Functor(_) => stack.floor(2),
-        Mode::Have(operand) => stack.floor(operand.depth),
+    match state.mode {
+        Mode::Want => state.stack.want_floor(),
+        Mode::Minus(_) => state.stack.floor(1),
+        Mode::Functor(_) => state.stack.floor(2),
+        Mode::Have(operand) => state.stack.floor(operand.depth),
         Mode::Done(operand) => operand.depth,
     }
 }
 
 /// The least depth of the clauses that go on from here.
-pub fn waiting_floor(stack: &Stack, waiting: &Waiting) -> usize
-    ensures { result ≡ waiting_floor_seen (see_waiting (see_stack stack.now) waiting.now) }
+pub fn waiting_floor(reader: &Reader) -> usize
+    ensures { (names : NamesSeen) → result ≡ waiting_floor_seen (see_reader names reader.now) }
 {
-    match waiting {
-        Waiting::Ready(mode) => mode_floor(stack, mode),
-        Waiting::Named { .. } => stack.floor(1),
-        Waiting::Doubt(doubt) => doubt.floor,
+    match reader.waiting {
+        Waiting::Nothing => mode_floor(&reader.state),
+        Waiting::Named { .. } => reader.state.stack.floor(1),
+        Waiting::Doubt { floor, .. } => floor,
     }
 }

@@ -9,12 +9,12 @@
 #![tactic(auto)]
 
 mod binary_term;
+mod boxed;
 mod brackets;
-mod build;
 mod feed;
-mod groups;
 mod laws;
 mod measure;
+mod node;
 mod nodes;
 mod operand;
 mod operator_sides;
@@ -22,6 +22,7 @@ mod operators;
 mod pending;
 mod reader;
 mod stack;
+mod state;
 mod steps;
 mod term;
 mod views;
@@ -29,8 +30,8 @@ mod waiting;
 mod word;
 
 pub use binary_term::Binary;
-pub use build::span_at;
 pub use laws::{clause_depths, clause_weights, one_clause};
 pub use reader::{ReadFault, read_clause};
 pub use term::{ConstKind, Form, Span, Term};
-pub use views::{atom_name, binary, inside, name_and_arity, sides, start_of};
+pub use views::{atom_name, binary, inside, name_and_arity, sides, span_at, start_of};
+pub use waiting::Reader;

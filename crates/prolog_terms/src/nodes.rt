@@ -1,218 +1,300 @@
-//! The operands that words and operators make.
+//! The nodes that words, operators and brackets make, each behind its parts.
 
-ghost use Rattle.std.specs.Prelude.{◌≡◌, [], IfOk};
-ghost use Rattle.prolog_terms.specs.Tree.{tree_of};
-ghost use Rattle.prolog_terms.specs.Clause.{leaf_tree, negative_tree, pair_text, infix_text};
-ghost use Rattle.prolog_terms.specs.ReaderSeen.{see_operand, see_operator, leaf_operand, negative_operand, atom_operand, pair_operand, prefixed_operand, infixed_operand, postfixed_operand, built};
+ghost use Rattle.std.specs.Prelude.{◌≡◌, List, IfOk, max};
+ghost use Rattle.prolog_names.specs.Names.{name_at};
+ghost use Rattle.prolog_terms.specs.declared.term.Span.{Span as SpanOf};
+ghost use Rattle.prolog_terms.specs.Tree.{Tree, none};
+ghost use Rattle.prolog_terms.specs.Clause.{joined_span, leaf_tree, negative_tree, pair_text, infix_text, wrapped_tree};
+ghost use Rattle.prolog_terms.specs.Forest.{last_of, before_last, parts_of, without, forest, taken, node_tree};
+ghost use Rattle.prolog_terms.specs.ReaderSeen.{parts, leaf_operand, negative_operand, atom_operand, pair_operand, group_operand, tailed_operand, wrapped_operand, prefixed_operand, infixed_operand, postfixed_operand, built};
+ghost use Rattle.prolog_terms.specs.StackSeen.{Names as NamesSeen, see_word, see_opened, see_operand, see_operator, operator_holds, see_made, made};
 
-use crate::build::{joined, make_atom, make_compound, span_at};
+use crate::node::{Node, Shape};
 use crate::operand::Operand;
 use crate::operator_sides::Sides;
-use crate::pending::Operator;
-use crate::term::{ConstKind, Form, Span, Term};
+use crate::pending::{Opened, Operator};
+use crate::term::{ConstKind, Form, Span};
 use crate::word::Word;
-use prolog_tokens::{Kind, Text};
-use std::alloc::{AllocError, Global};
+use prolog_names::{BAR, COMMA, CURLY, Names, SQUARE, names_law};
+use prolog_tokens::Kind;
+use std::alloc::AllocError;
 
-/// The term of a word that stands for itself and is no name.
-fn leaf_term(word: &Word) -> Term
-    ensures { tree_of result ≡ leaf_tree word.now.kind word.now.value word.now.span }
+/// From the beginning of one span to the end of another.
+fn joined(first: Span, last: Span) -> Span
+    ensures { result ≡ joined_span first last }
 {
-    let span = word.span;
+    Span {
+        from: first.from,
+        to: last.to,
+    }
+}
+
+/// Adds a node of this shape.
+fn lay(
+    nodes: &mut Vec<Node>,
+    shape: Shape,
+    priority: u32,
+    depth: usize,
+    span: Span,
+) -> Result<Operand, AllocError>
+    ensures { IfOk result (λ operand. (names : NamesSeen) → see_made (forest names nodes.new.items) operand ≡ made (without (taken shape) (forest names nodes.old.items)) (see_operand (node_tree names shape span (forest names nodes.old.items)) (record { priority = priority; depth = depth; span = span }))) }
+{
+    nodes.push(Node { shape, span })?;
+    Ok(Operand {
+        priority,
+        depth,
+        span,
+    })
+}
+
+/// A word that stands for itself and is no name.
+fn leaf_shape(word: Word) -> Shape
+    ensures tree { (names : NamesSeen) (span : SpanOf) (trees : List Tree) → node_tree names result span trees ≡ leaf_tree word.kind word.value span }
+    ensures alone { taken result ≡ 0 }
+{
     match word.kind {
-        Kind::Integer => Term::Const {
+        Kind::Integer => Shape::Const {
             kind: ConstKind::Integer,
             minus: false,
             value: word.value,
-            span,
         },
-        Kind::Float => Term::Const {
+        Kind::Float => Shape::Const {
             kind: ConstKind::Float,
             minus: false,
             value: None,
-            span,
         },
-        Kind::Str => Term::Const {
+        Kind::Str => Shape::Const {
             kind: ConstKind::Str,
             minus: false,
             value: None,
-            span,
         },
-        Kind::BackStr => Term::Const {
+        Kind::BackStr => Shape::Const {
             kind: ConstKind::BackStr,
             minus: false,
             value: None,
-            span,
         },
-        _ => Term::Var { span },
+        _ => Shape::Var,
     }
 }
 
 /// A variable (ISO/IEC 13211-1, 6.3.2), a number without minus (6.3.1.1) or a text in quotes (6.3.7).
-pub fn leaf(word: &Word) -> Operand
-    ensures { see_operand result ≡ leaf_operand word.now }
+pub fn leaf(nodes: &mut Vec<Node>, word: Word) -> Result<Operand, AllocError>
+    ensures { IfOk result (λ operand. (names : NamesSeen) → see_made (forest names nodes.new.items) operand ≡ made (forest names nodes.old.items) (leaf_operand (see_word names word))) }
 {
-    Operand {
-        term: leaf_term(word),
-        priority: 0,
-        depth: 1,
-    }
+    lay(nodes, leaf_shape(word), 0, 1, word.span)
 }
 
-/// The term of a number behind its minus.
-fn negative_term(number: &Word, span: Span) -> Term
-    ensures { tree_of result ≡ negative_tree number.now.kind number.now.value span }
+/// A number behind its minus.
+fn negative_shape(number: Word) -> Shape
+    ensures tree { (names : NamesSeen) (span : SpanOf) (trees : List Tree) → node_tree names result span trees ≡ negative_tree number.kind number.value span }
+    ensures alone { taken result ≡ 0 }
 {
     match number.kind {
-        Kind::Integer => Term::Const {
+        Kind::Integer => Shape::Const {
             kind: ConstKind::Integer,
             minus: true,
             value: number.value,
-            span,
         },
-        _ => Term::Const {
+        _ => Shape::Const {
             kind: ConstKind::Float,
             minus: true,
             value: None,
-            span,
         },
     }
 }
 
 /// A minus and the number directly behind it (ISO/IEC 13211-1, 6.3.1.2).
-pub fn negative(minus: &Word, number: &Word) -> Operand
-    ensures { see_operand result ≡ negative_operand minus.now number.now }
+pub fn negative(nodes: &mut Vec<Node>, minus: Word, number: Word) -> Result<Operand, AllocError>
+    ensures { IfOk result (λ operand. (names : NamesSeen) → see_made (forest names nodes.new.items) operand ≡ made (forest names nodes.old.items) (negative_operand (see_word names minus) (see_word names number))) }
 {
-    Operand {
-        term: negative_term(number, joined(minus.span, number.span)),
-        priority: 0,
-        depth: 1,
-    }
+    let span = joined(minus.span, number.span);
+    lay(nodes, negative_shape(number), 0, 1, span)
 }
 
 /// A name that stands for itself, an atom (ISO/IEC 13211-1, 6.3.1.3).
-pub fn atom(word: Word) -> Operand
-    ensures { see_operand result ≡ atom_operand word }
+pub fn atom(nodes: &mut Vec<Node>, word: Word) -> Result<Operand, AllocError>
+    ensures { IfOk result (λ operand. (names : NamesSeen) → see_made (forest names nodes.new.items) operand ≡ made (forest names nodes.old.items) (atom_operand (see_word names word))) }
 {
-    let span = word.span;
-    Operand {
-        term: make_atom(word.text, span),
-        priority: 0,
-        depth: 1,
-    }
+    lay(nodes, Shape::Atom { name: word.name }, 0, 1, word.span)
 }
 
 /// The name of an empty pair of brackets.
-fn pair_name(alloc: Global, kind: Kind) -> Result<Text, AllocError>
-    ensures { IfOk result (λ name. name ≡ pair_text kind) }
+fn pair_name(names: &Names, kind: Kind) -> u32
+    ensures { name_at names.now result ≡ pair_text kind }
 {
+    names_law(names);
     match kind {
-        Kind::OpenCurly => Text::new(alloc, "{}"),
-        _ => Text::new(alloc, "[]"),
+        Kind::OpenCurly => CURLY,
+        _ => SQUARE,
     }
 }
 
 /// `[]` or `{}`, an atom of two words (ISO/IEC 13211-1, 6.3.1.3).
-pub fn pair(alloc: Global, first: &Word, last: &Word) -> Result<Operand, AllocError>
-    ensures { IfOk result (λ made. see_operand made ≡ pair_operand first.now last.now) }
+pub fn pair(
+    nodes: &mut Vec<Node>,
+    names: &Names,
+    first: Word,
+    last: Word,
+) -> Result<Operand, AllocError>
+    ensures { IfOk result (λ operand. see_made (forest names.now nodes.new.items) operand ≡ made (forest names.now nodes.old.items) (pair_operand (see_word names.now first) (see_word names.now last))) }
 {
-    let name = pair_name(alloc, first.kind)?;
-    Ok(Operand {
-        term: make_atom(name, joined(first.span, last.span)),
-        priority: 0,
-        depth: 1,
-    })
+    let name = pair_name(names, first.kind);
+    let span = joined(first.span, last.span);
+    lay(nodes, Shape::Atom { name }, 0, 1, span)
+}
+
+/// A name with arguments in brackets (ISO/IEC 13211-1, 6.3.3), or a list without a tail (6.3.5).
+pub fn group(
+    nodes: &mut Vec<Node>,
+    opened: Opened,
+    count: u32,
+    depth: usize,
+    last: Word,
+) -> Result<Operand, AllocError>
+    ensures { IfOk result (λ operand. (names : NamesSeen) → see_made (forest names nodes.new.items) operand ≡ made (without count (forest names nodes.old.items)) (group_operand (see_opened names opened) (parts (parts_of count (forest names nodes.old.items) none) depth) (see_word names last))) }
+{
+    let depth = depth.saturating_add(1);
+    match opened {
+        Opened::Call(functor) => {
+            let shape = Shape::Compound {
+                name: functor.name,
+                count,
+                form: Form::Functional,
+            };
+            let span = joined(functor.span, last.span);
+            lay(nodes, shape, 0, depth, span)
+        }
+        Opened::Square(square) => {
+            let span = joined(square.span, last.span);
+            lay(nodes, Shape::List { count }, 0, depth, span)
+        }
+    }
+}
+
+/// A list with a tail behind its bar (ISO/IEC 13211-1, 6.3.5).
+pub fn tailed(
+    nodes: &mut Vec<Node>,
+    square: Word,
+    count: u32,
+    depth: usize,
+    tail: Operand,
+    last: Word,
+) -> Result<Operand, AllocError>
+    ensures { IfOk result (λ operand. (names : NamesSeen) → see_made (forest names nodes.new.items) operand ≡ made (without count (before_last (forest names nodes.old.items))) (tailed_operand (see_word names square) (parts (parts_of count (before_last (forest names nodes.old.items)) none) depth) (see_operand (last_of (forest names nodes.old.items)) tail) (see_word names last))) }
+{
+    let depth = depth.max(tail.depth).saturating_add(1);
+    let span = joined(square.span, last.span);
+    lay(nodes, Shape::Tailed { count }, 0, depth, span)
+}
+
+/// A term in its brackets.
+fn wrapped_shape(kind: Kind) -> Shape
+    ensures tree { (names : NamesSeen) (span : SpanOf) (trees : List Tree) → node_tree names result span trees ≡ wrapped_tree kind (last_of trees) span }
+    ensures one { taken result ≡ 1 }
+{
+    match kind {
+        Kind::OpenCurly => Shape::Curly,
+        _ => Shape::Paren,
+    }
+}
+
+/// A term in round brackets (ISO/IEC 13211-1, 6.3.4.1) or in curly ones (6.3.6).
+pub fn wrapped(
+    nodes: &mut Vec<Node>,
+    first: Word,
+    inner: Operand,
+    last: Word,
+) -> Result<Operand, AllocError>
+    ensures { IfOk result (λ operand. (names : NamesSeen) → see_made (forest names nodes.new.items) operand ≡ made (before_last (forest names nodes.old.items)) (wrapped_operand (see_word names first) (see_operand (last_of (forest names nodes.old.items)) inner) (see_word names last))) }
+{
+    let depth = inner.depth.saturating_add(1);
+    let span = joined(first.span, last.span);
+    lay(nodes, wrapped_shape(first.kind), 0, depth, span)
 }
 
 /// An operator before its operand (ISO/IEC 13211-1, 6.3.4.2).
-fn prefixed(alloc: Global, word: Word, sides: Sides, right: Operand) -> Result<Operand, AllocError>
-    ensures { IfOk result (λ made. see_operand made ≡ prefixed_operand word sides (see_operand right)) }
+fn prefixed(
+    nodes: &mut Vec<Node>,
+    word: Word,
+    sides: Sides,
+    right: Operand,
+) -> Result<Operand, AllocError>
+    ensures { IfOk result (λ operand. (names : NamesSeen) → see_made (forest names nodes.new.items) operand ≡ made (before_last (forest names nodes.old.items)) (prefixed_operand (see_word names word) sides (see_operand (last_of (forest names nodes.old.items)) right))) }
 {
-    let span = joined(word.span, span_at(&right.term));
     let depth = right.depth.saturating_add(1);
-    let args = vec![in alloc; right.term]?;
-    Ok(Operand {
-        term: make_compound(word.text, args, Form::Prefix, span),
-        priority: sides.priority,
-        depth,
-    })
+    let span = joined(word.span, right.span);
+    let shape = Shape::Compound {
+        name: word.name,
+        count: 1,
+        form: Form::Prefix,
+    };
+    lay(nodes, shape, sides.priority, depth, span)
 }
 
 /// The name of an infix operator, which a Comma and a Bar may be (ISO/IEC 13211-1, 6.3.4.3).
-fn infix_name(alloc: Global, kind: Kind, text: Text) -> Result<Text, AllocError>
-    ensures { IfOk result (λ name. name ≡ infix_text kind text) }
+fn infix_name(names: &Names, word: Word) -> u32
+    ensures { name_at names.now result ≡ infix_text word.kind (name_at names.now word.name) }
 {
-    match kind {
-        Kind::Comma => Text::new(alloc, ","),
-        Kind::Bar => Text::new(alloc, "|"),
-        _ => Ok(text),
+    names_law(names);
+    match word.kind {
+        Kind::Comma => COMMA,
+        Kind::Bar => BAR,
+        _ => word.name,
     }
 }
 
 /// An operator between its operands (ISO/IEC 13211-1, 6.3.4.2).
 fn infixed(
-    alloc: Global,
+    nodes: &mut Vec<Node>,
+    names: &Names,
     left: Operand,
     word: Word,
     sides: Sides,
     right: Operand,
 ) -> Result<Operand, AllocError>
-    ensures { IfOk result (λ made. see_operand made ≡ infixed_operand (see_operand left) word sides (see_operand right)) }
+    ensures { IfOk result (λ operand. see_made (forest names.now nodes.new.items) operand ≡ made (before_last (before_last (forest names.now nodes.old.items))) (infixed_operand (see_operand (last_of (before_last (forest names.now nodes.old.items))) left) (see_word names.now word) sides (see_operand (last_of (forest names.now nodes.old.items)) right))) }
 {
-    let span = joined(span_at(&left.term), span_at(&right.term));
     let depth = left.depth.max(right.depth).saturating_add(1);
-    let name = infix_name(alloc, word.kind, word.text)?;
-    let args = vec![in alloc; left.term, right.term]?;
-    Ok(Operand {
-        term: make_compound(name, args, Form::Infix, span),
-        priority: sides.priority,
-        depth,
-    })
+    let span = joined(left.span, right.span);
+    let name = infix_name(names, word);
+    let shape = Shape::Compound {
+        name,
+        count: 2,
+        form: Form::Infix,
+    };
+    lay(nodes, shape, sides.priority, depth, span)
 }
 
 /// An operator behind its operand (ISO/IEC 13211-1, 6.3.4.2).
 pub fn postfixed(
-    alloc: Global,
+    nodes: &mut Vec<Node>,
     left: Operand,
     word: Word,
     sides: Sides,
 ) -> Result<Operand, AllocError>
-    ensures { IfOk result (λ made. see_operand made ≡ postfixed_operand (see_operand left) word sides) }
+    ensures { IfOk result (λ operand. (names : NamesSeen) → see_made (forest names nodes.new.items) operand ≡ made (before_last (forest names nodes.old.items)) (postfixed_operand (see_operand (last_of (forest names nodes.old.items)) left) (see_word names word) sides)) }
 {
-    let span = joined(span_at(&left.term), word.span);
     let depth = left.depth.saturating_add(1);
-    let args = vec![in alloc; left.term]?;
-    Ok(Operand {
-        term: make_compound(word.text, args, Form::Postfix, span),
-        priority: sides.priority,
-        depth,
-    })
-}
-
-/// The operand in a box, so that it is cheap to hand on.
-pub fn boxed(alloc: Global, operand: Operand) -> Result<Box<Operand>, AllocError>
-    ensures { IfOk result (λ b. b.value ≡ operand) }
-{
-    Ok(Box::new(alloc, operand)?)
+    let span = joined(left.span, word.span);
+    let shape = Shape::Compound {
+        name: word.name,
+        count: 1,
+        form: Form::Postfix,
+    };
+    lay(nodes, shape, sides.priority, depth, span)
 }
 
 /// The prefix or infix operator with its right side (ISO/IEC 13211-1, 6.3.4.2).
 pub fn build(
-    alloc: Global,
+    nodes: &mut Vec<Node>,
+    names: &Names,
     operator: Operator,
-    right: Box<Operand>,
-) -> Result<Box<Operand>, AllocError>
-    ensures { IfOk result (λ made. see_operand made.value ≡ built (see_operator operator) (see_operand right.value)) }
+    right: Operand,
+) -> Result<Operand, AllocError>
+    ensures { IfOk result (λ operand. see_made (forest names.now nodes.new.items) operand ≡ made (without (operator_holds operator) (before_last (forest names.now nodes.old.items))) (built (see_operator names.now operator (before_last (forest names.now nodes.old.items))) (see_operand (last_of (forest names.now nodes.old.items)) right))) }
 {
-    let right = Box::into_inner(right);
     match operator {
-        Operator::Prefix { word, sides } => {
-            let made = prefixed(alloc, word, sides, right)?;
-            boxed(alloc, made)
-        }
-        Operator::Infix { left, word, sides } => {
-            let made = infixed(alloc, Box::into_inner(left), word, sides, right)?;
-            boxed(alloc, made)
-        }
+        Operator::Prefix { word, sides } => prefixed(nodes, word, sides, right),
+        Operator::Infix { left, word, sides } => infixed(nodes, names, left, word, sides, right),
     }
 }

@@ -1,16 +1,10 @@
-use crate::term::Term;
+use crate::term::Span;
 
-/// A term with its priority and depth. Depths over the greatest number count as that number.
-#[derive(Drop)]
+/// What the reader keeps of a term beside its node: its priority and depth, and where it stands.
+/// Depths over the greatest number count as that number.
+#[derive(Clone, Copy)]
 pub struct Operand {
-    pub term: Term,
     pub priority: u32,
     pub depth: usize,
-}
-
-/// Arguments or items, with the depth of the deepest.
-#[derive(Drop)]
-pub struct Parts {
-    pub terms: Vec<Term>,
-    pub depth: usize,
+    pub span: Span,
 }

@@ -1,70 +1,80 @@
 //! What is open: operators and brackets that wait for what stands right of them.
 
-ghost use Rattle.std.specs.Prelude.{◌≡◌};
-ghost use Rattle.prolog_terms.specs.ReaderSeen.{see_pending, see_operator, pending_has_parts, inner_depth, pending_bound, right_of, priority_of};
+ghost use Rattle.std.specs.Prelude.{◌≡◌, List};
+ghost use Rattle.prolog_terms.specs.Tree.{Tree};
+ghost use Rattle.prolog_terms.specs.ReaderSeen.{pending_has_parts, inner_depth, pending_bound, right_of, priority_of};
+ghost use Rattle.prolog_terms.specs.StackSeen.{Names, see_pending, see_operator};
 
-use crate::operand::{Operand, Parts};
+use crate::operand::Operand;
 use crate::operator_sides::Sides;
 use crate::word::Word;
 
 /// An operator that wants its right side.
-#[derive(Drop)]
+#[derive(Clone, Copy)]
 pub enum Operator {
     Prefix {
         word: Word,
         sides: Sides,
     },
     Infix {
-        left: Box<Operand>,
+        left: Operand,
         word: Word,
         sides: Sides,
     },
 }
 
 /// What stands before arguments or items: a functor and its bracket, or a `[`.
-#[derive(Drop)]
+#[derive(Clone, Copy)]
 pub enum Opened {
     Call(Word),
     Square(Word),
 }
 
 /// A bracket that isn't closed.
-#[derive(Drop)]
+#[derive(Clone, Copy)]
 pub enum Bracket {
     /// It wants its first part.
     First(Opened),
-    /// It wants one more part.
-    Next { opened: Opened, parts: Parts },
-    /// A list that wants its tail.
-    Tail { square: Word, parts: Parts },
+    /// It wants one more part behind those that it has, with the depth of the deepest.
+    Next {
+        opened: Opened,
+        count: u32,
+        depth: usize,
+    },
+    /// A list that wants its tail behind its items, with the depth of the deepest.
+    Tail {
+        square: Word,
+        count: u32,
+        depth: usize,
+    },
     /// It holds one term.
     Wrap(Word),
 }
 
-/// An operator or a bracket that waits for what stands right of it.
-#[derive(Drop)]
+/// An operator or a bracket that waits for what stands right of it. Its terms are nodes already.
+#[derive(Clone, Copy)]
 pub enum Pending {
     Operator(Operator),
     Bracket(Bracket),
 }
 
 /// The depth of the deepest part that stands in it.
-pub fn inner_depth(pending: &Pending) -> usize
-    ensures { result ≡ inner_depth (see_pending pending.now) }
+pub fn inner_depth(pending: Pending) -> usize
+    ensures { (names : Names) (trees : List Tree) → result ≡ inner_depth (see_pending names pending trees) }
 {
     match pending {
         Pending::Operator(Operator::Prefix { .. }) => 0,
         Pending::Operator(Operator::Infix { left, .. }) => left.depth,
         Pending::Bracket(Bracket::First(_)) => 0,
-        Pending::Bracket(Bracket::Next { parts, .. }) => parts.depth,
-        Pending::Bracket(Bracket::Tail { parts, .. }) => parts.depth,
+        Pending::Bracket(Bracket::Next { depth, .. }) => depth,
+        Pending::Bracket(Bracket::Tail { depth, .. }) => depth,
         Pending::Bracket(Bracket::Wrap(_)) => 0,
     }
 }
 
 /// Whether the innermost bracket has parts, with this one on those below.
-pub fn has_parts(pending: &Pending, below: bool) -> bool
-    ensures { result ≡ pending_has_parts (see_pending pending.now) below }
+pub fn has_parts(pending: Pending, below: bool) -> bool
+    ensures { (names : Names) (trees : List Tree) → result ≡ pending_has_parts (see_pending names pending trees) below }
 {
     match pending {
         Pending::Operator(_) => below,
@@ -76,8 +86,8 @@ pub fn has_parts(pending: &Pending, below: bool) -> bool
 }
 
 /// The greatest priority of the right side of the operator.
-pub fn right_bound(operator: &Operator) -> u32
-    ensures { result ≡ right_of (see_operator operator.now) }
+pub fn right_bound(operator: Operator) -> u32
+    ensures { (names : Names) (trees : List Tree) → result ≡ right_of (see_operator names operator trees) }
 {
     match operator {
         Operator::Prefix { sides, .. } => sides.right,
@@ -86,8 +96,8 @@ pub fn right_bound(operator: &Operator) -> u32
 }
 
 /// The priority of the operator's term.
-pub fn priority_of(operator: &Operator) -> u32
-    ensures { result ≡ priority_of (see_operator operator.now) }
+pub fn priority_of(operator: Operator) -> u32
+    ensures { (names : Names) (trees : List Tree) → result ≡ priority_of (see_operator names operator trees) }
 {
     match operator {
         Operator::Prefix { sides, .. } => sides.priority,
@@ -96,8 +106,8 @@ pub fn priority_of(operator: &Operator) -> u32
 }
 
 /// The greatest priority of what stands right of it.
-pub fn pending_bound(pending: &Pending) -> u32
-    ensures { result ≡ pending_bound (see_pending pending.now) }
+pub fn pending_bound(pending: Pending) -> u32
+    ensures { (names : Names) (trees : List Tree) → result ≡ pending_bound (see_pending names pending trees) }
 {
     match pending {
         Pending::Operator(operator) => right_bound(operator),

@@ -1,18 +1,21 @@
-ghost use Rattle.std.specs.Prelude.{◌≡◌, ◌≢◌, ◌≤◌, false, length, IfOk, IfErr, MatchOption};
+ghost use Rattle.std.specs.Prelude.{◌≡◌, ◌≢◌, ◌≤◌, length, IfOk, IfErr};
+ghost use Rattle.prolog_names.specs.Numbers.{AreNumbered};
 ghost use Rattle.prolog_ops.specs.Table.{ops_of};
 ghost use Rattle.prolog_terms.specs.declared.reader.ReadFault.TheVariants.{NoMemory};
-ghost use Rattle.prolog_terms.specs.ReaderSeen.{StackSeen, OperandSeen, see_operand, see_waiting, ready_seen, finished, is_finished};
+ghost use Rattle.prolog_terms.specs.ReaderSeen.{is_finished};
+ghost use Rattle.prolog_terms.specs.StackSeen.{Names as NamesSeen, see_reader};
 ghost use Rattle.prolog_terms.specs.Tree.{Tree, tree_of};
 ghost use Rattle.prolog_terms.specs.Words.{table_of};
 ghost use Rattle.prolog_terms.specs.Clause.{ArePart, IsClauseOf, IsReadFault, IsOneClause};
 
+use crate::boxed::boxed;
 use crate::feed::{feed, waiting_floor};
-use crate::operand::Operand;
 use crate::operator_sides::table_law;
-use crate::stack::Stack;
+use crate::state::Mode;
 use crate::term::Term;
-use crate::waiting::{Mode, Waiting};
+use crate::waiting::{Reader, Waiting};
 use crate::word::word_of;
+use prolog_names::Names;
 use prolog_ops::OpTable;
 use prolog_tokens::Token;
 use std::alloc::{AllocError, Global};
@@ -53,40 +56,39 @@ fn no_end(text: &str) -> ReadFault
     ReadFault::NoEnd(text.len() as u32)
 }
 
-fn term_alone(operand: Box<Operand>) -> Term
-    ensures { (see_operand operand.value).tree ≡ tree_of result }
+/// Whether the clause and its End are read.
+fn is_finished(reader: &Reader) -> bool
+    ensures { (names : NamesSeen) → result ≡ is_finished (see_reader names reader.now) }
 {
-    Box::into_inner(operand).term
-}
-
-/// The clause, once it and its End are read.
-fn finished(waiting: Waiting) -> Option<Term>
-    ensures { MatchOption result ((S : StackSeen) → is_finished (see_waiting S waiting) ≡ false) (λ term. (S : StackSeen) → (operand : OperandSeen) × (see_waiting S waiting ≡ ready_seen S (finished operand)) × (operand.tree ≡ tree_of term)) }
-{
-    match waiting {
-        Waiting::Ready(mode) => match mode {
-            Mode::Done(clause) => Some(term_alone(clause)),
-            Mode::Want => None,
-            Mode::Minus(_) => None,
-            Mode::Functor(_) => None,
-            Mode::Have(_) => None,
+    match reader.waiting {
+        Waiting::Nothing => match reader.state.mode {
+            Mode::Done(_) => true,
+            Mode::Want => false,
+            Mode::Minus(_) => false,
+            Mode::Functor(_) => false,
+            Mode::Have(_) => false,
         },
-        Waiting::Named { .. } => None,
-        Waiting::Doubt(_) => None,
+        Waiting::Named { .. } => false,
+        Waiting::Doubt { .. } => false,
     }
 }
 
 /// Reads the tokens, a part of those of the text of at most 8,388,608 bytes, as one clause and its
-/// End (ISO/IEC 13211-1, 6.3).
+/// End (ISO/IEC 13211-1, 6.3). With each token comes the number of its name. What the reader has read
+/// before doesn't matter.
 pub fn read_clause(
     alloc: Global,
+    reader: &mut Reader,
     table: &OpTable,
+    names: &Names,
     text: &str,
     tokens: &[Token],
+    numbers: &[u32],
 ) -> Result<Term, ReadFault>
     requires small { length text.now ≤ 8388608 }
     requires part { ArePart text.now tokens.now }
     requires clause { IsOneClause tokens.now }
+    requires numbered { AreNumbered text.now names.now tokens.now numbers.now }
     ensures ok { IfOk result (λ term. IsClauseOf (table_of (ops_of table.now)) text.now tokens.now (tree_of term)) }
     ensures only { IfOk result (λ term. (other : Tree) → IsClauseOf (table_of (ops_of table.now)) text.now tokens.now other → other ≡ tree_of term) }
     ensures none { IfErr result (λ fault. fault ≢ ReadFault.NoMemory → (other : Tree) → IsClauseOf (table_of (ops_of table.now)) text.now tokens.now other → ⊥) }
@@ -94,20 +96,19 @@ pub fn read_clause(
     ensures fault { IfErr result (λ fault. fault ≢ ReadFault.NoMemory → IsReadFault (table_of (ops_of table.now)) text.now tokens.now fault) }
 {
     table_law(table);
-    let mut stack = Stack::new(alloc);
-    let mut waiting = Waiting::Ready(Mode::Want);
-    for token in tokens {
-        let word = word_of(alloc, text, *token)?;
-        let Some(next) = feed(alloc, table, &mut stack, waiting, word)? else {
+    reader.begin();
+    for (at, token) in tokens.iter().enumerate() {
+        let word = word_of(names, text, *token, numbers[at]);
+        if !feed(table, names, reader, word)? {
             return Err(ReadFault::Stuck(token.start));
-        };
-        if waiting_floor(&stack, &next) > DEEPEST {
+        }
+        if waiting_floor(reader) > DEEPEST {
             return Err(ReadFault::TooDeep(token.start));
         }
-        waiting = next;
     }
-    match finished(waiting) {
-        Some(clause) => Ok(clause),
-        None => Err(no_end(text)),
+    if !is_finished(reader) {
+        return Err(no_end(text));
     }
+    let clause = boxed(alloc, names, &reader.state.nodes, &mut reader.terms)?;
+    Ok(clause)
 }

@@ -1,143 +1,183 @@
-//! What one word makes of the stack.
+//! What one word makes of the state.
 
-ghost use Rattle.std.specs.Prelude.{◌≡◌, IfOk};
-ghost use Rattle.prolog_ops.specs.Table.{ops_of};
+ghost use Rattle.std.specs.Prelude.{◌≡◌, ◌<◌, IfOk};
+ghost use Rattle.prolog_ops.specs.Table.{ops_of, IsOps};
 ghost use Rattle.prolog_terms.specs.Words.{table_of};
-ghost use Rattle.prolog_terms.specs.ReaderSeen.{first_in, see_operand, see_mode, see_step, goes_seen, wants, pushed, pending_bracket, have_step_seen, want_other_seen, want_name_seen, square_pair_seen, curly_pair_seen, prefix_step_seen, act_seen, see_bracket};
-ghost use Rattle.prolog_terms.specs.declared.pending.Opened.TheVariants.{Call};
-ghost use Rattle.prolog_terms.specs.StackSeen.{see_stack};
+ghost use Rattle.prolog_terms.specs.ReaderSeen.{parts_held, goes_seen, wants, has, pushed, pending_bracket, Call, first_in, have_step_seen, want_other_seen, want_name_seen, square_pair_seen, curly_pair_seen, prefix_step_seen, act_seen, leaf_operand, negative_operand, atom_operand, pair_operand};
+ghost use Rattle.prolog_terms.specs.StackSeen.{Names as NamesSeen, see_word, see_bracket, bracket_holds, see_entries, innermost, trees_in, see_stack, see_held, see_state, see_step};
+ghost use Rattle.prolog_terms.specs.Forest.{without};
 
 use crate::brackets::{bar, comma, curly_behind, end_behind, round_behind, square_behind};
 use crate::nodes::{atom, leaf, negative, pair};
 use crate::operand::Operand;
 use crate::operator_sides::Sides;
-use crate::operators::{close, have, name_step};
+use crate::operators::{close, name_step};
 use crate::pending::{Bracket, Opened, Operator, Pending};
-use crate::stack::Stack;
-use crate::waiting::Mode;
+use crate::state::{Mode, State};
 use crate::word::{Word, is_minus};
+use prolog_names::Names;
 use prolog_ops::OpTable;
 use prolog_tokens::Kind;
-use std::alloc::{AllocError, Global};
+use std::alloc::AllocError;
 
 /// A word behind an operand: an operator, a separator, a closing bracket or the End.
 fn have_step(
-    alloc: Global,
     table: &OpTable,
-    stack: &mut Stack,
-    operand: Box<Operand>,
+    names: &Names,
+    state: &mut State,
+    operand: Operand,
     word: Word,
-) -> Result<Option<Mode>, AllocError>
-    ensures { IfOk result (λ next. see_step (see_stack stack.new) next ≡ have_step_seen (table_of (ops_of table.now)) (see_stack stack.old) (see_operand operand.value) word word.kind) }
+) -> Result<bool, AllocError>
+    requires law { IsOps (ops_of table.now) }
+    requires room { parts_held (see_held names.now state.old operand).stack < 4294967295 }
+    ensures { IfOk result (λ goes. see_step names.now state.new goes ≡ have_step_seen (table_of (ops_of table.now)) (see_held names.now state.old operand).stack (see_held names.now state.old operand).operand (see_word names.now word) word.kind) }
 {
     match word.kind {
-        Kind::Name => name_step(alloc, table, stack, operand, word),
-        Kind::Quoted => name_step(alloc, table, stack, operand, word),
-        Kind::Comma => comma(alloc, table, stack, operand, word),
-        Kind::Bar => bar(alloc, table, stack, operand, word),
+        Kind::Name => name_step(table, names, state, operand, word),
+        Kind::Quoted => name_step(table, names, state, operand, word),
+        Kind::Comma => comma(names, state, operand, word),
+        Kind::Bar => bar(names, state, operand, word),
         Kind::CloseRound => {
-            let last = close(alloc, stack, operand)?;
-            round_behind(alloc, stack, last, &word)
+            let last = close(names, state, operand)?;
+            round_behind(state, last, word)
         }
         Kind::CloseSquare => {
-            let last = close(alloc, stack, operand)?;
-            square_behind(alloc, stack, last, &word)
+            let last = close(names, state, operand)?;
+            square_behind(state, last, word)
         }
         Kind::CloseCurly => {
-            let last = close(alloc, stack, operand)?;
-            curly_behind(alloc, stack, last, &word)
+            let last = close(names, state, operand)?;
+            curly_behind(state, last, word)
         }
         Kind::End => {
-            let last = close(alloc, stack, operand)?;
-            Ok(end_behind(stack, last))
+            let last = close(names, state, operand)?;
+            Ok(end_behind(state, last))
         }
-        _ => Ok(None),
+        _ => Ok(false),
     }
 }
 
-/// `]` where an operand is wanted: the end of `[]` (ISO/IEC 13211-1, 6.3.1.3).
-fn square_pair(alloc: Global, stack: &mut Stack, word: &Word) -> Result<Option<Mode>, AllocError>
-    ensures { IfOk result (λ next. see_step (see_stack stack.new) next ≡ square_pair_seen (see_stack stack.old) word.now) }
+/// A variable, a number or a text.
+fn have_leaf(state: &mut State, word: Word) -> Result<bool, AllocError>
+    ensures { IfOk result (λ goes. (names : NamesSeen) → see_step names state.new goes ≡ goes_seen (see_stack names state.old) (has (leaf_operand (see_word names word)))) }
 {
-    let Some(bracket) = stack.pop_bracket() else {
-        return Ok(None);
+    let made = leaf(&mut state.nodes, word)?;
+    state.mode = Mode::Have(made);
+    Ok(true)
+}
+
+/// A minus and its number.
+fn have_negative(state: &mut State, minus: Word, word: Word) -> Result<bool, AllocError>
+    ensures { IfOk result (λ goes. (names : NamesSeen) → see_step names state.new goes ≡ goes_seen (see_stack names state.old) (has (negative_operand (see_word names minus) (see_word names word)))) }
+{
+    let made = negative(&mut state.nodes, minus, word)?;
+    state.mode = Mode::Have(made);
+    Ok(true)
+}
+
+/// An atom.
+fn have_atom(state: &mut State, word: Word) -> Result<bool, AllocError>
+    ensures { IfOk result (λ goes. (names : NamesSeen) → see_step names state.new goes ≡ goes_seen (see_stack names state.old) (has (atom_operand (see_word names word)))) }
+{
+    let made = atom(&mut state.nodes, word)?;
+    state.mode = Mode::Have(made);
+    Ok(true)
+}
+
+/// `[]` or `{}`.
+fn have_pair(names: &Names, state: &mut State, first: Word, last: Word) -> Result<bool, AllocError>
+    ensures { IfOk result (λ goes. see_step names.now state.new goes ≡ goes_seen (see_stack names.now state.old) (has (pair_operand (see_word names.now first) (see_word names.now last)))) }
+{
+    let made = pair(&mut state.nodes, names, first, last)?;
+    state.mode = Mode::Have(made);
+    Ok(true)
+}
+
+/// `]` where an operand is wanted: the end of `[]` (ISO/IEC 13211-1, 6.3.1.3).
+fn square_pair(names: &Names, state: &mut State, word: Word) -> Result<bool, AllocError>
+    ensures { IfOk result (λ goes. see_step names.now state.new goes ≡ square_pair_seen (see_stack names.now state.old) (see_word names.now word)) }
+{
+    let Some(bracket) = state.stack.pop_bracket() else {
+        return Ok(false);
     };
     match bracket {
-        Bracket::First(Opened::Square(square)) => {
-            let made = pair(alloc, &square, word)?;
-            have(alloc, made)
-        }
-        Bracket::First(Opened::Call(_)) => Ok(None),
-        Bracket::Next { .. } => Ok(None),
-        Bracket::Tail { .. } => Ok(None),
-        Bracket::Wrap(_) => Ok(None),
+        Bracket::First(opened) => match opened {
+            Opened::Square(square) => have_pair(names, state, square, word),
+            Opened::Call(_) => Ok(false),
+        },
+        Bracket::Next { .. } => Ok(false),
+        Bracket::Tail { .. } => Ok(false),
+        Bracket::Wrap(_) => Ok(false),
     }
 }
 
 /// `}` where an operand is wanted: the end of `{}` (ISO/IEC 13211-1, 6.3.1.3).
-fn curly_pair(alloc: Global, stack: &mut Stack, word: &Word) -> Result<Option<Mode>, AllocError>
-    ensures { IfOk result (λ next. see_step (see_stack stack.new) next ≡ curly_pair_seen (see_stack stack.old) word.now) }
+fn curly_pair(names: &Names, state: &mut State, word: Word) -> Result<bool, AllocError>
+    ensures { IfOk result (λ goes. see_step names.now state.new goes ≡ curly_pair_seen (see_stack names.now state.old) (see_word names.now word)) }
 {
-    let Some(bracket) = stack.pop_bracket() else {
-        return Ok(None);
+    let Some(bracket) = state.stack.pop_bracket() else {
+        return Ok(false);
     };
     match bracket {
         Bracket::Wrap(open) => {
             if open.kind == Kind::OpenCurly {
-                let made = pair(alloc, &open, word)?;
-                return have(alloc, made);
+                return have_pair(names, state, open, word);
             }
-            Ok(None)
+            Ok(false)
         }
-        Bracket::First(_) => Ok(None),
-        Bracket::Next { .. } => Ok(None),
-        Bracket::Tail { .. } => Ok(None),
+        Bracket::First(_) => Ok(false),
+        Bracket::Next { .. } => Ok(false),
+        Bracket::Tail { .. } => Ok(false),
     }
 }
 
 /// A bracket opens, and what stands in it is wanted.
-fn open_bracket(stack: &mut Stack, bracket: Bracket) -> Result<Option<Mode>, AllocError>
-    ensures { IfOk result (λ next. see_step (see_stack stack.new) next ≡ goes_seen (pushed (see_stack stack.old) (pending_bracket (see_bracket bracket))) wants) }
+fn open_bracket(state: &mut State, bracket: Bracket) -> Result<bool, AllocError>
+    ensures { IfOk result (λ goes. (names : NamesSeen) → see_step names state.new goes ≡ goes_seen (pushed (see_entries names (innermost state.old.stack) (without (bracket_holds bracket) (trees_in names state.old))) (pending_bracket (see_bracket names bracket (trees_in names state.old)))) wants) }
 {
-    stack.push(Pending::Bracket(bracket))?;
-    Ok(Some(Mode::Want))
+    state.stack.push(Pending::Bracket(bracket))?;
+    state.mode = Mode::Want;
+    Ok(true)
 }
 
 /// The `(` of a functor, before its arguments (ISO/IEC 13211-1, 6.3.3).
-fn open_call(stack: &mut Stack, functor: Word) -> Result<Option<Mode>, AllocError>
-    ensures { IfOk result (λ next. see_step (see_stack stack.new) next ≡ goes_seen (pushed (see_stack stack.old) (pending_bracket (first_in (Call functor)))) wants) }
+fn open_call(state: &mut State, functor: Word) -> Result<bool, AllocError>
+    ensures { IfOk result (λ goes. (names : NamesSeen) → see_step names state.new goes ≡ goes_seen (pushed (see_stack names state.old) (pending_bracket (first_in (Call (see_word names functor))))) wants) }
 {
-    open_bracket(stack, Bracket::First(Opened::Call(functor)))
+    open_bracket(state, Bracket::First(Opened::Call(functor)))
 }
 
 /// A word that is no name where an operand is wanted: a variable, a number, a text or a bracket.
-fn want_other(alloc: Global, stack: &mut Stack, word: Word) -> Result<Option<Mode>, AllocError>
-    ensures { IfOk result (λ next. see_step (see_stack stack.new) next ≡ want_other_seen (see_stack stack.old) word word.kind) }
+fn want_other(names: &Names, state: &mut State, word: Word) -> Result<bool, AllocError>
+    ensures { IfOk result (λ goes. see_step names.now state.new goes ≡ want_other_seen (see_stack names.now state.old) (see_word names.now word) word.kind) }
 {
     match word.kind {
-        Kind::Variable => have(alloc, leaf(&word)),
-        Kind::Integer => have(alloc, leaf(&word)),
-        Kind::Float => have(alloc, leaf(&word)),
-        Kind::Str => have(alloc, leaf(&word)),
-        Kind::BackStr => have(alloc, leaf(&word)),
-        Kind::OpenRound => open_bracket(stack, Bracket::Wrap(word)),
-        Kind::OpenCurly => open_bracket(stack, Bracket::Wrap(word)),
-        Kind::OpenSquare => open_bracket(stack, Bracket::First(Opened::Square(word))),
-        Kind::CloseSquare => square_pair(alloc, stack, &word),
-        Kind::CloseCurly => curly_pair(alloc, stack, &word),
-        _ => Ok(None),
+        Kind::Variable => have_leaf(state, word),
+        Kind::Integer => have_leaf(state, word),
+        Kind::Float => have_leaf(state, word),
+        Kind::Str => have_leaf(state, word),
+        Kind::BackStr => have_leaf(state, word),
+        Kind::OpenRound => open_bracket(state, Bracket::Wrap(word)),
+        Kind::OpenCurly => open_bracket(state, Bracket::Wrap(word)),
+        Kind::OpenSquare => open_bracket(state, Bracket::First(Opened::Square(word))),
+        Kind::CloseSquare => square_pair(names, state, word),
+        Kind::CloseCurly => curly_pair(names, state, word),
+        _ => Ok(false),
     }
 }
 
 /// A prefix operator where an operand is wanted (ISO/IEC 13211-1, 6.3.4.2).
-fn prefix_step(stack: &mut Stack, word: Word, sides: Sides) -> Result<Option<Mode>, AllocError>
-    ensures { IfOk result (λ next. see_step (see_stack stack.new) next ≡ prefix_step_seen (see_stack stack.old) word sides) }
+fn prefix_step(state: &mut State, word: Word, sides: Sides) -> Result<bool, AllocError>
+    ensures { IfOk result (λ goes. (names : NamesSeen) → see_step names state.new goes ≡ prefix_step_seen (see_stack names state.old) (see_word names word) sides) }
 {
-    if sides.priority > stack.bound() {
-        return Ok(None);
+    if sides.priority > state.stack.bound() {
+        return Ok(false);
     }
-    stack.push(Pending::Operator(Operator::Prefix { word, sides }))?;
-    Ok(Some(Mode::Want))
+    state
+        .stack
+        .push(Pending::Operator(Operator::Prefix { word, sides }))?;
+    state.mode = Mode::Want;
+    Ok(true)
 }
 
 /// What stands directly behind a name where an operand is wanted.
@@ -154,46 +194,49 @@ pub struct Behind {
 /// A name where an operand is wanted: a functor (ISO/IEC 13211-1, 6.3.3), the minus of a number
 /// (6.3.1.2), a prefix operator (6.3.4.2) or an atom (6.3.1.3).
 pub fn want_name(
-    alloc: Global,
-    stack: &mut Stack,
-    word: Box<Word>,
+    names: &Names,
+    state: &mut State,
+    word: Word,
     prefix: Option<Sides>,
     behind: Behind,
-) -> Result<Option<Mode>, AllocError>
-    ensures { IfOk result (λ next. see_step (see_stack stack.new) next ≡ want_name_seen (see_stack stack.old) word.value prefix behind.bracket behind.number behind.ends) }
+) -> Result<bool, AllocError>
+    ensures { IfOk result (λ goes. see_step names.now state.new goes ≡ want_name_seen (see_stack names.now state.old) (see_word names.now word) prefix behind.bracket behind.number behind.ends) }
 {
     if behind.bracket {
-        return Ok(Some(Mode::Functor(word)));
+        state.mode = Mode::Functor(word);
+        return Ok(true);
     }
-    if behind.number && is_minus(&word) {
-        return Ok(Some(Mode::Minus(word)));
+    if behind.number && is_minus(names, word) {
+        state.mode = Mode::Minus(word);
+        return Ok(true);
     }
     match prefix {
-        None => have(alloc, atom(Box::into_inner(word))),
+        None => have_atom(state, word),
         Some(sides) => {
             if behind.ends {
-                return have(alloc, atom(Box::into_inner(word)));
+                return have_atom(state, word);
             }
-            prefix_step(stack, Box::into_inner(word), sides)
+            prefix_step(state, word, sides)
         }
     }
 }
 
-/// One word, which is no name where an operand is wanted. None where no clause goes on with it.
+/// One word, which is no name where an operand is wanted. False where no clause goes on with it.
 pub fn act(
-    alloc: Global,
     table: &OpTable,
-    stack: &mut Stack,
-    mode: Mode,
+    names: &Names,
+    state: &mut State,
     word: Word,
-) -> Result<Option<Mode>, AllocError>
-    ensures { IfOk result (λ next. see_step (see_stack stack.new) next ≡ act_seen (table_of (ops_of table.now)) (see_stack stack.old) (see_mode mode) word) }
+) -> Result<bool, AllocError>
+    requires law { IsOps (ops_of table.now) }
+    requires room { parts_held (see_state names.now state.old).stack < 4294967295 }
+    ensures { IfOk result (λ goes. see_step names.now state.new goes ≡ act_seen (table_of (ops_of table.now)) (see_state names.now state.old).stack (see_state names.now state.old).mode (see_word names.now word)) }
 {
-    match mode {
-        Mode::Want => want_other(alloc, stack, word),
-        Mode::Minus(minus) => have(alloc, negative(&minus, &word)),
-        Mode::Functor(functor) => open_call(stack, Box::into_inner(functor)),
-        Mode::Have(operand) => have_step(alloc, table, stack, operand, word),
-        Mode::Done(_) => Ok(None),
+    match state.mode {
+        Mode::Want => want_other(names, state, word),
+        Mode::Minus(minus) => have_negative(state, minus, word),
+        Mode::Functor(functor) => open_call(state, functor),
+        Mode::Have(operand) => have_step(table, names, state, operand, word),
+        Mode::Done(_) => Ok(false),
     }
 }

@@ -1,12 +1,26 @@
 //! What terms are, with the brackets round them passed through.
 
 ghost use Rattle.std.specs.Prelude.{◌≡◌, option_map};
-ghost use Rattle.prolog_terms.specs.Tree.{tree_of};
+ghost use Rattle.prolog_terms.specs.Tree.{tree_of, span_of};
 ghost use Rattle.prolog_terms.specs.Views.{inside as inner_tree, start_of, binary as binary_tree, sides_of, name_and_arity, atom_name};
 
 use crate::binary_term::Binary;
-use crate::build::span_at;
-use crate::term::Term;
+use crate::term::{Span, Term};
+
+/// Where the term stands, its brackets included.
+pub fn span_at(term: &Term) -> Span
+    ensures { result ≡ span_of (tree_of term.now) }
+{
+    match term {
+        Term::Var { span } => *span,
+        Term::Const { span, .. } => *span,
+        Term::Atom { span, .. } => *span,
+        Term::Compound { span, .. } => *span,
+        Term::List { span, .. } => *span,
+        Term::Curly { span, .. } => *span,
+        Term::Paren { span, .. } => *span,
+    }
+}
 
 /// The term in all brackets round it.
 pub fn inside(term: &Term) -> &Term

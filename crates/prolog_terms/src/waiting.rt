@@ -1,43 +1,66 @@
 //! What waits for the next word.
 
-use crate::operand::Operand;
+ghost use Rattle.std.specs.Prelude.{◌≡◌, []};
+ghost use Rattle.prolog_terms.specs.ReaderSeen.{ready_seen, wants};
+ghost use Rattle.prolog_terms.specs.StackSeen.{Names as NamesSeen, see_reader};
+
 use crate::operator_sides::Sides;
+use crate::stack::Stack;
+use crate::state::{Mode, State};
+use crate::term::Term;
 use crate::word::Word;
+use std::alloc::Global;
 
-/// What the next word meets.
-#[derive(Drop)]
-pub enum Mode {
-    /// An operand is wanted.
-    Want,
-    /// The number of this minus is wanted.
-    Minus(Box<Word>),
-    /// The bracket of this functor is wanted.
-    Functor(Box<Word>),
-    /// An operand is complete.
-    Have(Box<Operand>),
-    /// The clause and its End are read.
-    Done(Box<Operand>),
-}
-
-/// A prefix operator, and a name behind it that is an infix operator and no prefix operator. The
-/// clause is at least `floor` deep.
-#[derive(Drop)]
-pub struct Doubt {
-    pub first: Word,
-    pub prefix: Sides,
-    pub second: Word,
-    pub between: Sides,
-    pub floor: usize,
-}
-
-/// The words that wait for the next word, or the state where none does.
-#[derive(Drop)]
+/// The words that wait for the next word.
+#[derive(Clone, Copy)]
 pub enum Waiting {
-    Ready(Mode),
+    Nothing,
     /// A name where an operand is wanted.
     Named {
-        word: Box<Word>,
+        word: Word,
         prefix: Option<Sides>,
     },
-    Doubt(Box<Doubt>),
+    /// A prefix operator, and a name behind it that is an infix operator and no prefix operator. The
+    /// clause is at least `floor` deep.
+    Doubt {
+        first: Word,
+        prefix: Sides,
+        second: Word,
+        between: Sides,
+        floor: usize,
+    },
+}
+
+/// What is read of a clause, and what waits behind it. Clause after clause is read in the memory of
+/// one reader.
+#[derive(Drop)]
+pub struct Reader {
+    pub(crate) state: State,
+    pub(crate) waiting: Waiting,
+    /// Where the terms of nodes are made.
+    pub(crate) terms: Vec<Term>,
+}
+
+impl Reader {
+    pub fn new(alloc: Global) -> Reader {
+        Reader {
+            state: State {
+                stack: Stack::new(alloc),
+                nodes: Vec::new(alloc),
+                mode: Mode::Want,
+            },
+            waiting: Waiting::Nothing,
+            terms: Vec::new(alloc),
+        }
+    }
+
+    /// Nothing is read.
+    pub(crate) fn begin(&mut self)
+        ensures { (names : NamesSeen) → see_reader names self.new ≡ ready_seen [] wants }
+    {
+        self.state.stack.entries.clear();
+        self.state.nodes.clear();
+        self.state.mode = Mode::Want;
+        self.waiting = Waiting::Nothing;
+    }
 }

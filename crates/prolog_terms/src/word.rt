@@ -1,56 +1,44 @@
-ghost use Rattle.std.specs.Prelude.{◌≡◌, ◌&&◌, true, false, List, ℕ, [], ◌∷◌, IfOk};
+ghost use Rattle.std.specs.Prelude.{◌≡◌, ◌&&◌, true, false, [], ◌∷◌};
 ghost use Rattle.prolog_tokens.specs.Spelling.{IsSpelled};
-ghost use Rattle.prolog_tokens.specs.Values.{IsNameText};
-ghost use Rattle.prolog_terms.specs.Words.{is_name, is_minus, begins_term, opens, number_next};
+ghost use Rattle.prolog_names.specs.Numbers.{IsNumberOf};
+ghost use Rattle.prolog_terms.specs.Words.{is_name, is_minus, begins_term, opens, number_next, Word as WordSeen};
 ghost use Rattle.prolog_terms.specs.Clause.{IsWordOf};
-ghost use Rattle.prolog_terms.specs.Words.{Word as WordSeen};
+ghost use Rattle.prolog_terms.specs.StackSeen.{Names as NamesSeen, see_word};
 
 use crate::term::Span;
-use prolog_tokens::{Kind, Text, Token, integer_value, name_text};
-use std::alloc::{AllocError, Global};
+use prolog_names::{Names, names_law};
+use prolog_tokens::{Kind, Token, integer_value};
 
 /// A token as terms see it: its kind, whether layout stands directly before it, where it stands,
-/// the value of an Integer that has one, and the name of a Name or Quoted token (of any other no
-/// text).
-#[derive(Drop)]
+/// the value of an Integer that has one, and the number of the name of a Name or Quoted token (of any
+/// other 0).
+#[derive(Clone, Copy)]
 pub struct Word {
     pub kind: Kind,
     pub after_layout: bool,
     pub span: Span,
     pub value: Option<u32>,
-    pub text: Text,
+    pub name: u32,
 }
 
-/// The text that the token's word has.
-fn word_text(alloc: Global, text: &str, token: Token) -> Result<Text, AllocError>
-    requires { IsSpelled text.now token.kind token.start token.end }
-    ensures named { IfOk result (λ name. is_name token.kind ≡ true → IsNameText text.now token name) }
-    ensures only { IfOk result (λ name. is_name token.kind ≡ true → (other : List ℕ) → IsNameText text.now token other → other ≡ name) }
-    ensures unnamed { IfOk result (λ name. is_name token.kind ≡ false → name ≡ []) }
+/// The word of a token with its number.
+pub fn word_of(names: &Names, text: &str, token: Token, number: u32) -> Word
+    requires spelled { IsSpelled text.now token.kind token.start token.end }
+    requires numbered { IsNumberOf text.now names.now token number }
+    ensures is { IsWordOf text.now token (see_word names.now result) }
+    ensures only { (other : WordSeen) → IsWordOf text.now token other → other ≡ see_word names.now result }
 {
-    match token.kind {
-        Kind::Name => name_text(alloc, text, token),
-        Kind::Quoted => name_text(alloc, text, token),
-        _ => Ok(Text::from_string(String::new(alloc))),
-    }
-}
-
-pub fn word_of(alloc: Global, text: &str, token: Token) -> Result<Word, AllocError>
-    requires { IsSpelled text.now token.kind token.start token.end }
-    ensures is { IfOk result (λ word. IsWordOf text.now token word) }
-    ensures only { IfOk result (λ word. (other : WordSeen) → IsWordOf text.now token other → other ≡ word) }
-{
-    let name = word_text(alloc, text, token)?;
-    Ok(Word {
+    names_law(names);
+    Word {
         kind: token.kind,
-        text: name,
-        value: integer_value(text, token),
         after_layout: token.after_layout,
         span: Span {
             from: token.start,
             to: token.end,
         },
-    })
+        value: integer_value(text, token),
+        name: number,
+    }
 }
 
 pub fn is_name(kind: Kind) -> bool
@@ -59,10 +47,10 @@ pub fn is_name(kind: Kind) -> bool
     matches!(kind, Kind::Name | Kind::Quoted)
 }
 
-pub fn is_minus(word: &Word) -> bool
-    ensures { result ≡ is_minus word.now }
+pub fn is_minus(names: &Names, word: Word) -> bool
+    ensures { result ≡ is_minus (see_word names.now word) }
 {
-    word.kind == Kind::Name && word.text.as_str() == "-"
+    word.kind == Kind::Name && names.text(word.name) == "-"
 }
 
 pub fn begins_term(kind: Kind) -> bool
@@ -80,15 +68,15 @@ pub fn begins_term(kind: Kind) -> bool
 }
 
 /// Whether the word is a `(` with no layout before it.
-pub fn is_opening(word: &Word) -> bool
-    ensures { result ≡ opens (word.now ∷ []) }
+pub fn is_opening(word: Word) -> bool
+    ensures { (names : NamesSeen) → result ≡ opens (see_word names word ∷ []) }
 {
     word.kind == Kind::OpenRound && !word.after_layout
 }
 
 /// Whether the word is a number with no layout before it.
-pub fn is_near_number(word: &Word) -> bool
-    ensures { result ≡ number_next (word.now ∷ []) }
+pub fn is_near_number(word: Word) -> bool
+    ensures { (names : NamesSeen) → result ≡ number_next (see_word names word ∷ []) }
 {
     match word.kind {
         Kind::Integer => !word.after_layout,

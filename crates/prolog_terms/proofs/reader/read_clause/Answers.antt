@@ -1,13 +1,16 @@
 use Rattle.std.proofs.Common.{false, get_or, take, ap, sym, ◌∙◌, subst, arith}
+use Rattle.std.proofs.lemmas.List.{length-take-le}
 use Rattle.std.proofs.lemmas.Option.{slice_get-get_or}
 use Rattle.prolog_ops.specs.Table.{ops_of}
 use Rattle.prolog_tokens.specs.declared.token.Token.{Token}
 use Rattle.prolog_tokens.specs.declared.token.Kind.TheVariants.{Name}
 use Rattle.prolog_terms.specs.Words.{table_of}
 use Rattle.prolog_terms.specs.Tree.{tree_of}
-use Rattle.prolog_terms.specs.ReaderSeen.{see_waiting, see_fed}
-use Rattle.prolog_terms.specs.StackSeen.{see_stack}
-use Rattle.prolog_terms.proofs.Parts.{part_spelled}
+use Rattle.prolog_terms.specs.Forest.{last_of, forest}
+use Rattle.prolog_terms.specs.StackSeen.{innermost, trees_in, see_word, see_reader}
+use Rattle.prolog_terms.proofs.Entries.{some_of, none_of}
+use Rattle.prolog_terms.proofs.Parts.{part_spelled, part_few}
+use Rattle.prolog_terms.proofs.ReaderFinished.{finished_with}
 use Rattle.prolog_terms.proofs.ReaderTables.{table_is}
 use Rattle.prolog_terms.proofs.ReadClause.{HasRead, read_nothing, read_more, front_is, stuck, deep, finished_read, unfinished_read}
 use Rattle.prolog_terms.proofs.reader.read_clause.Goals as goal
@@ -16,115 +19,126 @@ use Rattle.prolog_terms.proofs.reader.read_clause.Goals as goal
 abbrev blank : Token
 blank = record { kind = Name; start = 0; end = 0; after_layout = false }
 
-pub word_of-requires : goal.word_of-requires
-word_of-requires c =
-    (part_spelled c.args.text.now c.args.tokens.now c.requires.part c.loop-token.token-index (get_or c.args.tokens.now c.loop-token.token-index blank)
-    (slice_get-get_or c.args.tokens.now c.loop-token.token-index blank c.loop-token-test.true)).spelled
+pub loop-at-init : goal.loop-at-init
+loop-at-init c = read_nothing (table_of (ops_of c.args.table.now)) c.args.text.now (see_reader c.args.names.now c.begin.new.self) (c.begin.ensures c.args.names.now)
 
-pub loop-token-init : goal.loop-token-init
-loop-token-init c = read_nothing (table_of (ops_of c.args.table.now)) c.args.text.now (see_stack c.new-stack.result) c.new-stack.ensures
+pub word_of-word-requires-clause-spelled : goal.word_of-word-requires-clause-spelled
+word_of-word-requires-clause-spelled c =
+    (part_spelled c.args.text.now c.args.tokens.now c.requires.part c.loop-at.at (get_or c.args.tokens.now c.loop-at.at blank)
+    (slice_get-get_or c.args.tokens.now c.loop-at.at blank c.loop-at-test.true)).spelled
 
-pub loop-token-preserved : goal.loop-token-preserved
-loop-token-preserved c =
-    let i = c.loop-token.token-index in
+pub word_of-word-requires-clause-numbered : goal.word_of-word-requires-clause-numbered
+word_of-word-requires-clause-numbered c =
+    c.requires.numbered.each c.loop-at.at (get_or c.args.tokens.now c.loop-at.at blank) (slice_get-get_or c.args.tokens.now c.loop-at.at blank c.loop-at-test.true)
+
+pub feed-requires-clause-room : goal.feed-requires-clause-room
+feed-requires-clause-room c =
+    let tokens = c.args.tokens.now in
+    omega (arith, c.requires.small, c.loop-at.invariant.few, length-take-le c.loop-at.at tokens (omega (arith, c.loop-at-test.true)), part_few c.args.text.now tokens c.requires.part, c.loop-at-test.true)
+
+pub loop-at-preserved : goal.loop-at-preserved
+loop-at-preserved c =
+    let i = c.loop-at.at in
     let t = get_or c.args.tokens.now i blank in
     let T = table_of (ops_of c.args.table.now) in
-    let later = see_waiting (see_stack c.feed.new.stack) c.in-Some.next in
-    let stands = slice_get-get_or c.args.tokens.now i blank c.loop-token-test.true in
+    let names = c.args.names.now in
+    let later = see_reader names c.feed.new.reader in
+    let stands = slice_get-get_or c.args.tokens.now i blank c.loop-at-test.true in
     subst (λ ts. HasRead T c.args.text.now ts later) (sym (front_is T (table_is (ops_of c.args.table.now) c.table_law.ensures) c.args.text.now c.args.tokens.now i t stands))
-    (read_more T (table_is (ops_of c.args.table.now) c.table_law.ensures) c.args.text.now (take i c.args.tokens.now) t (see_waiting (see_stack c.loop-token.stack) c.loop-token.waiting) later c.in_ok-word.word
-    c.loop-token.invariant (record { is = c.in_ok-word.ensures.is; only = c.in_ok-word.ensures.only })
-    (sym (ap (see_fed (see_stack c.feed.new.stack)) c.in-Some.is) ∙ c.in_ok-next.ensures)
-    (omega (arith, c.waiting_floor.ensures, c.if-waiting_floor-gt-DEEPEST.false)))
+    (read_more T (table_is (ops_of c.args.table.now) c.table_law.ensures) c.args.text.now (take i c.args.tokens.now) t (see_reader names c.loop-at.reader) later (see_word names c.word_of-word.result)
+    c.loop-at.invariant (record { is = c.word_of-word.ensures.is; only = c.word_of-word.ensures.only })
+    (some_of c.in_ok-feed.field-0 later _ c.in_ok-feed.ensures c.if-not-branch.false)
+    (omega (arith, c.waiting_floor.ensures names, c.if-waiting_floor-gt-DEEPEST.false)))
 
-pub returns-in_default-clause-none : goal.returns-in_default-clause-none
-returns-in_default-clause-none c = λ some.
-    (stuck (table_of (ops_of c.args.table.now)) (table_is (ops_of c.args.table.now) c.table_law.ensures) c.args.text.now c.args.tokens.now c.loop-token.token-index
-    (get_or c.args.tokens.now c.loop-token.token-index blank) (see_waiting (see_stack c.loop-token.stack) c.loop-token.waiting) c.in_ok-word.word
+pub returns-then-not-branch-clause-none : goal.returns-then-not-branch-clause-none
+returns-then-not-branch-clause-none c = λ some.
+    (stuck (table_of (ops_of c.args.table.now)) (table_is (ops_of c.args.table.now) c.table_law.ensures) c.args.text.now c.args.tokens.now c.loop-at.at
+    (get_or c.args.tokens.now c.loop-at.at blank) (see_reader c.args.names.now c.loop-at.reader) (see_word c.args.names.now c.word_of-word.result)
     (part_spelled c.args.text.now c.args.tokens.now c.requires.part)
-    (slice_get-get_or c.args.tokens.now c.loop-token.token-index blank c.loop-token-test.true) c.loop-token.invariant
-    (record { is = c.in_ok-word.ensures.is; only = c.in_ok-word.ensures.only })
-    (sym (ap (see_fed (see_stack c.feed.new.stack)) c.in_default.is) ∙ c.in_ok-next.ensures)).none
+    (slice_get-get_or c.args.tokens.now c.loop-at.at blank c.loop-at-test.true) c.loop-at.invariant
+    (record { is = c.word_of-word.ensures.is; only = c.word_of-word.ensures.only })
+    (none_of c.in_ok-feed.field-0 (see_reader c.args.names.now c.feed.new.reader) _ c.in_ok-feed.ensures c.if-not-branch.true)).none
 
-pub returns-in_default-clause-only_fault : goal.returns-in_default-clause-only_fault
-returns-in_default-clause-only_fault c = λ some.
-    (stuck (table_of (ops_of c.args.table.now)) (table_is (ops_of c.args.table.now) c.table_law.ensures) c.args.text.now c.args.tokens.now c.loop-token.token-index
-    (get_or c.args.tokens.now c.loop-token.token-index blank) (see_waiting (see_stack c.loop-token.stack) c.loop-token.waiting) c.in_ok-word.word
+pub returns-then-not-branch-clause-only_fault : goal.returns-then-not-branch-clause-only_fault
+returns-then-not-branch-clause-only_fault c = λ some.
+    (stuck (table_of (ops_of c.args.table.now)) (table_is (ops_of c.args.table.now) c.table_law.ensures) c.args.text.now c.args.tokens.now c.loop-at.at
+    (get_or c.args.tokens.now c.loop-at.at blank) (see_reader c.args.names.now c.loop-at.reader) (see_word c.args.names.now c.word_of-word.result)
     (part_spelled c.args.text.now c.args.tokens.now c.requires.part)
-    (slice_get-get_or c.args.tokens.now c.loop-token.token-index blank c.loop-token-test.true) c.loop-token.invariant
-    (record { is = c.in_ok-word.ensures.is; only = c.in_ok-word.ensures.only })
-    (sym (ap (see_fed (see_stack c.feed.new.stack)) c.in_default.is) ∙ c.in_ok-next.ensures)).only
+    (slice_get-get_or c.args.tokens.now c.loop-at.at blank c.loop-at-test.true) c.loop-at.invariant
+    (record { is = c.word_of-word.ensures.is; only = c.word_of-word.ensures.only })
+    (none_of c.in_ok-feed.field-0 (see_reader c.args.names.now c.feed.new.reader) _ c.in_ok-feed.ensures c.if-not-branch.true)).only
 
-pub returns-in_default-clause-fault : goal.returns-in_default-clause-fault
-returns-in_default-clause-fault c = λ some.
-    (stuck (table_of (ops_of c.args.table.now)) (table_is (ops_of c.args.table.now) c.table_law.ensures) c.args.text.now c.args.tokens.now c.loop-token.token-index
-    (get_or c.args.tokens.now c.loop-token.token-index blank) (see_waiting (see_stack c.loop-token.stack) c.loop-token.waiting) c.in_ok-word.word
+pub returns-then-not-branch-clause-fault : goal.returns-then-not-branch-clause-fault
+returns-then-not-branch-clause-fault c = λ some.
+    (stuck (table_of (ops_of c.args.table.now)) (table_is (ops_of c.args.table.now) c.table_law.ensures) c.args.text.now c.args.tokens.now c.loop-at.at
+    (get_or c.args.tokens.now c.loop-at.at blank) (see_reader c.args.names.now c.loop-at.reader) (see_word c.args.names.now c.word_of-word.result)
     (part_spelled c.args.text.now c.args.tokens.now c.requires.part)
-    (slice_get-get_or c.args.tokens.now c.loop-token.token-index blank c.loop-token-test.true) c.loop-token.invariant
-    (record { is = c.in_ok-word.ensures.is; only = c.in_ok-word.ensures.only })
-    (sym (ap (see_fed (see_stack c.feed.new.stack)) c.in_default.is) ∙ c.in_ok-next.ensures)).is
+    (slice_get-get_or c.args.tokens.now c.loop-at.at blank c.loop-at-test.true) c.loop-at.invariant
+    (record { is = c.word_of-word.ensures.is; only = c.word_of-word.ensures.only })
+    (none_of c.in_ok-feed.field-0 (see_reader c.args.names.now c.feed.new.reader) _ c.in_ok-feed.ensures c.if-not-branch.true)).is
 
 pub returns-then-waiting_floor-gt-DEEPEST-clause-none : goal.returns-then-waiting_floor-gt-DEEPEST-clause-none
 returns-then-waiting_floor-gt-DEEPEST-clause-none c = λ some.
-    (deep (table_of (ops_of c.args.table.now)) (table_is (ops_of c.args.table.now) c.table_law.ensures) c.args.text.now c.args.tokens.now c.loop-token.token-index
-    (get_or c.args.tokens.now c.loop-token.token-index blank) (see_waiting (see_stack c.loop-token.stack) c.loop-token.waiting)
-    (see_waiting (see_stack c.feed.new.stack) c.in-Some.next) c.in_ok-word.word
+    (deep (table_of (ops_of c.args.table.now)) (table_is (ops_of c.args.table.now) c.table_law.ensures) c.args.text.now c.args.tokens.now c.loop-at.at
+    (get_or c.args.tokens.now c.loop-at.at blank) (see_reader c.args.names.now c.loop-at.reader) (see_reader c.args.names.now c.feed.new.reader) (see_word c.args.names.now c.word_of-word.result)
     (part_spelled c.args.text.now c.args.tokens.now c.requires.part)
-    (slice_get-get_or c.args.tokens.now c.loop-token.token-index blank c.loop-token-test.true) c.loop-token.invariant
-    (record { is = c.in_ok-word.ensures.is; only = c.in_ok-word.ensures.only })
-    (sym (ap (see_fed (see_stack c.feed.new.stack)) c.in-Some.is) ∙ c.in_ok-next.ensures)
-    (omega (arith, c.waiting_floor.ensures, c.if-waiting_floor-gt-DEEPEST.true))).none
+    (slice_get-get_or c.args.tokens.now c.loop-at.at blank c.loop-at-test.true) c.loop-at.invariant
+    (record { is = c.word_of-word.ensures.is; only = c.word_of-word.ensures.only })
+    (some_of c.in_ok-feed.field-0 (see_reader c.args.names.now c.feed.new.reader) _ c.in_ok-feed.ensures c.if-not-branch.false)
+    (omega (arith, c.waiting_floor.ensures c.args.names.now, c.if-waiting_floor-gt-DEEPEST.true))).none
 
 pub returns-then-waiting_floor-gt-DEEPEST-clause-only_fault : goal.returns-then-waiting_floor-gt-DEEPEST-clause-only_fault
 returns-then-waiting_floor-gt-DEEPEST-clause-only_fault c = λ some.
-    (deep (table_of (ops_of c.args.table.now)) (table_is (ops_of c.args.table.now) c.table_law.ensures) c.args.text.now c.args.tokens.now c.loop-token.token-index
-    (get_or c.args.tokens.now c.loop-token.token-index blank) (see_waiting (see_stack c.loop-token.stack) c.loop-token.waiting)
-    (see_waiting (see_stack c.feed.new.stack) c.in-Some.next) c.in_ok-word.word
+    (deep (table_of (ops_of c.args.table.now)) (table_is (ops_of c.args.table.now) c.table_law.ensures) c.args.text.now c.args.tokens.now c.loop-at.at
+    (get_or c.args.tokens.now c.loop-at.at blank) (see_reader c.args.names.now c.loop-at.reader) (see_reader c.args.names.now c.feed.new.reader) (see_word c.args.names.now c.word_of-word.result)
     (part_spelled c.args.text.now c.args.tokens.now c.requires.part)
-    (slice_get-get_or c.args.tokens.now c.loop-token.token-index blank c.loop-token-test.true) c.loop-token.invariant
-    (record { is = c.in_ok-word.ensures.is; only = c.in_ok-word.ensures.only })
-    (sym (ap (see_fed (see_stack c.feed.new.stack)) c.in-Some.is) ∙ c.in_ok-next.ensures)
-    (omega (arith, c.waiting_floor.ensures, c.if-waiting_floor-gt-DEEPEST.true))).only
+    (slice_get-get_or c.args.tokens.now c.loop-at.at blank c.loop-at-test.true) c.loop-at.invariant
+    (record { is = c.word_of-word.ensures.is; only = c.word_of-word.ensures.only })
+    (some_of c.in_ok-feed.field-0 (see_reader c.args.names.now c.feed.new.reader) _ c.in_ok-feed.ensures c.if-not-branch.false)
+    (omega (arith, c.waiting_floor.ensures c.args.names.now, c.if-waiting_floor-gt-DEEPEST.true))).only
 
 pub returns-then-waiting_floor-gt-DEEPEST-clause-fault : goal.returns-then-waiting_floor-gt-DEEPEST-clause-fault
 returns-then-waiting_floor-gt-DEEPEST-clause-fault c = λ some.
-    (deep (table_of (ops_of c.args.table.now)) (table_is (ops_of c.args.table.now) c.table_law.ensures) c.args.text.now c.args.tokens.now c.loop-token.token-index
-    (get_or c.args.tokens.now c.loop-token.token-index blank) (see_waiting (see_stack c.loop-token.stack) c.loop-token.waiting)
-    (see_waiting (see_stack c.feed.new.stack) c.in-Some.next) c.in_ok-word.word
+    (deep (table_of (ops_of c.args.table.now)) (table_is (ops_of c.args.table.now) c.table_law.ensures) c.args.text.now c.args.tokens.now c.loop-at.at
+    (get_or c.args.tokens.now c.loop-at.at blank) (see_reader c.args.names.now c.loop-at.reader) (see_reader c.args.names.now c.feed.new.reader) (see_word c.args.names.now c.word_of-word.result)
     (part_spelled c.args.text.now c.args.tokens.now c.requires.part)
-    (slice_get-get_or c.args.tokens.now c.loop-token.token-index blank c.loop-token-test.true) c.loop-token.invariant
-    (record { is = c.in_ok-word.ensures.is; only = c.in_ok-word.ensures.only })
-    (sym (ap (see_fed (see_stack c.feed.new.stack)) c.in-Some.is) ∙ c.in_ok-next.ensures)
-    (omega (arith, c.waiting_floor.ensures, c.if-waiting_floor-gt-DEEPEST.true))).is
+    (slice_get-get_or c.args.tokens.now c.loop-at.at blank c.loop-at-test.true) c.loop-at.invariant
+    (record { is = c.word_of-word.ensures.is; only = c.word_of-word.ensures.only })
+    (some_of c.in_ok-feed.field-0 (see_reader c.args.names.now c.feed.new.reader) _ c.in_ok-feed.ensures c.if-not-branch.false)
+    (omega (arith, c.waiting_floor.ensures c.args.names.now, c.if-waiting_floor-gt-DEEPEST.true))).is
 
-pub returns-in-Some-finished-clause-ok : goal.returns-in-Some-finished-clause-ok
-returns-in-Some-finished-clause-ok c =
-    (finished_read (table_of (ops_of c.args.table.now)) (table_is (ops_of c.args.table.now) c.table_law.ensures) c.args.text.now c.args.tokens.now c.loop-token.token-index
-    (see_waiting (see_stack c.loop-token.stack) c.loop-token.waiting) (see_stack c.loop-token.stack) (c.in-Some-finished.ensures (see_stack c.loop-token.stack)).0
-    (tree_of c.in-Some-finished.clause) c.loop-token-test.false c.loop-token.invariant
-    (c.in-Some-finished.ensures (see_stack c.loop-token.stack)).1 (c.in-Some-finished.ensures (see_stack c.loop-token.stack)).2).is
+pub returns-then-not-is_finished-clause-none : goal.returns-then-not-is_finished-clause-none
+returns-then-not-is_finished-clause-none c = λ some.
+    (unfinished_read (table_of (ops_of c.args.table.now)) (table_is (ops_of c.args.table.now) c.table_law.ensures) c.args.text.now c.args.tokens.now c.loop-at.at
+    (see_reader c.args.names.now c.loop-at.reader) c.no_end.result c.loop-at-test.false c.loop-at.invariant
+    (sym (c.is_finished.ensures c.args.names.now) ∙ c.if-not-is_finished.true) c.no_end.ensures).none
 
-pub returns-in-Some-finished-clause-only : goal.returns-in-Some-finished-clause-only
-returns-in-Some-finished-clause-only c =
-    (finished_read (table_of (ops_of c.args.table.now)) (table_is (ops_of c.args.table.now) c.table_law.ensures) c.args.text.now c.args.tokens.now c.loop-token.token-index
-    (see_waiting (see_stack c.loop-token.stack) c.loop-token.waiting) (see_stack c.loop-token.stack) (c.in-Some-finished.ensures (see_stack c.loop-token.stack)).0
-    (tree_of c.in-Some-finished.clause) c.loop-token-test.false c.loop-token.invariant
-    (c.in-Some-finished.ensures (see_stack c.loop-token.stack)).1 (c.in-Some-finished.ensures (see_stack c.loop-token.stack)).2).only
+pub returns-then-not-is_finished-clause-only_fault : goal.returns-then-not-is_finished-clause-only_fault
+returns-then-not-is_finished-clause-only_fault c = λ some.
+    (unfinished_read (table_of (ops_of c.args.table.now)) (table_is (ops_of c.args.table.now) c.table_law.ensures) c.args.text.now c.args.tokens.now c.loop-at.at
+    (see_reader c.args.names.now c.loop-at.reader) c.no_end.result c.loop-at-test.false c.loop-at.invariant
+    (sym (c.is_finished.ensures c.args.names.now) ∙ c.if-not-is_finished.true) c.no_end.ensures).only
 
-pub returns-clause-none : goal.returns-clause-none
-returns-clause-none c = λ some.
-    (unfinished_read (table_of (ops_of c.args.table.now)) (table_is (ops_of c.args.table.now) c.table_law.ensures) c.args.text.now c.args.tokens.now c.loop-token.token-index
-    (see_waiting (see_stack c.loop-token.stack) c.loop-token.waiting) c.no_end.result c.loop-token-test.false c.loop-token.invariant
-    (c.in-None.ensures (see_stack c.loop-token.stack)) c.no_end.ensures).none
+pub returns-then-not-is_finished-clause-fault : goal.returns-then-not-is_finished-clause-fault
+returns-then-not-is_finished-clause-fault c = λ some.
+    (unfinished_read (table_of (ops_of c.args.table.now)) (table_is (ops_of c.args.table.now) c.table_law.ensures) c.args.text.now c.args.tokens.now c.loop-at.at
+    (see_reader c.args.names.now c.loop-at.reader) c.no_end.result c.loop-at-test.false c.loop-at.invariant
+    (sym (c.is_finished.ensures c.args.names.now) ∙ c.if-not-is_finished.true) c.no_end.ensures).is
 
-pub returns-clause-only_fault : goal.returns-clause-only_fault
-returns-clause-only_fault c = λ some.
-    (unfinished_read (table_of (ops_of c.args.table.now)) (table_is (ops_of c.args.table.now) c.table_law.ensures) c.args.text.now c.args.tokens.now c.loop-token.token-index
-    (see_waiting (see_stack c.loop-token.stack) c.loop-token.waiting) c.no_end.result c.loop-token-test.false c.loop-token.invariant
-    (c.in-None.ensures (see_stack c.loop-token.stack)) c.no_end.ensures).only
+pub returns-clause-ok : goal.returns-clause-ok
+returns-clause-ok c =
+    let reader = c.loop-at.reader in
+    let names = c.args.names.now in
+    let done = finished_with names (innermost reader.state.stack) (trees_in names reader.state) reader.state.mode reader.waiting (sym (c.is_finished.ensures names) ∙ c.if-not-is_finished.false) in
+    (finished_read (table_of (ops_of c.args.table.now)) (table_is (ops_of c.args.table.now) c.table_law.ensures) c.args.text.now c.args.tokens.now c.loop-at.at
+    (see_reader names reader) done.stack done.operand (tree_of c.in_ok-clause.clause) c.loop-at-test.false c.loop-at.invariant done.is
+    (done.tree_is ∙ sym (c.in_ok-clause.ensures ∙ ap (λ nodes. last_of (forest names nodes)) c.deref.ensures.value))).is
 
-pub returns-clause-fault : goal.returns-clause-fault
-returns-clause-fault c = λ some.
-    (unfinished_read (table_of (ops_of c.args.table.now)) (table_is (ops_of c.args.table.now) c.table_law.ensures) c.args.text.now c.args.tokens.now c.loop-token.token-index
-    (see_waiting (see_stack c.loop-token.stack) c.loop-token.waiting) c.no_end.result c.loop-token-test.false c.loop-token.invariant
-    (c.in-None.ensures (see_stack c.loop-token.stack)) c.no_end.ensures).is
+pub returns-clause-only : goal.returns-clause-only
+returns-clause-only c =
+    let reader = c.loop-at.reader in
+    let names = c.args.names.now in
+    let done = finished_with names (innermost reader.state.stack) (trees_in names reader.state) reader.state.mode reader.waiting (sym (c.is_finished.ensures names) ∙ c.if-not-is_finished.false) in
+    (finished_read (table_of (ops_of c.args.table.now)) (table_is (ops_of c.args.table.now) c.table_law.ensures) c.args.text.now c.args.tokens.now c.loop-at.at
+    (see_reader names reader) done.stack done.operand (tree_of c.in_ok-clause.clause) c.loop-at-test.false c.loop-at.invariant done.is
+    (done.tree_is ∙ sym (c.in_ok-clause.ensures ∙ ap (λ nodes. last_of (forest names nodes)) c.deref.ensures.value))).only

@@ -1,7 +1,7 @@
 use Rattle.std.proofs.Common.{ap, ◌∙◌, map, refl}
 use Rattle.prolog_terms.specs.Tree.{tailed, tree_of, trees_from}
 use Rattle.prolog_terms.proofs.ViewLemmas.{tailed_seen}
-use Rattle.prolog_terms.proofs.groups.tailed_term.Goals as goal
+use Rattle.prolog_terms.proofs.boxed.make_tailed.Goals as goal
 
 pub returns : goal.returns
 returns c =

@@ -1,0 +1,36 @@
+use Rattle.std.proofs.Common.{ap, sym, ◌∙◌, arith, ◌+◌, [], ◌∷◌, refl}
+use Rattle.prolog_terms.specs.declared.pending.Pending.TheVariants.{Bracket as BracketKept}
+use Rattle.prolog_terms.specs.declared.pending.Bracket.TheVariants.{Next}
+use Rattle.prolog_terms.specs.declared.pending.Opened.TheVariants as opened
+use Rattle.prolog_terms.specs.Tree.{none}
+use Rattle.prolog_terms.specs.Forest.{last_of, before_last, parts_of, without}
+use Rattle.prolog_terms.specs.ReaderSeen.{parts, goes_seen, has, group_operand, round_in}
+use Rattle.prolog_terms.specs.StackSeen.{innermost, trees_in, see_word, see_opened, see_operand, see_entries}
+use Rattle.prolog_terms.proofs.Entries.{ok_then, next_is, next_room}
+use Rattle.prolog_terms.proofs.brackets.round_behind.Goals as goal
+
+pub overflow_add-count : goal.overflow_add-count
+overflow_add-count c =
+    let state = c.args.state.now in
+    let is = ap (λ k. record { pending = BracketKept k; reach = c.in-Some.ensures.0; separates = c.in-Some.ensures.1 } ∷ innermost c.pop_bracket.new.self) c.in-Next.is in
+    omega (
+      arith,
+      next_room [] (innermost state.stack) (innermost c.pop_bracket.new.self) c.in-Next.opened c.in-Next.count c.in-Next.depth c.in-Some.ensures.0 c.in-Some.ensures.1 (before_last (trees_in [] state))
+          (c.in-Some.ensures.2 ∙ is) (c.requires.room []),
+    )
+
+pub returns-in-Call-opened : goal.returns-in-Call-opened
+returns-in-Call-opened c =
+    let state = c.args.state.now in
+    let last = c.args.last in
+    let below = innermost c.pop_bracket.new.self in
+    let is = c.in-Some.ensures.2 ∙ (ap (λ k. record { pending = BracketKept k; reach = c.in-Some.ensures.0; separates = c.in-Some.ensures.1 } ∷ below) c.in-Next.is
+    ∙ ap (λ o. record { pending = BracketKept (Next o c.in-Next.count c.in-Next.depth); reach = c.in-Some.ensures.0; separates = c.in-Some.ensures.1 } ∷ below) c.in-Call-opened.is) in
+    ok_then c.close_group-in-Call-opened.result _ _ c.close_group-in-Call-opened.ensures
+    (λ goes step names.
+    step names
+    ∙ (ap (λ o. goes_seen (see_entries names below (without (c.in-Next.count + 1) (trees_in names state)))
+    (has (group_operand (see_opened names o) (parts (parts_of (c.in-Next.count + 1) (trees_in names state) none) c.max.result) (see_word names c.args.word)))) c.in-Call-opened.is
+    ∙ (next_is (λ S xs. goes_seen S (has (group_operand (see_opened names (opened.Call c.in-Call-opened.field-0)) xs (see_word names c.args.word)))) names below (trees_in names state) c.in-Next.count
+    (c.in-Next.count + 1) c.in-Next.depth c.max.result last refl c.max.ensures
+    ∙ sym (ap (λ es. round_in (see_word names c.args.word) (see_entries names es (before_last (trees_in names state))) (see_operand (last_of (trees_in names state)) last)) is))))

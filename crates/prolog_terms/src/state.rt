@@ -1,0 +1,31 @@
+//! What is read of a clause, where no word waits.
+
+use crate::node::Node;
+use crate::operand::Operand;
+use crate::stack::Stack;
+use crate::word::Word;
+use std::alloc::Global;
+
+/// What the next word meets.
+#[derive(Clone, Copy)]
+pub enum Mode {
+    /// An operand is wanted.
+    Want,
+    /// The number of this minus is wanted.
+    Minus(Word),
+    /// The bracket of this functor is wanted.
+    Functor(Word),
+    /// An operand is complete: the last term of the nodes.
+    Have(Operand),
+    /// The clause and its End are read: it is the last term of the nodes.
+    Done(Operand),
+}
+
+/// What is open, the terms that are complete as one list of nodes, and what the next word meets. The
+/// terms stand in the order in which the stack holds them.
+#[derive(Drop)]
+pub struct State {
+    pub stack: Stack,
+    pub nodes: Vec<Node>,
+    pub mode: Mode,
+}
