@@ -14,7 +14,7 @@ use Rattle.prolog_terms.specs.declared.term.Span.{Span}
 use Rattle.prolog_terms.specs.Tree.{Tree, Trees, variable, constant, atom, compound, listed, tailed as with_tail, curly, paren, none, more as with_more, span_of}
 use Rattle.prolog_terms.specs.Views.{inside, start_of}
 use Rattle.prolog_terms.specs.Words.{table_of}
-use Rattle.prolog_terms.specs.declared.word.Word.{Word}
+use Rattle.prolog_terms.specs.Words.{Word}
 use Rattle.prolog_terms.specs.Grammar.{Parse, Parts, call, square, leaf, negative, bare, pair, group, tailed, wrapped, prefixed, infixed, postfixed, one, more, yield, parts_yield}
 use Rattle.prolog_terms.specs.Clause.{AreWords, IsClauseOf, leaf_tree, negative_tree, wrapped_tree, trees_more, tree_from, trees_of, from_of}
 use Rattle.prolog_terms.proofs.TokenWords.{AreSpelled}

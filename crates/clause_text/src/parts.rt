@@ -1,6 +1,7 @@
 ghost use Rattle.std.specs.Prelude.{◌≡◌, ◌≢◌, ◌≤◌, ◌<◌, ℕ, List, length, IfOk, IfErr};
 ghost use Rattle.prolog_tokens.specs.declared.token.Token.{Token as TokenOf};
 ghost use Rattle.prolog_tokens.specs.Cut.{IsCut};
+ghost use Rattle.prolog_names.specs.Numbers.{AreNumbered};
 ghost use Rattle.prolog_ops.specs.Table.{ops_of};
 ghost use Rattle.clause_text.specs.Clauses.{AreClauses, HasClauseFault, clause_trees, opening_ops};
 ghost use Rattle.clause_text.specs.Pieces.{IsBehindClause, ArePieces, AreAdded, IsFaultAhead};
@@ -9,6 +10,7 @@ use crate::Clause;
 use crate::fault::TextFault;
 use crate::items::apply_items;
 use crate::piece::{Piece, PieceEnd, read_each, stretches_from};
+use prolog_names::Numbered;
 use prolog_ops::OpTable;
 use prolog_tokens::{Kind, Token};
 use std::alloc::Global;
@@ -85,9 +87,11 @@ fn read_parts<R: Threads + Sync>(
     table: &mut OpTable,
     text: &str,
     tokens: &[Token],
+    numbered: &Numbered,
 ) -> Result<Vec<Clause>, TextFault>
     requires small { length text.now ≤ 8388608 }
     requires cut { IsCut text.now tokens.now }
+    requires numbered { AreNumbered text.now numbered.now.names tokens.now numbered.now.numbers.items }
     ensures ok { IfOk result (λ clauses. AreClauses (ops_of table.old) text.now tokens.now (clause_trees clauses.items)) }
     ensures fault { IfErr result (λ fault. fault ≢ TextFault.NoMemory → HasClauseFault (ops_of table.old) text.now tokens.now fault) }
 {
@@ -97,7 +101,7 @@ fn read_parts<R: Threads + Sync>(
     let mut ahead = 1;
     while from < tokens.len() {
         let stretches = stretches_from(alloc, tokens, from, until, ahead)?;
-        let pieces = read_each(rt, alloc, table, text, tokens, &stretches)?;
+        let pieces = read_each(rt, alloc, table, text, tokens, numbered, &stretches)?;
         let kept = keep(alloc, table, from, pieces, &mut clauses)?;
         from = kept.to;
         until = kept.until;
@@ -112,12 +116,14 @@ pub fn read_clauses<R: Threads + Sync>(
     alloc: Global,
     text: &str,
     tokens: &[Token],
+    numbered: &Numbered,
 ) -> Result<Vec<Clause>, TextFault>
     requires small { length text.now ≤ 8388608 }
     requires cut { IsCut text.now tokens.now }
+    requires numbered { AreNumbered text.now numbered.now.names tokens.now numbered.now.numbers.items }
     ensures ok { IfOk result (λ clauses. AreClauses opening_ops text.now tokens.now (clause_trees clauses.items)) }
     ensures fault { IfErr result (λ fault. fault ≢ TextFault.NoMemory → HasClauseFault opening_ops text.now tokens.now fault) }
 {
     let mut table = OpTable::opening(alloc)?;
-    read_parts(rt, alloc, &mut table, text, tokens)
+    read_parts(rt, alloc, &mut table, text, tokens, numbered)
 }

@@ -2,6 +2,7 @@
 
 ghost use Rattle.std.specs.Prelude.{◌≡◌, ◌≤◌, ◌<◌, ℕ, length, All, IfOk};
 ghost use Rattle.prolog_tokens.specs.Cut.{IsCut};
+ghost use Rattle.prolog_names.specs.Numbers.{AreNumbered};
 ghost use Rattle.prolog_ops.specs.Table.{ops_of};
 ghost use Rattle.clause_text.specs.Clauses.{EndsFirst};
 ghost use Rattle.clause_text.specs.Pieces.{IsBehindClause, IsStretch, AreStretches, IsPiece, ArePieces};
@@ -9,8 +10,9 @@ ghost use Rattle.clause_text.specs.Pieces.{IsBehindClause, IsStretch, AreStretch
 use crate::Clause;
 use crate::fault::TextFault;
 use crate::items::has_items;
+use prolog_names::{Numbered, numbered_part};
 use prolog_ops::OpTable;
-use prolog_terms::read_clause;
+use prolog_terms::{Reader, read_clause};
 use prolog_tokens::{Kind, Token};
 use rayon::prelude::*;
 use std::alloc::{AllocError, Global};
@@ -120,19 +122,33 @@ fn read_stretch(
     table: &OpTable,
     text: &str,
     tokens: &[Token],
+    numbered: &Numbered,
     stretch: &Stretch,
 ) -> Piece
     requires small { length text.now ≤ 8388608 }
     requires cut { IsCut text.now tokens.now }
+    requires numbered { AreNumbered text.now numbered.now.names tokens.now numbered.now.numbers.items }
     requires stretch { IsStretch tokens.now stretch.now }
     ensures { IsPiece (ops_of table.now) text.now tokens.now stretch.now.from stretch.now.to result }
 {
+    numbered_part();
+    let names = &numbered.names;
+    let numbers = numbered.numbers.as_slice();
     let to = stretch.to;
+    let mut reader = Reader::new(alloc);
     let mut clauses = Vec::new(alloc);
     let mut at = stretch.from;
     while at < to {
         let next = part_end(tokens, at);
-        let clause = match read_clause(alloc, table, text, &tokens[at..next]) {
+        let clause = match read_clause(
+            alloc,
+            &mut reader,
+            table,
+            names,
+            text,
+            &tokens[at..next],
+            &numbers[at..next],
+        ) {
             Ok(term) => Clause { term },
             Err(fault) => {
                 let end = PieceEnd::Refused(fault.into());
@@ -153,17 +169,19 @@ fn read_stretch(
     Piece { clauses, to, end }
 }
 
-/// What the stretches are read as under the table. They are read side by side.
+/// What the stretches are read as under the table. They are read side by side, and share the names.
 pub fn read_each<R: Threads + Sync>(
     rt: &R,
     alloc: Global,
     table: &OpTable,
     text: &str,
     tokens: &[Token],
+    numbered: &Numbered,
     stretches: &[Stretch],
 ) -> Result<Vec<Piece>, AllocError>
     requires small { length text.now ≤ 8388608 }
     requires cut { IsCut text.now tokens.now }
+    requires numbered { AreNumbered text.now numbered.now.names tokens.now numbered.now.numbers.items }
     requires stretches { All (IsStretch tokens.now) stretches.now }
     ensures { IfOk result (λ pieces. (from to : ℕ) → AreStretches tokens.now from stretches.now to
         → ArePieces (ops_of table.now) text.now tokens.now from pieces.items to) }
@@ -173,9 +191,9 @@ pub fn read_each<R: Threads + Sync>(
         .with_min_len(FEWEST)
         .map(
             |stretch: &Stretch| -> Piece
-                requires { (length text.now ≤ 8388608) × IsCut text.now tokens.now × IsStretch tokens.now stretch.now }
+                requires { (length text.now ≤ 8388608) × IsCut text.now tokens.now × AreNumbered text.now numbered.now.names tokens.now numbered.now.numbers.items × IsStretch tokens.now stretch.now }
                 ensures { IsPiece (ops_of table.entry.now) text.entry.now tokens.entry.now stretch.entry.now.from stretch.entry.now.to result }
-            { read_stretch(alloc, table, text, tokens, stretch) },
+            { read_stretch(alloc, table, text, tokens, numbered, stretch) },
         )
         .collect(rt, alloc)
 }

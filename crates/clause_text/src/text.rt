@@ -8,6 +8,7 @@ use crate::Clause;
 use crate::cause::Cause;
 use crate::fault::TextFault;
 use crate::parts::read_clauses;
+use prolog_names::number_names;
 use prolog_tokens::tokens;
 use std::alloc::Global;
 use std::thread::Threads;
@@ -35,5 +36,6 @@ pub fn read_text<R: Threads + Sync>(
         Err(error) => return Err(TextFault::At(Cause::NotUtf8, error.valid_up_to() as u32)),
     };
     let tokens = tokens(alloc, text)?;
-    read_clauses(rt, alloc, text, &tokens)
+    let numbered = number_names(alloc, text, &tokens)?;
+    read_clauses(rt, alloc, text, &tokens, &numbered)
 }

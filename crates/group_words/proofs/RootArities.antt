@@ -13,7 +13,7 @@ use Rattle.prolog_terms.specs.Clause.{AreWords, leaf_tree, negative_tree, tree_f
 use Rattle.prolog_terms.specs.Grammar.{Parse, Parts, call, square, leaf, negative, bare, pair, group, tailed as with_tail, wrapped, prefixed, infixed, postfixed, one, more as and_part, yield, parts_yield}
 use Rattle.prolog_terms.specs.Tree.{Tree, Trees, variable, constant, atom, compound, listed, tailed, curly, paren, none, more}
 use Rattle.prolog_terms.specs.Views.{atom_name, inside, joined, sides_at, sides_of}
-use Rattle.prolog_terms.specs.declared.word.Word.{Word}
+use Rattle.prolog_terms.specs.Words.{Word}
 use Rattle.import_rules.specs.declared.names.PredName.{PredName}
 use Rattle.group_words.specs.RootList.{IsRootList, all_there, arity_at, list_text, named, named_by, named_predicate, with_sides}
 

@@ -13,8 +13,9 @@ ghost use Rattle.group_words.specs.RootList.{IsRootList, IsList, AddsRoots, arit
 
 use crate::limits::MOST_LIST;
 use import_rules::PredName;
+use prolog_names::number_names;
 use prolog_ops::OpTable;
-use prolog_terms::{ConstKind, ReadFault, Term, atom_name, inside, read_clause, sides};
+use prolog_terms::{ConstKind, ReadFault, Reader, Term, atom_name, inside, read_clause, sides};
 use prolog_tokens::{Kind, Text, Token, TokenFault, tokens};
 use std::alloc::{AllocError, Global};
 
@@ -123,7 +124,17 @@ fn read_tokens(alloc: Global, text: &str, tokens: &[Token]) -> Result<Option<Ter
         return Ok(None);
     }
     let table = opening_table(alloc)?;
-    match read_clause(alloc, &table, text, tokens) {
+    let numbered = number_names(alloc, text, tokens)?;
+    let mut reader = Reader::new(alloc);
+    match read_clause(
+        alloc,
+        &mut reader,
+        &table,
+        &numbered.names,
+        text,
+        tokens,
+        numbered.numbers.as_slice(),
+    ) {
         Ok(term) => Ok(Some(term)),
         Err(fault) => match fault {
             ReadFault::NoMemory => Err(AllocError),

@@ -8,7 +8,7 @@ use Rattle.prolog_tokens.specs.Cut.{IsTokenOf}
 use Rattle.prolog_terms.specs.declared.reader.ReadFault.{ReadFault}
 use Rattle.prolog_terms.specs.declared.reader.ReadFault.TheVariants.{Stuck, TooDeep, NoEnd}
 use Rattle.prolog_terms.specs.Tree.{Tree}
-use Rattle.prolog_terms.specs.declared.word.Word.{Word}
+use Rattle.prolog_terms.specs.Words.{Word}
 use Rattle.prolog_terms.specs.Words.{Table}
 use Rattle.prolog_terms.specs.Clause.{IsClauseOf, IsReadFault}
 use Rattle.prolog_terms.specs.ReaderSeen.{ModeSeen, WaitingSeen, ready_seen, named_seen, doubt_seen, wants, minus_of, functor_of, has, finished, feed_seen, waiting_floor_seen, is_finished}

@@ -2,7 +2,7 @@
 use Rattle.std.proofs.Common.{◌≡◌, ℕ, zero, suc, List, [], ◌∷◌, Some, slice_get, subst}
 use Rattle.prolog_tokens.specs.declared.token.Token.{Token}
 use Rattle.prolog_tokens.specs.Cut.{IsTokenOf}
-use Rattle.prolog_terms.specs.declared.word.Word.{Word}
+use Rattle.prolog_terms.specs.Words.{Word}
 use Rattle.prolog_terms.specs.Clause.{IsWordOf, ArePart}
 use Rattle.prolog_terms.proofs.TokenWords.{AreSpelled, one_words, part_spelled}
 use Rattle.prolog_terms.proofs.WordsOf.{has_word}

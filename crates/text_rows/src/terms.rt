@@ -2,8 +2,9 @@ ghost use Rattle.std.specs.Prelude.{◌≡◌, ◌≤◌, ◌↔◌, length, sli
 ghost use Rattle.prolog_tokens.specs.declared.limits.TheConstants.{MOST_BYTES};
 ghost use Rattle.prolog_terms.specs.Clause.{IsOneClause};
 
+use prolog_names::number_names;
 use prolog_ops::{OpFault, OpKind, OpTable};
-use prolog_terms::{ConstKind, Form, ReadFault, Term, read_clause};
+use prolog_terms::{ConstKind, Form, ReadFault, Reader, Term, read_clause};
 use prolog_tokens::{Kind, Token, TokenFault, tokens};
 use std::alloc::{AllocError, Global};
 
@@ -171,7 +172,19 @@ fn read_term(alloc: Global, table: &OpTable, text: &str) -> Result<Term, Unread>
     if !is_one_clause(found.as_slice()) {
         return Err(Unread::Apart);
     }
-    match read_clause(alloc, table, text, found.as_slice()) {
+    let Ok(numbered) = number_names(alloc, text, found.as_slice()) else {
+        return Err(Unread::Clause(ReadFault::NoMemory));
+    };
+    let mut reader = Reader::new(alloc);
+    match read_clause(
+        alloc,
+        &mut reader,
+        table,
+        &numbered.names,
+        text,
+        found.as_slice(),
+        numbered.numbers.as_slice(),
+    ) {
         Ok(term) => Ok(term),
         Err(fault) => Err(Unread::Clause(fault)),
     }

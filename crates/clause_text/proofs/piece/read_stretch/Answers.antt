@@ -1,5 +1,6 @@
-use Rattle.std.proofs.Common.{◌≡◌, ◌++◌, ◌∷◌, [], ap, sym, ◌∙◌, subst, refl, inl}
+use Rattle.std.proofs.Common.{◌≡◌, ◌++◌, ◌∷◌, [], ap, sym, ◌∙◌, subst, refl, inl, arith, slice_range}
 use Rattle.std.proofs.lemmas.List.{map-append}
+use Rattle.prolog_names.specs.Numbers.{AreNumbered}
 use Rattle.prolog_ops.specs.Table.{ops_of}
 use Rattle.prolog_terms.specs.Tree.{tree_of}
 use Rattle.clause_text.specs.declared.Clause.{Clause}
@@ -50,3 +51,26 @@ returns-in-Err c = record {
     inl (c.in-Err.fault, c.into.ensures, c.in-Err.ensures.fault (λ none. some (c.into.ensures ∙ ap fault_of_clauses none))),
   );
 }
+
+pub read_clause-requires-clause-numbered : goal.read_clause-requires-clause-numbered
+read_clause-requires-clause-numbered c =
+    let names = c.args.numbered.now.names in
+    let at = c.loop-at.at in
+    let next = c.part_end-next.result in
+    subst (λ numbers. AreNumbered c.args.text.now names (slice_range c.args.tokens.now at next) (slice_range numbers at next)) (sym c.as_slice-numbers.ensures.value)
+    (c.numbered_part.ensures c.args.text.now names c.args.tokens.now c.args.numbered.now.numbers.items at next c.requires.numbered
+    (omega (arith, c.part_end-next.ensures.some)) (omega (arith, c.part_end-next.ensures.within)))
+
+pub returns-then-is_err : goal.returns-then-is_err
+returns-then-is_err c =
+    let table = ops_of c.args.table.now in
+    let items = rw c.if-is_err.ensures.negation at c.push.ensures.items in
+    record {
+      some = c.requires.stretch.some;
+      behind = c.requires.stretch.ends;
+      told = refl;
+      at = c.loop-at.at;
+      clauses =
+          subst (λ trees. LeadTo table c.args.text.now c.args.tokens.now c.args.stretch.now.from trees table c.loop-at.at) (sym (ap clause_trees items)) c.loop-at.invariant.0;
+      end = λ some. absurd (some refl);
+    }

@@ -39,7 +39,7 @@ returns-clause-only g c =
     ok_with c.read_clauses.result _ _ c.read_clauses.ensures.ok
     (λ found are others reads.
     one_reading c.args.bytes.now others (clause_trees found.items) reads
-    (reads_as c.args.bytes.now c.in-Ok.text.now c.in_ok-tokens.tokens.items c.deref.result.now (clause_trees found.items) c.in-Ok.ensures.cases.0 c.deref.ensures.value
+    (reads_as c.args.bytes.now c.in-Ok.text.now c.in_ok-tokens.tokens.items c.deref-2.result.now (clause_trees found.items) c.in-Ok.ensures.cases.0 c.deref-2.ensures.value
     c.in-Ok.ensures.cases.1 c.in_ok-tokens.ensures.ok are))
 
 pub returns-clause-none : goal.returns-clause-none
@@ -47,7 +47,7 @@ returns-clause-none g c =
     err_only c.read_clauses.result _ _ c.read_clauses.ensures.fault
     (λ fault has some others reads.
     fault_no_reading c.args.bytes.now fault others
-    (clauses (clauses_have c.args.bytes.now c.in-Ok.text.now c.in_ok-tokens.tokens.items c.deref.result.now fault c.in-Ok.ensures.cases.0 c.deref.ensures.value
+    (clauses (clauses_have c.args.bytes.now c.in-Ok.text.now c.in_ok-tokens.tokens.items c.deref-2.result.now fault c.in-Ok.ensures.cases.0 c.deref-2.ensures.value
     c.in-Ok.ensures.cases.1 c.in_ok-tokens.ensures.ok (has some))) reads)
 
 pub returns-clause-only_fault : goal.returns-clause-only_fault
@@ -55,7 +55,7 @@ returns-clause-only_fault g c =
     err_only c.read_clauses.result _ _ c.read_clauses.ensures.fault
     (λ fault has some other also.
     one_fault c.args.bytes.now other fault also
-    (clauses (clauses_have c.args.bytes.now c.in-Ok.text.now c.in_ok-tokens.tokens.items c.deref.result.now fault c.in-Ok.ensures.cases.0 c.deref.ensures.value
+    (clauses (clauses_have c.args.bytes.now c.in-Ok.text.now c.in_ok-tokens.tokens.items c.deref-2.result.now fault c.in-Ok.ensures.cases.0 c.deref-2.ensures.value
     c.in-Ok.ensures.cases.1 c.in_ok-tokens.ensures.ok (has some))))
 
 pub returns-clause-offset : goal.returns-clause-offset
@@ -64,7 +64,7 @@ returns-clause-offset g c =
     (λ fault has.
     placed_or_none c.args.bytes.now fault
     (λ some.
-    clauses_have c.args.bytes.now c.in-Ok.text.now c.in_ok-tokens.tokens.items c.deref.result.now fault c.in-Ok.ensures.cases.0 c.deref.ensures.value
+    clauses_have c.args.bytes.now c.in-Ok.text.now c.in_ok-tokens.tokens.items c.deref-2.result.now fault c.in-Ok.ensures.cases.0 c.deref-2.ensures.value
     c.in-Ok.ensures.cases.1 c.in_ok-tokens.ensures.ok (has some)))
 
 pub returns-clause-weights : goal.returns-clause-weights
@@ -72,6 +72,6 @@ returns-clause-weights g c =
     let fewer : length c.in_ok-tokens.tokens.items ≤ length c.in-Ok.text.now = cut_fewer c.in-Ok.text.now c.in_ok-tokens.tokens.items c.in_ok-tokens.ensures.ok in
     ok_with c.read_clauses.result _ _ c.read_clauses.ensures.ok
     (λ found are.
-    (let weigh : total_weight (clause_trees found.items) ≤ length c.deref.result.now =
-    clauses_weigh opening_ops c.in-Ok.text.now c.deref.result.now (clause_trees found.items) are in
-    omega (arith, fewer, weigh, ap length c.deref.ensures.value, ap length c.in-Ok.ensures.cases.0)))
+    (let weigh : total_weight (clause_trees found.items) ≤ length c.deref-2.result.now =
+    clauses_weigh opening_ops c.in-Ok.text.now c.deref-2.result.now (clause_trees found.items) are in
+    omega (arith, fewer, weigh, ap length c.deref-2.ensures.value, ap length c.in-Ok.ensures.cases.0)))
