@@ -1,5 +1,6 @@
 -- What is told of a program.
-use Rattle.std.specs.Prelude.{ℕ, ◌≡◌, ◌<◌, ◌==◌, ◌||◌, List, [], ◌++◌, Bool, true, false, not, All, length, filter, zip, flat_map, slice_index, slice_index_or, if◌then◌else◌, codes, String}
+use Rattle.std.specs.Prelude.{ℕ, ◌≡◌, ◌<◌, ◌==◌, ◌||◌, List, [], ◌++◌, Bool, true, false, not, All, length, filter, zip, flat_map, slice_index}
+use Rattle.std.specs.Prelude.{slice_index_or, if◌then◌else◌, codes, String}
 use Rattle.std.specs.List.{range_with_len}
 use Rattle.std.specs.String.{string_bytes}
 use Rattle.std.specs.declared.alloc.Global.{Global}

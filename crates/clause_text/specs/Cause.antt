@@ -1,7 +1,10 @@
 -- The words of each cause, and its number.
 use Rattle.std.specs.Prelude.{ℕ, List, codes}
 use Rattle.clause_text.specs.declared.cause.Cause.{Cause}
-use Rattle.clause_text.specs.declared.cause.Cause.TheVariants.{NotUtf8, BadChar, OpenQuote, OpenComment, BadEscape, Stuck, TooDeep, NoEnd, BadPriority, BadKind, BadName, FixedOp, InfixAndPostfix, LateModule, BadIndicator, BadSpec, ControlHead, BadHead, NotInProfile, NoRoot, TwoModules, NoFile, NotModule, NotExported, NotDefined, TwoImports, NotCallable}
+use Rattle.clause_text.specs.declared.cause.Cause.TheVariants.{NotUtf8, BadChar, OpenQuote, OpenComment, BadEscape, Stuck, TooDeep, NoEnd}
+use Rattle.clause_text.specs.declared.cause.Cause.TheVariants.{BadPriority, BadKind, BadName, FixedOp, InfixAndPostfix, LateModule, BadIndicator}
+use Rattle.clause_text.specs.declared.cause.Cause.TheVariants.{BadSpec, ControlHead, BadHead, NotInProfile, NoRoot, TwoModules, NoFile, NotModule}
+use Rattle.clause_text.specs.declared.cause.Cause.TheVariants.{NotExported, NotDefined, TwoImports, NotCallable}
 
 -- the cause as a line of faults tells it
 abbrev pub cause_text : Cause → List ℕ

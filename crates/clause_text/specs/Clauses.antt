@@ -79,7 +79,8 @@ abbrev pub FaultStandsBehind : Ops → List ℕ → List Token → List Tree →
 FaultStandsBehind table text ts [] fault =
     (part : List Token) × (rest : List Token) × (ts ≡ part ++ rest) × IsFirstPart part rest × IsPartFault table text part fault
 FaultStandsBehind table text ts (tree ∷ trees) fault =
-    (part : List Token) × (rest : List Token) × (left : Ops) × (ts ≡ part ++ rest) × LeavesAs table text part tree left × FaultStandsBehind left text rest trees fault
+    (part : List Token) × (rest : List Token) × (left : Ops) × (ts ≡ part ++ rest) × LeavesAs table text part tree left
+    × FaultStandsBehind left text rest trees fault
 
 -- the fault is that of the first part of the tokens that is refused
 pub record HasClauseFault (table : Ops) (text : List ℕ) (ts : List Token) (fault : TextFault) : Type 0 where

@@ -1,5 +1,6 @@
 -- The operator items of a clause, and the table of operators that they leave.
-use Rattle.std.specs.Prelude.{ℕ, ◌||◌, List, [], ◌∷◌, Option, Some, None, Bool, true, false, is_some, Result, Ok, Err, nat_le, if◌then◌else◌, codes, flat_map, option_map, option_and_then}
+use Rattle.std.specs.Prelude.{ℕ, ◌||◌, List, [], ◌∷◌, Option, Some, None, Bool, true, false, is_some, Result, Ok, Err, nat_le, if◌then◌else◌, codes}
+use Rattle.std.specs.Prelude.{flat_map, option_map, option_and_then}
 use Rattle.std.specs.Option.{option_to_list}
 use Rattle.std.specs.List.{filter_map, list_all}
 use Rattle.std.specs.Str.{bytes_eq}

@@ -3,7 +3,9 @@ ghost use Rattle.std.specs.Option.{option_to_list};
 ghost use Rattle.std.specs.List.{filter_map, list_all};
 ghost use Rattle.prolog_ops.specs.Table.{ops_of};
 ghost use Rattle.prolog_terms.specs.Tree.{tree_of};
-ghost use Rattle.clause_text.specs.Items.{Item, priority_of, priority_when, kind_named, kind_of, name_of, is_name, names_of, listed_names, each_on, name_on, with_names, item_on, item_of, items_on, exported_items, goal_items, directive_items, items_of, has_some};
+ghost use Rattle.clause_text.specs.Items.{Item, priority_of, priority_when, kind_named, kind_of, name_of, is_name, names_of, listed_names, each_on};
+ghost use Rattle.clause_text.specs.Items.{name_on, with_names, item_on, item_of, items_on, exported_items, goal_items, directive_items, items_of};
+ghost use Rattle.clause_text.specs.Items.{has_some};
 
 use crate::cause::Cause;
 use crate::fault::{TextFault, fault_at, fault_of_ops};
@@ -104,7 +106,8 @@ fn set_name(
     priority: u32,
 ) -> Result<(), TextFault>
     ensures done { OnOk result (each_on (name_on kind priority) (option_to_list (name_of (tree_of name.now))) (ops_of table.old) ≡ Ok (ops_of table.new)) }
-    ensures refused { IfErr result (λ fault. fault ≢ TextFault.NoMemory → each_on (name_on kind priority) (option_to_list (name_of (tree_of name.now))) (ops_of table.old) ≡ Err fault) }
+    ensures refused { IfErr result (λ fault. fault ≢ TextFault.NoMemory
+        → each_on (name_on kind priority) (option_to_list (name_of (tree_of name.now))) (ops_of table.old) ≡ Err fault) }
 {
     let Some((text, at)) = name_of(name) else {
         return Ok(());
@@ -124,7 +127,8 @@ fn set_each(
     priority: u32,
 ) -> Result<(), TextFault>
     ensures done { OnOk result (each_on (name_on kind priority) (filter_map name_of (map tree_of names.now)) (ops_of table.old) ≡ Ok (ops_of table.new)) }
-    ensures refused { IfErr result (λ fault. fault ≢ TextFault.NoMemory → each_on (name_on kind priority) (filter_map name_of (map tree_of names.now)) (ops_of table.old) ≡ Err fault) }
+    ensures refused { IfErr result (λ fault. fault ≢ TextFault.NoMemory
+        → each_on (name_on kind priority) (filter_map name_of (map tree_of names.now)) (ops_of table.old) ≡ Err fault) }
 {
     for name in names {
         set_name(alloc, table, name, kind, priority)?;
@@ -141,7 +145,8 @@ fn set_names(
     priority: u32,
 ) -> Result<(), TextFault>
     ensures done { OnOk result (with_names kind priority (tree_of names.now) (names_of (tree_of names.now)) (ops_of table.old) ≡ Ok (ops_of table.new)) }
-    ensures refused { IfErr result (λ fault. fault ≢ TextFault.NoMemory → with_names kind priority (tree_of names.now) (names_of (tree_of names.now)) (ops_of table.old) ≡ Err fault) }
+    ensures refused { IfErr result (λ fault. fault ≢ TextFault.NoMemory
+        → with_names kind priority (tree_of names.now) (names_of (tree_of names.now)) (ops_of table.old) ≡ Err fault) }
 {
     if is_name(names) {
         return set_name(alloc, table, names, kind, priority);
@@ -160,8 +165,10 @@ fn apply_item(
     kind: &Term,
     names: &Term,
 ) -> Result<(), TextFault>
-    ensures done { OnOk result (item_on (record { priority = tree_of priority.now; kind = tree_of kind.now; names = tree_of names.now }) (ops_of table.old) ≡ Ok (ops_of table.new)) }
-    ensures refused { IfErr result (λ fault. fault ≢ TextFault.NoMemory → item_on (record { priority = tree_of priority.now; kind = tree_of kind.now; names = tree_of names.now }) (ops_of table.old) ≡ Err fault) }
+    ensures done { OnOk result (item_on (record { priority = tree_of priority.now; kind = tree_of kind.now; names = tree_of names.now })
+        (ops_of table.old) ≡ Ok (ops_of table.new)) }
+    ensures refused { IfErr result (λ fault. fault ≢ TextFault.NoMemory
+        → item_on (record { priority = tree_of priority.now; kind = tree_of kind.now; names = tree_of names.now }) (ops_of table.old) ≡ Err fault) }
 {
     let Some(level) = priority_of(priority) else {
         return Err(fault_at(Cause::BadPriority, priority));
@@ -175,7 +182,8 @@ fn apply_item(
 /// Does what the term says where it is an operator item.
 fn apply_operator(alloc: Global, table: &mut OpTable, term: &Term) -> Result<(), TextFault>
     ensures done { OnOk result (items_on (option_to_list (item_of (tree_of term.now))) (ops_of table.old) ≡ Ok (ops_of table.new)) }
-    ensures refused { IfErr result (λ fault. fault ≢ TextFault.NoMemory → items_on (option_to_list (item_of (tree_of term.now))) (ops_of table.old) ≡ Err fault) }
+    ensures refused { IfErr result (λ fault. fault ≢ TextFault.NoMemory → items_on (option_to_list (item_of (tree_of term.now))) (ops_of table.old)
+        ≡ Err fault) }
 {
     match operator_item(term) {
         Some((priority, kind, names)) => apply_item(alloc, table, priority, kind, names),

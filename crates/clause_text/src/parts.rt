@@ -39,8 +39,10 @@ fn keep(
 ) -> Result<Kept, TextFault>
     ensures kept { IfOk result (λ kept. (text : List ℕ) (ts : List TokenOf) (to : ℕ) → ArePieces (ops_of table.old) text ts from pieces.items to
         → AreAdded (ops_of table.old) text ts from (clause_trees clauses.old.items) (clause_trees clauses.new.items) (ops_of table.new) kept.to) }
-    ensures forward { IfOk result (λ kept. (text : List ℕ) (ts : List TokenOf) (to : ℕ) → ArePieces (ops_of table.old) text ts from pieces.items to → from < to → from < kept.to) }
-    ensures until { IfOk result (λ kept. (text : List ℕ) (ts : List TokenOf) (to : ℕ) → ArePieces (ops_of table.old) text ts from pieces.items to → from < to → IsBehindClause ts kept.until) }
+    ensures forward { IfOk result (λ kept. (text : List ℕ) (ts : List TokenOf) (to : ℕ) → ArePieces (ops_of table.old) text ts from pieces.items to
+        → from < to → from < kept.to) }
+    ensures until { IfOk result (λ kept. (text : List ℕ) (ts : List TokenOf) (to : ℕ) → ArePieces (ops_of table.old) text ts from pieces.items to
+        → from < to → IsBehindClause ts kept.until) }
     ensures fault { IfErr result (λ fault. fault ≢ TextFault.NoMemory → (text : List ℕ) (ts : List TokenOf) (to : ℕ)
         → ArePieces (ops_of table.old) text ts from pieces.items to → IsFaultAhead (ops_of table.old) text ts from fault) }
 {

@@ -191,7 +191,8 @@ pub fn read_each<R: Threads + Sync>(
         .with_min_len(FEWEST)
         .map(
             |stretch: &Stretch| -> Piece
-                requires { (length text.now ≤ 8388608) × IsCut text.now tokens.now × AreNumbered text.now numbered.now.names tokens.now numbered.now.numbers.items × IsStretch tokens.now stretch.now }
+                requires { (length text.now ≤ 8388608) × IsCut text.now tokens.now
+                    × AreNumbered text.now numbered.now.names tokens.now numbered.now.numbers.items × IsStretch tokens.now stretch.now }
                 ensures { IsPiece (ops_of table.entry.now) text.entry.now tokens.entry.now stretch.entry.now.from stretch.entry.now.to result }
             { read_stretch(alloc, table, text, tokens, numbered, stretch) },
         )

@@ -8,7 +8,8 @@ use prolog_terms::{Term, inside};
 
 /// The priority, the kind and the names of a term that is an operator item.
 pub fn operator_item(term: &Term) -> Option<(&Term, &Term, &Term)>
-    ensures { option_map (λ item. record { priority = tree_of item.0.now; kind = tree_of item.1.now; names = tree_of item.2.now }) result ≡ item_of (tree_of term.now) }
+    ensures { option_map (λ item. record { priority = tree_of item.0.now; kind = tree_of item.1.now; names = tree_of item.2.now }) result
+        ≡ item_of (tree_of term.now) }
 {
     let Term::Compound { name, args, .. } = inside(term) else {
         return None;

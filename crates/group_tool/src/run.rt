@@ -7,7 +7,8 @@ ghost use Rattle.group_words.specs.Settings.{Settings, AreLawful, see_options};
 ghost use Rattle.group_tool.specs.End.{err_of, status_of, memory_line};
 ghost use Rattle.group_tool.specs.Stop.{end_of, end_of_stop};
 ghost use Rattle.group_tool.specs.Wanted.{AreJust, AskForNone, HasNoOptions};
-ghost use Rattle.group_tool.specs.Run.{Asking, EndIs, EndsReading, IsRun, IsSettled, AreAskedFor, SaysAnswer, SaysHandedOver, SaysNoMemory, TookNone, SaidWith, SaidEnd};
+ghost use Rattle.group_tool.specs.Run.{Asking, EndIs, EndsReading, IsRun, IsSettled, AreAskedFor, SaysAnswer, SaysHandedOver, SaysNoMemory, TookNone};
+ghost use Rattle.group_tool.specs.Run.{SaidWith, SaidEnd};
 ghost use Rattle.group_tool.specs.Run.{HasReported, HasUsage, HasNoRoot, HasFaults, HasPassed, HasUnread, IsCutOff};
 
 use crate::answer::{report_alone, report_lawful};

@@ -33,7 +33,8 @@ fn name_of(alloc: Global, part: &Part<'_>) -> Result<PredName, AllocError>
 /// Adds the predicate whose places the parts are, of which there is one at least.
 fn add(alloc: Global, run: &[Part<'_>], made: &mut Numbered) -> Result<(), AllocError>
     ensures predicates { OnOk result (made.new.predicates.items ≡ made.old.predicates.items ++ option_to_list (option_map name_of_part (first_of run.now))) }
-    ensures places { OnOk result (lists_of made.new.places.items ≡ lists_of made.old.places.items ++ option_to_list (option_map (λ first. places_of_parts run.now) (first_of run.now))) }
+    ensures places { OnOk result (lists_of made.new.places.items ≡ lists_of made.old.places.items
+        ++ option_to_list (option_map (λ first. places_of_parts run.now) (first_of run.now))) }
 {
     let Some(first) = run.first() else {
         return Ok(());

@@ -12,7 +12,8 @@ use Rattle.prolog_terms.specs.Tree.{Tree, Trees, variable, constant, atom, compo
 use Rattle.prolog_terms.specs.declared.reader.ReadFault.{ReadFault}
 use Rattle.prolog_terms.specs.declared.reader.ReadFault.TheVariants.{Stuck, TooDeep, NoEnd, NoMemory}
 use Rattle.prolog_terms.specs.Words.{Word, Table, is_name}
-use Rattle.prolog_terms.specs.Grammar.{Parse, Parts, GroupStart, call, square, leaf, negative, bare, pair, group, tailed, wrapped, prefixed, infixed, postfixed, one, more, yield, parse_depth, IsClause}
+use Rattle.prolog_terms.specs.Grammar.{Parse, Parts, GroupStart, call, square, leaf, negative, bare, pair, group, tailed, wrapped, prefixed, infixed}
+use Rattle.prolog_terms.specs.Grammar.{postfixed, one, more, yield, parse_depth, IsClause}
 use Rattle.prolog_terms.specs.StuckPlace.{IsStuckAt, IsTooDeepAt, HasNoEnd}
 
 -- the word is the token of the text as terms see it

@@ -2,7 +2,8 @@
 use Rattle.std.specs.Prelude.{ℕ, ◌+◌, max, min, Bool, cond, [], ◌∷◌, length, Option, Some, None, nat_le}
 use Rattle.prolog_terms.specs.Words.{Table, sides_of}
 use Rattle.prolog_terms.specs.Grammar.{square, bare, parse_depth, parts_depth}
-use Rattle.prolog_terms.specs.ReaderSteps.{Pending, prefix_open, infix_open, first_open, next_open, tail_open, wrap_open, Stack, Mode, want, minus, functor, have, done, State, bound, name_step, is_curly}
+use Rattle.prolog_terms.specs.ReaderSteps.{Pending, prefix_open, infix_open, first_open, next_open, tail_open, wrap_open, Stack, Mode, want, minus}
+use Rattle.prolog_terms.specs.ReaderSteps.{functor, have, done, State, bound, name_step, is_curly}
 use Rattle.prolog_terms.specs.ReaderWaiting.{Waiting, ready, named, doubt}
 
 -- the depth of the deepest part that stands in an operator or bracket

@@ -1,5 +1,6 @@
 -- Reading as the words come, over what the reader keeps of them: terms with their priorities and depths, and operators with their sides.
-use Rattle.std.specs.Prelude.{ℕ, ◌+◌, ◌-◌, ◌^◌, max, min, Bool, true, false, cond, not, ◌&&◌, ◌||◌, List, [], ◌∷◌, Option, Some, None, is_some, nat_lt, nat_le, length}
+use Rattle.std.specs.Prelude.{ℕ, ◌+◌, ◌-◌, ◌^◌, max, min, Bool, true, false, cond, not, ◌&&◌, ◌||◌, List, [], ◌∷◌, Option, Some, None, is_some}
+use Rattle.std.specs.Prelude.{nat_lt, nat_le, length}
 use Rattle.prolog_tokens.specs.declared.token.Kind.{Kind}
 use Rattle.prolog_tokens.specs.declared.token.Kind.TheVariants as kind
 use Rattle.prolog_terms.specs.declared.term.Form.TheVariants.{Prefix, Infix, Postfix, Functional}
@@ -98,7 +99,8 @@ pub data PendingSeen : Type 0 where
   pending_operator : OperatorSeen → PendingSeen
   pending_bracket : BracketSeen → PendingSeen
 
--- an operator or bracket, the least depth that the parts in it and below it give their clause, and whether the innermost bracket of it and those below has parts
+-- an operator or bracket, the least depth that the parts in it and below it give their clause,
+-- and whether the innermost bracket of it and those below has parts
 pub data EntrySeen : Type 0 where
   entry : PendingSeen → ℕ → Bool → EntrySeen
 

@@ -1,9 +1,11 @@
 -- Reading a clause word by word with a stack of open operators and brackets, where each step sees the words after its own.
 use Rattle.std.specs.Prelude.{ℕ, Bool, true, false, cond, List, [], ◌∷◌, Option, Some, None, is_some, ◌&&◌, nat_lt, nat_le}
 use Rattle.prolog_tokens.specs.declared.token.Kind.{Kind}
-use Rattle.prolog_tokens.specs.declared.token.Kind.TheVariants.{Name, Quoted, Variable, Integer, Float, Str, BackStr, OpenRound, CloseRound, OpenSquare, CloseSquare, OpenCurly, CloseCurly, Comma, Bar, End}
+use Rattle.prolog_tokens.specs.declared.token.Kind.TheVariants.{Name, Quoted, Variable, Integer, Float, Str, BackStr, OpenRound, CloseRound}
+use Rattle.prolog_tokens.specs.declared.token.Kind.TheVariants.{OpenSquare, CloseSquare, OpenCurly, CloseCurly, Comma, Bar, End}
 use Rattle.prolog_terms.specs.Words.{Word, Table, sides_of, is_functor, is_negative, is_atom, is_prefix}
-use Rattle.prolog_terms.specs.Grammar.{Parse, Parts, GroupStart, call, square, leaf, negative, bare, pair, group, tailed, wrapped, prefixed, infixed, postfixed, one, more, priority}
+use Rattle.prolog_terms.specs.Grammar.{Parse, Parts, GroupStart, call, square, leaf, negative, bare, pair, group, tailed, wrapped, prefixed, infixed}
+use Rattle.prolog_terms.specs.Grammar.{postfixed, one, more, priority}
 
 -- what is open: an operator or a bracket, with what stands before it
 pub data Pending : Type 0 where

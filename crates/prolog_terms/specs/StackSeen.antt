@@ -22,7 +22,10 @@ use Rattle.prolog_terms.specs.declared.waiting.Reader.{Reader}
 use Rattle.prolog_terms.specs.Words.{Word}
 use Rattle.prolog_terms.specs.Tree.{Tree, none}
 use Rattle.prolog_terms.specs.Forest.{last_of, before_last, parts_of, without, forest}
-use Rattle.prolog_terms.specs.ReaderSeen.{OperandSeen, operand, parts, OpenedSeen, Call, Square, OperatorSeen, prefix_on, infix_on, BracketSeen, first_in, next_in, tail_in, wrap_in, PendingSeen, pending_operator, pending_bracket, entry, StackSeen, wants, minus_of, functor_of, has, finished, StateSeen, Held, held, WaitingSeen, ready_seen, named_seen, doubt_seen}
+use Rattle.prolog_terms.specs.ReaderSeen.{OperandSeen, operand, parts, OpenedSeen, Call, Square, OperatorSeen, prefix_on, infix_on, BracketSeen}
+use Rattle.prolog_terms.specs.ReaderSeen.{first_in, next_in, tail_in, wrap_in, PendingSeen, pending_operator, pending_bracket, entry, StackSeen}
+use Rattle.prolog_terms.specs.ReaderSeen.{wants, minus_of, functor_of, has, finished, StateSeen, Held, held, WaitingSeen, ready_seen, named_seen}
+use Rattle.prolog_terms.specs.ReaderSeen.{doubt_seen}
 
 abbrev pub Names : Type 0
 Names = List (List ℕ)

@@ -2,7 +2,8 @@
 use Rattle.std.specs.Prelude.{ℕ, ◌-◌, Bool, true, false, not, ◌&&◌, ◌||◌, List, [], ◌∷◌, Option, Some, None, is_some, option_map, codes, if◌then◌else◌}
 use Rattle.std.specs.Str.{bytes_eq}
 use Rattle.prolog_tokens.specs.declared.token.Kind.{Kind}
-use Rattle.prolog_tokens.specs.declared.token.Kind.TheVariants.{Name, Quoted, Variable, Integer, Float, Str, BackStr, OpenRound, OpenSquare, OpenCurly, Comma, Bar}
+use Rattle.prolog_tokens.specs.declared.token.Kind.TheVariants.{Name, Quoted, Variable, Integer, Float, Str, BackStr, OpenRound, OpenSquare}
+use Rattle.prolog_tokens.specs.declared.token.Kind.TheVariants.{OpenCurly, Comma, Bar}
 use Rattle.prolog_names.specs.Numbers.{has_name}
 use Rattle.prolog_ops.specs.Table.{Ops, Prefix, Infix, Postfix}
 use Rattle.prolog_ops.specs.declared.op.Op.{Op}

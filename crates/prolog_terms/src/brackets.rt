@@ -3,7 +3,9 @@
 ghost use Rattle.std.specs.Prelude.{◌≡◌, ◌<◌, Some, IfOk};
 ghost use Rattle.prolog_terms.specs.Tree.{none};
 ghost use Rattle.prolog_terms.specs.Forest.{before_last, parts_of, without};
-ghost use Rattle.prolog_terms.specs.ReaderSeen.{parts, parts_held, goes_seen, wants, has, pushed, pending_bracket, next_in, tail_in, separator_seen, comma_sides, bar_sides, comma_in, bar_in, round_in, square_in, curly_in, end_in, group_operand, tailed_operand, wrapped_operand};
+ghost use Rattle.prolog_terms.specs.ReaderSeen.{parts, parts_held, goes_seen, wants, has, pushed, pending_bracket, next_in, tail_in, separator_seen};
+ghost use Rattle.prolog_terms.specs.ReaderSeen.{comma_sides, bar_sides, comma_in, bar_in, round_in, square_in, curly_in, end_in, group_operand};
+ghost use Rattle.prolog_terms.specs.ReaderSeen.{tailed_operand, wrapped_operand};
 ghost use Rattle.prolog_terms.specs.StackSeen.{Names as NamesSeen, see_word, see_opened, see_entries, innermost, trees_in, see_held, see_step};
 
 use crate::nodes::{group, tailed, wrapped};
@@ -24,7 +26,9 @@ fn next_part(
     count: u32,
     depth: usize,
 ) -> Result<bool, AllocError>
-    ensures { IfOk result (λ goes. (names : NamesSeen) → see_step names state.new goes ≡ goes_seen (pushed (see_entries names (innermost state.old.stack) (without count (trees_in names state.old))) (pending_bracket (next_in (see_opened names opened) (parts (parts_of count (trees_in names state.old) none) depth)))) wants) }
+    ensures { IfOk result (λ goes. (names : NamesSeen) → see_step names state.new goes ≡ goes_seen
+        (pushed (see_entries names (innermost state.old.stack) (without count (trees_in names state.old)))
+        (pending_bracket (next_in (see_opened names opened) (parts (parts_of count (trees_in names state.old) none) depth)))) wants) }
 {
     state.stack.push(Pending::Bracket(Bracket::Next {
         opened,
@@ -38,7 +42,8 @@ fn next_part(
 /// A Comma between arguments (ISO/IEC 13211-1, 6.3.3.1) or items (6.3.5.1).
 fn comma_behind(state: &mut State, last: Operand) -> Result<bool, AllocError>
     requires room { (names : NamesSeen) → parts_held (see_held names state.old last).stack < 4294967295 }
-    ensures { IfOk result (λ goes. (names : NamesSeen) → see_step names state.new goes ≡ comma_in (see_held names state.old last).stack (see_held names state.old last).operand) }
+    ensures { IfOk result (λ goes. (names : NamesSeen) → see_step names state.new goes
+        ≡ comma_in (see_held names state.old last).stack (see_held names state.old last).operand) }
 {
     let Some(bracket) = state.stack.pop_bracket() else {
         return Ok(false);
@@ -64,7 +69,8 @@ pub fn comma(
     word: Word,
 ) -> Result<bool, AllocError>
     requires room { parts_held (see_held names.now state.old operand).stack < 4294967295 }
-    ensures { IfOk result (λ goes. see_step names.now state.new goes ≡ separator_seen (see_held names.now state.old operand).stack (see_held names.now state.old operand).operand (see_word names.now word) (Some comma_sides) comma_in) }
+    ensures { IfOk result (λ goes. see_step names.now state.new goes ≡ separator_seen (see_held names.now state.old operand).stack
+        (see_held names.now state.old operand).operand (see_word names.now word) (Some comma_sides) comma_in) }
 {
     if !state.stack.separates() {
         return infix_step(names, state, operand, word, COMMA_SIDES);
@@ -75,7 +81,9 @@ pub fn comma(
 
 /// The tail of a list is wanted, behind so many items.
 fn tail_part(state: &mut State, square: Word, count: u32, depth: usize) -> Result<bool, AllocError>
-    ensures { IfOk result (λ goes. (names : NamesSeen) → see_step names state.new goes ≡ goes_seen (pushed (see_entries names (innermost state.old.stack) (without count (trees_in names state.old))) (pending_bracket (tail_in (see_word names square) (parts (parts_of count (trees_in names state.old) none) depth)))) wants) }
+    ensures { IfOk result (λ goes. (names : NamesSeen) → see_step names state.new goes ≡ goes_seen
+        (pushed (see_entries names (innermost state.old.stack) (without count (trees_in names state.old)))
+        (pending_bracket (tail_in (see_word names square) (parts (parts_of count (trees_in names state.old) none) depth)))) wants) }
 {
     state.stack.push(Pending::Bracket(Bracket::Tail {
         square,
@@ -89,7 +97,8 @@ fn tail_part(state: &mut State, square: Word, count: u32, depth: usize) -> Resul
 /// The Bar of a list, behind its items (ISO/IEC 13211-1, 6.3.5.1).
 fn bar_behind(state: &mut State, last: Operand) -> Result<bool, AllocError>
     requires room { (names : NamesSeen) → parts_held (see_held names state.old last).stack < 4294967295 }
-    ensures { IfOk result (λ goes. (names : NamesSeen) → see_step names state.new goes ≡ bar_in (see_held names state.old last).stack (see_held names state.old last).operand) }
+    ensures { IfOk result (λ goes. (names : NamesSeen) → see_step names state.new goes
+        ≡ bar_in (see_held names state.old last).stack (see_held names state.old last).operand) }
 {
     let Some(bracket) = state.stack.pop_bracket() else {
         return Ok(false);
@@ -121,7 +130,8 @@ pub fn bar(
     word: Word,
 ) -> Result<bool, AllocError>
     requires room { parts_held (see_held names.now state.old operand).stack < 4294967295 }
-    ensures { IfOk result (λ goes. see_step names.now state.new goes ≡ separator_seen (see_held names.now state.old operand).stack (see_held names.now state.old operand).operand (see_word names.now word) (Some bar_sides) bar_in) }
+    ensures { IfOk result (λ goes. see_step names.now state.new goes ≡ separator_seen (see_held names.now state.old operand).stack
+        (see_held names.now state.old operand).operand (see_word names.now word) (Some bar_sides) bar_in) }
 {
     if !state.stack.separates() {
         return infix_step(names, state, operand, word, BAR_SIDES);
@@ -138,7 +148,9 @@ fn close_group(
     depth: usize,
     word: Word,
 ) -> Result<bool, AllocError>
-    ensures { IfOk result (λ goes. (names : NamesSeen) → see_step names state.new goes ≡ goes_seen (see_entries names (innermost state.old.stack) (without count (trees_in names state.old))) (has (group_operand (see_opened names opened) (parts (parts_of count (trees_in names state.old) none) depth) (see_word names word)))) }
+    ensures { IfOk result (λ goes. (names : NamesSeen) → see_step names state.new goes ≡ goes_seen
+        (see_entries names (innermost state.old.stack) (without count (trees_in names state.old)))
+        (has (group_operand (see_opened names opened) (parts (parts_of count (trees_in names state.old) none) depth) (see_word names word)))) }
 {
     let made = group(&mut state.nodes, opened, count, depth, word)?;
     state.mode = Mode::Have(made);
@@ -152,7 +164,8 @@ fn close_wrap(
     inner: Operand,
     word: Word,
 ) -> Result<bool, AllocError>
-    ensures { IfOk result (λ goes. (names : NamesSeen) → see_step names state.new goes ≡ goes_seen (see_held names state.old inner).stack (has (wrapped_operand (see_word names opening) (see_held names state.old inner).operand (see_word names word)))) }
+    ensures { IfOk result (λ goes. (names : NamesSeen) → see_step names state.new goes ≡ goes_seen (see_held names state.old inner).stack
+        (has (wrapped_operand (see_word names opening) (see_held names state.old inner).operand (see_word names word)))) }
 {
     let made = wrapped(&mut state.nodes, opening, inner, word)?;
     state.mode = Mode::Have(made);
@@ -162,7 +175,8 @@ fn close_wrap(
 /// The `)` behind arguments (ISO/IEC 13211-1, 6.3.3) or behind a term in brackets (6.3.4.1).
 pub fn round_behind(state: &mut State, last: Operand, word: Word) -> Result<bool, AllocError>
     requires room { (names : NamesSeen) → parts_held (see_held names state.old last).stack < 4294967295 }
-    ensures { IfOk result (λ goes. (names : NamesSeen) → see_step names state.new goes ≡ round_in (see_word names word) (see_held names state.old last).stack (see_held names state.old last).operand) }
+    ensures { IfOk result (λ goes. (names : NamesSeen) → see_step names state.new goes
+        ≡ round_in (see_word names word) (see_held names state.old last).stack (see_held names state.old last).operand) }
 {
     let Some(bracket) = state.stack.pop_bracket() else {
         return Ok(false);
@@ -201,7 +215,10 @@ fn close_tailed(
     tail: Operand,
     word: Word,
 ) -> Result<bool, AllocError>
-    ensures { IfOk result (λ goes. (names : NamesSeen) → see_step names state.new goes ≡ goes_seen (see_entries names (innermost state.old.stack) (without count (before_last (trees_in names state.old)))) (has (tailed_operand (see_word names square) (parts (parts_of count (before_last (trees_in names state.old)) none) depth) (see_held names state.old tail).operand (see_word names word)))) }
+    ensures { IfOk result (λ goes. (names : NamesSeen) → see_step names state.new goes ≡ goes_seen
+        (see_entries names (innermost state.old.stack) (without count (before_last (trees_in names state.old))))
+        (has (tailed_operand (see_word names square) (parts (parts_of count (before_last (trees_in names state.old)) none) depth)
+        (see_held names state.old tail).operand (see_word names word)))) }
 {
     let made = tailed(&mut state.nodes, square, count, depth, tail, word)?;
     state.mode = Mode::Have(made);
@@ -211,7 +228,8 @@ fn close_tailed(
 /// The `]` of a list (ISO/IEC 13211-1, 6.3.5).
 pub fn square_behind(state: &mut State, last: Operand, word: Word) -> Result<bool, AllocError>
     requires room { (names : NamesSeen) → parts_held (see_held names state.old last).stack < 4294967295 }
-    ensures { IfOk result (λ goes. (names : NamesSeen) → see_step names state.new goes ≡ square_in (see_word names word) (see_held names state.old last).stack (see_held names state.old last).operand) }
+    ensures { IfOk result (λ goes. (names : NamesSeen) → see_step names state.new goes
+        ≡ square_in (see_word names word) (see_held names state.old last).stack (see_held names state.old last).operand) }
 {
     let Some(bracket) = state.stack.pop_bracket() else {
         return Ok(false);
@@ -242,7 +260,8 @@ pub fn square_behind(state: &mut State, last: Operand, word: Word) -> Result<boo
 
 /// The `}` behind a term in curly brackets (ISO/IEC 13211-1, 6.3.6).
 pub fn curly_behind(state: &mut State, last: Operand, word: Word) -> Result<bool, AllocError>
-    ensures { IfOk result (λ goes. (names : NamesSeen) → see_step names state.new goes ≡ curly_in (see_word names word) (see_held names state.old last).stack (see_held names state.old last).operand) }
+    ensures { IfOk result (λ goes. (names : NamesSeen) → see_step names state.new goes
+        ≡ curly_in (see_word names word) (see_held names state.old last).stack (see_held names state.old last).operand) }
 {
     let Some(bracket) = state.stack.pop_bracket() else {
         return Ok(false);

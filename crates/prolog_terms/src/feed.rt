@@ -4,7 +4,9 @@ ghost use Rattle.std.specs.Prelude.{◌≡◌, ◌&&◌, ◌<◌, ◌∷◌, [],
 ghost use Rattle.prolog_ops.specs.Table.{ops_of, IsOps};
 ghost use Rattle.prolog_terms.specs.Words.{table_of, opens, number_next, begins_term};
 ghost use Rattle.prolog_terms.specs.ReaderWaiting.{is_infix_only};
-ghost use Rattle.prolog_terms.specs.ReaderSeen.{parts_held, want_name_seen, waiting_parts, enter_seen, then_enter_seen, infix_fits, infix_floor, doubt_step, call_step, feed_named_seen, feed_doubt_seen, feed_seen, mode_floor_seen, waiting_floor_seen, reduced_measure, infix_held, reduced_seen, atom_operand};
+ghost use Rattle.prolog_terms.specs.ReaderSeen.{parts_held, want_name_seen, waiting_parts, enter_seen, then_enter_seen, infix_fits, infix_floor};
+ghost use Rattle.prolog_terms.specs.ReaderSeen.{doubt_step, call_step, feed_named_seen, feed_doubt_seen, feed_seen, mode_floor_seen};
+ghost use Rattle.prolog_terms.specs.ReaderSeen.{waiting_floor_seen, reduced_measure, infix_held, reduced_seen, atom_operand};
 ghost use Rattle.prolog_terms.specs.StackSeen.{Names as NamesSeen, see_word, see_stack, see_state, see_step, see_reader, see_fed};
 
 use crate::measure::Measure;
@@ -29,7 +31,8 @@ fn enter(
 ) -> Result<bool, AllocError>
     requires law { IsOps (ops_of table.now) }
     requires room { parts_held (see_state names.now reader.old.state).stack < 4294967295 }
-    ensures { IfOk result (λ goes. see_fed names.now reader.new goes ≡ enter_seen (table_of (ops_of table.now)) (see_state names.now reader.old.state).stack (see_state names.now reader.old.state).mode (see_word names.now word)) }
+    ensures { IfOk result (λ goes. see_fed names.now reader.new goes ≡ enter_seen (table_of (ops_of table.now))
+        (see_state names.now reader.old.state).stack (see_state names.now reader.old.state).mode (see_word names.now word)) }
 {
     if let Mode::Want = reader.state.mode {
         if is_name(word.kind) {
@@ -47,7 +50,9 @@ fn enter(
 
 /// The sides of the word where it is an infix operator and no prefix operator.
 fn infix_only(table: &OpTable, names: &Names, word: Word) -> Option<Sides>
-    ensures { MatchOption result (is_infix_only (table_of (ops_of table.now)) (see_word names.now word) ≡ false) (λ sides. (is_infix_only (table_of (ops_of table.now)) (see_word names.now word) ≡ true) × ((table_of (ops_of table.now)).infix_ (see_word names.now word) ≡ Some sides)) }
+    ensures { MatchOption result (is_infix_only (table_of (ops_of table.now)) (see_word names.now word)
+        ≡ false) (λ sides. (is_infix_only (table_of (ops_of table.now)) (see_word names.now word) ≡ true)
+        × ((table_of (ops_of table.now)).infix_ (see_word names.now word) ≡ Some sides)) }
 {
     if !is_name(word.kind) {
         return None;
@@ -80,7 +85,8 @@ fn infix_floor(measure: Measure) -> usize
 /// Two words that one more has to decide: an atom and its infix operator, or a prefix operator and
 /// a functor.
 fn doubt(reader: &mut Reader, first: Word, prefix: Sides, second: Word, between: Sides) -> bool
-    ensures { (names : NamesSeen) → see_fed names reader.new result ≡ doubt_step (see_stack names reader.old.state) (see_word names first) prefix (see_word names second) between (reduced_measure between.priority (see_stack names reader.old.state) 0 1) }
+    ensures { (names : NamesSeen) → see_fed names reader.new result ≡ doubt_step (see_stack names reader.old.state) (see_word names first) prefix
+        (see_word names second) between (reduced_measure between.priority (see_stack names reader.old.state) 0 1) }
 {
     let measure = reader.state.stack.reduced_measure(between.priority);
     let calls = prefix.priority <= reader.state.stack.bound();
@@ -115,7 +121,8 @@ fn doubt(reader: &mut Reader, first: Word, prefix: Sides, second: Word, between:
 
 /// A prefix operator, and a functor with its `(`.
 fn call(reader: &mut Reader, first: Word, prefix: Sides, second: Word) -> Result<bool, AllocError>
-    ensures { IfOk result (λ goes. (names : NamesSeen) → see_fed names reader.new goes ≡ call_step (see_stack names reader.old.state) (see_word names first) prefix (see_word names second)) }
+    ensures { IfOk result (λ goes. (names : NamesSeen) → see_fed names reader.new goes
+        ≡ call_step (see_stack names reader.old.state) (see_word names first) prefix (see_word names second)) }
 {
     if prefix.priority > reader.state.stack.bound() {
         return Ok(false);
@@ -144,7 +151,9 @@ fn enter_named(
 ) -> Result<bool, AllocError>
     requires law { IsOps (ops_of table.now) }
     requires room { parts_held (see_stack names.now reader.old.state) < 4294967295 }
-    ensures { IfOk result (λ goes. see_fed names.now reader.new goes ≡ then_enter_seen (table_of (ops_of table.now)) (want_name_seen (see_stack names.now reader.old.state) (see_word names.now name) prefix (opens (see_word names.now word ∷ [])) (number_next (see_word names.now word ∷ [])) (not (begins_term word.kind))) (see_word names.now word)) }
+    ensures { IfOk result (λ goes. see_fed names.now reader.new goes ≡ then_enter_seen (table_of (ops_of table.now))
+        (want_name_seen (see_stack names.now reader.old.state) (see_word names.now name) prefix (opens (see_word names.now word ∷ []))
+        (number_next (see_word names.now word ∷ [])) (not (begins_term word.kind))) (see_word names.now word)) }
 {
     let behind = Behind {
         bracket: is_opening(word),
@@ -168,7 +177,8 @@ fn feed_named(
 ) -> Result<bool, AllocError>
     requires law { IsOps (ops_of table.now) }
     requires room { parts_held (see_stack names.now reader.old.state) < 4294967295 }
-    ensures { IfOk result (λ goes. see_fed names.now reader.new goes ≡ feed_named_seen (table_of (ops_of table.now)) (see_stack names.now reader.old.state) (see_word names.now name) prefix (see_word names.now word)) }
+    ensures { IfOk result (λ goes. see_fed names.now reader.new goes
+        ≡ feed_named_seen (table_of (ops_of table.now)) (see_stack names.now reader.old.state) (see_word names.now name) prefix (see_word names.now word)) }
 {
     match prefix {
         None => enter_named(table, names, reader, name, prefix, word),
@@ -187,7 +197,8 @@ fn join(
     second: Word,
     between: Sides,
 ) -> Result<bool, AllocError>
-    ensures { IfOk result (λ goes. see_step names.now state.new goes ≡ infix_held (reduced_seen between.priority (see_stack names.now state.old) (atom_operand (see_word names.now first))) (see_word names.now second) between) }
+    ensures { IfOk result (λ goes. see_step names.now state.new goes ≡ infix_held (reduced_seen between.priority (see_stack names.now state.old)
+        (atom_operand (see_word names.now first))) (see_word names.now second) between) }
 {
     let made = atom(&mut state.nodes, first)?;
     infix_step(names, state, made, second, between)
@@ -206,7 +217,8 @@ fn feed_doubt(
 ) -> Result<bool, AllocError>
     requires law { IsOps (ops_of table.now) }
     requires room { parts_held (see_stack names.now reader.old.state) < 4294967295 }
-    ensures { IfOk result (λ goes. see_fed names.now reader.new goes ≡ feed_doubt_seen (table_of (ops_of table.now)) (see_stack names.now reader.old.state) (see_word names.now first) prefix (see_word names.now second) between (see_word names.now word)) }
+    ensures { IfOk result (λ goes. see_fed names.now reader.new goes ≡ feed_doubt_seen (table_of (ops_of table.now)) (see_stack names.now reader.old.state)
+        (see_word names.now first) prefix (see_word names.now second) between (see_word names.now word)) }
 {
     if is_opening(word) {
         return call(reader, first, prefix, second);
@@ -226,7 +238,8 @@ pub fn feed(
 ) -> Result<bool, AllocError>
     requires law { IsOps (ops_of table.now) }
     requires room { waiting_parts (see_reader names.now reader.old) < 4294967295 }
-    ensures { IfOk result (λ goes. see_fed names.now reader.new goes ≡ feed_seen (table_of (ops_of table.now)) (see_reader names.now reader.old) (see_word names.now word)) }
+    ensures { IfOk result (λ goes. see_fed names.now reader.new goes
+        ≡ feed_seen (table_of (ops_of table.now)) (see_reader names.now reader.old) (see_word names.now word)) }
 {
     match reader.waiting {
         Waiting::Nothing => enter(table, names, reader, word),

@@ -12,7 +12,8 @@ use prolog_tokens::Token;
 
 /// No two clauses have the same words, under any table of operators.
 pub fn one_clause()
-    ensures { (ops : Ops) → IsOps ops → (a b : Parse) (e f : Word) → IsClause (table_of ops) a e → IsClause (table_of ops) b f → yield a ++ e ∷ [] ≡ yield b ++ f ∷ [] → a ≡ b }
+    ensures { (ops : Ops) → IsOps ops → (a b : Parse) (e f : Word) → IsClause (table_of ops) a e → IsClause (table_of ops) b f → yield a ++ e ∷ []
+        ≡ yield b ++ f ∷ [] → a ≡ b }
 {}
 
 /// A clause has at least two tokens more than arguments, items, tails and terms in brackets.

@@ -6,7 +6,8 @@ ghost use Rattle.prolog_terms.specs.declared.term.Span.{Span as SpanOf};
 ghost use Rattle.prolog_terms.specs.Tree.{Tree, none};
 ghost use Rattle.prolog_terms.specs.Clause.{joined_span, leaf_tree, negative_tree, pair_text, infix_text, wrapped_tree};
 ghost use Rattle.prolog_terms.specs.Forest.{last_of, before_last, parts_of, without, forest, taken, node_tree};
-ghost use Rattle.prolog_terms.specs.ReaderSeen.{parts, leaf_operand, negative_operand, atom_operand, pair_operand, group_operand, tailed_operand, wrapped_operand, prefixed_operand, infixed_operand, postfixed_operand, built};
+ghost use Rattle.prolog_terms.specs.ReaderSeen.{parts, leaf_operand, negative_operand, atom_operand, pair_operand, group_operand, tailed_operand};
+ghost use Rattle.prolog_terms.specs.ReaderSeen.{wrapped_operand, prefixed_operand, infixed_operand, postfixed_operand, built};
 ghost use Rattle.prolog_terms.specs.StackSeen.{Names as NamesSeen, see_word, see_opened, see_operand, see_operator, operator_holds, see_made, made};
 
 use crate::node::{Node, Shape};
@@ -37,7 +38,9 @@ fn lay(
     depth: usize,
     span: Span,
 ) -> Result<Operand, AllocError>
-    ensures { IfOk result (λ operand. (names : NamesSeen) → see_made (forest names nodes.new.items) operand ≡ made (without (taken shape) (forest names nodes.old.items)) (see_operand (node_tree names shape span (forest names nodes.old.items)) (record { priority = priority; depth = depth; span = span }))) }
+    ensures { IfOk result (λ operand. (names : NamesSeen) → see_made (forest names nodes.new.items) operand ≡ made
+        (without (taken shape) (forest names nodes.old.items)) (see_operand (node_tree names shape span (forest names nodes.old.items))
+        (record { priority = priority; depth = depth; span = span }))) }
 {
     nodes.push(Node { shape, span })?;
     Ok(Operand {
@@ -79,7 +82,8 @@ fn leaf_shape(word: Word) -> Shape
 
 /// A variable (ISO/IEC 13211-1, 6.3.2), a number without minus (6.3.1.1) or a text in quotes (6.3.7).
 pub fn leaf(nodes: &mut Vec<Node>, word: Word) -> Result<Operand, AllocError>
-    ensures { IfOk result (λ operand. (names : NamesSeen) → see_made (forest names nodes.new.items) operand ≡ made (forest names nodes.old.items) (leaf_operand (see_word names word))) }
+    ensures { IfOk result (λ operand. (names : NamesSeen) → see_made (forest names nodes.new.items) operand
+        ≡ made (forest names nodes.old.items) (leaf_operand (see_word names word))) }
 {
     lay(nodes, leaf_shape(word), 0, 1, word.span)
 }
@@ -105,7 +109,8 @@ fn negative_shape(number: Word) -> Shape
 
 /// A minus and the number directly behind it (ISO/IEC 13211-1, 6.3.1.2).
 pub fn negative(nodes: &mut Vec<Node>, minus: Word, number: Word) -> Result<Operand, AllocError>
-    ensures { IfOk result (λ operand. (names : NamesSeen) → see_made (forest names nodes.new.items) operand ≡ made (forest names nodes.old.items) (negative_operand (see_word names minus) (see_word names number))) }
+    ensures { IfOk result (λ operand. (names : NamesSeen) → see_made (forest names nodes.new.items) operand
+        ≡ made (forest names nodes.old.items) (negative_operand (see_word names minus) (see_word names number))) }
 {
     let span = joined(minus.span, number.span);
     lay(nodes, negative_shape(number), 0, 1, span)
@@ -113,7 +118,8 @@ pub fn negative(nodes: &mut Vec<Node>, minus: Word, number: Word) -> Result<Oper
 
 /// A name that stands for itself, an atom (ISO/IEC 13211-1, 6.3.1.3).
 pub fn atom(nodes: &mut Vec<Node>, word: Word) -> Result<Operand, AllocError>
-    ensures { IfOk result (λ operand. (names : NamesSeen) → see_made (forest names nodes.new.items) operand ≡ made (forest names nodes.old.items) (atom_operand (see_word names word))) }
+    ensures { IfOk result (λ operand. (names : NamesSeen) → see_made (forest names nodes.new.items) operand
+        ≡ made (forest names nodes.old.items) (atom_operand (see_word names word))) }
 {
     lay(nodes, Shape::Atom { name: word.name }, 0, 1, word.span)
 }
@@ -136,7 +142,8 @@ pub fn pair(
     first: Word,
     last: Word,
 ) -> Result<Operand, AllocError>
-    ensures { IfOk result (λ operand. see_made (forest names.now nodes.new.items) operand ≡ made (forest names.now nodes.old.items) (pair_operand (see_word names.now first) (see_word names.now last))) }
+    ensures { IfOk result (λ operand. see_made (forest names.now nodes.new.items) operand
+        ≡ made (forest names.now nodes.old.items) (pair_operand (see_word names.now first) (see_word names.now last))) }
 {
     let name = pair_name(names, first.kind);
     let span = joined(first.span, last.span);
@@ -151,7 +158,9 @@ pub fn group(
     depth: usize,
     last: Word,
 ) -> Result<Operand, AllocError>
-    ensures { IfOk result (λ operand. (names : NamesSeen) → see_made (forest names nodes.new.items) operand ≡ made (without count (forest names nodes.old.items)) (group_operand (see_opened names opened) (parts (parts_of count (forest names nodes.old.items) none) depth) (see_word names last))) }
+    ensures { IfOk result (λ operand. (names : NamesSeen) → see_made (forest names nodes.new.items) operand ≡ made
+        (without count (forest names nodes.old.items)) (group_operand (see_opened names opened)
+        (parts (parts_of count (forest names nodes.old.items) none) depth) (see_word names last))) }
 {
     let depth = depth.saturating_add(1);
     match opened {
@@ -180,7 +189,10 @@ pub fn tailed(
     tail: Operand,
     last: Word,
 ) -> Result<Operand, AllocError>
-    ensures { IfOk result (λ operand. (names : NamesSeen) → see_made (forest names nodes.new.items) operand ≡ made (without count (before_last (forest names nodes.old.items))) (tailed_operand (see_word names square) (parts (parts_of count (before_last (forest names nodes.old.items)) none) depth) (see_operand (last_of (forest names nodes.old.items)) tail) (see_word names last))) }
+    ensures { IfOk result (λ operand. (names : NamesSeen) → see_made (forest names nodes.new.items) operand ≡ made
+        (without count (before_last (forest names nodes.old.items))) (tailed_operand (see_word names square)
+        (parts (parts_of count (before_last (forest names nodes.old.items)) none) depth) (see_operand (last_of (forest names nodes.old.items)) tail)
+        (see_word names last))) }
 {
     let depth = depth.max(tail.depth).saturating_add(1);
     let span = joined(square.span, last.span);
@@ -205,7 +217,9 @@ pub fn wrapped(
     inner: Operand,
     last: Word,
 ) -> Result<Operand, AllocError>
-    ensures { IfOk result (λ operand. (names : NamesSeen) → see_made (forest names nodes.new.items) operand ≡ made (before_last (forest names nodes.old.items)) (wrapped_operand (see_word names first) (see_operand (last_of (forest names nodes.old.items)) inner) (see_word names last))) }
+    ensures { IfOk result (λ operand. (names : NamesSeen) → see_made (forest names nodes.new.items) operand ≡ made
+        (before_last (forest names nodes.old.items)) (wrapped_operand (see_word names first) (see_operand (last_of (forest names nodes.old.items)) inner)
+        (see_word names last))) }
 {
     let depth = inner.depth.saturating_add(1);
     let span = joined(first.span, last.span);
@@ -219,7 +233,9 @@ fn prefixed(
     sides: Sides,
     right: Operand,
 ) -> Result<Operand, AllocError>
-    ensures { IfOk result (λ operand. (names : NamesSeen) → see_made (forest names nodes.new.items) operand ≡ made (before_last (forest names nodes.old.items)) (prefixed_operand (see_word names word) sides (see_operand (last_of (forest names nodes.old.items)) right))) }
+    ensures { IfOk result (λ operand. (names : NamesSeen) → see_made (forest names nodes.new.items) operand ≡ made
+        (before_last (forest names nodes.old.items)) (prefixed_operand (see_word names word) sides
+        (see_operand (last_of (forest names nodes.old.items)) right))) }
 {
     let depth = right.depth.saturating_add(1);
     let span = joined(word.span, right.span);
@@ -252,7 +268,10 @@ fn infixed(
     sides: Sides,
     right: Operand,
 ) -> Result<Operand, AllocError>
-    ensures { IfOk result (λ operand. see_made (forest names.now nodes.new.items) operand ≡ made (before_last (before_last (forest names.now nodes.old.items))) (infixed_operand (see_operand (last_of (before_last (forest names.now nodes.old.items))) left) (see_word names.now word) sides (see_operand (last_of (forest names.now nodes.old.items)) right))) }
+    ensures { IfOk result (λ operand. see_made (forest names.now nodes.new.items) operand ≡ made
+        (before_last (before_last (forest names.now nodes.old.items))) (infixed_operand (see_operand
+        (last_of (before_last (forest names.now nodes.old.items))) left) (see_word names.now word) sides
+        (see_operand (last_of (forest names.now nodes.old.items)) right))) }
 {
     let depth = left.depth.max(right.depth).saturating_add(1);
     let span = joined(left.span, right.span);
@@ -272,7 +291,9 @@ pub fn postfixed(
     word: Word,
     sides: Sides,
 ) -> Result<Operand, AllocError>
-    ensures { IfOk result (λ operand. (names : NamesSeen) → see_made (forest names nodes.new.items) operand ≡ made (before_last (forest names nodes.old.items)) (postfixed_operand (see_operand (last_of (forest names nodes.old.items)) left) (see_word names word) sides)) }
+    ensures { IfOk result (λ operand. (names : NamesSeen) → see_made (forest names nodes.new.items) operand ≡ made
+        (before_last (forest names nodes.old.items)) (postfixed_operand (see_operand (last_of (forest names nodes.old.items)) left)
+        (see_word names word) sides)) }
 {
     let depth = left.depth.saturating_add(1);
     let span = joined(left.span, word.span);
@@ -291,7 +312,10 @@ pub fn build(
     operator: Operator,
     right: Operand,
 ) -> Result<Operand, AllocError>
-    ensures { IfOk result (λ operand. see_made (forest names.now nodes.new.items) operand ≡ made (without (operator_holds operator) (before_last (forest names.now nodes.old.items))) (built (see_operator names.now operator (before_last (forest names.now nodes.old.items))) (see_operand (last_of (forest names.now nodes.old.items)) right))) }
+    ensures { IfOk result (λ operand. see_made (forest names.now nodes.new.items) operand ≡ made
+        (without (operator_holds operator) (before_last (forest names.now nodes.old.items)))
+        (built (see_operator names.now operator (before_last (forest names.now nodes.old.items)))
+        (see_operand (last_of (forest names.now nodes.old.items)) right))) }
 {
     match operator {
         Operator::Prefix { word, sides } => prefixed(nodes, word, sides, right),

@@ -82,7 +82,8 @@ fn is_separator(name: &str) -> bool
 
 /// The name that the word has in the table of operators.
 fn operator_name(names: &Names, word: Word) -> Option<&str>
-    ensures { MatchOption result ((ops : List ℕ → Option OpSpec) → kind_operator ops word.kind (name_at names.now word.name) ≡ None) (λ name. (ops : List ℕ → Option OpSpec) → kind_operator ops word.kind (name_at names.now word.name) ≡ ops name.now) }
+    ensures { MatchOption result ((ops : List ℕ → Option OpSpec) → kind_operator ops word.kind (name_at names.now word.name)
+        ≡ None) (λ name. (ops : List ℕ → Option OpSpec) → kind_operator ops word.kind (name_at names.now word.name) ≡ ops name.now) }
 {
     match word.kind {
         Kind::Name => {

@@ -23,7 +23,8 @@ pub fn reduce(
     operand: Operand,
     priority: u32,
 ) -> Result<Operand, AllocError>
-    ensures { IfOk result (λ left. see_held names.now state.new left ≡ reduced_seen priority (see_held names.now state.old operand).stack (see_held names.now state.old operand).operand) }
+    ensures { IfOk result (λ left. see_held names.now state.new left
+        ≡ reduced_seen priority (see_held names.now state.old operand).stack (see_held names.now state.old operand).operand) }
 {
     let mut left = operand;
     while let Some(operator) = state.stack.pop_operator_below(priority) {
@@ -34,7 +35,8 @@ pub fn reduce(
 
 /// Closes all open operators down to the innermost bracket.
 pub fn close(names: &Names, state: &mut State, operand: Operand) -> Result<Operand, AllocError>
-    ensures { IfOk result (λ last. see_held names.now state.new last ≡ closed_seen (see_held names.now state.old operand).stack (see_held names.now state.old operand).operand) }
+    ensures { IfOk result (λ last. see_held names.now state.new last
+        ≡ closed_seen (see_held names.now state.old operand).stack (see_held names.now state.old operand).operand) }
 {
     let mut last = operand;
     while let Some(operator) = state.stack.pop_operator() {
@@ -50,7 +52,8 @@ pub fn infix_behind(
     word: Word,
     sides: Sides,
 ) -> Result<bool, AllocError>
-    ensures { IfOk result (λ goes. (names : NamesSeen) → see_step names state.new goes ≡ infix_held (see_held names state.old left) (see_word names word) sides) }
+    ensures { IfOk result (λ goes. (names : NamesSeen) → see_step names state.new goes
+        ≡ infix_held (see_held names state.old left) (see_word names word) sides) }
 {
     if sides.priority > state.stack.bound() {
         return Ok(false);
@@ -72,7 +75,8 @@ fn postfix_behind(
     word: Word,
     sides: Sides,
 ) -> Result<bool, AllocError>
-    ensures { IfOk result (λ goes. (names : NamesSeen) → see_step names state.new goes ≡ postfix_held (see_held names state.old left) (see_word names word) sides) }
+    ensures { IfOk result (λ goes. (names : NamesSeen) → see_step names state.new goes
+        ≡ postfix_held (see_held names state.old left) (see_word names word) sides) }
 {
     if sides.priority > state.stack.bound() {
         return Ok(false);
@@ -93,7 +97,8 @@ pub fn infix_step(
     word: Word,
     sides: Sides,
 ) -> Result<bool, AllocError>
-    ensures { IfOk result (λ goes. see_step names.now state.new goes ≡ infix_held (reduced_seen sides.priority (see_held names.now state.old operand).stack (see_held names.now state.old operand).operand) (see_word names.now word) sides) }
+    ensures { IfOk result (λ goes. see_step names.now state.new goes ≡ infix_held (reduced_seen sides.priority (see_held names.now state.old operand).stack
+        (see_held names.now state.old operand).operand) (see_word names.now word) sides) }
 {
     let left = reduce(names, state, operand, sides.priority)?;
     infix_behind(state, left, word, sides)
@@ -107,7 +112,9 @@ pub fn name_step(
     operand: Operand,
     word: Word,
 ) -> Result<bool, AllocError>
-    ensures { IfOk result (λ goes. see_step names.now state.new goes ≡ name_step_seen (see_held names.now state.old operand).stack (see_held names.now state.old operand).operand (see_word names.now word) ((table_of (ops_of table.now)).infix_ (see_word names.now word)) ((table_of (ops_of table.now)).postfix (see_word names.now word))) }
+    ensures { IfOk result (λ goes. see_step names.now state.new goes ≡ name_step_seen (see_held names.now state.old operand).stack
+        (see_held names.now state.old operand).operand (see_word names.now word) ((table_of (ops_of table.now)).infix_ (see_word names.now word))
+        ((table_of (ops_of table.now)).postfix (see_word names.now word))) }
 {
     if let Some(sides) = infix_of(table, names, word) {
         return infix_step(names, state, operand, word, sides);

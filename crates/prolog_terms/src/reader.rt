@@ -91,8 +91,10 @@ pub fn read_clause(
     requires numbered { AreNumbered text.now names.now tokens.now numbers.now }
     ensures ok { IfOk result (λ term. IsClauseOf (table_of (ops_of table.now)) text.now tokens.now (tree_of term)) }
     ensures only { IfOk result (λ term. (other : Tree) → IsClauseOf (table_of (ops_of table.now)) text.now tokens.now other → other ≡ tree_of term) }
-    ensures none { IfErr result (λ fault. fault ≢ ReadFault.NoMemory → (other : Tree) → IsClauseOf (table_of (ops_of table.now)) text.now tokens.now other → ⊥) }
-    ensures only_fault { IfErr result (λ fault. fault ≢ ReadFault.NoMemory → (other : ReadFault) → IsReadFault (table_of (ops_of table.now)) text.now tokens.now other → other ≡ fault) }
+    ensures none { IfErr result (λ fault. fault ≢ ReadFault.NoMemory → (other : Tree)
+        → IsClauseOf (table_of (ops_of table.now)) text.now tokens.now other → ⊥) }
+    ensures only_fault { IfErr result (λ fault. fault ≢ ReadFault.NoMemory → (other : ReadFault)
+        → IsReadFault (table_of (ops_of table.now)) text.now tokens.now other → other ≡ fault) }
     ensures fault { IfErr result (λ fault. fault ≢ ReadFault.NoMemory → IsReadFault (table_of (ops_of table.now)) text.now tokens.now fault) }
 {
     table_law(table);

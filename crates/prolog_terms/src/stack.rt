@@ -5,7 +5,8 @@ ghost use Rattle.prolog_terms.specs.declared.stack.Entry.{Entry as EntryKept};
 ghost use Rattle.prolog_terms.specs.declared.pending.Pending.TheVariants.{Operator as OperatorKept, Bracket as BracketKept};
 ghost use Rattle.prolog_terms.specs.Tree.{Tree};
 ghost use Rattle.prolog_terms.specs.Forest.{without};
-ghost use Rattle.prolog_terms.specs.ReaderSeen.{bound_seen, separates_seen, floor_seen, want_floor_seen, pushed, reach_seen, right_of, is_operator_top, is_bracket_top, is_operator_below, measure, reduced_measure};
+ghost use Rattle.prolog_terms.specs.ReaderSeen.{bound_seen, separates_seen, floor_seen, want_floor_seen, pushed, reach_seen, right_of};
+ghost use Rattle.prolog_terms.specs.ReaderSeen.{is_operator_top, is_bracket_top, is_operator_below, measure, reduced_measure};
 ghost use Rattle.prolog_terms.specs.StackSeen.{Names, see_entries, see_pending, see_operator, holds, innermost};
 
 use crate::measure::Measure;
@@ -150,7 +151,8 @@ impl Stack {
     }
 
     pub fn push(&mut self, pending: Pending) -> Result<(), AllocError>
-        ensures { OnOk result ((names : Names) (trees : List Tree) → see_entries names (innermost self.new) trees ≡ pushed (see_entries names (innermost self.old) (without (holds pending) trees)) (see_pending names pending trees)) }
+        ensures { OnOk result ((names : Names) (trees : List Tree) → see_entries names (innermost self.new) trees
+            ≡ pushed (see_entries names (innermost self.old) (without (holds pending) trees)) (see_pending names pending trees)) }
     {
         let inner = inner_depth(pending)
             .saturating_add(self.height())
@@ -166,7 +168,8 @@ impl Stack {
     }
 
     fn pop(&mut self) -> Option<Pending>
-        ensures { MatchOption result ((innermost self.old ≡ []) × (innermost self.new ≡ [])) (λ pending. (reach : ℕ) × (separates : Bool) × (innermost self.old ≡ record { pending = pending; reach = reach; separates = separates } ∷ innermost self.new)) }
+        ensures { MatchOption result ((innermost self.old ≡ []) × (innermost self.new ≡ [])) (λ pending. (reach : ℕ) × (separates : Bool)
+            × (innermost self.old ≡ record { pending = pending; reach = reach; separates = separates } ∷ innermost self.new)) }
     {
         let top = self.entries.pop()?;
         Some(top.pending)
@@ -181,7 +184,9 @@ impl Stack {
 
     /// The innermost operator, where no bracket is open inside it.
     pub fn pop_operator(&mut self) -> Option<Operator>
-        ensures { MatchOption result ((self.new ≡ self.old) × ((names : Names) (trees : List Tree) → is_operator_top (see_entries names (innermost self.old) trees) ≡ false)) (λ found. (reach : ℕ) × (separates : Bool) × (innermost self.old ≡ record { pending = OperatorKept found; reach = reach; separates = separates } ∷ innermost self.new)) }
+        ensures { MatchOption result ((self.new ≡ self.old) × ((names : Names) (trees : List Tree)
+            → is_operator_top (see_entries names (innermost self.old) trees) ≡ false)) (λ found. (reach : ℕ) × (separates : Bool) × (innermost self.old
+            ≡ record { pending = OperatorKept found; reach = reach; separates = separates } ∷ innermost self.new)) }
     {
         let top = *self.top()?;
         match top.pending {
@@ -196,7 +201,10 @@ impl Stack {
     /// The innermost operator, where no bracket is open inside it and its right bound is below the
     /// priority.
     pub fn pop_operator_below(&mut self, priority: u32) -> Option<Operator>
-        ensures { MatchOption result ((self.new ≡ self.old) × ((names : Names) (trees : List Tree) → is_operator_below priority (see_entries names (innermost self.old) trees) ≡ false)) (λ found. (reach : ℕ) × (separates : Bool) × (innermost self.old ≡ record { pending = OperatorKept found; reach = reach; separates = separates } ∷ innermost self.new) × ((names : Names) (trees : List Tree) → nat_lt (right_of (see_operator names found trees)) priority ≡ true)) }
+        ensures { MatchOption result ((self.new ≡ self.old) × ((names : Names) (trees : List Tree)
+            → is_operator_below priority (see_entries names (innermost self.old) trees) ≡ false)) (λ found. (reach : ℕ) × (separates : Bool)
+            × (innermost self.old ≡ record { pending = OperatorKept found; reach = reach; separates = separates } ∷ innermost self.new)
+            × ((names : Names) (trees : List Tree) → nat_lt (right_of (see_operator names found trees)) priority ≡ true)) }
     {
         let top = *self.top()?;
         match top.pending {
@@ -213,7 +221,9 @@ impl Stack {
 
     /// The innermost bracket, where no operator is open inside it.
     pub fn pop_bracket(&mut self) -> Option<Bracket>
-        ensures { MatchOption result ((names : Names) (trees : List Tree) → is_bracket_top (see_entries names (innermost self.old) trees) ≡ false) (λ found. (reach : ℕ) × (separates : Bool) × (innermost self.old ≡ record { pending = BracketKept found; reach = reach; separates = separates } ∷ innermost self.new)) }
+        ensures { MatchOption result ((names : Names) (trees : List Tree) → is_bracket_top (see_entries names (innermost self.old) trees)
+            ≡ false) (λ found. (reach : ℕ) × (separates : Bool) × (innermost self.old
+            ≡ record { pending = BracketKept found; reach = reach; separates = separates } ∷ innermost self.new)) }
     {
         match self.pop() {
             Some(Pending::Bracket(found)) => Some(found),

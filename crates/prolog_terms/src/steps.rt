@@ -3,8 +3,11 @@
 ghost use Rattle.std.specs.Prelude.{◌≡◌, ◌<◌, IfOk};
 ghost use Rattle.prolog_ops.specs.Table.{ops_of, IsOps};
 ghost use Rattle.prolog_terms.specs.Words.{table_of};
-ghost use Rattle.prolog_terms.specs.ReaderSeen.{parts_held, goes_seen, wants, has, pushed, pending_bracket, Call, first_in, have_step_seen, want_other_seen, want_name_seen, square_pair_seen, curly_pair_seen, prefix_step_seen, act_seen, leaf_operand, negative_operand, atom_operand, pair_operand};
-ghost use Rattle.prolog_terms.specs.StackSeen.{Names as NamesSeen, see_word, see_bracket, bracket_holds, see_entries, innermost, trees_in, see_stack, see_held, see_state, see_step};
+ghost use Rattle.prolog_terms.specs.ReaderSeen.{parts_held, goes_seen, wants, has, pushed, pending_bracket, Call, first_in, have_step_seen};
+ghost use Rattle.prolog_terms.specs.ReaderSeen.{want_other_seen, want_name_seen, square_pair_seen, curly_pair_seen, prefix_step_seen, act_seen};
+ghost use Rattle.prolog_terms.specs.ReaderSeen.{leaf_operand, negative_operand, atom_operand, pair_operand};
+ghost use Rattle.prolog_terms.specs.StackSeen.{Names as NamesSeen, see_word, see_bracket, bracket_holds, see_entries, innermost, trees_in, see_stack};
+ghost use Rattle.prolog_terms.specs.StackSeen.{see_held, see_state, see_step};
 ghost use Rattle.prolog_terms.specs.Forest.{without};
 
 use crate::brackets::{bar, comma, curly_behind, end_behind, round_behind, square_behind};
@@ -30,7 +33,8 @@ fn have_step(
 ) -> Result<bool, AllocError>
     requires law { IsOps (ops_of table.now) }
     requires room { parts_held (see_held names.now state.old operand).stack < 4294967295 }
-    ensures { IfOk result (λ goes. see_step names.now state.new goes ≡ have_step_seen (table_of (ops_of table.now)) (see_held names.now state.old operand).stack (see_held names.now state.old operand).operand (see_word names.now word) word.kind) }
+    ensures { IfOk result (λ goes. see_step names.now state.new goes ≡ have_step_seen (table_of (ops_of table.now))
+        (see_held names.now state.old operand).stack (see_held names.now state.old operand).operand (see_word names.now word) word.kind) }
 {
     match word.kind {
         Kind::Name => name_step(table, names, state, operand, word),
@@ -59,7 +63,8 @@ fn have_step(
 
 /// A variable, a number or a text.
 fn have_leaf(state: &mut State, word: Word) -> Result<bool, AllocError>
-    ensures { IfOk result (λ goes. (names : NamesSeen) → see_step names state.new goes ≡ goes_seen (see_stack names state.old) (has (leaf_operand (see_word names word)))) }
+    ensures { IfOk result (λ goes. (names : NamesSeen) → see_step names state.new goes
+        ≡ goes_seen (see_stack names state.old) (has (leaf_operand (see_word names word)))) }
 {
     let made = leaf(&mut state.nodes, word)?;
     state.mode = Mode::Have(made);
@@ -68,7 +73,8 @@ fn have_leaf(state: &mut State, word: Word) -> Result<bool, AllocError>
 
 /// A minus and its number.
 fn have_negative(state: &mut State, minus: Word, word: Word) -> Result<bool, AllocError>
-    ensures { IfOk result (λ goes. (names : NamesSeen) → see_step names state.new goes ≡ goes_seen (see_stack names state.old) (has (negative_operand (see_word names minus) (see_word names word)))) }
+    ensures { IfOk result (λ goes. (names : NamesSeen) → see_step names state.new goes
+        ≡ goes_seen (see_stack names state.old) (has (negative_operand (see_word names minus) (see_word names word)))) }
 {
     let made = negative(&mut state.nodes, minus, word)?;
     state.mode = Mode::Have(made);
@@ -77,7 +83,8 @@ fn have_negative(state: &mut State, minus: Word, word: Word) -> Result<bool, All
 
 /// An atom.
 fn have_atom(state: &mut State, word: Word) -> Result<bool, AllocError>
-    ensures { IfOk result (λ goes. (names : NamesSeen) → see_step names state.new goes ≡ goes_seen (see_stack names state.old) (has (atom_operand (see_word names word)))) }
+    ensures { IfOk result (λ goes. (names : NamesSeen) → see_step names state.new goes
+        ≡ goes_seen (see_stack names state.old) (has (atom_operand (see_word names word)))) }
 {
     let made = atom(&mut state.nodes, word)?;
     state.mode = Mode::Have(made);
@@ -86,7 +93,8 @@ fn have_atom(state: &mut State, word: Word) -> Result<bool, AllocError>
 
 /// `[]` or `{}`.
 fn have_pair(names: &Names, state: &mut State, first: Word, last: Word) -> Result<bool, AllocError>
-    ensures { IfOk result (λ goes. see_step names.now state.new goes ≡ goes_seen (see_stack names.now state.old) (has (pair_operand (see_word names.now first) (see_word names.now last)))) }
+    ensures { IfOk result (λ goes. see_step names.now state.new goes
+        ≡ goes_seen (see_stack names.now state.old) (has (pair_operand (see_word names.now first) (see_word names.now last)))) }
 {
     let made = pair(&mut state.nodes, names, first, last)?;
     state.mode = Mode::Have(made);
@@ -133,7 +141,9 @@ fn curly_pair(names: &Names, state: &mut State, word: Word) -> Result<bool, Allo
 
 /// A bracket opens, and what stands in it is wanted.
 fn open_bracket(state: &mut State, bracket: Bracket) -> Result<bool, AllocError>
-    ensures { IfOk result (λ goes. (names : NamesSeen) → see_step names state.new goes ≡ goes_seen (pushed (see_entries names (innermost state.old.stack) (without (bracket_holds bracket) (trees_in names state.old))) (pending_bracket (see_bracket names bracket (trees_in names state.old)))) wants) }
+    ensures { IfOk result (λ goes. (names : NamesSeen) → see_step names state.new goes ≡ goes_seen
+        (pushed (see_entries names (innermost state.old.stack) (without (bracket_holds bracket) (trees_in names state.old)))
+        (pending_bracket (see_bracket names bracket (trees_in names state.old)))) wants) }
 {
     state.stack.push(Pending::Bracket(bracket))?;
     state.mode = Mode::Want;
@@ -142,7 +152,8 @@ fn open_bracket(state: &mut State, bracket: Bracket) -> Result<bool, AllocError>
 
 /// The `(` of a functor, before its arguments (ISO/IEC 13211-1, 6.3.3).
 fn open_call(state: &mut State, functor: Word) -> Result<bool, AllocError>
-    ensures { IfOk result (λ goes. (names : NamesSeen) → see_step names state.new goes ≡ goes_seen (pushed (see_stack names state.old) (pending_bracket (first_in (Call (see_word names functor))))) wants) }
+    ensures { IfOk result (λ goes. (names : NamesSeen) → see_step names state.new goes
+        ≡ goes_seen (pushed (see_stack names state.old) (pending_bracket (first_in (Call (see_word names functor))))) wants) }
 {
     open_bracket(state, Bracket::First(Opened::Call(functor)))
 }
@@ -168,7 +179,8 @@ fn want_other(names: &Names, state: &mut State, word: Word) -> Result<bool, Allo
 
 /// A prefix operator where an operand is wanted (ISO/IEC 13211-1, 6.3.4.2).
 fn prefix_step(state: &mut State, word: Word, sides: Sides) -> Result<bool, AllocError>
-    ensures { IfOk result (λ goes. (names : NamesSeen) → see_step names state.new goes ≡ prefix_step_seen (see_stack names state.old) (see_word names word) sides) }
+    ensures { IfOk result (λ goes. (names : NamesSeen) → see_step names state.new goes
+        ≡ prefix_step_seen (see_stack names state.old) (see_word names word) sides) }
 {
     if sides.priority > state.stack.bound() {
         return Ok(false);
@@ -200,7 +212,8 @@ pub fn want_name(
     prefix: Option<Sides>,
     behind: Behind,
 ) -> Result<bool, AllocError>
-    ensures { IfOk result (λ goes. see_step names.now state.new goes ≡ want_name_seen (see_stack names.now state.old) (see_word names.now word) prefix behind.bracket behind.number behind.ends) }
+    ensures { IfOk result (λ goes. see_step names.now state.new goes
+        ≡ want_name_seen (see_stack names.now state.old) (see_word names.now word) prefix behind.bracket behind.number behind.ends) }
 {
     if behind.bracket {
         state.mode = Mode::Functor(word);
@@ -230,7 +243,8 @@ pub fn act(
 ) -> Result<bool, AllocError>
     requires law { IsOps (ops_of table.now) }
     requires room { parts_held (see_state names.now state.old).stack < 4294967295 }
-    ensures { IfOk result (λ goes. see_step names.now state.new goes ≡ act_seen (table_of (ops_of table.now)) (see_state names.now state.old).stack (see_state names.now state.old).mode (see_word names.now word)) }
+    ensures { IfOk result (λ goes. see_step names.now state.new goes
+        ≡ act_seen (table_of (ops_of table.now)) (see_state names.now state.old).stack (see_state names.now state.old).mode (see_word names.now word)) }
 {
     match state.mode {
         Mode::Want => want_other(names, state, word),

@@ -41,7 +41,8 @@ pub fn start_of(term: &Term) -> u32
 
 /// The name and the arguments of a compound of two arguments, in any notation and brackets.
 pub fn binary(term: &Term) -> Option<Binary<'_>>
-    ensures { option_map (λ pair. record { name = pair.name.now; left = tree_of pair.left.now; right = tree_of pair.right.now }) result ≡ binary_tree (tree_of term.now) }
+    ensures { option_map (λ pair. record { name = pair.name.now; left = tree_of pair.left.now; right = tree_of pair.right.now }) result
+        ≡ binary_tree (tree_of term.now) }
 {
     let Term::Compound { name, args, .. } = inside(term) else {
         return None;

@@ -1,5 +1,6 @@
 -- What contracts see of a search, and what its calls do.
-use Rattle.std.specs.Prelude.{◌≡◌, ℕ, ◌+◌, ◌-◌, ◌<◌, ◌≤◌, ◌⊎◌, min, List, [], ◌∷◌, ◌++◌, length, map, take, drop, nat_eq, slice_get, slice_set, Contains, Option, Some, None, is_some, if◌then◌else◌, IfSome}
+use Rattle.std.specs.Prelude.{◌≡◌, ℕ, ◌+◌, ◌-◌, ◌<◌, ◌≤◌, ◌⊎◌, min, List, [], ◌∷◌, ◌++◌, length, map, take, drop, nat_eq, slice_get, slice_set}
+use Rattle.std.specs.Prelude.{Contains, Option, Some, None, is_some, if◌then◌else◌, IfSome}
 use Rattle.graph_law.specs.Graph.{Calls}
 use Rattle.graph_law.specs.Reach.{IsReached, ReachEachOther}
 use Rattle.search_stack.specs.declared.frame.Frame.{Frame}

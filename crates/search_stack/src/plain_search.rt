@@ -1,4 +1,5 @@
-ghost use Rattle.std.specs.Prelude.{◌≡◌, ◌⊎◌, ◌+◌, ◌<◌, ◌≤◌, ℕ, Bool, true, false, is_some, List, [], length, slice_index_or, slice_set, All, IfOk, IfSome, IfNone, OnOk};
+ghost use Rattle.std.specs.Prelude.{◌≡◌, ◌⊎◌, ◌+◌, ◌<◌, ◌≤◌, ℕ, Bool, true, false, is_some, List, [], length, slice_index_or, slice_set, All, IfOk};
+ghost use Rattle.std.specs.Prelude.{IfSome, IfNone, OnOk};
 ghost use Rattle.graph_law.specs.Graph.{Calls, IsClosed, lists_of};
 ghost use Rattle.graph_law.specs.Reach.{IsReached};
 ghost use Rattle.graph_law.specs.Classes.{HasMember};

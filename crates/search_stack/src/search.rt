@@ -1,10 +1,12 @@
-ghost use Rattle.std.specs.Prelude.{◌≡◌, ◌⊎◌, ◌↔◌, ◌+◌, ◌-◌, ◌<◌, ◌≤◌, ℕ, Bool, true, false, is_some, List, [], ◌++◌, slice_index_or, Contains, IsOk, IsTrue, IfOk, IfSome, IfNone, OnOk, OnErr};
+ghost use Rattle.std.specs.Prelude.{◌≡◌, ◌⊎◌, ◌↔◌, ◌+◌, ◌-◌, ◌<◌, ◌≤◌, ℕ, Bool, true, false, is_some, List, [], ◌++◌, slice_index_or, Contains, IsOk};
+ghost use Rattle.std.specs.Prelude.{IsTrue, IfOk, IfSome, IfNone, OnOk, OnErr};
 ghost use Rattle.std.specs.Bool.{OnFalse};
 ghost use Rattle.graph_law.specs.Graph.{Calls};
 ghost use Rattle.graph_law.specs.Reach.{IsReached};
 ghost use Rattle.search_stack.specs.Stack.{Stack, IsShaped, size, height, top, node as node_on, position as position_of, low as low_of};
 ghost use Rattle.search_stack.specs.GoodSearch.{IsGood};
-ghost use Rattle.search_stack.specs.Search.{IsOn, IsDistinct, IsLastBegun, IsDone, IsRipe, IsReleasable, empty_stack, pushed, next_successor, one_more_begun, lowered, retreated, below_frame, nodes_from};
+ghost use Rattle.search_stack.specs.Search.{IsOn, IsDistinct, IsLastBegun, IsDone, IsRipe, IsReleasable, empty_stack, pushed, next_successor};
+ghost use Rattle.search_stack.specs.Search.{one_more_begun, lowered, retreated, below_frame, nodes_from};
 
 use crate::frame::{Frame, top_frame};
 use crate::node_hasher::NodeHasher;

@@ -13,9 +13,11 @@ text_place-place-requires-clause-there c = flaw_text (texts_of c.args.texts.now)
 
 pub overflow_cast-place : goal.overflow_cast-place
 overflow_cast-place c =
-    omega
-    (arith, c.requires.texts.limited.few,
-    place_within (texts_of c.args.texts.now) c.args.flaws.now c.loop-flaw.flaw-index _ c.text_place-place.result c.requires.stand c.loop-flaw-test.true c.text_place-place.ensures)
+    omega (
+      arith,
+      c.requires.texts.limited.few,
+      place_within (texts_of c.args.texts.now) c.args.flaws.now c.loop-flaw.flaw-index _ c.text_place-place.result c.requires.stand c.loop-flaw-test.true c.text_place-place.ensures,
+    )
 
 pub loop-flaw-preserved : goal.loop-flaw-preserved
 loop-flaw-preserved c =
