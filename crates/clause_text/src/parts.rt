@@ -1,4 +1,5 @@
 ghost use Rattle.std.specs.Prelude.{◌≡◌, ◌≢◌, ◌≤◌, ◌<◌, ℕ, List, length, IfOk, IfErr};
+ghost use Rattle.prolog_tokens.specs.declared.limits.TheConstants.{MOST_BYTES};
 ghost use Rattle.prolog_tokens.specs.declared.token.Token.{Token as TokenOf};
 ghost use Rattle.prolog_tokens.specs.Cut.{IsCut};
 ghost use Rattle.prolog_names.specs.Numbers.{AreNumbered};
@@ -91,7 +92,7 @@ fn read_parts<R: Threads + Sync>(
     tokens: &[Token],
     numbered: &Numbered,
 ) -> Result<Vec<Clause>, TextFault>
-    requires small { length text.now ≤ 8388608 }
+    requires small { length text.now ≤ MOST_BYTES }
     requires cut { IsCut text.now tokens.now }
     requires numbered { AreNumbered text.now numbered.now.names tokens.now numbered.now.numbers.items }
     ensures ok { IfOk result (λ clauses. AreClauses (ops_of table.old) text.now tokens.now (clause_trees clauses.items)) }
@@ -120,7 +121,7 @@ pub fn read_clauses<R: Threads + Sync>(
     tokens: &[Token],
     numbered: &Numbered,
 ) -> Result<Vec<Clause>, TextFault>
-    requires small { length text.now ≤ 8388608 }
+    requires small { length text.now ≤ MOST_BYTES }
     requires cut { IsCut text.now tokens.now }
     requires numbered { AreNumbered text.now numbered.now.names tokens.now numbered.now.numbers.items }
     ensures ok { IfOk result (λ clauses. AreClauses opening_ops text.now tokens.now (clause_trees clauses.items)) }

@@ -1,6 +1,7 @@
 //! Clauses that stand side by side in a text, read under one table of operators.
 
 ghost use Rattle.std.specs.Prelude.{◌≡◌, ◌≤◌, ◌<◌, ℕ, length, All, IfOk};
+ghost use Rattle.prolog_tokens.specs.declared.limits.TheConstants.{MOST_BYTES};
 ghost use Rattle.prolog_tokens.specs.Cut.{IsCut};
 ghost use Rattle.prolog_names.specs.Numbers.{AreNumbered};
 ghost use Rattle.prolog_ops.specs.Table.{ops_of};
@@ -125,7 +126,7 @@ fn read_stretch(
     numbered: &Numbered,
     stretch: &Stretch,
 ) -> Piece
-    requires small { length text.now ≤ 8388608 }
+    requires small { length text.now ≤ MOST_BYTES }
     requires cut { IsCut text.now tokens.now }
     requires numbered { AreNumbered text.now numbered.now.names tokens.now numbered.now.numbers.items }
     requires stretch { IsStretch tokens.now stretch.now }
@@ -179,7 +180,7 @@ pub fn read_each<R: Threads + Sync>(
     numbered: &Numbered,
     stretches: &[Stretch],
 ) -> Result<Vec<Piece>, AllocError>
-    requires small { length text.now ≤ 8388608 }
+    requires small { length text.now ≤ MOST_BYTES }
     requires cut { IsCut text.now tokens.now }
     requires numbered { AreNumbered text.now numbered.now.names tokens.now numbered.now.numbers.items }
     requires stretches { All (IsStretch tokens.now) stretches.now }
@@ -191,7 +192,7 @@ pub fn read_each<R: Threads + Sync>(
         .with_min_len(FEWEST)
         .map(
             |stretch: &Stretch| -> Piece
-                requires { (length text.now ≤ 8388608) × IsCut text.now tokens.now
+                requires { (length text.now ≤ MOST_BYTES) × IsCut text.now tokens.now
                     × AreNumbered text.now numbered.now.names tokens.now numbered.now.numbers.items × IsStretch tokens.now stretch.now }
                 ensures { IsPiece (ops_of table.entry.now) text.entry.now tokens.entry.now stretch.entry.now.from stretch.entry.now.to result }
             { read_stretch(alloc, table, text, tokens, numbered, stretch) },

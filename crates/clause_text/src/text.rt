@@ -1,4 +1,5 @@
 ghost use Rattle.std.specs.Prelude.{◌≡◌, ◌≢◌, ◌≤◌, List, length, IfOk, IfErr, IfSome};
+ghost use Rattle.prolog_tokens.specs.declared.limits.TheConstants.{MOST_BYTES};
 ghost use Rattle.prolog_tokens.specs.Places.{IsOffset};
 ghost use Rattle.prolog_terms.specs.Tree.{Tree};
 ghost use Rattle.clause_text.specs.Clauses.{ReadsAs, clause_trees, total_weight};
@@ -22,7 +23,7 @@ pub fn read_text<R: Threads + Sync>(
     alloc: Global,
     bytes: &[u8],
 ) -> Result<Vec<Clause>, TextFault>
-    requires small { length bytes.now ≤ 8388608 }
+    requires small { length bytes.now ≤ MOST_BYTES }
     ensures ok { IfOk result (λ clauses. ReadsAs bytes.now (clause_trees clauses.items)) }
     ensures only { IfOk result (λ clauses. (others : List Tree) → ReadsAs bytes.now others → others ≡ clause_trees clauses.items) }
     ensures none { IfErr result (λ fault. fault ≢ TextFault.NoMemory → (others : List Tree) → ReadsAs bytes.now others → ⊥) }

@@ -1,4 +1,5 @@
 ghost use Rattle.std.specs.Prelude.{◌≡◌, ◌<◌, ◌≤◌, ◌^◌, ◌++◌, ℕ, List, length, IfOk, OnOk, IfSome};
+ghost use Rattle.prolog_tokens.specs.declared.limits.TheConstants.{MOST_BYTES};
 ghost use Rattle.prolog_tokens.specs.Cut.{IsCut, IsTokenOf};
 ghost use Rattle.prolog_tokens.specs.Quoted.{IsQuoted};
 ghost use Rattle.prolog_tokens.specs.Values.{IsQuotedText};
@@ -84,7 +85,7 @@ fn number_of(
 /// The number of the name of each token of a text of at most 8,388,608 bytes; 0 for a token without a
 /// name. Fails only where memory runs out.
 pub fn number_names(alloc: Global, text: &str, tokens: &[Token]) -> Result<Numbered, AllocError>
-    requires small { length text.now ≤ 8388608 }
+    requires small { length text.now ≤ MOST_BYTES }
     requires cut { IsCut text.now tokens.now }
     ensures { IfOk result (λ numbered. AreNumbered text.now numbered.names tokens.now numbered.numbers.items) }
 {

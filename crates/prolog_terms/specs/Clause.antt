@@ -1,4 +1,5 @@
 -- What the tokens of a text read as: the clause that is lawful under a table of operators.
+use Rattle.prolog_terms.specs.declared.reader.TheConstants.{DEEPEST}
 use Rattle.std.specs.Prelude.{◌≡◌, ℕ, ◌+◌, ◌<◌, ◌≤◌, ◌≢◌, List, [], ◌∷◌, ◌++◌, Option, Some, None, true, false, length, slice_get, codes, ⊤}
 use Rattle.prolog_tokens.specs.declared.token.Kind.{Kind}
 use Rattle.prolog_tokens.specs.declared.token.Kind.TheVariants.{Integer, Float, Str, BackStr, OpenCurly, Comma, Bar, End}
@@ -129,7 +130,7 @@ pub record IsWordsClause (T : Table) (words : List Word) (tree : Tree) : Type 0 
   pub end : Word
   pub clause : IsClause T parse end
   pub yields : words ≡ yield parse ++ end ∷ []
-  pub shallow : parse_depth parse ≤ 1000
+  pub shallow : parse_depth parse ≤ DEEPEST
   pub is : tree ≡ tree_from parse
 
 -- the tokens of the text are the clause and its End

@@ -1,6 +1,7 @@
 //! What holds of each clause, as laws: functions with nothing to run.
 
 ghost use Rattle.std.specs.Prelude.{◌≡◌, ◌++◌, ◌∷◌, [], ◌+◌, ◌≤◌, ℕ, List, length};
+ghost use Rattle.prolog_terms.specs.declared.reader.TheConstants.{DEEPEST};
 ghost use Rattle.prolog_ops.specs.Table.{Ops, IsOps};
 ghost use Rattle.prolog_terms.specs.Tree.{Tree, depth};
 ghost use Rattle.prolog_terms.specs.Words.{Word, Table, table_of};
@@ -23,5 +24,5 @@ pub fn clause_weights()
 
 /// No clause is deeper than 1,000.
 pub fn clause_depths()
-    ensures { (T : Table) (text : List ℕ) (ts : List Token) (tree : Tree) → IsClauseOf T text ts tree → depth tree ≤ 1000 }
+    ensures { (T : Table) (text : List ℕ) (ts : List Token) (tree : Tree) → IsClauseOf T text ts tree → depth tree ≤ DEEPEST }
 {}

@@ -31,7 +31,7 @@ mod word;
 
 pub use binary_term::Binary;
 pub use laws::{clause_depths, clause_weights, one_clause};
-pub use reader::{ReadFault, read_clause};
+pub use reader::{DEEPEST, ReadFault, read_clause};
 pub use term::{ConstKind, Form, Span, Term};
 pub use views::{atom_name, binary, inside, name_and_arity, sides, span_at, start_of};
 pub use waiting::Reader;

@@ -1,4 +1,5 @@
 ghost use Rattle.std.specs.Prelude.{◌≡◌, ◌≢◌, ◌≤◌, length, IfOk, IfErr};
+ghost use Rattle.prolog_tokens.specs.declared.limits.TheConstants.{MOST_BYTES};
 ghost use Rattle.prolog_names.specs.Numbers.{AreNumbered};
 ghost use Rattle.prolog_ops.specs.Table.{ops_of};
 ghost use Rattle.prolog_terms.specs.declared.reader.ReadFault.TheVariants.{NoMemory};
@@ -46,11 +47,11 @@ impl From<AllocError> for ReadFault {
 }
 
 /// How deep a clause may be.
-const DEEPEST: usize = 1000;
+pub const DEEPEST: usize = 1000;
 
 /// That the tokens run out, at the length of the text.
 fn no_end(text: &str) -> ReadFault
-    requires { length text.now ≤ 8388608 }
+    requires { length text.now ≤ MOST_BYTES }
     ensures { result ≡ ReadFault.NoEnd (length text.now) }
 {
     ReadFault::NoEnd(text.len() as u32)
@@ -85,7 +86,7 @@ pub fn read_clause(
     tokens: &[Token],
     numbers: &[u32],
 ) -> Result<Term, ReadFault>
-    requires small { length text.now ≤ 8388608 }
+    requires small { length text.now ≤ MOST_BYTES }
     requires part { ArePart text.now tokens.now }
     requires clause { IsOneClause tokens.now }
     requires numbered { AreNumbered text.now names.now tokens.now numbers.now }
