@@ -67,4 +67,4 @@ module _ (T : Table) (ok : IsTable T) (text : List ℕ) (ts : List Token) (spell
       taken k seen t found.word stands read found.next (λ later more. run_on left (k + 1) later (omega (arith, count)) more) (feed_seen T seen found.word) refl
 
   pub answered : IsAnswered T text ts
-  answered = run_on (length ts) 0 (ready_seen [] wants) (omega arith) (read_nothing T text [] refl)
+  answered = run_on (length ts) 0 (ready_seen [] wants) (omega arith) (read_nothing T text (ready_seen [] wants) refl)
