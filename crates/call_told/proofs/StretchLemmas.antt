@@ -11,9 +11,9 @@ use Rattle.rayon.proofs.ListFacts.{zip-append}
 use Rattle.prolog_tokens.specs.declared.token.Place.{Place}
 use Rattle.import_rules.specs.Program.{Seen}
 use Rattle.call_edges.specs.PlacedSeen.{see_call, see_calls}
-use Rattle.call_edges.proofs.ZipLemmas.{zip_count}
+use Rattle.list_laws.proofs.Zips.{zip_count}
 use Rattle.call_table.specs.Table.{IsTable, call_spot, clause_spot}
-use Rattle.call_table.specs.Spots.{IsSpotPlace}
+use Rattle.file_library.specs.Spots.{IsSpotPlace}
 use Rattle.call_table.specs.declared.table.CallTable.{CallTable}
 use Rattle.call_told.specs.Stretches.{AreStretches}
 use Rattle.call_told.specs.Told.{joined}

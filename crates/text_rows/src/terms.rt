@@ -169,10 +169,11 @@ fn read_term(alloc: Global, table: &OpTable, text: &str) -> Result<Term, Unread>
     requires { length text.now ≤ MOST_BYTES }
 {
     let found = tokens(alloc, text)?;
-    if !is_one_clause(found.as_slice()) {
+    let cut = found.as_slice();
+    if !is_one_clause(cut) {
         return Err(Unread::Apart);
     }
-    let Ok(numbered) = number_names(alloc, text, found.as_slice()) else {
+    let Ok(numbered) = number_names(alloc, text, cut) else {
         return Err(Unread::Clause(ReadFault::NoMemory));
     };
     let mut reader = Reader::new(alloc);
@@ -182,7 +183,7 @@ fn read_term(alloc: Global, table: &OpTable, text: &str) -> Result<Term, Unread>
         table,
         &numbered.names,
         text,
-        found.as_slice(),
+        cut,
         numbered.numbers.as_slice(),
     ) {
         Ok(term) => Ok(term),

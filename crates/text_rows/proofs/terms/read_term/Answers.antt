@@ -9,4 +9,4 @@ read_clause-requires-clause-part c =
     let text = c.args.text.now in
     let found = c.in_ok-found.found.items in
     let whole : ArePart text found = record { before = []; after = []; cut = subst (IsCut text) (sym (append-nil found)) c.in_ok-found.ensures.ok } in
-    rw c.as_slice-2.ensures.value whole
+    rw c.as_slice-cut.ensures.value whole
