@@ -80,7 +80,14 @@ fn call_text(
     ensures { IfOk result (λ text. string_bytes text ≡ call_stretch undefined (see_program program.now) stretch.now) }
 {
     let mut text = String::with_capacity(alloc, ROOM)?;
-    push_call_lines(&mut text, program, stretch.rows, stretch.places, undefined)?;
+    push_call_lines(
+        alloc,
+        &mut text,
+        program,
+        stretch.rows,
+        stretch.places,
+        undefined,
+    )?;
     Ok(text)
 }
 
@@ -93,7 +100,7 @@ fn clause_text(
     ensures { IfOk result (λ text. string_bytes text ≡ clause_stretch (see_program program.now) stretch.now) }
 {
     let mut text = String::with_capacity(alloc, ROOM)?;
-    push_clause_lines(&mut text, program, stretch.rows, stretch.places)?;
+    push_clause_lines(alloc, &mut text, program, stretch.rows, stretch.places)?;
     Ok(text)
 }
 

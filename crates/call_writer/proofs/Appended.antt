@@ -16,3 +16,10 @@ five t u v w x y a b c d e p q r s z = two t u y a (b ++ (c ++ (d ++ e))) p (fou
 pub six : (t u v w x y z a b c d e f : List ℕ) → u ≡ t ++ a → v ≡ u ++ b → w ≡ v ++ c → x ≡ w ++ d → y ≡ x ++ e → z ≡ y ++ f
     → z ≡ t ++ (a ++ (b ++ (c ++ (d ++ (e ++ f)))))
 six t u v w x y z a b c d e f p q r s m n = two t u z a (b ++ (c ++ (d ++ (e ++ f)))) p (five u v w x y z b c d e f q r s m n)
+
+-- the first of them in three parts
+pub seven : (t u v w x a b c d e f : List ℕ) → u ≡ t ++ (a ++ (b ++ c)) → v ≡ u ++ d → w ≡ v ++ e → x ≡ w ++ f
+    → x ≡ t ++ (a ++ (b ++ (c ++ (d ++ (e ++ f)))))
+seven t u v w x a b c d e f p q r s =
+    four t u v w x (a ++ (b ++ c)) d e f p q r s
+    ∙ ap (λ bytes. t ++ bytes) (append_assoc a (b ++ c) (d ++ (e ++ f)) ∙ ap (λ bytes. a ++ bytes) (append_assoc b c (d ++ (e ++ f))))

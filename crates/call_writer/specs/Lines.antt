@@ -21,6 +21,10 @@ abbrev pub place_fields : List ℕ → Place → List ℕ
 place_fields file place =
     codes "\"file\":" ++ (json_string file ++ (codes ",\"line\":" ++ (decimal place.line ++ (codes ",\"column\":" ++ decimal place.column))))
 
+-- `,"file":"f.pl","line":`, what stands in a line up to a line of that file
+abbrev pub after_file : List ℕ → List ℕ
+after_file file = codes ",\"file\":" ++ (json_string file ++ codes ",\"line\":")
+
 -- a line and a column of the file at a place among the files
 abbrev pub spot_fields : Seen → ℕ → Place → List ℕ
 spot_fields seen file place = place_fields (file_name (slice_get seen.loaded.texts file)) place
@@ -29,6 +33,10 @@ spot_fields seen file place = place_fields (file_name (slice_get seen.loaded.tex
 abbrev pub name_fields : PredName → List ℕ
 name_fields name =
     codes "\"module\":" ++ (json_string name.module ++ (codes ",\"name\":" ++ (json_string name.name ++ (codes ",\"arity\":" ++ decimal name.arity))))
+
+-- `,"module":"user","name":"`, what stands in a line up to the characters of a name in that module
+abbrev pub after_module : List ℕ → List ℕ
+after_module owner = codes ",\"module\":" ++ (json_string owner ++ codes ",\"name\":\"")
 
 -- a number, or that there is none
 abbrev pub number_or_null : Option ℕ → List ℕ

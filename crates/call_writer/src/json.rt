@@ -92,7 +92,7 @@ fn push_escaped(text: &mut String, name: &str) -> Result<(), AllocError>
 }
 
 /// Adds what stands between the quotes of a string: a text that stands there as it is in one piece.
-fn push_inner(text: &mut String, name: &str) -> Result<(), AllocError>
+pub(crate) fn push_inner(text: &mut String, name: &str) -> Result<(), AllocError>
     ensures { OnOk result (string_bytes text.new ≡ string_bytes text.old ++ flat_map json_char (chars name.now)) }
 {
     if are_plain(name) {

@@ -11,6 +11,7 @@
 
 mod dot;
 mod json;
+mod last;
 mod lines;
 
 pub use dot::{push_cluster, push_edges, push_node};

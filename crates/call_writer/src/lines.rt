@@ -1,6 +1,6 @@
 //! The lines of a table of calls, as JSON.
 
-ghost use Rattle.std.specs.Prelude.{◌≡◌, ◌<◌, ◌≤◌, ◌++◌, ◌&&◌, All, OnOk, is_some, length, slice_get};
+ghost use Rattle.std.specs.Prelude.{◌≡◌, ◌<◌, ◌≤◌, ◌++◌, ◌&&◌, All, OnOk, codes, is_some, length, slice_get};
 ghost use Rattle.std.specs.Fmt.{decimal};
 ghost use Rattle.std.specs.List.{flat_map, zip};
 ghost use Rattle.std.specs.String.{string_bytes};
@@ -13,13 +13,14 @@ ghost use Rattle.graph_law.specs.Graph.{lists_of};
 ghost use Rattle.import_rules.specs.Names.{pred_name};
 ghost use Rattle.import_rules.specs.Program.{found, see_program};
 
-use crate::json::{push_json_string, push_number};
+use crate::json::{push_inner, push_json_string, push_number};
+use crate::last::{Last, LastFile, LastModule};
 use call_edges::PlacedCall;
 use call_table::ClauseAt;
 use group_release::Level;
 use import_rules::{PredName, Program};
 use prolog_tokens::Place;
-use std::alloc::AllocError;
+use std::alloc::{AllocError, Global};
 
 /// The name of the file at that place among the files, or nothing where there is none.
 fn file_name(program: &Program, file: u32) -> &str
@@ -31,29 +32,36 @@ fn file_name(program: &Program, file: u32) -> &str
     }
 }
 
-/// Adds a file, a line and a column.
-fn push_place(text: &mut String, file: &str, place: Place) -> Result<(), AllocError>
-    ensures { OnOk result (string_bytes text.new ≡ string_bytes text.old ++ place_fields file.now place) }
+/// Adds a comma, a file, a line and a column. The file is the last one from then on.
+fn push_place<'a>(
+    text: &mut String,
+    last: &mut LastFile<'a>,
+    file: &'a str,
+    place: Place,
+) -> Result<(), AllocError>
+    ensures { OnOk result (string_bytes text.new ≡ string_bytes text.old ++ (codes "," ++ place_fields file.now place)) }
 {
-    text.push_str("\"file\":")?;
-    push_json_string(text, file)?;
-    text.push_str(",\"line\":")?;
+    last.take(file)?;
+    text.push_str(last.text.as_str())?;
     push_number(text, u64::from(place.line))?;
     text.push_str(",\"column\":")?;
-    push_number(text, u64::from(place.column))
+    push_number(text, u64::from(place.column))?;
+    Ok(())
 }
 
-/// Adds a line and a column of the file at that place among the files.
-fn push_spot(
+/// Adds a comma, and a line and a column of the file at that place among the files.
+fn push_spot<'a>(
     text: &mut String,
-    program: &Program,
+    last: &mut LastFile<'a>,
+    program: &'a Program,
     file: u32,
     place: Place,
 ) -> Result<(), AllocError>
-    ensures { OnOk result (string_bytes text.new ≡ string_bytes text.old ++ spot_fields (see_program program.now) file place) }
+    ensures { OnOk result (string_bytes text.new ≡ string_bytes text.old ++ (codes "," ++ spot_fields (see_program program.now) file place)) }
 {
     let name = file_name(program, file);
-    push_place(text, name, place)
+    push_place(text, last, name, place)?;
+    Ok(())
 }
 
 /// Adds a name in a module.
@@ -66,6 +74,24 @@ fn push_name(text: &mut String, owner: &str, name: &str, arity: u32) -> Result<(
     push_json_string(text, name)?;
     text.push_str(",\"arity\":")?;
     push_number(text, u64::from(arity))
+}
+
+/// Adds a comma and a name in a module. The module is the last one from then on.
+fn push_name_after<'a>(
+    text: &mut String,
+    last: &mut LastModule<'a>,
+    owner: &'a str,
+    name: &str,
+    arity: u32,
+) -> Result<(), AllocError>
+    ensures { OnOk result (string_bytes text.new ≡ string_bytes text.old ++ (codes "," ++ name_fields (pred_name owner.now name.now arity))) }
+{
+    last.take(owner)?;
+    text.push_str(last.text.as_str())?;
+    push_inner(text, name)?;
+    text.push_str("\",\"arity\":")?;
+    push_number(text, u64::from(arity))?;
+    Ok(())
 }
 
 /// Adds the number, or `null` where there is none.
@@ -99,29 +125,30 @@ fn push_call_head(text: &mut String, caller: u32, callee: Option<u32>) -> Result
 }
 
 /// Adds the line of a call that means that predicate, or none.
-fn push_call_to(
+fn push_call_to<'a, 'b>(
     text: &mut String,
-    program: &Program,
-    call: &PlacedCall<'_>,
+    last: &mut Last<'a, 'b>,
+    program: &'a Program,
+    call: &PlacedCall<'b>,
     callee: Option<u32>,
     place: Place,
 ) -> Result<(), AllocError>
     ensures { OnOk result (string_bytes text.new ≡ string_bytes text.old ++ call_line_to callee (see_program program.now) (see_call call.now) place) }
 {
     push_call_head(text, call.caller, callee)?;
-    text.push_str(",")?;
-    push_name(text, call.module, call.name, call.arity)?;
-    text.push_str(",")?;
-    push_spot(text, program, call.file, place)?;
-    text.push_str("}\n")
+    push_name_after(text, &mut last.module, call.module, call.name, call.arity)?;
+    push_spot(text, &mut last.file, program, call.file, place)?;
+    text.push_str("}\n")?;
+    Ok(())
 }
 
 /// Adds the line of a call; where only undefined names are wanted, none for a call that means a
 /// predicate.
-fn push_call(
+fn push_call<'a, 'b>(
     text: &mut String,
-    program: &Program,
-    call: &PlacedCall<'_>,
+    last: &mut Last<'a, 'b>,
+    program: &'a Program,
+    call: &PlacedCall<'b>,
     place: Place,
     undefined: bool,
 ) -> Result<(), AllocError>
@@ -131,12 +158,13 @@ fn push_call(
     if is_hidden(undefined, callee) {
         return Ok(());
     }
-    push_call_to(text, program, call, callee, place)
+    push_call_to(text, last, program, call, callee, place)
 }
 
 /// Adds the lines of calls with their lines and columns; where only undefined names are wanted, those
 /// of calls whose name means no predicate.
 pub fn push_call_lines(
+    alloc: Global,
     text: &mut String,
     program: &Program,
     calls: &[PlacedCall<'_>],
@@ -146,16 +174,21 @@ pub fn push_call_lines(
     ensures { OnOk result (string_bytes text.new
         ≡ string_bytes text.old ++ flat_map (λ pair. call_line_if undefined (see_program program.now) pair.0 pair.1) (zip (see_calls calls.now) places.now)) }
 {
+    let mut last = Last {
+        file: LastFile::none(alloc),
+        module: LastModule::none(alloc),
+    };
     for (call, place) in calls.iter().zip(places) {
-        push_call(text, program, call, *place, undefined)?;
+        push_call(text, &mut last, program, call, *place, undefined)?;
     }
     Ok(())
 }
 
 /// Adds the line of a clause.
-fn push_clause(
+fn push_clause<'a>(
     text: &mut String,
-    program: &Program,
+    last: &mut LastFile<'a>,
+    program: &'a Program,
     clause: ClauseAt,
     place: Place,
 ) -> Result<(), AllocError>
@@ -163,14 +196,14 @@ fn push_clause(
 {
     text.push_str("{\"is\":\"clause\",\"predicate\":")?;
     push_number(text, u64::from(clause.node))?;
-    text.push_str(",")?;
-    push_spot(text, program, clause.file, place)?;
+    push_spot(text, last, program, clause.file, place)?;
     text.push_str("}\n")?;
     Ok(())
 }
 
 /// Adds the lines of clauses with their lines and columns.
 pub fn push_clause_lines(
+    alloc: Global,
     text: &mut String,
     program: &Program,
     clauses: &[ClauseAt],
@@ -179,8 +212,9 @@ pub fn push_clause_lines(
     ensures { OnOk result (string_bytes text.new
         ≡ string_bytes text.old ++ flat_map (λ pair. clause_line (see_program program.now) pair.0 pair.1) (zip clauses.now places.now)) }
 {
+    let mut last = LastFile::none(alloc);
     for (clause, place) in clauses.iter().zip(places) {
-        push_clause(text, program, *clause, *place)?;
+        push_clause(text, &mut last, program, *clause, *place)?;
     }
     Ok(())
 }
