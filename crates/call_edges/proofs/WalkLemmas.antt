@@ -9,7 +9,8 @@ use Rattle.prolog_terms.specs.declared.term.ConstKind.{ConstKind}
 use Rattle.prolog_terms.specs.declared.term.Term.{Term, fold-roll-Term}
 use Rattle.prolog_terms.specs.declared.term.Term.TheOpen.{Term-F}
 use Rattle.prolog_terms.specs.declared.term.Term.TheVariants as term
-use Rattle.prolog_terms.specs.Tree.{Tree, tree_of, tree_step, variable, constant, atom, listed, tailed, curly, paren, trees_from, depth, deepest}
+use Rattle.prolog_terms.specs.Tree.{Tree, tree_step, variable, constant, atom, listed, tailed, curly, paren, trees_from, depth, deepest}
+use Rattle.prolog_terms.specs.Terms.{tree_of}
 use Rattle.prolog_terms.proofs.ViewLemmas.{atom_seen, compound_seen, list_as, curly_seen, paren_seen}
 use Rattle.module_table.specs.declared.goal_arg.GoalArg.{GoalArg}
 use Rattle.call_edges.specs.Goals.{Met, place, Rows, Taken, taken, atom_met, constant_met, curly_role, AddsMet}

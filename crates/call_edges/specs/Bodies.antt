@@ -1,7 +1,8 @@
 -- The bodies of a program, as lists.
 use Rattle.std.specs.Prelude.{ℕ, ◌+◌, ◌*◌, ◌≤◌, List, [], Option, Some, None, map, slice_get, option_map}
 use Rattle.std.specs.List.{flat_map, filter_map, enumerate_from}
-use Rattle.prolog_terms.specs.Tree.{Tree, tree_of}
+use Rattle.prolog_terms.specs.Tree.{Tree}
+use Rattle.prolog_terms.specs.Terms.{tree_of}
 use Rattle.prolog_terms.specs.Weight.{weight}
 use Rattle.module_table.specs.Defined.{Predicate}
 use Rattle.module_table.specs.Facts.{Facts}

@@ -1,7 +1,7 @@
 //! What a compound is to the body that it stands in.
 
 ghost use Rattle.std.specs.Prelude.{◌≡◌, ◌≤◌, ◌+◌, length, map, IfSome};
-ghost use Rattle.prolog_terms.specs.Tree.{tree_of};
+ghost use Rattle.prolog_terms.specs.Terms.{tree_of};
 ghost use Rattle.module_table.specs.Metas.{added};
 ghost use Rattle.call_edges.specs.Goals.{is_control, goal_way, way, settled, is_variable, goal_of, qualified_taken, row, taken};
 ghost use Rattle.call_edges.specs.Meant.{IsMeaning, IsMeant};

@@ -1,7 +1,7 @@
 //! The bodies of a program: those of clauses, and the goals of directives.
 
 ghost use Rattle.std.specs.Prelude.{◌≡◌, ◌<◌, ◌++◌, map, length, option_map, IfOk, OnOk};
-ghost use Rattle.prolog_terms.specs.Tree.{tree_of};
+ghost use Rattle.prolog_terms.specs.Terms.{tree_of};
 ghost use Rattle.module_table.specs.Defined.{clause_tree};
 ghost use Rattle.module_table.specs.Facts.{see_facts};
 ghost use Rattle.import_rules.specs.Program.{see_program};

@@ -2,7 +2,8 @@
 use Rattle.std.proofs.Common.{◌≡◌, List, [], ◌∷◌, ◌++◌, Option, Some, None, true, false, filter_map, option_to_list, is_some, map, refl}
 use Rattle.std.specs.List.{list_any}
 use Rattle.prolog_terms.specs.declared.term.Term.{Term}
-use Rattle.prolog_terms.specs.Tree.{Tree, tree_of}
+use Rattle.prolog_terms.specs.Tree.{Tree}
+use Rattle.prolog_terms.specs.Terms.{tree_of}
 use Rattle.clause_text.specs.Items.{Item, has_some}
 
 -- of two lists one behind the other

@@ -4,7 +4,8 @@ use Rattle.std.proofs.lemmas.List.{append-nil, map-append, nil_from_length}
 use Rattle.std.proofs.lemmas.List.Elements.{All-nil, All-cons}
 use Rattle.prolog_tokens.specs.declared.token.Token.{Token}
 use Rattle.prolog_ops.specs.Table.{Ops}
-use Rattle.prolog_terms.specs.Tree.{Tree, tree_of}
+use Rattle.prolog_terms.specs.Tree.{Tree}
+use Rattle.prolog_terms.specs.Terms.{tree_of}
 use Rattle.prolog_terms.specs.Words.{table_of}
 use Rattle.prolog_terms.specs.Clause.{IsClauseOf}
 use Rattle.clause_text.specs.declared.Clause.{Clause}

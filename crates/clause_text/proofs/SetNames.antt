@@ -7,7 +7,8 @@ use Rattle.prolog_ops.specs.declared.op.OpKind.{OpKind}
 use Rattle.clause_text.specs.declared.fault.TextFault.{TextFault}
 use Rattle.clause_text.specs.Items.{Answer, Name, each_on, name_on, set_or}
 use Rattle.clause_text.proofs.EachOn.{each_one, each_then, each_stops}
-use Rattle.prolog_terms.specs.Tree.{Tree, tree_of}
+use Rattle.prolog_terms.specs.Tree.{Tree}
+use Rattle.prolog_terms.specs.Terms.{tree_of}
 use Rattle.prolog_terms.specs.declared.term.Term.{Term}
 
 -- where a term is a name, the operator is set at it

@@ -7,7 +7,8 @@ use Rattle.prolog_terms.specs.declared.term.Span.{Span}
 use Rattle.prolog_terms.specs.declared.term.Form.{Form}
 use Rattle.prolog_terms.specs.declared.term.Term.{Term}
 use Rattle.prolog_terms.specs.declared.term.Term.TheVariants as term
-use Rattle.prolog_terms.specs.Tree.{Tree, tree_of, compound, more, none, trees_from}
+use Rattle.prolog_terms.specs.Tree.{Tree, compound, more, none, trees_from}
+use Rattle.prolog_terms.specs.Terms.{tree_of}
 use Rattle.prolog_terms.specs.Views.{inside, sides_at, sides_of, joined}
 use Rattle.prolog_terms.proofs.ViewLemmas.{trees_back, list_seen, tailed_seen, inside_once, joined_sides, joined_alone}
 use Rattle.clause_text.specs.Lists.{listed_at}

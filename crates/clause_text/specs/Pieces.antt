@@ -3,7 +3,8 @@ use Rattle.std.specs.Prelude.{◌≡◌, ◌≢◌, ℕ, ◌-◌, ◌<◌, ◌�
 use Rattle.prolog_tokens.specs.declared.token.Kind.TheVariants.{End}
 use Rattle.prolog_tokens.specs.declared.token.Token.{Token}
 use Rattle.prolog_ops.specs.Table.{Ops}
-use Rattle.prolog_terms.specs.Tree.{Tree, tree_of}
+use Rattle.prolog_terms.specs.Tree.{Tree}
+use Rattle.prolog_terms.specs.Terms.{tree_of}
 use Rattle.prolog_terms.specs.Words.{table_of}
 use Rattle.prolog_terms.specs.Clause.{IsClauseOf}
 use Rattle.clause_text.specs.declared.fault.TextFault.{TextFault}

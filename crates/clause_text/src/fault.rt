@@ -1,5 +1,5 @@
 ghost use Rattle.std.specs.Prelude.{◌≡◌};
-ghost use Rattle.prolog_terms.specs.Tree.{tree_of};
+ghost use Rattle.prolog_terms.specs.Terms.{tree_of};
 ghost use Rattle.prolog_terms.specs.Views.{start_of};
 ghost use Rattle.clause_text.specs.Items.{fault_of_ops};
 

@@ -2,7 +2,7 @@ ghost use Rattle.std.specs.Prelude.{◌≡◌, ◌≢◌, Some, None, Ok, Err, o
 ghost use Rattle.std.specs.Option.{option_to_list};
 ghost use Rattle.std.specs.List.{filter_map, list_all};
 ghost use Rattle.prolog_ops.specs.Table.{ops_of};
-ghost use Rattle.prolog_terms.specs.Tree.{tree_of};
+ghost use Rattle.prolog_terms.specs.Terms.{tree_of};
 ghost use Rattle.clause_text.specs.Items.{Item, priority_of, priority_when, kind_named, kind_of, name_of, is_name, names_of, listed_names, each_on};
 ghost use Rattle.clause_text.specs.Items.{name_on, with_names, item_on, item_of, items_on, exported_items, goal_items, directive_items, items_of};
 ghost use Rattle.clause_text.specs.Items.{has_some};

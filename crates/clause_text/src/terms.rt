@@ -1,6 +1,6 @@
 ghost use Rattle.std.specs.Prelude.{◌≡◌, ◌||◌, option_map, map, codes};
 ghost use Rattle.std.specs.Str.{bytes_eq};
-ghost use Rattle.prolog_terms.specs.Tree.{tree_of};
+ghost use Rattle.prolog_terms.specs.Terms.{tree_of};
 ghost use Rattle.clause_text.specs.Lists.{listed_items, written_items};
 ghost use Rattle.clause_text.specs.Items.{item_of, directive_of};
 

@@ -4,7 +4,8 @@ use Rattle.std.specs.Prelude.{◌+◌, ◌<◌, suc, length, get_or, map, take, 
 use Rattle.std.proofs.lemmas.List.{map_more, map-append, take-append-drop}
 use Rattle.std.proofs.Math.Seq.{drop-cons}
 use Rattle.prolog_terms.specs.declared.term.Term.{Term}
-use Rattle.prolog_terms.specs.Tree.{Tree, tree_of}
+use Rattle.prolog_terms.specs.Tree.{Tree}
+use Rattle.prolog_terms.specs.Terms.{tree_of}
 use Rattle.module_table.specs.declared.said.FactFault.{FactFault}
 use Rattle.module_table.specs.declared.said.FactFault.TheVariants.{At, NoMemory}
 use Rattle.module_table.specs.Said.{Refusal, more, in_turn, each_said, IsWhy}

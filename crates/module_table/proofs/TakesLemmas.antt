@@ -8,7 +8,8 @@ use Rattle.prolog_terms.specs.declared.term.ConstKind.{ConstKind}
 use Rattle.prolog_terms.specs.declared.term.Term.{Term, fold-roll-Term}
 use Rattle.prolog_terms.specs.declared.term.Term.TheOpen.{Term-F}
 use Rattle.prolog_terms.specs.declared.term.Term.TheVariants as kept
-use Rattle.prolog_terms.specs.Tree.{Tree, tree_of, tree_step, depth, deepest, variable, constant, atom, compound, listed, tailed, curly, paren, more as with_more, none, trees_from}
+use Rattle.prolog_terms.specs.Tree.{Tree, tree_step, depth, deepest, variable, constant, atom, compound, listed, tailed, curly, paren, more as with_more, none, trees_from}
+use Rattle.prolog_terms.specs.Terms.{tree_of}
 use Rattle.prolog_terms.specs.Views.{inside, sides_of, atom_name}
 use Rattle.prolog_terms.proofs.ViewLemmas.{of_sides, of_none}
 use Rattle.module_table.specs.Metas.{Declaration, taking, takes_of, all_takes}

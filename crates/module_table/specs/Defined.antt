@@ -5,7 +5,8 @@ use Rattle.std.specs.Ordering.{ordering_then, nat_cmp, is_lt}
 use Rattle.std.specs.Cmp.Lexicographic.{slice_cmp}
 use Rattle.std.specs.List.Sorted.{IsStrictlySortedBy}
 use Rattle.std.specs.Str.{bytes_eq}
-use Rattle.prolog_terms.specs.Tree.{Tree, tree_of}
+use Rattle.prolog_terms.specs.Tree.{Tree}
+use Rattle.prolog_terms.specs.Terms.{tree_of}
 use Rattle.clause_text.specs.declared.Clause.{Clause}
 use Rattle.module_table.specs.declared.defined.Defined.{Defined}
 

@@ -1,7 +1,8 @@
 -- The parts of a file by kind.
 use Rattle.std.specs.Prelude.{ℕ, ◌≡◌, List, [], ◌∷◌, ◌++◌, Option, Some, None, Result, Ok, Err, Bool, true, false, codes, map, flat_map, option_map}
 use Rattle.std.specs.List.{filter_map}
-use Rattle.prolog_terms.specs.Tree.{Tree, tree_of}
+use Rattle.prolog_terms.specs.Tree.{Tree}
+use Rattle.prolog_terms.specs.Terms.{tree_of}
 use Rattle.module_table.specs.declared.indicator.Indicator.{Indicator}
 use Rattle.module_table.specs.declared.kinds.Kinds.{Kinds}
 use Rattle.module_table.specs.Defined.{Defines, see_run}

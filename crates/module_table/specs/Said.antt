@@ -1,6 +1,7 @@
 -- What a file says, part by part, or why it is refused.
 use Rattle.std.specs.Prelude.{ℕ, ◌≡◌, List, [], ◌∷◌, ◌++◌, Result, Ok, Err}
-use Rattle.prolog_terms.specs.Tree.{Tree, tree_of}
+use Rattle.prolog_terms.specs.Tree.{Tree}
+use Rattle.prolog_terms.specs.Terms.{tree_of}
 use Rattle.prolog_terms.specs.Views.{start_of}
 use Rattle.clause_text.specs.declared.cause.Cause.{Cause}
 use Rattle.module_table.specs.declared.indicator.Indicator.{Indicator}

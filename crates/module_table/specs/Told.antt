@@ -1,6 +1,7 @@
 -- What is told of a directive, and terms taken apart.
 use Rattle.std.specs.Prelude.{◌≡◌, Some, None, Ok, codes}
-use Rattle.prolog_terms.specs.Tree.{Tree, tree_of}
+use Rattle.prolog_terms.specs.Tree.{Tree}
+use Rattle.prolog_terms.specs.Terms.{tree_of}
 use Rattle.prolog_terms.specs.Views.{inside, sides_of}
 use Rattle.module_table.specs.declared.directive.Told.{Told}
 use Rattle.module_table.specs.declared.directive.Told.TheVariants.{Goal, Done}

@@ -1,7 +1,7 @@
 //! What directives say.
 
 ghost use Rattle.std.specs.Prelude.{◌≡◌, IfOk, IfErr, OnOk, Ok};
-ghost use Rattle.prolog_terms.specs.Tree.{tree_of};
+ghost use Rattle.prolog_terms.specs.Terms.{tree_of};
 ghost use Rattle.module_table.specs.Said.{IsWhy};
 ghost use Rattle.module_table.specs.Kinds.{ByKind, see_kinds, with_said};
 ghost use Rattle.module_table.specs.Told.{IsTold};

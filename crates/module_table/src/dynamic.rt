@@ -1,7 +1,7 @@
 //! What `dynamic` and `multifile` define.
 
 ghost use Rattle.std.specs.Prelude.{◌≡◌, IfOk, IfErr, OnOk, Ok, option_map, map};
-ghost use Rattle.prolog_terms.specs.Tree.{tree_of};
+ghost use Rattle.prolog_terms.specs.Terms.{tree_of};
 ghost use Rattle.module_table.specs.Said.{IsWhy};
 ghost use Rattle.module_table.specs.Kinds.{see_kinds, with_said};
 ghost use Rattle.module_table.specs.Dynamic.{name_in, owned, bare_said, joint_sides, whole_items, dynamic_at};

@@ -1,7 +1,7 @@
 //! Heads of clauses.
 
 ghost use Rattle.std.specs.Prelude.{◌≡◌, IfOk, IfErr, Ok};
-ghost use Rattle.prolog_terms.specs.Tree.{tree_of};
+ghost use Rattle.prolog_terms.specs.Terms.{tree_of};
 ghost use Rattle.module_table.specs.Said.{IsWhy};
 ghost use Rattle.module_table.specs.Heads.{is_among, control_names, headless_names, named_head, plain_head, behind_modules, head, is_pushback, grammar_head};
 

@@ -1,7 +1,7 @@
 //! Predicate indicators, and lists of them.
 
 ghost use Rattle.std.specs.Prelude.{◌≡◌, IfOk, IfErr, OnOk, Ok, Some, map};
-ghost use Rattle.prolog_terms.specs.Tree.{tree_of};
+ghost use Rattle.prolog_terms.specs.Terms.{tree_of};
 ghost use Rattle.module_table.specs.Said.{IsWhy, more};
 ghost use Rattle.module_table.specs.Indicators.{arity_of, arguments_added, indicator, one_indicator, indicators, listed_indicators};
 

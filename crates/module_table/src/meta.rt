@@ -1,7 +1,7 @@
 //! Declarations of the arguments of predicates that are goals.
 
 ghost use Rattle.std.specs.Prelude.{◌≡◌, ◌++◌, ◌∷◌, [], map, IfOk, OnOk};
-ghost use Rattle.prolog_terms.specs.Tree.{tree_of};
+ghost use Rattle.prolog_terms.specs.Terms.{tree_of};
 ghost use Rattle.module_table.specs.Metas.{digit_arg, name_arg, goal_arg, takes_of, see_meta};
 
 use crate::goal_arg::GoalArg;

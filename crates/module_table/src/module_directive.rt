@@ -1,7 +1,7 @@
 //! The directive that declares the module of a file.
 
 ghost use Rattle.std.specs.Prelude.{◌≡◌, ◌∷◌, [], IfOk, IfErr, Ok, option_map};
-ghost use Rattle.prolog_terms.specs.Tree.{tree_of};
+ghost use Rattle.prolog_terms.specs.Terms.{tree_of};
 ghost use Rattle.module_table.specs.Said.{IsWhy, see_module, declares};
 ghost use Rattle.module_table.specs.Directives.{is_operator, exports, module_name, module_said};
 

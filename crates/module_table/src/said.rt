@@ -1,5 +1,5 @@
 ghost use Rattle.std.specs.Prelude.{◌≡◌};
-ghost use Rattle.prolog_terms.specs.Tree.{tree_of};
+ghost use Rattle.prolog_terms.specs.Terms.{tree_of};
 ghost use Rattle.module_table.specs.declared.said.FactFault.TheVariants.{NoMemory};
 ghost use Rattle.prolog_terms.specs.Views.{start_of};
 

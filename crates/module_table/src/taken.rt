@@ -1,7 +1,7 @@
 //! Terms and clauses taken apart, without a copy.
 
 ghost use Rattle.std.specs.Prelude.{◌≡◌, true, is_some, codes};
-ghost use Rattle.prolog_terms.specs.Tree.{tree_of};
+ghost use Rattle.prolog_terms.specs.Terms.{tree_of};
 ghost use Rattle.prolog_terms.specs.Views.{inside as inner_tree, sides_at};
 ghost use Rattle.clause_text.specs.Items.{directive_of};
 ghost use Rattle.module_table.specs.Defined.{clause_tree};

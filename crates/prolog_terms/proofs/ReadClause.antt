@@ -16,7 +16,7 @@ use Rattle.prolog_terms.specs.ReaderSteps.{infix_open, Stack, Mode, want, minus,
 use Rattle.prolog_terms.specs.ReaderWaiting.{Waiting, ready, named, doubt, feed}
 use Rattle.prolog_terms.specs.ReaderDepth.{waiting_floor}
 use Rattle.prolog_terms.specs.ReaderSeen.{WaitingSeen, ready_seen, wants, finished, OperandSeen, StackSeen, feed_seen, waiting_floor_seen, waiting_parts, is_finished}
-use Rattle.prolog_terms.proofs.Parts.{IsToken}
+use Rattle.prolog_terms.proofs.PartsMade.{IsToken}
 use Rattle.prolog_terms.proofs.WordsOf.{have_words, are_append, are_take, are_length, are_last}
 use Rattle.prolog_terms.proofs.NoEndWithin.{kept_none, before_none, none_at}
 use Rattle.prolog_terms.proofs.ReaderTables.{IsTable}

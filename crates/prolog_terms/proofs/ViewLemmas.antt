@@ -1,17 +1,12 @@
 -- What terms are, with the brackets round them passed through, by their parts.
-use Rattle.std.proofs.Common.{◌≡◌, ◌≢◌, ℕ, zero, suc, ◌+◌, ◌<◌, ◌≤◌, Bool, true, false, not, List, [], ◌∷◌, ◌++◌, Option, Some, None, is_some, Vec, Box, Global, length, get_or, map, codes, refl, arith, if◌then◌else◌, ap, sym, ◌∙◌, subst}
+use Rattle.std.proofs.Common.{◌≡◌, ℕ, zero, suc, ◌+◌, ◌<◌, ◌≤◌, Bool, true, false, not, List, [], ◌∷◌, ◌++◌, Option, Some, None, length, get_or, codes, refl, arith, if◌then◌else◌, ap, sym, ◌∙◌}
 use Rattle.std.specs.Str.{bytes_eq}
 use Rattle.std.specs.List.{sum_by}
-use Rattle.std.proofs.Math.ListN.{get_or-map}
 use Rattle.std.proofs.lemmas.List.Sums.{sum_by-append, sum_by-cons}
-use Rattle.prolog_tokens.specs.declared.text.Text.{Text}
 use Rattle.prolog_terms.specs.declared.term.Span.{Span}
 use Rattle.prolog_terms.specs.declared.term.Form.{Form}
-use Rattle.prolog_terms.specs.declared.term.Term.{Term, fold-roll-Term}
-use Rattle.prolog_terms.specs.declared.term.Term.TheOpen.{Term-F}
-use Rattle.prolog_terms.specs.declared.term.Term.TheVariants as term
-use Rattle.prolog_terms.specs.Tree.{Tree, Trees, tree_of, tree_step, variable, constant, atom, compound, listed, tailed, curly, paren, more, none, trees_from, count, depth}
-use Rattle.prolog_terms.specs.Views.{inside, trees_in, Binary, binary_at, sides_at, sides_of, joined, Named, named_at, name_and_arity}
+use Rattle.prolog_terms.specs.Tree.{Tree, Trees, variable, constant, atom, compound, listed, tailed, curly, paren, more, none, trees_from, count, depth}
+use Rattle.prolog_terms.specs.Views.{inside, trees_in, sides_of, joined, Named, named_at, name_and_arity}
 use Rattle.prolog_terms.specs.Weight.{weight, weights}
 
 -- tests and answers
@@ -30,48 +25,6 @@ some_once is = cc
 pub some_none : {X : Type 0} (x : X) → Some x ≡ None → ⊥
 some_none x is = cc
 
--- terms in a list
-
-pub read_tree : (terms : List Term) (at : ℕ) (term : Term) → term ≡ get_or terms at term → tree_of term ≡ get_or (map tree_of terms) at (tree_of term)
-read_tree terms at term is = ap tree_of is ∙ sym (get_or-map tree_of terms at term)
-
-pub trees_back : (trees : List Tree) → trees_in (trees_from trees) ≡ trees
-trees_back [] = refl
-trees_back (tree ∷ trees) = ap (λ ts. tree ∷ ts) (trees_back trees)
-
-pub count_trees : (trees : List Tree) → count (trees_from trees) ≡ length trees
-count_trees [] = refl
-count_trees (tree ∷ trees) = omega (arith, count_trees trees)
-
--- what a term of each kind is as a tree
-
-pub atom_seen : (found : Term) (name : Text) (span : Span) → found ≡ term.Atom name span → tree_of found ≡ atom name span
-atom_seen found name span is = ap tree_of (is ∙ sym (term.rolls-Atom name span)) ∙ fold-roll-Term Tree tree_step (Term-F.Atom name span)
-
-pub compound_seen : (found : Term) (name : Text) (args : Vec Term Global) (form : Form) (span : Span) → found ≡ term.Compound name args form span
-    → tree_of found ≡ compound name (trees_from (map tree_of args.items)) form span
-compound_seen found name args form span is =
-    ap tree_of (is ∙ sym (term.rolls-Compound name args form span)) ∙ fold-roll-Term Tree tree_step (Term-F.Compound name args form span)
-
-pub list_seen : (found : Term) (items : Vec Term Global) (span : Span) → found ≡ term.List items None span → tree_of found ≡ listed (trees_from (map tree_of items.items)) span
-list_seen found items span is = ap tree_of (is ∙ sym (term.rolls-List items None span)) ∙ fold-roll-Term Tree tree_step (Term-F.List items None span)
-
-pub tailed_seen : (found : Term) (items : Vec Term Global) (tail : Box Term Global) (span : Span) → found ≡ term.List items (Some tail) span
-    → tree_of found ≡ tailed (trees_from (map tree_of items.items)) (tree_of tail.value) span
-tailed_seen found items tail span is = ap tree_of (is ∙ sym (term.rolls-List items (Some tail) span)) ∙ fold-roll-Term Tree tree_step (Term-F.List items (Some tail) span)
-
--- what holds of both lists, with a tail or without, holds of the term
-pub list_as : (P : Tree → Type 0) (found : Term) (items : Vec Term Global) (tail : Option (Box Term Global)) (span : Span) → found ≡ term.List items tail span
-    → P (listed (trees_from (map tree_of items.items)) span) → ((end : Tree) → P (tailed (trees_from (map tree_of items.items)) end span)) → P (tree_of found)
-list_as P found items None span is bare ended = subst P (sym (list_seen found items span is)) bare
-list_as P found items (Some tail) span is bare ended = subst P (sym (tailed_seen found items tail span is)) (ended (tree_of tail.value))
-
-pub curly_seen : (found : Term) (inner : Box Term Global) (span : Span) → found ≡ term.Curly inner span → tree_of found ≡ curly (tree_of inner.value) span
-curly_seen found inner span is = ap tree_of (is ∙ sym (term.rolls-Curly inner span)) ∙ fold-roll-Term Tree tree_step (Term-F.Curly inner span)
-
-pub paren_seen : (found : Term) (inner : Box Term Global) (span : Span) → found ≡ term.Paren inner span → tree_of found ≡ paren (tree_of inner.value) span
-paren_seen found inner span is = ap tree_of (is ∙ sym (term.rolls-Paren inner span)) ∙ fold-roll-Term Tree tree_step (Term-F.Paren inner span)
-
 -- inside brackets there are no more brackets
 pub inside_once : (tree : Tree) → inside (inside tree) ≡ inside tree
 inside_once (variable span) = refl
@@ -82,29 +35,6 @@ inside_once (listed items span) = refl
 inside_once (tailed items tail span) = refl
 inside_once (curly inner span) = refl
 inside_once (paren inner span) = inside_once inner
-
--- a compound has sides where it has two arguments
-module _ (name : List ℕ) (form : Form) (span : Span) where
-  pub not_two : (parts : List Tree) → length parts ≢ 2 → binary_at (compound name (trees_from parts) form span) ≡ None
-  not_two [] other = refl
-  not_two (left ∷ []) other = refl
-  not_two (left ∷ right ∷ []) other = absurd (other (omega arith))
-  not_two (left ∷ right ∷ next ∷ parts) other = refl
-
-  pub two_sides : (parts : List Tree) (left right : Tree) → length parts ≡ 2 → left ≡ get_or parts 0 left → right ≡ get_or parts 1 right
-      → Some (record { name = name; left = left; right = right }) ≡ binary_at (compound name (trees_from parts) form span)
-  two_sides [] left right is first second = absurd (omega (arith, is))
-  two_sides (l ∷ []) left right is first second = absurd (omega (arith, is))
-  two_sides (l ∷ r ∷ []) left right is first second =
-      let pair : Tree → Tree → Option Binary = λ a b. Some (record { name = name; left = a; right = b }) in
-      ap (λ t. pair t right) first ∙ ap (λ t. pair l t) second
-  two_sides (l ∷ r ∷ next ∷ parts) left right is first second = absurd (omega (arith, is))
-
-  pub sides_count : (operator : List ℕ) (parts : List Tree) → is_some (sides_at operator (compound name (trees_from parts) form span)) ≡ true → length parts ≡ 2
-  sides_count operator [] is = let both : false ≡ true = is in absurd (cc)
-  sides_count operator (a ∷ []) is = let both : false ≡ true = is in absurd (cc)
-  sides_count operator (a ∷ b ∷ []) is = refl
-  sides_count operator (a ∷ b ∷ d ∷ parts) is = let both : false ≡ true = is in absurd (cc)
 
 -- two sides, where a test holds
 

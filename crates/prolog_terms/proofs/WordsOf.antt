@@ -10,7 +10,7 @@ use Rattle.prolog_tokens.specs.Spelling.{Spells}
 use Rattle.prolog_tokens.specs.Values.{part_bytes, NameTextBy, IsIntegerValue, greatest_value}
 use Rattle.prolog_terms.specs.Words.{Word, is_name}
 use Rattle.prolog_terms.specs.Clause.{IsWordOf, AreWords}
-use Rattle.prolog_terms.proofs.Parts.{IsToken}
+use Rattle.prolog_terms.proofs.PartsMade.{IsToken}
 
 -- a name that stands for a token
 record HasName (text : List ℕ) (a b : ℕ) (k : Kind) : Type 0 where

@@ -2,6 +2,8 @@ pub mod Tree
 pub mod Views
 pub mod Weight
 pub mod Forest
+pub mod Sized
+pub mod Terms
 pub mod Clause
 pub mod Words
 pub mod Grammar
@@ -11,4 +13,3 @@ pub mod ReaderDepth
 pub mod StuckPlace
 pub mod ReaderSeen
 pub mod StackSeen
-pub mod Boxed

@@ -97,7 +97,7 @@ abbrev pub held_in : Names → List Entry → List Tree → Operand → Held
 held_in names es trees o = held (see_entries names es (before_last trees)) (see_operand (last_of trees) o)
 
 abbrev pub trees_in : Names → State → List Tree
-trees_in names state = forest names state.nodes.items
+trees_in names state = forest names state.nodes
 
 -- the stack, where no operand stands on it
 abbrev pub see_stack : Names → State → StackSeen

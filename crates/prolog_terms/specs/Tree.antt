@@ -1,11 +1,8 @@
--- What a `Term` stands for, as data.
-use Rattle.std.specs.Prelude.{ℕ, suc, max, List, [], ◌∷◌, Option, Some, None, Bool, Box}
-use Rattle.std.specs.declared.alloc.Global.{Global}
+-- Terms as data, as they are written.
+use Rattle.std.specs.Prelude.{ℕ, suc, max, List, [], ◌∷◌, Option, Bool}
 use Rattle.prolog_terms.specs.declared.term.Span.{Span}
 use Rattle.prolog_terms.specs.declared.term.Form.{Form}
 use Rattle.prolog_terms.specs.declared.term.ConstKind.{ConstKind}
-use Rattle.prolog_terms.specs.declared.term.Term.{Term, fold-Term}
-use Rattle.prolog_terms.specs.declared.term.Term.TheOpen.{Term-F}
 
 mutual
   pub data Tree : Type 0 where
@@ -30,24 +27,6 @@ trees_from (t ∷ ts) = more t (trees_from ts)
 abbrev pub count : Trees → ℕ
 count none = 0
 count (more t ts) = suc (count ts)
-
--- a list without a tail or with one
-abbrev pub list_tree : List Tree → Option (Box Tree Global) → Span → Tree
-list_tree items None span = listed (trees_from items) span
-list_tree items (Some tail) span = tailed (trees_from items) tail.value span
-
--- one level, with each term inside already seen as its tree
-abbrev pub tree_step : Term-F Tree → Tree
-tree_step (Term-F.Var span) = variable span
-tree_step (Term-F.Const kind minus value span) = constant kind minus value span
-tree_step (Term-F.Atom name span) = atom name span
-tree_step (Term-F.Compound name args form span) = compound name (trees_from args.items) form span
-tree_step (Term-F.List items tail span) = list_tree items.items tail span
-tree_step (Term-F.Curly inner span) = curly inner.value span
-tree_step (Term-F.Paren inner span) = paren inner.value span
-
-abbrev pub tree_of : Term → Tree
-tree_of = fold-Term Tree tree_step
 
 abbrev pub span_of : Tree → Span
 span_of (variable span) = span

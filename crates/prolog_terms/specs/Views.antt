@@ -17,6 +17,20 @@ abbrev pub trees_in : Trees → List Tree
 trees_in none = []
 trees_in (more tree trees) = tree ∷ trees_in trees
 
+-- one tree, two or three, where there are so many
+
+abbrev pub only_of : Trees → Option Tree
+only_of (more tree none) = Some tree
+only_of trees = None
+
+abbrev pub pair_of : Trees → Option (Tree × Tree)
+pair_of (more left (more right none)) = Some (left, right)
+pair_of trees = None
+
+abbrev pub triple_of : Trees → Option (Tree × Tree × Tree)
+triple_of (more first (more second (more third none))) = Some (first, second, third)
+triple_of trees = None
+
 -- a compound of two arguments, in any notation
 pub record Binary : Type 0 where
   pub name : List ℕ

@@ -4,6 +4,6 @@ use crate::term::Term;
 #[derive(Clone, Copy)]
 pub struct Binary<'a> {
     pub name: &'a str,
-    pub left: &'a Term,
-    pub right: &'a Term,
+    pub left: Term<'a>,
+    pub right: Term<'a>,
 }

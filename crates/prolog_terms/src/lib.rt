@@ -2,19 +2,19 @@
 //!
 //! `read_clause` reads the tokens up to an End as the one clause that they are under a table of
 //! operators, or tells the first token with which no clause goes on: of `a ** b ** c.` the second
-//! operator. No two terms have the same tokens. A `Term` owns its names, and each part knows where it
-//! stands.
+//! operator. No two terms have the same tokens. A clause is one list of nodes, each behind its parts,
+//! and a `Term` is a view of one of them. Each part knows where it stands.
 //!
 //! It gives terms no meaning: directives, heads and goals are for the layers above.
 #![tactic(auto)]
 
 mod binary_term;
-mod boxed;
 mod brackets;
 mod feed;
 mod laws;
 mod measure;
 mod node;
+mod node_list;
 mod nodes;
 mod operand;
 mod operator_sides;
@@ -31,7 +31,8 @@ mod word;
 
 pub use binary_term::Binary;
 pub use laws::{clause_depths, clause_weights, one_clause};
+pub use node_list::NodeList;
 pub use reader::{DEEPEST, ReadFault, read_clause};
-pub use term::{ConstKind, Form, Span, Term};
-pub use views::{atom_name, binary, inside, name_and_arity, sides, span_at, start_of};
+pub use term::{ConstKind, Form, Parts, Span, Term, TermKind};
+pub use views::{atom_name, binary, inside, name_and_arity, sides, start_of};
 pub use waiting::Reader;

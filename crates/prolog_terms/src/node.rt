@@ -1,3 +1,6 @@
+ghost use Rattle.std.specs.Prelude.{◌≡◌};
+ghost use Rattle.prolog_terms.specs.Forest.{taken};
+
 use crate::term::{ConstKind, Form, Span};
 
 /// What a term is, with the number of its name. It stands behind its parts: the `count` arguments of
@@ -28,9 +31,27 @@ pub enum Shape {
     Paren,
 }
 
-/// A term in a list of nodes, in which its parts stand before it.
+/// A term in a list of nodes, in which its parts stand before it. Its size is how many nodes it has,
+/// with itself: so many nodes further to the front stands the term before it.
 #[derive(Clone, Copy)]
 pub struct Node {
     pub shape: Shape,
     pub span: Span,
+    pub size: usize,
+}
+
+/// How many of the terms before it are parts of a node.
+pub fn taken(shape: Shape) -> usize
+    ensures { result ≡ taken shape }
+{
+    match shape {
+        Shape::Var => 0,
+        Shape::Const { .. } => 0,
+        Shape::Atom { .. } => 0,
+        Shape::Compound { count, .. } => count as usize,
+        Shape::List { count } => count as usize,
+        Shape::Tailed { count } => count as usize + 1,
+        Shape::Curly => 1,
+        Shape::Paren => 1,
+    }
 }

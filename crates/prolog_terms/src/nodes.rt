@@ -10,7 +10,8 @@ ghost use Rattle.prolog_terms.specs.ReaderSeen.{parts, leaf_operand, negative_op
 ghost use Rattle.prolog_terms.specs.ReaderSeen.{wrapped_operand, prefixed_operand, infixed_operand, postfixed_operand, built};
 ghost use Rattle.prolog_terms.specs.StackSeen.{Names as NamesSeen, see_word, see_opened, see_operand, see_operator, operator_holds, see_made, made};
 
-use crate::node::{Node, Shape};
+use crate::node::Shape;
+use crate::node_list::NodeList;
 use crate::operand::Operand;
 use crate::operator_sides::Sides;
 use crate::pending::{Opened, Operator};
@@ -32,17 +33,17 @@ fn joined(first: Span, last: Span) -> Span
 
 /// Adds a node of this shape.
 fn lay(
-    nodes: &mut Vec<Node>,
+    nodes: &mut NodeList,
     shape: Shape,
     priority: u32,
     depth: usize,
     span: Span,
 ) -> Result<Operand, AllocError>
-    ensures { IfOk result (λ operand. (names : NamesSeen) → see_made (forest names nodes.new.items) operand ≡ made
-        (without (taken shape) (forest names nodes.old.items)) (see_operand (node_tree names shape span (forest names nodes.old.items))
+    ensures { IfOk result (λ operand. (names : NamesSeen) → see_made (forest names nodes.new) operand ≡ made
+        (without (taken shape) (forest names nodes.old)) (see_operand (node_tree names shape span (forest names nodes.old))
         (record { priority = priority; depth = depth; span = span }))) }
 {
-    nodes.push(Node { shape, span })?;
+    nodes.lay(shape, span)?;
     Ok(Operand {
         priority,
         depth,
@@ -81,9 +82,9 @@ fn leaf_shape(word: Word) -> Shape
 }
 
 /// A variable (ISO/IEC 13211-1, 6.3.2), a number without minus (6.3.1.1) or a text in quotes (6.3.7).
-pub fn leaf(nodes: &mut Vec<Node>, word: Word) -> Result<Operand, AllocError>
-    ensures { IfOk result (λ operand. (names : NamesSeen) → see_made (forest names nodes.new.items) operand
-        ≡ made (forest names nodes.old.items) (leaf_operand (see_word names word))) }
+pub fn leaf(nodes: &mut NodeList, word: Word) -> Result<Operand, AllocError>
+    ensures { IfOk result (λ operand. (names : NamesSeen) → see_made (forest names nodes.new) operand
+        ≡ made (forest names nodes.old) (leaf_operand (see_word names word))) }
 {
     lay(nodes, leaf_shape(word), 0, 1, word.span)
 }
@@ -108,18 +109,18 @@ fn negative_shape(number: Word) -> Shape
 }
 
 /// A minus and the number directly behind it (ISO/IEC 13211-1, 6.3.1.2).
-pub fn negative(nodes: &mut Vec<Node>, minus: Word, number: Word) -> Result<Operand, AllocError>
-    ensures { IfOk result (λ operand. (names : NamesSeen) → see_made (forest names nodes.new.items) operand
-        ≡ made (forest names nodes.old.items) (negative_operand (see_word names minus) (see_word names number))) }
+pub fn negative(nodes: &mut NodeList, minus: Word, number: Word) -> Result<Operand, AllocError>
+    ensures { IfOk result (λ operand. (names : NamesSeen) → see_made (forest names nodes.new) operand
+        ≡ made (forest names nodes.old) (negative_operand (see_word names minus) (see_word names number))) }
 {
     let span = joined(minus.span, number.span);
     lay(nodes, negative_shape(number), 0, 1, span)
 }
 
 /// A name that stands for itself, an atom (ISO/IEC 13211-1, 6.3.1.3).
-pub fn atom(nodes: &mut Vec<Node>, word: Word) -> Result<Operand, AllocError>
-    ensures { IfOk result (λ operand. (names : NamesSeen) → see_made (forest names nodes.new.items) operand
-        ≡ made (forest names nodes.old.items) (atom_operand (see_word names word))) }
+pub fn atom(nodes: &mut NodeList, word: Word) -> Result<Operand, AllocError>
+    ensures { IfOk result (λ operand. (names : NamesSeen) → see_made (forest names nodes.new) operand
+        ≡ made (forest names nodes.old) (atom_operand (see_word names word))) }
 {
     lay(nodes, Shape::Atom { name: word.name }, 0, 1, word.span)
 }
@@ -137,13 +138,13 @@ fn pair_name(names: &Names, kind: Kind) -> u32
 
 /// `[]` or `{}`, an atom of two words (ISO/IEC 13211-1, 6.3.1.3).
 pub fn pair(
-    nodes: &mut Vec<Node>,
+    nodes: &mut NodeList,
     names: &Names,
     first: Word,
     last: Word,
 ) -> Result<Operand, AllocError>
-    ensures { IfOk result (λ operand. see_made (forest names.now nodes.new.items) operand
-        ≡ made (forest names.now nodes.old.items) (pair_operand (see_word names.now first) (see_word names.now last))) }
+    ensures { IfOk result (λ operand. see_made (forest names.now nodes.new) operand
+        ≡ made (forest names.now nodes.old) (pair_operand (see_word names.now first) (see_word names.now last))) }
 {
     let name = pair_name(names, first.kind);
     let span = joined(first.span, last.span);
@@ -152,15 +153,15 @@ pub fn pair(
 
 /// A name with arguments in brackets (ISO/IEC 13211-1, 6.3.3), or a list without a tail (6.3.5).
 pub fn group(
-    nodes: &mut Vec<Node>,
+    nodes: &mut NodeList,
     opened: Opened,
     count: u32,
     depth: usize,
     last: Word,
 ) -> Result<Operand, AllocError>
-    ensures { IfOk result (λ operand. (names : NamesSeen) → see_made (forest names nodes.new.items) operand ≡ made
-        (without count (forest names nodes.old.items)) (group_operand (see_opened names opened)
-        (parts (parts_of count (forest names nodes.old.items) none) depth) (see_word names last))) }
+    ensures { IfOk result (λ operand. (names : NamesSeen) → see_made (forest names nodes.new) operand ≡ made
+        (without count (forest names nodes.old)) (group_operand (see_opened names opened)
+        (parts (parts_of count (forest names nodes.old) none) depth) (see_word names last))) }
 {
     let depth = depth.saturating_add(1);
     match opened {
@@ -182,16 +183,16 @@ pub fn group(
 
 /// A list with a tail behind its bar (ISO/IEC 13211-1, 6.3.5).
 pub fn tailed(
-    nodes: &mut Vec<Node>,
+    nodes: &mut NodeList,
     square: Word,
     count: u32,
     depth: usize,
     tail: Operand,
     last: Word,
 ) -> Result<Operand, AllocError>
-    ensures { IfOk result (λ operand. (names : NamesSeen) → see_made (forest names nodes.new.items) operand ≡ made
-        (without count (before_last (forest names nodes.old.items))) (tailed_operand (see_word names square)
-        (parts (parts_of count (before_last (forest names nodes.old.items)) none) depth) (see_operand (last_of (forest names nodes.old.items)) tail)
+    ensures { IfOk result (λ operand. (names : NamesSeen) → see_made (forest names nodes.new) operand ≡ made
+        (without count (before_last (forest names nodes.old))) (tailed_operand (see_word names square)
+        (parts (parts_of count (before_last (forest names nodes.old)) none) depth) (see_operand (last_of (forest names nodes.old)) tail)
         (see_word names last))) }
 {
     let depth = depth.max(tail.depth).saturating_add(1);
@@ -212,13 +213,13 @@ fn wrapped_shape(kind: Kind) -> Shape
 
 /// A term in round brackets (ISO/IEC 13211-1, 6.3.4.1) or in curly ones (6.3.6).
 pub fn wrapped(
-    nodes: &mut Vec<Node>,
+    nodes: &mut NodeList,
     first: Word,
     inner: Operand,
     last: Word,
 ) -> Result<Operand, AllocError>
-    ensures { IfOk result (λ operand. (names : NamesSeen) → see_made (forest names nodes.new.items) operand ≡ made
-        (before_last (forest names nodes.old.items)) (wrapped_operand (see_word names first) (see_operand (last_of (forest names nodes.old.items)) inner)
+    ensures { IfOk result (λ operand. (names : NamesSeen) → see_made (forest names nodes.new) operand ≡ made
+        (before_last (forest names nodes.old)) (wrapped_operand (see_word names first) (see_operand (last_of (forest names nodes.old)) inner)
         (see_word names last))) }
 {
     let depth = inner.depth.saturating_add(1);
@@ -228,14 +229,14 @@ pub fn wrapped(
 
 /// An operator before its operand (ISO/IEC 13211-1, 6.3.4.2).
 fn prefixed(
-    nodes: &mut Vec<Node>,
+    nodes: &mut NodeList,
     word: Word,
     sides: Sides,
     right: Operand,
 ) -> Result<Operand, AllocError>
-    ensures { IfOk result (λ operand. (names : NamesSeen) → see_made (forest names nodes.new.items) operand ≡ made
-        (before_last (forest names nodes.old.items)) (prefixed_operand (see_word names word) sides
-        (see_operand (last_of (forest names nodes.old.items)) right))) }
+    ensures { IfOk result (λ operand. (names : NamesSeen) → see_made (forest names nodes.new) operand ≡ made
+        (before_last (forest names nodes.old)) (prefixed_operand (see_word names word) sides
+        (see_operand (last_of (forest names nodes.old)) right))) }
 {
     let depth = right.depth.saturating_add(1);
     let span = joined(word.span, right.span);
@@ -261,17 +262,17 @@ fn infix_name(names: &Names, word: Word) -> u32
 
 /// An operator between its operands (ISO/IEC 13211-1, 6.3.4.2).
 fn infixed(
-    nodes: &mut Vec<Node>,
+    nodes: &mut NodeList,
     names: &Names,
     left: Operand,
     word: Word,
     sides: Sides,
     right: Operand,
 ) -> Result<Operand, AllocError>
-    ensures { IfOk result (λ operand. see_made (forest names.now nodes.new.items) operand ≡ made
-        (before_last (before_last (forest names.now nodes.old.items))) (infixed_operand (see_operand
-        (last_of (before_last (forest names.now nodes.old.items))) left) (see_word names.now word) sides
-        (see_operand (last_of (forest names.now nodes.old.items)) right))) }
+    ensures { IfOk result (λ operand. see_made (forest names.now nodes.new) operand ≡ made
+        (before_last (before_last (forest names.now nodes.old))) (infixed_operand (see_operand
+        (last_of (before_last (forest names.now nodes.old))) left) (see_word names.now word) sides
+        (see_operand (last_of (forest names.now nodes.old)) right))) }
 {
     let depth = left.depth.max(right.depth).saturating_add(1);
     let span = joined(left.span, right.span);
@@ -286,13 +287,13 @@ fn infixed(
 
 /// An operator behind its operand (ISO/IEC 13211-1, 6.3.4.2).
 pub fn postfixed(
-    nodes: &mut Vec<Node>,
+    nodes: &mut NodeList,
     left: Operand,
     word: Word,
     sides: Sides,
 ) -> Result<Operand, AllocError>
-    ensures { IfOk result (λ operand. (names : NamesSeen) → see_made (forest names nodes.new.items) operand ≡ made
-        (before_last (forest names nodes.old.items)) (postfixed_operand (see_operand (last_of (forest names nodes.old.items)) left)
+    ensures { IfOk result (λ operand. (names : NamesSeen) → see_made (forest names nodes.new) operand ≡ made
+        (before_last (forest names nodes.old)) (postfixed_operand (see_operand (last_of (forest names nodes.old)) left)
         (see_word names word) sides)) }
 {
     let depth = left.depth.saturating_add(1);
@@ -307,15 +308,15 @@ pub fn postfixed(
 
 /// The prefix or infix operator with its right side (ISO/IEC 13211-1, 6.3.4.2).
 pub fn build(
-    nodes: &mut Vec<Node>,
+    nodes: &mut NodeList,
     names: &Names,
     operator: Operator,
     right: Operand,
 ) -> Result<Operand, AllocError>
-    ensures { IfOk result (λ operand. see_made (forest names.now nodes.new.items) operand ≡ made
-        (without (operator_holds operator) (before_last (forest names.now nodes.old.items)))
-        (built (see_operator names.now operator (before_last (forest names.now nodes.old.items)))
-        (see_operand (last_of (forest names.now nodes.old.items)) right))) }
+    ensures { IfOk result (λ operand. see_made (forest names.now nodes.new) operand ≡ made
+        (without (operator_holds operator) (before_last (forest names.now nodes.old)))
+        (built (see_operator names.now operator (before_last (forest names.now nodes.old)))
+        (see_operand (last_of (forest names.now nodes.old)) right))) }
 {
     match operator {
         Operator::Prefix { word, sides } => prefixed(nodes, word, sides, right),

@@ -5,15 +5,15 @@ ghost use Rattle.prolog_ops.specs.Table.{ops_of};
 ghost use Rattle.prolog_terms.specs.declared.reader.ReadFault.TheVariants.{NoMemory};
 ghost use Rattle.prolog_terms.specs.ReaderSeen.{is_finished};
 ghost use Rattle.prolog_terms.specs.StackSeen.{Names as NamesSeen, see_reader};
-ghost use Rattle.prolog_terms.specs.Tree.{Tree, tree_of};
+ghost use Rattle.prolog_terms.specs.Terms.{root_tree};
+ghost use Rattle.prolog_terms.specs.Tree.{Tree};
 ghost use Rattle.prolog_terms.specs.Words.{table_of};
 ghost use Rattle.prolog_terms.specs.Clause.{ArePart, IsClauseOf, IsReadFault, IsOneClause};
 
-use crate::boxed::boxed;
 use crate::feed::{feed, waiting_floor};
+use crate::node_list::NodeList;
 use crate::operator_sides::table_law;
 use crate::state::Mode;
-use crate::term::Term;
 use crate::waiting::{Reader, Waiting};
 use crate::word::word_of;
 use prolog_names::Names;
@@ -75,8 +75,8 @@ fn is_finished(reader: &Reader) -> bool
 }
 
 /// Reads the tokens, a part of those of the text of at most 8,388,608 bytes, as one clause and its
-/// End (ISO/IEC 13211-1, 6.3). With each token comes the number of its name. What the reader has read
-/// before doesn't matter.
+/// End (ISO/IEC 13211-1, 6.3). With each token comes the number of its name. The clause is the last of
+/// the nodes. What the reader has read before doesn't matter.
 pub fn read_clause(
     alloc: Global,
     reader: &mut Reader,
@@ -85,13 +85,14 @@ pub fn read_clause(
     text: &str,
     tokens: &[Token],
     numbers: &[u32],
-) -> Result<Term, ReadFault>
+) -> Result<NodeList, ReadFault>
     requires small { length text.now ≤ MOST_BYTES }
     requires part { ArePart text.now tokens.now }
     requires clause { IsOneClause tokens.now }
     requires numbered { AreNumbered text.now names.now tokens.now numbers.now }
-    ensures ok { IfOk result (λ term. IsClauseOf (table_of (ops_of table.now)) text.now tokens.now (tree_of term)) }
-    ensures only { IfOk result (λ term. (other : Tree) → IsClauseOf (table_of (ops_of table.now)) text.now tokens.now other → other ≡ tree_of term) }
+    ensures ok { IfOk result (λ nodes. IsClauseOf (table_of (ops_of table.now)) text.now tokens.now (root_tree names.now nodes)) }
+    ensures only { IfOk result (λ nodes. (other : Tree) → IsClauseOf (table_of (ops_of table.now)) text.now tokens.now other
+        → other ≡ root_tree names.now nodes) }
     ensures none { IfErr result (λ fault. fault ≢ ReadFault.NoMemory → (other : Tree)
         → IsClauseOf (table_of (ops_of table.now)) text.now tokens.now other → ⊥) }
     ensures only_fault { IfErr result (λ fault. fault ≢ ReadFault.NoMemory → (other : ReadFault)
@@ -112,6 +113,6 @@ pub fn read_clause(
     if !is_finished(reader) {
         return Err(no_end(text));
     }
-    let clause = boxed(alloc, names, &reader.state.nodes, &mut reader.terms)?;
+    let clause = reader.state.nodes.copied(alloc)?;
     Ok(clause)
 }

@@ -1,6 +1,6 @@
 //! What is read of a clause, where no word waits.
 
-use crate::node::Node;
+use crate::node_list::NodeList;
 use crate::operand::Operand;
 use crate::stack::Stack;
 use crate::word::Word;
@@ -26,6 +26,6 @@ pub enum Mode {
 #[derive(Drop)]
 pub struct State {
     pub stack: Stack,
-    pub nodes: Vec<Node>,
+    pub nodes: NodeList,
     pub mode: Mode,
 }

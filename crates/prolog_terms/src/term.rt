@@ -1,4 +1,12 @@
-use prolog_tokens::Text;
+ghost use Rattle.std.specs.Prelude.{◌≡◌, IfOk, IfSome, map, option_map};
+ghost use Rattle.prolog_terms.specs.Tree.{count, span_of};
+ghost use Rattle.prolog_terms.specs.Views.{trees_in, only_of, pair_of, triple_of};
+ghost use Rattle.prolog_terms.specs.Terms.{kind_tree, parts_in, root_tree, tree_in, tree_of, trees_of, IsOf, IsPartsOf, AreOf};
+
+use crate::node::Shape;
+use crate::node_list::NodeList;
+use prolog_names::Names;
+use std::alloc::{AllocError, Global};
 
 /// From the start of a term's first token to the end of its last, as byte offsets.
 #[derive(Clone, Copy, Debug, PartialEq, Eq)]
@@ -25,40 +33,208 @@ pub enum ConstKind {
     BackStr,
 }
 
-/// A term as it is written. `[]` and `{}` are atoms; `value` is that of an integer, where it
-/// is at most 4,294,967,295.
-#[derive(Drop)]
-pub enum Term {
-    Var {
-        span: Span,
-    },
+/// A term as it is written: the last of so many nodes of a list, with its parts before it. The names
+/// are those of its text.
+#[derive(Clone, Copy)]
+pub struct Term<'a> {
+    pub names: &'a Names,
+    pub nodes: &'a NodeList,
+    pub end: usize,
+}
+
+/// Terms that stand side by side in a term: the last ones of so many nodes of a list, as many as are
+/// counted.
+#[derive(Clone, Copy)]
+pub struct Parts<'a> {
+    pub names: &'a Names,
+    pub nodes: &'a NodeList,
+    pub end: usize,
+    pub count: u32,
+}
+
+/// What a term is. `[]` and `{}` are atoms; `value` is that of an integer, where it is at most
+/// 4,294,967,295.
+#[derive(Clone, Copy)]
+pub enum TermKind<'a> {
+    Var,
     Const {
         kind: ConstKind,
         minus: bool,
         value: Option<u32>,
-        span: Span,
     },
     Atom {
-        name: Text,
-        span: Span,
+        name: &'a str,
     },
     Compound {
-        name: Text,
-        args: Vec<Term>,
+        name: &'a str,
+        args: Parts<'a>,
         form: Form,
-        span: Span,
     },
     List {
-        items: Vec<Term>,
-        tail: Option<Box<Term>>,
-        span: Span,
+        items: Parts<'a>,
+    },
+    Tailed {
+        items: Parts<'a>,
+        tail: Term<'a>,
     },
     Curly {
-        inner: Box<Term>,
-        span: Span,
+        inner: Term<'a>,
     },
     Paren {
-        inner: Box<Term>,
-        span: Span,
+        inner: Term<'a>,
     },
+}
+
+impl<'a> Term<'a> {
+    /// The term of the last node.
+    pub fn root(names: &'a Names, nodes: &'a NodeList) -> Term<'a>
+        ensures tree { tree_of result ≡ root_tree names.now nodes.now }
+        ensures within { IsOf names.now nodes.now result }
+    {
+        Term {
+            names,
+            nodes,
+            end: nodes.len(),
+        }
+    }
+
+    /// Where the term stands, its brackets included.
+    pub fn span(&self) -> Span
+        ensures { result ≡ span_of (tree_of self.now) }
+    {
+        match self.nodes.last(self.end) {
+            Some((node, _before)) => node.span,
+            None => Span { from: 0, to: 0 },
+        }
+    }
+
+    /// The parts of a term, as many as are counted, and so many nodes before its own.
+    fn parts(&self, end: usize, count: u32) -> Parts<'a>
+        ensures trees { trees_of result ≡ parts_in self.now.names.now self.now.nodes.now end count }
+        ensures within { IsPartsOf self.now.names.now self.now.nodes.now result }
+    {
+        Parts {
+            names: self.names,
+            nodes: self.nodes,
+            end,
+            count,
+        }
+    }
+
+    /// The term that is the last of so many nodes.
+    fn part(&self, end: usize) -> Term<'a>
+        ensures tree { tree_of result ≡ tree_in self.now.names.now self.now.nodes.now end }
+        ensures within { IsOf self.now.names.now self.now.nodes.now result }
+    {
+        Term {
+            names: self.names,
+            nodes: self.nodes,
+            end,
+        }
+    }
+
+    /// What the term is, with its parts, which are of the same nodes.
+    pub fn kind(&self) -> TermKind<'a>
+        ensures tree { kind_tree result (span_of (tree_of self.now)) ≡ tree_of self.now }
+        ensures within { AreOf self.now.names.now self.now.nodes.now result }
+    {
+        let Some((node, before)) = self.nodes.last(self.end) else {
+            return TermKind::Var;
+        };
+        match node.shape {
+            Shape::Var => TermKind::Var,
+            Shape::Const { kind, minus, value } => TermKind::Const { kind, minus, value },
+            Shape::Atom { name } => TermKind::Atom {
+                name: self.names.text(name),
+            },
+            Shape::Compound { name, count, form } => TermKind::Compound {
+                name: self.names.text(name),
+                args: self.parts(before, count),
+                form,
+            },
+            Shape::List { count } => TermKind::List {
+                items: self.parts(before, count),
+            },
+            Shape::Tailed { count } => TermKind::Tailed {
+                items: self.parts(self.nodes.before(before), count),
+                tail: self.part(before),
+            },
+            Shape::Curly => TermKind::Curly {
+                inner: self.part(before),
+            },
+            Shape::Paren => TermKind::Paren {
+                inner: self.part(before),
+            },
+        }
+    }
+}
+
+impl<'a> Parts<'a> {
+    /// How many terms there are.
+    pub fn len(&self) -> usize
+        ensures { result ≡ count (trees_of self.now) }
+    {
+        self.count as usize
+    }
+
+    /// The terms in their order.
+    pub fn to_vec(&self, alloc: Global) -> Result<Vec<Term<'a>>, AllocError>
+        ensures { IfOk result (λ terms. map tree_of terms.items ≡ trees_in (trees_of self.now)) }
+    {
+        let mut terms = Vec::with_capacity(alloc, self.count as usize)?;
+        let mut end = self.end;
+        for _part in 0..self.count {
+            terms.push(self.part(end))?;
+            end = self.nodes.before(end);
+        }
+        terms.reverse();
+        Ok(terms)
+    }
+
+    /// The term that is the last of so many nodes.
+    fn part(&self, end: usize) -> Term<'a>
+        ensures tree { tree_of result ≡ tree_in self.now.names.now self.now.nodes.now end }
+        ensures within { IsOf self.now.names.now self.now.nodes.now result }
+    {
+        Term {
+            names: self.names,
+            nodes: self.nodes,
+            end,
+        }
+    }
+
+    /// The term, where it is the only one.
+    pub fn only(&self) -> Option<Term<'a>>
+        ensures tree { option_map tree_of result ≡ only_of (trees_of self.now) }
+        ensures within { IfSome result (IsOf self.now.names.now self.now.nodes.now) }
+    {
+        if self.count != 1 {
+            return None;
+        }
+        Some(self.part(self.end))
+    }
+
+    /// The two terms, where there are two.
+    pub fn pair(&self) -> Option<(Term<'a>, Term<'a>)>
+        ensures trees { option_map (λ pair. (tree_of pair.0, tree_of pair.1)) result ≡ pair_of (trees_of self.now) }
+        ensures within { IfSome result (λ pair. IsOf self.now.names.now self.now.nodes.now pair.0 × IsOf self.now.names.now self.now.nodes.now pair.1) }
+    {
+        if self.count != 2 {
+            return None;
+        }
+        let left = self.part(self.nodes.before(self.end));
+        Some((left, self.part(self.end)))
+    }
+
+    /// The three terms, where there are three.
+    pub fn triple(&self) -> Option<(Term<'a>, Term<'a>, Term<'a>)>
+        ensures { option_map (λ three. (tree_of three.0, tree_of three.1, tree_of three.2)) result ≡ triple_of (trees_of self.now) }
+    {
+        if self.count != 3 {
+            return None;
+        }
+        let second = self.nodes.before(self.end);
+        let first = self.nodes.before(second);
+        Some((self.part(first), self.part(second), self.part(self.end)))
+    }
 }

@@ -4,10 +4,10 @@ ghost use Rattle.std.specs.Prelude.{◌≡◌, []};
 ghost use Rattle.prolog_terms.specs.ReaderSeen.{ready_seen, wants};
 ghost use Rattle.prolog_terms.specs.StackSeen.{Names as NamesSeen, see_reader};
 
+use crate::node_list::NodeList;
 use crate::operator_sides::Sides;
 use crate::stack::Stack;
 use crate::state::{Mode, State};
-use crate::term::Term;
 use crate::word::Word;
 use std::alloc::Global;
 
@@ -37,8 +37,6 @@ pub enum Waiting {
 pub struct Reader {
     pub(crate) state: State,
     pub(crate) waiting: Waiting,
-    /// Where the terms of nodes are made.
-    pub(crate) terms: Vec<Term>,
 }
 
 impl Reader {
@@ -46,11 +44,10 @@ impl Reader {
         Reader {
             state: State {
                 stack: Stack::new(alloc),
-                nodes: Vec::new(alloc),
+                nodes: NodeList::new(alloc),
                 mode: Mode::Want,
             },
             waiting: Waiting::Nothing,
-            terms: Vec::new(alloc),
         }
     }
 

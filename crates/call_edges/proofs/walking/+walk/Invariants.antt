@@ -1,5 +1,6 @@
 use Rattle.std.proofs.Common.{map}
-use Rattle.prolog_terms.specs.Tree.{tree_of, depth}
+use Rattle.prolog_terms.specs.Tree.{depth}
+use Rattle.prolog_terms.specs.Terms.{tree_of}
 use Rattle.import_rules.specs.Program.{see_program}
 use Rattle.call_edges.specs.ProgramRows.{rows_of}
 use Rattle.call_edges.specs.Meant.{AreMeant}

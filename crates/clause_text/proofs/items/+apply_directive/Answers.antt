@@ -1,6 +1,6 @@
 use Rattle.std.proofs.Common.{codes, Err, ap, sym, ◌∙◌, arith}
 use Rattle.prolog_ops.specs.Table.{ops_of}
-use Rattle.prolog_terms.specs.Tree.{tree_of}
+use Rattle.prolog_terms.specs.Terms.{tree_of}
 use Rattle.prolog_terms.proofs.ViewLemmas.{AreBelow, sides_below}
 use Rattle.clause_text.specs.Items.{item_on, items_on, directive_items}
 use Rattle.clause_text.proofs.EachOn.{each_then, each_stops}

@@ -1,5 +1,5 @@
 use Rattle.std.proofs.Common.{codes, ap, sym, ◌∙◌, arith}
-use Rattle.prolog_terms.specs.Tree.{tree_of}
+use Rattle.prolog_terms.specs.Terms.{tree_of}
 use Rattle.prolog_terms.proofs.ViewLemmas.{AreBelow, sides_below}
 use Rattle.clause_text.specs.Items.{has_some, directive_items}
 use Rattle.clause_text.proofs.HasItems.{some_first, some_behind}

@@ -1,6 +1,6 @@
 use Rattle.std.proofs.Common.{ap, sym, ◌∙◌}
 use Rattle.prolog_ops.specs.Table.{ops_of}
-use Rattle.prolog_terms.specs.Tree.{tree_of}
+use Rattle.prolog_terms.specs.Terms.{tree_of}
 use Rattle.clause_text.specs.Items.{items_on, items_by, item_of}
 use Rattle.clause_text.proofs.Outcomes.{ok_only}
 use Rattle.clause_text.proofs.items.apply_goal.Goals as goal

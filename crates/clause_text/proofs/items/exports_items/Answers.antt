@@ -2,7 +2,7 @@ use Rattle.std.proofs.Common.{is_some, filter_map, ap, ◌∙◌, rules, tests}
 use Rattle.std.proofs.lemmas.Iterator.{YieldsList-from_slice}
 use Rattle.std.proofs.lemmas.Iterator.Search.{any_from_yields_List}
 use Rattle.prolog_terms.specs.declared.term.Term.{Term}
-use Rattle.prolog_terms.specs.Tree.{tree_of}
+use Rattle.prolog_terms.specs.Terms.{tree_of}
 use Rattle.clause_text.specs.Items.{item_of, has_some}
 use Rattle.clause_text.proofs.HasItems.{some_listed}
 use Rattle.clause_text.proofs.items.exports_items.Goals as goal

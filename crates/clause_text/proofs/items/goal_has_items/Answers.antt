@@ -1,5 +1,5 @@
 use Rattle.std.proofs.Common.{ap, ◌∙◌}
-use Rattle.prolog_terms.specs.Tree.{tree_of}
+use Rattle.prolog_terms.specs.Terms.{tree_of}
 use Rattle.clause_text.specs.Items.{has_some, items_by, item_of}
 use Rattle.clause_text.proofs.HasItems.{some_alone}
 use Rattle.clause_text.proofs.items.goal_has_items.Goals as goal

@@ -2,7 +2,7 @@ use Rattle.std.proofs.Common.{Err, List, filter_map, map, ap, sym, ◌∙◌}
 use Rattle.std.proofs.lemmas.List.{take_all}
 use Rattle.prolog_ops.specs.Table.{ops_of}
 use Rattle.prolog_terms.specs.declared.term.Term.{Term}
-use Rattle.prolog_terms.specs.Tree.{tree_of}
+use Rattle.prolog_terms.specs.Terms.{tree_of}
 use Rattle.clause_text.specs.Items.{each_on, name_on, name_of}
 use Rattle.clause_text.proofs.Outcomes.{on_err}
 use Rattle.clause_text.proofs.SetNames.{more_done, more_refused}

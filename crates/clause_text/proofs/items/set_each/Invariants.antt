@@ -1,6 +1,6 @@
 use Rattle.std.proofs.Common.{◌≡◌, Ok, filter_map, map, take}
 use Rattle.prolog_ops.specs.Table.{ops_of}
-use Rattle.prolog_terms.specs.Tree.{tree_of}
+use Rattle.prolog_terms.specs.Terms.{tree_of}
 use Rattle.clause_text.specs.Items.{each_on, name_on, name_of}
 use Rattle.clause_text.proofs.items.set_each.Given as goal
 

@@ -1,6 +1,6 @@
 use Rattle.prolog_ops.specs.Table.{ops_of}
 use Rattle.clause_text.specs.Items.{name_of}
-use Rattle.prolog_terms.specs.Tree.{tree_of}
+use Rattle.prolog_terms.specs.Terms.{tree_of}
 use Rattle.clause_text.proofs.SetNames.{name_set}
 use Rattle.clause_text.proofs.items.set_name.Goals as goal
 

@@ -1,7 +1,7 @@
 -- The clauses of the next piece come behind the others, and then what ends it.
 use Rattle.std.proofs.Common.{◌≡◌, ◌∷◌, [], ◌++◌, Result, Ok, Err, is_ok, is_err, true, false, refl, ap, sym, ◌∙◌, subst, arith}
 use Rattle.prolog_ops.specs.Table.{ops_of}
-use Rattle.prolog_terms.specs.Tree.{tree_of}
+use Rattle.prolog_terms.specs.Terms.{tree_of}
 use Rattle.clause_text.specs.Items.{items_of, items_on}
 use Rattle.clause_text.specs.Clauses.{clause_trees}
 use Rattle.clause_text.specs.Pieces.{AreAdded}

@@ -2,7 +2,7 @@ use Rattle.std.proofs.Common.{◌≡◌, ◌++◌, ◌∷◌, [], ap, sym, ◌�
 use Rattle.std.proofs.lemmas.List.{map-append}
 use Rattle.prolog_names.specs.Numbers.{AreNumbered}
 use Rattle.prolog_ops.specs.Table.{ops_of}
-use Rattle.prolog_terms.specs.Tree.{tree_of}
+use Rattle.prolog_terms.specs.Terms.{tree_of}
 use Rattle.clause_text.specs.declared.Clause.{Clause}
 use Rattle.clause_text.specs.Items.{items_of}
 use Rattle.clause_text.specs.Clauses.{clause_trees, fault_of_clauses}

@@ -1,5 +1,5 @@
 use Rattle.std.proofs.Common.{◌∙◌, map, ap}
-use Rattle.prolog_terms.specs.Tree.{tree_of}
+use Rattle.prolog_terms.specs.Terms.{tree_of}
 use Rattle.prolog_terms.specs.Views.{inside}
 use Rattle.clause_text.proofs.TermShapes.{listed_seen}
 use Rattle.clause_text.proofs.terms.listed.Goals as goal

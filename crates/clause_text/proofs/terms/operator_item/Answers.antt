@@ -1,7 +1,8 @@
 use Rattle.std.proofs.Common.{◌≡◌, ◌≢◌, true, length, map, sym, ◌∙◌, ap, arith, codes}
 use Rattle.std.proofs.lemmas.List.{length-map}
 use Rattle.std.specs.Str.{bytes_eq}
-use Rattle.prolog_terms.specs.Tree.{tree_of, compound, trees_from}
+use Rattle.prolog_terms.specs.Tree.{compound, trees_from}
+use Rattle.prolog_terms.specs.Terms.{tree_of}
 use Rattle.prolog_terms.proofs.ViewLemmas.{is_true, read_tree, compound_seen}
 use Rattle.clause_text.specs.Items.{item_at}
 use Rattle.clause_text.proofs.TermShapes.{not_three, three_parts}

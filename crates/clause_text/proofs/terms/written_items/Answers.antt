@@ -1,6 +1,6 @@
 use Rattle.std.proofs.Common.{Some, map, sym, ◌∙◌, ap}
 use Rattle.prolog_terms.specs.declared.term.Term.TheVariants.{List as list_term}
-use Rattle.prolog_terms.specs.Tree.{tree_of}
+use Rattle.prolog_terms.specs.Terms.{tree_of}
 use Rattle.prolog_terms.proofs.ViewLemmas.{trees_back, list_seen}
 use Rattle.clause_text.specs.Lists.{written_at}
 use Rattle.clause_text.proofs.terms.written_items.Goals as goal

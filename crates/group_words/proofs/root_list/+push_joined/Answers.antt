@@ -1,7 +1,7 @@
 use Rattle.std.proofs.Common.{◌≡◌, ◌∙◌, ◌∷◌, [], map, ap, sym, subst, true, arith, codes}
 use Rattle.std.proofs.lemmas.List.{map-append}
 use Rattle.std.proofs.lemmas.Result.{IfOk-weaker}
-use Rattle.prolog_terms.specs.Tree.{tree_of}
+use Rattle.prolog_terms.specs.Terms.{tree_of}
 use Rattle.prolog_terms.specs.Views.{inside, joined}
 use Rattle.prolog_terms.proofs.ViewLemmas.{AreBelow, sides_below, joined_sides, joined_alone, inside_once}
 use Rattle.prolog_terms.specs.Tree.{Tree}

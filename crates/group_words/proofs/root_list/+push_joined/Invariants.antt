@@ -1,4 +1,5 @@
-use Rattle.prolog_terms.specs.Tree.{tree_of, depth}
+use Rattle.prolog_terms.specs.Tree.{depth}
+use Rattle.prolog_terms.specs.Terms.{tree_of}
 use Rattle.group_words.proofs.root_list.+push_joined.Given as goal
 
 abbrev pub decreases-push_joined : goal.decreases-push_joined

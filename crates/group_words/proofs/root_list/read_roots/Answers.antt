@@ -1,4 +1,4 @@
-use Rattle.prolog_terms.specs.Tree.{tree_of}
+use Rattle.prolog_terms.specs.Terms.{tree_of}
 use Rattle.group_words.proofs.RootLists.{not_all_there}
 use Rattle.group_words.proofs.root_list.read_roots.Goals as goal
 

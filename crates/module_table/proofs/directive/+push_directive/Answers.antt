@@ -1,5 +1,5 @@
 use Rattle.std.proofs.Common.{◌≡◌, [], false, sym, ◌∙◌, ap, subst, arith, codes}
-use Rattle.prolog_terms.specs.Tree.{tree_of}
+use Rattle.prolog_terms.specs.Terms.{tree_of}
 use Rattle.std.specs.Prelude.{Ok}
 use Rattle.std.proofs.lemmas.Result.{err_from_is_err_and, on_ok_weaker, IfErr-weaker}
 use Rattle.module_table.specs.Said.{IsWhy, goal as goal_said}

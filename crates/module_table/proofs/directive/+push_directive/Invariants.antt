@@ -1,4 +1,5 @@
-use Rattle.prolog_terms.specs.Tree.{tree_of, depth}
+use Rattle.prolog_terms.specs.Tree.{depth}
+use Rattle.prolog_terms.specs.Terms.{tree_of}
 use Rattle.module_table.proofs.directive.+push_directive.Given as goal
 
 abbrev pub decreases-push_directive : goal.decreases-push_directive

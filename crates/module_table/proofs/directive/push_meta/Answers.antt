@@ -1,5 +1,5 @@
 use Rattle.std.proofs.Common.{Ok, sym, ap, ◌∙◌}
-use Rattle.prolog_terms.specs.Tree.{tree_of}
+use Rattle.prolog_terms.specs.Terms.{tree_of}
 use Rattle.module_table.specs.Metas.{takes_of}
 use Rattle.module_table.specs.Kinds.{see_kinds}
 use Rattle.module_table.proofs.KindLemmas.{takes_on}

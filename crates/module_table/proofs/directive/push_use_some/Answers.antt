@@ -1,5 +1,5 @@
 use Rattle.std.proofs.Common.{◌≡◌, [], Ok, Err, ap, ◌∙◌, subst}
-use Rattle.prolog_terms.specs.Tree.{tree_of}
+use Rattle.prolog_terms.specs.Terms.{tree_of}
 use Rattle.module_table.specs.declared.load.LoadKind.TheVariants.{UseSome}
 use Rattle.module_table.specs.Said.{Refusal, in_turn}
 use Rattle.module_table.specs.Kinds.{see_kinds, with_said}

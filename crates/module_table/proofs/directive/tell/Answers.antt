@@ -1,6 +1,7 @@
 use Rattle.std.proofs.Common.{◌≡◌, ◌≢◌, length, map, refl, sym, ◌∙◌, ap, subst, arith}
 use Rattle.std.proofs.lemmas.List.{length-map}
-use Rattle.prolog_terms.specs.Tree.{tree_of, compound, listed, trees_from}
+use Rattle.prolog_terms.specs.Tree.{compound, listed, trees_from}
+use Rattle.prolog_terms.specs.Terms.{tree_of}
 use Rattle.prolog_terms.proofs.ViewLemmas.{compound_seen, list_seen, trees_back}
 use Rattle.std.specs.Prelude.{IfOk, IfErr, Ok}
 use Rattle.std.proofs.lemmas.Result.{err_from_is_err_and, IfOk-weaker}

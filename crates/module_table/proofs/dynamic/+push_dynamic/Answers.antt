@@ -2,7 +2,8 @@ use Rattle.std.proofs.Common.{◌≡◌, ◌<◌, [], Ok, get_or, map, take, sym
 use Rattle.std.specs.Prelude.{IfErr, OnOk}
 use Rattle.std.proofs.lemmas.List.{length-map, take_all}
 use Rattle.std.proofs.lemmas.Result.{err_from_is_err_and, on_ok_weaker, IfErr-weaker}
-use Rattle.prolog_terms.specs.Tree.{tree_of, depth}
+use Rattle.prolog_terms.specs.Tree.{depth}
+use Rattle.prolog_terms.specs.Terms.{tree_of}
 use Rattle.prolog_terms.proofs.ViewLemmas.{AreBelow, sides_below, read_tree}
 use Rattle.module_table.specs.declared.dynamic.Standing.TheVariants.{Joint, Item}
 use Rattle.module_table.specs.Said.{IsWhy, each_said}

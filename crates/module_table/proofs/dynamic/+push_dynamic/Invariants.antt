@@ -1,5 +1,6 @@
 use Rattle.std.proofs.Common.{◌≡◌, Ok, map, take}
-use Rattle.prolog_terms.specs.Tree.{tree_of, depth}
+use Rattle.prolog_terms.specs.Tree.{depth}
+use Rattle.prolog_terms.specs.Terms.{tree_of}
 use Rattle.module_table.specs.declared.dynamic.Standing.TheVariants.{Item}
 use Rattle.module_table.specs.Said.{each_said}
 use Rattle.module_table.specs.Kinds.{see_kinds, with_said}

@@ -1,4 +1,5 @@
-use Rattle.prolog_terms.specs.Tree.{tree_of, depth}
+use Rattle.prolog_terms.specs.Tree.{depth}
+use Rattle.prolog_terms.specs.Terms.{tree_of}
 use Rattle.module_table.proofs.head.+behind_modules.Given as goal
 
 abbrev pub decreases-behind_modules : goal.decreases-behind_modules

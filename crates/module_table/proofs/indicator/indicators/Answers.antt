@@ -1,6 +1,6 @@
 use Rattle.std.proofs.Common.{[], map, take, ap, ◌∙◌}
 use Rattle.std.proofs.lemmas.Result.{err_from_is_err_and}
-use Rattle.prolog_terms.specs.Tree.{tree_of}
+use Rattle.prolog_terms.specs.Terms.{tree_of}
 use Rattle.module_table.specs.Said.{in_turn}
 use Rattle.module_table.specs.Indicators.{indicators, one_indicator}
 use Rattle.module_table.proofs.SaidLemmas.{each_step, each_stops, more_none}

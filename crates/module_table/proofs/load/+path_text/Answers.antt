@@ -1,6 +1,6 @@
 use Rattle.std.proofs.Common.{◌≡◌, ◌++◌, Some, None, option_map, ap, sym, ◌∙◌, arith, codes}
 use Rattle.std.specs.String.{string_bytes}
-use Rattle.prolog_terms.specs.Tree.{tree_of}
+use Rattle.prolog_terms.specs.Terms.{tree_of}
 use Rattle.module_table.specs.Loading.{both_texts, path_text}
 use Rattle.prolog_terms.proofs.ViewLemmas.{AreBelow, sides_below}
 use Rattle.module_table.proofs.Parts.{path_sides, path_alone, path_atom}

@@ -1,4 +1,5 @@
-use Rattle.prolog_terms.specs.Tree.{tree_of, depth}
+use Rattle.prolog_terms.specs.Tree.{depth}
+use Rattle.prolog_terms.specs.Terms.{tree_of}
 use Rattle.module_table.proofs.load.+path_text.Given as goal
 
 abbrev pub decreases-path_text : goal.decreases-path_text

@@ -1,6 +1,6 @@
 use Rattle.std.proofs.Common.{◌≡◌, [], Ok, map, take, ap, ◌∙◌, subst}
 use Rattle.std.proofs.lemmas.Result.{err_from_is_err_and}
-use Rattle.prolog_terms.specs.Tree.{tree_of}
+use Rattle.prolog_terms.specs.Terms.{tree_of}
 use Rattle.module_table.specs.Said.{IsWhy}
 use Rattle.module_table.specs.Kinds.{see_kinds, with_said}
 use Rattle.module_table.specs.Loading.{load_said, loads_said}

@@ -1,5 +1,5 @@
 use Rattle.std.proofs.Common.{◌≡◌, Ok, map, take}
-use Rattle.prolog_terms.specs.Tree.{tree_of}
+use Rattle.prolog_terms.specs.Terms.{tree_of}
 use Rattle.module_table.specs.Kinds.{see_kinds, with_said}
 use Rattle.module_table.specs.Loading.{loads_said}
 use Rattle.module_table.proofs.load.push_loads.Given as goal

@@ -2,7 +2,8 @@ use Rattle.std.proofs.Common.{◌≡◌, ◌++◌, [], ◌∷◌, List, Some, No
 use Rattle.std.proofs.lemmas.List.{take_all}
 use Rattle.std.proofs.lemmas.Result.{on_ok_weaker}
 use Rattle.prolog_terms.specs.declared.term.Term.TheVariants.{List as list_term}
-use Rattle.prolog_terms.specs.Tree.{tree_of, depth, deepest, compound, listed, trees_from}
+use Rattle.prolog_terms.specs.Tree.{depth, deepest, compound, listed, trees_from}
+use Rattle.prolog_terms.specs.Terms.{tree_of}
 use Rattle.prolog_terms.specs.Views.{trees_in}
 use Rattle.prolog_terms.proofs.ViewLemmas.{AreBelow, sides_below, atom_seen, compound_seen, list_seen, tailed_seen, curly_seen, paren_seen, trees_back}
 use Rattle.module_table.specs.Metas.{Declaration, goal_arg, taking, see_meta, takes_of, all_takes}

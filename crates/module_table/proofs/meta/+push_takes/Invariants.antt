@@ -1,5 +1,6 @@
 use Rattle.std.proofs.Common.{◌≡◌, ◌++◌, map, take}
-use Rattle.prolog_terms.specs.Tree.{tree_of, depth, trees_from}
+use Rattle.prolog_terms.specs.Tree.{depth, trees_from}
+use Rattle.prolog_terms.specs.Terms.{tree_of}
 use Rattle.module_table.specs.Metas.{all_takes, see_meta}
 use Rattle.module_table.proofs.meta.+push_takes.Given as goal
 

@@ -1,5 +1,5 @@
 use Rattle.std.proofs.Common.{◌≡◌, map, take}
-use Rattle.prolog_terms.specs.Tree.{tree_of}
+use Rattle.prolog_terms.specs.Terms.{tree_of}
 use Rattle.module_table.specs.Metas.{goal_arg}
 use Rattle.module_table.proofs.meta.goal_args.Given as goal
 

@@ -1,6 +1,7 @@
 use Rattle.std.proofs.Common.{◌≡◌, List, [], Ok, true, false, Some, map, take, ap, sym, ◌∙◌, subst, refl}
 use Rattle.std.proofs.lemmas.Result.{err_from_is_err_and}
-use Rattle.prolog_terms.specs.Tree.{Tree, tree_of}
+use Rattle.prolog_terms.specs.Tree.{Tree}
+use Rattle.prolog_terms.specs.Terms.{tree_of}
 use Rattle.module_table.specs.Said.{more, in_turn, each_said, IsWhy}
 use Rattle.module_table.specs.Indicators.{one_indicator, list_of}
 use Rattle.module_table.specs.Directives.{is_operator, item_exports, exports, exports_of}

@@ -1,5 +1,5 @@
 use Rattle.std.proofs.Common.{◌≡◌, Ok, map, take}
-use Rattle.prolog_terms.specs.Tree.{tree_of}
+use Rattle.prolog_terms.specs.Terms.{tree_of}
 use Rattle.module_table.specs.Said.{each_said}
 use Rattle.module_table.specs.Directives.{item_exports}
 use Rattle.module_table.proofs.module_directive.exports.Given as goal

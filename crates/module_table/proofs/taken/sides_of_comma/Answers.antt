@@ -1,6 +1,7 @@
 use Rattle.std.proofs.Common.{◌≡◌, is_some, true, length, map, subst, arith, codes}
 use Rattle.std.proofs.lemmas.List.{length-map}
-use Rattle.prolog_terms.specs.Tree.{tree_of, compound, trees_from}
+use Rattle.prolog_terms.specs.Tree.{compound, trees_from}
+use Rattle.prolog_terms.specs.Terms.{tree_of}
 use Rattle.prolog_terms.proofs.ViewLemmas.{compound_seen, sides_count}
 use Rattle.prolog_terms.specs.Views.{sides_at}
 use Rattle.module_table.proofs.taken.sides_of_comma.Goals as goal

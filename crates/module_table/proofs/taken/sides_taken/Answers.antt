@@ -1,5 +1,5 @@
 use Rattle.std.proofs.Common.{◌≡◌, is_some, sym, ◌∙◌, ap, codes}
-use Rattle.prolog_terms.specs.Tree.{tree_of}
+use Rattle.prolog_terms.specs.Terms.{tree_of}
 use Rattle.prolog_terms.specs.Views.{inside, sides_at, sides_of}
 use Rattle.prolog_terms.proofs.ViewLemmas.{inside_once}
 use Rattle.module_table.proofs.Shapes.{same_test, sides_moved}

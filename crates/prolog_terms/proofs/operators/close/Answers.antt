@@ -9,7 +9,7 @@ loop-operator-preserved c =
     let names = c.args.names.now in
     let state = c.loop-operator.state in
     closed_built names (innermost state.stack) (innermost c.pop_operator.new.self) c.in-Some.operator c.in-Some.ensures.0 c.in-Some.ensures.1
-    (trees_in names state) (forest names c.build.new.nodes.items) c.loop-operator.last c.in_ok-last.last c.in-Some.ensures.2 c.in_ok-last.ensures
+    (trees_in names state) (forest names c.build.new.nodes) c.loop-operator.last c.in_ok-last.last c.in-Some.ensures.2 c.in_ok-last.ensures
     ∙ c.loop-operator.invariant
 
 pub loop-operator-smaller : goal.loop-operator-smaller

@@ -9,7 +9,7 @@ loop-operator-preserved c =
     let names = c.args.names.now in
     let state = c.loop-operator.state in
     reduced_built names c.args.priority (innermost state.stack) (innermost c.pop_operator_below.new.self) c.in-Some.operator c.in-Some.ensures.0 c.in-Some.ensures.1
-    (trees_in names state) (forest names c.build.new.nodes.items) c.loop-operator.left c.in_ok-left.left c.in-Some.ensures.2
+    (trees_in names state) (forest names c.build.new.nodes) c.loop-operator.left c.in_ok-left.left c.in-Some.ensures.2
     (c.in-Some.ensures.3 names (before_last (trees_in names state))) c.in_ok-left.ensures
     ∙ c.loop-operator.invariant
 

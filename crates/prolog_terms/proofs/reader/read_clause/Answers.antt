@@ -5,11 +5,10 @@ use Rattle.prolog_ops.specs.Table.{ops_of}
 use Rattle.prolog_tokens.specs.declared.token.Token.{Token}
 use Rattle.prolog_tokens.specs.declared.token.Kind.TheVariants.{Name}
 use Rattle.prolog_terms.specs.Words.{table_of}
-use Rattle.prolog_terms.specs.Tree.{tree_of}
-use Rattle.prolog_terms.specs.Forest.{last_of, forest}
+use Rattle.prolog_terms.specs.Terms.{root_tree}
 use Rattle.prolog_terms.specs.StackSeen.{innermost, trees_in, see_word, see_reader}
 use Rattle.prolog_terms.proofs.Entries.{some_of, none_of}
-use Rattle.prolog_terms.proofs.Parts.{part_spelled, part_few}
+use Rattle.prolog_terms.proofs.PartsMade.{part_spelled, part_few}
 use Rattle.prolog_terms.proofs.ReaderFinished.{finished_with}
 use Rattle.prolog_terms.proofs.ReaderTables.{table_is}
 use Rattle.prolog_terms.proofs.ReadClause.{HasRead, read_nothing, read_more, front_is, stuck, deep, finished_read, unfinished_read}
@@ -131,8 +130,8 @@ returns-clause-ok c =
     let names = c.args.names.now in
     let done = finished_with names (innermost reader.state.stack) (trees_in names reader.state) reader.state.mode reader.waiting (sym (c.is_finished.ensures names) ∙ c.if-not-is_finished.false) in
     (finished_read (table_of (ops_of c.args.table.now)) (table_is (ops_of c.args.table.now) c.table_law.ensures) c.args.text.now c.args.tokens.now c.loop-at.at
-    (see_reader names reader) done.stack done.operand (tree_of c.in_ok-clause.clause) c.loop-at-test.false c.loop-at.invariant done.is
-    (done.tree_is ∙ sym (c.in_ok-clause.ensures ∙ ap (λ nodes. last_of (forest names nodes)) c.deref.ensures.value))).is
+    (see_reader names reader) done.stack done.operand (root_tree names c.in_ok-clause.clause) c.loop-at-test.false c.loop-at.invariant done.is
+    (done.tree_is ∙ sym (ap (root_tree names) c.in_ok-clause.ensures))).is
 
 pub returns-clause-only : goal.returns-clause-only
 returns-clause-only c =
@@ -140,5 +139,5 @@ returns-clause-only c =
     let names = c.args.names.now in
     let done = finished_with names (innermost reader.state.stack) (trees_in names reader.state) reader.state.mode reader.waiting (sym (c.is_finished.ensures names) ∙ c.if-not-is_finished.false) in
     (finished_read (table_of (ops_of c.args.table.now)) (table_is (ops_of c.args.table.now) c.table_law.ensures) c.args.text.now c.args.tokens.now c.loop-at.at
-    (see_reader names reader) done.stack done.operand (tree_of c.in_ok-clause.clause) c.loop-at-test.false c.loop-at.invariant done.is
-    (done.tree_is ∙ sym (c.in_ok-clause.ensures ∙ ap (λ nodes. last_of (forest names nodes)) c.deref.ensures.value))).only
+    (see_reader names reader) done.stack done.operand (root_tree names c.in_ok-clause.clause) c.loop-at-test.false c.loop-at.invariant done.is
+    (done.tree_is ∙ sym (ap (root_tree names) c.in_ok-clause.ensures))).only

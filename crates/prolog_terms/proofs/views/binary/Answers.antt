@@ -1,24 +1,14 @@
-use Rattle.std.proofs.Common.{◌≡◌, ◌≢◌, Some, length, map, sym, ◌∙◌, ap, arith}
-use Rattle.std.proofs.lemmas.List.{length-map}
-use Rattle.prolog_terms.specs.Tree.{tree_of}
+use Rattle.std.proofs.Common.{ap, sym, ◌∙◌}
+use Rattle.std.specs.Prelude.{option_map}
+use Rattle.prolog_terms.specs.Tree.{Tree, span_of}
+use Rattle.prolog_terms.specs.Terms.{tree_of, trees_of}
 use Rattle.prolog_terms.specs.Views.{binary_at}
-use Rattle.prolog_terms.proofs.ViewLemmas.{read_tree, compound_seen, not_two, two_sides}
+use Rattle.prolog_terms.proofs.SizedNodes.{binary_by}
 use Rattle.prolog_terms.proofs.views.binary.Goals as goal
 
-pub returns-then-len-ne2 : goal.returns-then-len-ne2
-returns-then-len-ne2 c =
+pub returns-clause-trees : goal.returns-clause-trees
+returns-clause-trees c =
     let v = c.in-Compound in
-    let parts = map tree_of v.args.items in
-    let count : length parts ≢ 2 = λ both. c.if-len-ne2.true (omega (arith, both, length-map v.args.items tree_of, v.args.ok, c.len.ensures)) in
-    sym (ap binary_at (sym c.inside.ensures ∙ compound_seen c.inside.result.now v.name v.args v.form v.span v.is) ∙ not_two v.name v.form v.span parts count)
-
-pub returns : goal.returns
-returns c =
-    let v = c.in-Compound in
-    let parts = map tree_of v.args.items in
-    let count : length parts ≡ 2 = omega (arith, length-map v.args.items tree_of, v.args.ok, c.len.ensures, c.if-len-ne2.false) in
-    let left = tree_of c.index.result.now in
-    let right = tree_of c.index-2.result.now in
-    ap (λ n. Some (record { name = n; left = left; right = right })) c.as_str.ensures
-    ∙ (two_sides v.name v.form v.span parts left right count (read_tree v.args.items 0 c.index.result.now c.index.ensures) (read_tree v.args.items 1 c.index-2.result.now c.index-2.ensures)
-    ∙ ap binary_at (sym (compound_seen c.inside.result.now v.name v.args v.form v.span v.is) ∙ c.inside.ensures))
+    ap (option_map (λ (pair : Tree × Tree). record { name = v.name.now; left = pair.0; right = pair.1 })) c.in_ok-left.ensures.trees
+    ∙ (sym (binary_by v.name.now (trees_of v.args) v.form (span_of (tree_of c.inside.result)))
+    ∙ ap binary_at (v.ensures.tree ∙ c.inside.ensures.tree))

@@ -1,0 +1,114 @@
+//! Terms as one list of nodes, each behind its parts.
+
+ghost use Rattle.std.specs.Prelude.{◌≡◌, ◌≤◌, ◌<◌, ◌∷◌, ◌++◌, [], ℕ, List, Some, IfOk, OnOk, length, take, slice_get, MatchOption};
+ghost use Rattle.prolog_terms.specs.Forest.{before_last, forest, node_tree, taken, without};
+
+use crate::node::{Node, Shape, taken};
+use crate::term::Span;
+use std::alloc::{AllocError, Global};
+use std::marker::Model;
+
+/// Nodes, each behind its parts and with its size.
+#[derive(Drop)]
+pub struct NodeList {
+    list: Vec<Node>,
+}
+
+impl Model for NodeList {
+    ghost use Rattle.std.specs.Prelude.{List};
+    ghost use Rattle.prolog_terms.specs.declared.node.Node.{Node};
+    ghost use Rattle.prolog_terms.specs.Sized.{IsSized};
+
+    ghost Value = { List Node };
+
+    ghost view = { λ nodes. nodes.list.items };
+
+    ghost invariant = { λ nodes. IsSized nodes.list.items };
+}
+
+/// The node at a place.
+fn node_at(list: &[Node], at: usize) -> Node
+    requires { at < length list.now }
+    ensures { slice_get list.now at ≡ Some result }
+{
+    list[at]
+}
+
+impl NodeList {
+    pub fn new(alloc: Global) -> NodeList
+        ensures { result ≡ [] }
+    {
+        NodeList {
+            list: Vec::new(alloc),
+        }
+    }
+
+    /// How many nodes there are.
+    pub fn len(&self) -> usize
+        ensures { result ≡ length self.now }
+    {
+        self.list.len()
+    }
+
+    pub(crate) fn clear(&mut self)
+        ensures { self.new ≡ [] }
+    {
+        self.list.clear();
+    }
+
+    /// The last of so many nodes, and how many stand before it.
+    pub(crate) fn last(&self, end: usize) -> Option<(Node, usize)>
+        ensures { MatchOption result (take end self.now ≡ []) (λ last. take end self.now ≡ take last.1 self.now ++ last.0 ∷ []) }
+    {
+        let end = end.min(self.list.len());
+        if end == 0 {
+            return None;
+        }
+        Some((node_at(&self.list, end - 1), end - 1))
+    }
+
+    /// How many of so many nodes stand before the last term of them.
+    pub(crate) fn before(&self, end: usize) -> usize
+        ensures rest { (names : List (List ℕ)) → forest names (take result self.now) ≡ before_last (forest names (take end self.now)) }
+        ensures within { result ≤ end }
+    {
+        let end = end.min(self.list.len());
+        if end == 0 {
+            return 0;
+        }
+        end - node_at(&self.list, end - 1).size
+    }
+
+    /// How many of so many nodes stand before the last terms of them, as many as are counted.
+    fn before_many(&self, end: usize, count: usize) -> usize
+        ensures rest { (names : List (List ℕ)) → forest names (take result self.now) ≡ without count (forest names (take end self.now)) }
+        ensures within { result ≤ end }
+    {
+        let mut at = end;
+        for _part in 0..count {
+            at = self.before(at);
+        }
+        at
+    }
+
+    /// Adds a node of this shape behind its parts.
+    pub(crate) fn lay(&mut self, shape: Shape, span: Span) -> Result<(), AllocError>
+        ensures { OnOk result ((names : List (List ℕ)) → forest names self.new
+            ≡ node_tree names shape span (forest names self.old) ∷ without (taken shape) (forest names self.old)) }
+    {
+        let end = self.list.len();
+        let from = self.before_many(end, taken(shape));
+        let size = end - from + 1;
+        self.list.push(Node { shape, span, size })?;
+        Ok(())
+    }
+
+    /// The same nodes in just their room.
+    pub(crate) fn copied(&self, alloc: Global) -> Result<NodeList, AllocError>
+        ensures { IfOk result (λ copy. copy ≡ self.now) }
+    {
+        let mut list = Vec::with_capacity(alloc, self.list.len())?;
+        list.extend_from_slice(&self.list)?;
+        Ok(NodeList { list })
+    }
+}
