@@ -9,22 +9,31 @@ use Rattle.prolog_ops.specs.Table.{Ops, opening}
 use Rattle.prolog_terms.specs.declared.reader.ReadFault.{ReadFault}
 use Rattle.prolog_terms.specs.declared.reader.ReadFault.TheVariants as of_clauses
 use Rattle.prolog_terms.specs.Tree.{Tree}
-use Rattle.prolog_terms.specs.Terms.{tree_of}
+use Rattle.prolog_terms.specs.Terms.{root_tree}
 use Rattle.prolog_terms.specs.Weight.{weight}
 use Rattle.prolog_terms.specs.Words.{table_of}
 use Rattle.prolog_terms.specs.Clause.{IsClauseOf, IsReadFault, IsOneClause}
 use Rattle.clause_text.specs.declared.cause.Cause.TheVariants.{Stuck, TooDeep, NoEnd}
 use Rattle.clause_text.specs.declared.fault.TextFault.{TextFault}
 use Rattle.clause_text.specs.declared.fault.TextFault.TheVariants.{At, NoMemory}
-use Rattle.clause_text.specs.declared.Clause.{Clause}
+use Rattle.clause_text.specs.declared.text_clauses.Clause.{Clause}
+use Rattle.clause_text.specs.declared.text_clauses.TextClauses.{TextClauses}
 use Rattle.clause_text.specs.Items.{items_of, items_on}
 
 -- the operators that each text begins with
 unfoldable pub opening_ops : Ops
 opening_ops = opening
 
-abbrev pub clause_trees : List Clause → List Tree
-clause_trees clauses = map (λ clause. tree_of clause.term) clauses
+-- the tree of a clause, whose names are numbers in these names
+abbrev pub clause_tree : List (List ℕ) → Clause → Tree
+clause_tree names clause = root_tree names clause.nodes
+
+abbrev pub clause_trees : List (List ℕ) → List Clause → List Tree
+clause_trees names clauses = map (clause_tree names) clauses
+
+-- the clauses of a text as trees
+abbrev pub text_trees : TextClauses → List Tree
+text_trees text = clause_trees text.names text.clauses.items
 
 -- how much stands within the clauses, and two more for each: its End, and the word that it is at least
 abbrev pub total_weight : List Tree → ℕ

@@ -15,16 +15,11 @@ mod parts;
 mod piece;
 mod terms;
 mod text;
+mod text_clauses;
 
 pub use cause::{Cause, cause_text};
 pub use fault::TextFault;
 pub use laws::{fault_is_no_reading, numbers_differ, one_fault, one_reading, terms_placed};
-use prolog_terms::Term;
 pub use terms::{directive_of, operator_item, written_items};
 pub use text::read_text;
-
-/// A clause of a text, directives and grammar rules among them.
-#[derive(Drop)]
-pub struct Clause {
-    pub term: Term,
-}
+pub use text_clauses::{Clause, TextClauses};

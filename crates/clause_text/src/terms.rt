@@ -1,26 +1,23 @@
-ghost use Rattle.std.specs.Prelude.{◌≡◌, ◌||◌, option_map, map, codes};
+ghost use Rattle.std.specs.Prelude.{◌≡◌, ◌||◌, option_map, codes, IfSome};
 ghost use Rattle.std.specs.Str.{bytes_eq};
-ghost use Rattle.prolog_terms.specs.Terms.{tree_of};
-ghost use Rattle.clause_text.specs.Lists.{listed_items, written_items};
+ghost use Rattle.prolog_terms.specs.Terms.{tree_of, trees_of, IsOf};
+ghost use Rattle.prolog_terms.specs.Views.{trees_in};
+ghost use Rattle.clause_text.specs.Lists.{written_items};
 ghost use Rattle.clause_text.specs.Items.{item_of, directive_of};
 
-use prolog_terms::{Term, inside};
+use prolog_terms::{Parts, Term, TermKind, inside};
 
 /// The priority, the kind and the names of a term that is an operator item.
-pub fn operator_item(term: &Term) -> Option<(&Term, &Term, &Term)>
-    ensures { option_map (λ item. record { priority = tree_of item.0.now; kind = tree_of item.1.now; names = tree_of item.2.now }) result
-        ≡ item_of (tree_of term.now) }
+pub fn operator_item<'a>(term: &Term<'a>) -> Option<(Term<'a>, Term<'a>, Term<'a>)>
+    ensures { option_map (λ item. record { priority = tree_of item.0; kind = tree_of item.1; names = tree_of item.2 }) result ≡ item_of (tree_of term.now) }
 {
-    let Term::Compound { name, args, .. } = inside(term) else {
+    let TermKind::Compound { name, args, .. } = inside(term).kind() else {
         return None;
     };
-    if name.as_str() != "op" {
+    if name != "op" {
         return None;
     }
-    if args.len() != 3 {
-        return None;
-    }
-    Some((&args[0], &args[1], &args[2]))
+    args.triple()
 }
 
 fn begins_directive(name: &str) -> bool
@@ -30,40 +27,25 @@ fn begins_directive(name: &str) -> bool
 }
 
 /// What a clause has behind its `:-` or `?-`, where it has nothing before it.
-pub fn directive_of(clause: &Term) -> Option<&Term>
-    ensures { option_map (λ goal. tree_of goal.now) result ≡ directive_of (tree_of clause.now) }
+pub fn directive_of<'a>(clause: &Term<'a>) -> Option<Term<'a>>
+    ensures tree { option_map tree_of result ≡ directive_of (tree_of clause.now) }
+    ensures within { IfSome result (IsOf clause.now.names.now clause.now.nodes.now) }
 {
-    let Term::Compound { name, args, .. } = inside(clause) else {
+    let TermKind::Compound { name, args, .. } = inside(clause).kind() else {
         return None;
     };
-    if args.len() != 1 {
+    if !begins_directive(name) {
         return None;
     }
-    if !begins_directive(name.as_str()) {
-        return None;
-    }
-    Some(&args[0])
-}
-
-/// The terms of a list, with a tail or without, and none of another term.
-pub fn listed(term: &Term) -> &[Term]
-    ensures { map tree_of result.now ≡ listed_items (tree_of term.now) }
-{
-    match inside(term) {
-        Term::List { items, .. } => items,
-        _ => &[],
-    }
+    args.only()
 }
 
 /// The terms of a list without a tail, which isn't the atom `[]`.
-pub fn written_items(term: &Term) -> Option<&[Term]>
-    ensures { option_map (λ items. map tree_of items.now) result ≡ written_items (tree_of term.now) }
+pub fn written_items<'a>(term: &Term<'a>) -> Option<Parts<'a>>
+    ensures { option_map (λ items. trees_in (trees_of items)) result ≡ written_items (tree_of term.now) }
 {
-    match inside(term) {
-        Term::List { items, tail, .. } => match tail {
-            None => Some(items),
-            Some(_) => None,
-        },
+    match inside(term).kind() {
+        TermKind::List { items } => Some(items),
         _ => None,
     }
 }
