@@ -1,4 +1,4 @@
--- Operator items of some clauses and what they do, where terms start, and stretches of tokens.
+-- Clauses as nodes, operator items of some and what they do, where terms start, and stretches of tokens.
 use Rattle.std.proofs.Common.{◌≡◌, ℕ, ◌+◌, List, [], ◌∷◌, Some, Err, true, false, refl, inl, inr, codes, arith}
 use Rattle.std.proofs.lemmas.Str.{IsUtf8-nil}
 use Rattle.prolog_tokens.specs.declared.token.Kind.{Kind}
@@ -8,11 +8,14 @@ use Rattle.prolog_ops.specs.Table.{opening}
 use Rattle.prolog_terms.specs.declared.term.Span.{Span}
 use Rattle.prolog_terms.specs.declared.term.Form.TheVariants.{Functional, Prefix, Infix as between}
 use Rattle.prolog_terms.specs.declared.term.ConstKind.TheVariants.{Integer}
+use Rattle.prolog_terms.specs.declared.node.Node.{Node}
+use Rattle.prolog_terms.specs.declared.node.Shape.{Shape}
+use Rattle.prolog_terms.specs.declared.node.Shape.TheVariants as shape
 use Rattle.prolog_terms.specs.Tree.{Tree, variable, constant, atom, compound, listed, tailed, paren, more, none}
 use Rattle.clause_text.specs.declared.cause.Cause.TheVariants.{BadPriority, BadKind, BadName, FixedOp, InfixAndPostfix}
 use Rattle.clause_text.specs.declared.fault.TextFault.TheVariants.{At}
 use Rattle.clause_text.specs.Items.{Item, items_of, item_on, has_some}
-use Rattle.clause_text.specs.Clauses.{total_weight}
+use Rattle.clause_text.specs.Clauses.{clause_trees, total_weight}
 use Rattle.clause_text.specs.Offsets.{HasOffsets}
 use Rattle.clause_text.specs.Pieces.{IsBehindClause, AreStretches}
 
@@ -30,6 +33,15 @@ one_item priority kind names = record { priority = priority; kind = kind; names 
 
 abbrev word : List ℕ → ℕ → Tree
 word name from = atom name (at from)
+
+-- `p. q(X).` as nodes, whose names are the second and the third of a list
+abbrev node : Shape → ℕ → ℕ → Node
+node shape from size = record { shape = shape; span = at from; size = size }
+
+clauses_there : clause_trees ([] ∷ codes "p" ∷ codes "q" ∷ [])
+    (record { nodes = node (shape.Atom 1) 0 1 ∷ [] } ∷ record { nodes = node shape.Var 5 1 ∷ node (shape.Compound 2 1 Functional) 3 2 ∷ [] } ∷ [])
+    ≡ word (codes "p") 0 ∷ compound (codes "q") (more (variable (at 5)) none) Functional (at 3) ∷ []
+clauses_there = refl
 
 -- `:- op(700, xfx, eq)`, and `?-` and brackets alike
 law_1 : items_of (compound (codes ":-") (more (op (number 700 6) (word (codes "xfx") 11) (word (codes "eq") 16)) none) Prefix (at 0))

@@ -5,17 +5,16 @@ use Rattle.std.proofs.lemmas.List.Elements.{All-nil, All-cons}
 use Rattle.prolog_tokens.specs.declared.token.Token.{Token}
 use Rattle.prolog_ops.specs.Table.{Ops}
 use Rattle.prolog_terms.specs.Tree.{Tree}
-use Rattle.prolog_terms.specs.Terms.{tree_of}
 use Rattle.prolog_terms.specs.Words.{table_of}
 use Rattle.prolog_terms.specs.Clause.{IsClauseOf}
-use Rattle.clause_text.specs.declared.Clause.{Clause}
+use Rattle.clause_text.specs.declared.text_clauses.Clause.{Clause}
 use Rattle.clause_text.specs.declared.fault.TextFault.{TextFault}
 use Rattle.clause_text.specs.declared.fault.TextFault.TheVariants.{NoMemory}
 use Rattle.clause_text.specs.declared.piece.Stretch.{Stretch}
 use Rattle.clause_text.specs.declared.piece.Piece.{Piece}
 use Rattle.clause_text.specs.declared.piece.PieceEnd.TheVariants.{Whole, AtOperators, Refused}
 use Rattle.clause_text.specs.Items.{items_of, items_on}
-use Rattle.clause_text.specs.Clauses.{AreClauses, IsPartFault, FaultStandsBehind, HasClauseFault, EndsFirst, clause_trees}
+use Rattle.clause_text.specs.Clauses.{AreClauses, IsPartFault, FaultStandsBehind, HasClauseFault, EndsFirst, clause_tree, clause_trees}
 use Rattle.clause_text.specs.Pieces.{LeadTo, IsBehindClause, IsStretch, AreStretches, EndIs, IsPiece, ArePieces, AreAdded, IsFaultAhead}
 use Rattle.clause_text.proofs.ClauseSplits.{back, part_of, part_first, nothing_behind}
 use Rattle.clause_text.proofs.Leads.{lead_joined}
@@ -39,8 +38,8 @@ lead_up table text ts from [] left to (tables, places) = omega (arith, places)
 lead_up table text ts from (tree ∷ trees) left to (next, set, stops, does, lead) = omega (arith, stops.some, lead_up set text ts next trees left to lead)
 
 -- the trees of clauses, joined
-pub trees_joined : (clauses more : List Clause) → clause_trees (clauses ++ more) ≡ clause_trees clauses ++ clause_trees more
-trees_joined clauses more = map-append (λ (clause : Clause). tree_of clause.term) clauses more
+pub trees_joined : (names : List (List ℕ)) (clauses more : List Clause) → clause_trees names (clauses ++ more) ≡ clause_trees names clauses ++ clause_trees names more
+trees_joined names clauses more = map-append (clause_tree names) clauses more
 
 -- behind them stands the fault of a part
 stands_behind : (table : Ops) (text : List ℕ) (ts : List Token) (from : ℕ) (trees : List Tree) (left : Ops) (at next : ℕ) (fault : TextFault) → LeadTo table text ts from trees left at
@@ -92,17 +91,17 @@ added_lead table text ts start before after mid from left to lead added =
     subst (λ trees. LeadTo table text ts start trees left to) (sym added.all) (lead_joined table mid left text ts start from to before added.more lead added.lead)
 
 -- of pieces up to a place those up to another are kept, where a clause ends if any are, and the others are left
-pub record IsKept (table : Ops) (text : List ℕ) (ts : List Token) (from : ℕ) (before : List Tree) (rest : List Piece) (after : List Tree) (to end : ℕ) : Type 0 where
+pub record IsKept (names : List (List ℕ)) (table : Ops) (text : List ℕ) (ts : List Token) (from : ℕ) (before : List Tree) (rest : List Piece) (after : List Tree) (to end : ℕ) : Type 0 where
   pub added : AreAdded table text ts from before after table to
-  pub others : ArePieces table text ts to rest end
+  pub others : ArePieces names table text ts to rest end
   pub up : from ≤ to
   pub behind : from < to → IsBehindClause ts to
 
-abbrev pub AreKept : Ops → ℕ → List Piece → List Tree → List Piece → List Tree → ℕ → Type 0
-AreKept table from all before rest after to = (text : List ℕ) (ts : List Token) (end : ℕ) → ArePieces table text ts from all end → IsKept table text ts from before rest after to end
+abbrev pub AreKept : List (List ℕ) → Ops → ℕ → List Piece → List Tree → List Piece → List Tree → ℕ → Type 0
+AreKept names table from all before rest after to = (text : List ℕ) (ts : List Token) (end : ℕ) → ArePieces names table text ts from all end → IsKept names table text ts from before rest after to end
 
-pub none_kept : (table : Ops) (from : ℕ) (all : List Piece) (before : List Tree) → AreKept table from all before all before from
-none_kept table from all before = λ text ts end are. record {
+pub none_kept : (names : List (List ℕ)) (table : Ops) (from : ℕ) (all : List Piece) (before : List Tree) → AreKept names table from all before all before from
+none_kept names table from all before = λ text ts end are. record {
   added = record { more = []; all = sym (append-nil before); lead = (refl, refl) };
   others = are;
   up = omega arith;
@@ -110,44 +109,44 @@ none_kept table from all before = λ text ts end are. record {
 }
 
 -- where none are left
-module _ (table : Ops) (from : ℕ) (all : List Piece) (before : List Tree) (left : List Piece) (after : List Tree) (to : ℕ) (kept : AreKept table from all before left after to)
-    (none : length left ≡ 0) (text : List ℕ) (ts : List Token) (end : ℕ) (are : ArePieces table text ts from all end) where
+module _ (names : List (List ℕ)) (table : Ops) (from : ℕ) (all : List Piece) (before : List Tree) (left : List Piece) (after : List Tree) (to : ℕ) (kept : AreKept names table from all before left after to)
+    (none : length left ≡ 0) (text : List ℕ) (ts : List Token) (end : ℕ) (are : ArePieces names table text ts from all end) where
   pub all_added : AreAdded table text ts from before after table to
   all_added = (kept text ts end are).added
 
   pub all_forward : from < end → from < to
   all_forward some =
-      let reached : to ≡ end = subst (λ pieces. ArePieces table text ts to pieces end) (nil_from_length left none) (kept text ts end are).others in
+      let reached : to ≡ end = subst (λ pieces. ArePieces names table text ts to pieces end) (nil_from_length left none) (kept text ts end are).others in
       omega (arith, reached, some)
 
   pub all_until : from < end → IsBehindClause ts to
   all_until some = (kept text ts end are).behind (all_forward some)
 
 -- the clauses of the next piece, too
-record IsNext (table : Ops) (text : List ℕ) (ts : List Token) (from : ℕ) (before : List Tree) (piece : Piece) (rest : List Piece) (after : List Tree) (end : ℕ) : Type 0 where
+record IsNext (names : List (List ℕ)) (table : Ops) (text : List ℕ) (ts : List Token) (from : ℕ) (before : List Tree) (piece : Piece) (rest : List Piece) (after : List Tree) (end : ℕ) : Type 0 where
   next : ℕ
   at : ℕ
-  added : AreAdded table text ts from before (after ++ clause_trees piece.clauses.items) table at
-  ends : EndIs table text ts at next piece.end
-  others : ArePieces table text ts next rest end
+  added : AreAdded table text ts from before (after ++ clause_trees names piece.clauses.items) table at
+  ends : EndIs names table text ts at next piece.end
+  others : ArePieces names table text ts next rest end
   up : from < next
   reached : from ≤ at
   behind : IsBehindClause ts next
   told : piece.to ≡ next
 
-module _ (table : Ops) (from : ℕ) (all : List Piece) (before : List Tree) (piece : Piece) (rest left : List Piece) (after : List Tree) (to : ℕ)
-    (kept : AreKept table from all before left after to) (front : left ≡ piece ∷ rest) where
-  next_of : (text : List ℕ) (ts : List Token) (end : ℕ) → ArePieces table text ts from all end → IsNext table text ts from before piece rest after end
+module _ (names : List (List ℕ)) (table : Ops) (from : ℕ) (all : List Piece) (before : List Tree) (piece : Piece) (rest left : List Piece) (after : List Tree) (to : ℕ)
+    (kept : AreKept names table from all before left after to) (front : left ≡ piece ∷ rest) where
+  next_of : (text : List ℕ) (ts : List Token) (end : ℕ) → ArePieces names table text ts from all end → IsNext names table text ts from before piece rest after end
   next_of text ts end are =
       let so_far = kept text ts end are in
-      let others : ArePieces table text ts to (piece ∷ rest) end = subst (λ pieces. ArePieces table text ts to pieces end) front so_far.others in
+      let others : ArePieces names table text ts to (piece ∷ rest) end = subst (λ pieces. ArePieces names table text ts to pieces end) front so_far.others in
       let next : ℕ = others.0 in
-      let is : IsPiece table text ts to next piece = others.1 in
-      let reached : to ≤ is.at = lead_up table text ts to (clause_trees piece.clauses.items) table is.at is.clauses in
+      let is : IsPiece names table text ts to next piece = others.1 in
+      let reached : to ≤ is.at = lead_up table text ts to (clause_trees names piece.clauses.items) table is.at is.clauses in
       record {
         next = next;
         at = is.at;
-        added = added_on table text ts from before after table to (clause_trees piece.clauses.items) table is.at so_far.added is.clauses;
+        added = added_on table text ts from before after table to (clause_trees names piece.clauses.items) table is.at so_far.added is.clauses;
         ends = is.end;
         others = others.2;
         up = omega (arith, so_far.up, is.some);
@@ -157,45 +156,45 @@ module _ (table : Ops) (from : ℕ) (all : List Piece) (before : List Tree) (pie
       }
 
   -- a clause ends where its stretch does
-  pub piece_until : (text : List ℕ) (ts : List Token) (end : ℕ) → ArePieces table text ts from all end → IsBehindClause ts piece.to
+  pub piece_until : (text : List ℕ) (ts : List Token) (end : ℕ) → ArePieces names table text ts from all end → IsBehindClause ts piece.to
   piece_until text ts end are = let next = next_of text ts end are in subst (IsBehindClause ts) (sym next.told) next.behind
 
   -- all of it
-  pub whole_kept : piece.end ≡ Whole → AreKept table from all before rest (after ++ clause_trees piece.clauses.items) piece.to
+  pub whole_kept : piece.end ≡ Whole → AreKept names table from all before rest (after ++ clause_trees names piece.clauses.items) piece.to
   whole_kept is = λ text ts end are.
       let next = next_of text ts end are in
-      let ends : next.at ≡ next.next = subst (EndIs table text ts next.at next.next) is next.ends in
+      let ends : next.at ≡ next.next = subst (EndIs names table text ts next.at next.next) is next.ends in
       record {
-        added = subst (λ to. AreAdded table text ts from before (after ++ clause_trees piece.clauses.items) table to) (ends ∙ sym next.told) next.added;
-        others = subst (λ to. ArePieces table text ts to rest end) (sym next.told) next.others;
+        added = subst (λ to. AreAdded table text ts from before (after ++ clause_trees names piece.clauses.items) table to) (ends ∙ sym next.told) next.added;
+        others = subst (λ to. ArePieces names table text ts to rest end) (sym next.told) next.others;
         up = omega (arith, next.up, next.told);
         behind = λ some. piece_until text ts end are;
       }
 
   -- and the clause behind it that sets operators
-  module _ (clause : Clause) (place : ℕ) (is : piece.end ≡ AtOperators clause place) (text : List ℕ) (ts : List Token) (end : ℕ) (are : ArePieces table text ts from all end) where
+  module _ (clause : Clause) (place : ℕ) (is : piece.end ≡ AtOperators clause place) (text : List ℕ) (ts : List Token) (end : ℕ) (are : ArePieces names table text ts from all end) where
     record IsAtOperators : Type 0 where
-      next : IsNext table text ts from before piece rest after end
+      next : IsNext names table text ts from before piece rest after end
       ends : EndsFirst ts next.at place
-      reads : IsClauseOf (table_of table) text (slice_range ts next.at place) (tree_of clause.term)
+      reads : IsClauseOf (table_of table) text (slice_range ts next.at place) (clause_tree names clause)
 
     at_operators : IsAtOperators
     at_operators =
         let next = next_of text ts end are in
-        let ends : EndIs table text ts next.at next.next (AtOperators clause place) = subst (EndIs table text ts next.at next.next) is next.ends in
+        let ends : EndIs names table text ts next.at next.next (AtOperators clause place) = subst (EndIs names table text ts next.at next.next) is next.ends in
         record { next = next; ends = ends.0; reads = ends.1 }
 
-    pub operators_added : (then : Ops) → items_on (items_of (tree_of clause.term)) table ≡ Ok then
-        → AreAdded table text ts from before ((after ++ clause_trees piece.clauses.items) ++ tree_of clause.term ∷ []) then place
+    pub operators_added : (then : Ops) → items_on (items_of (clause_tree names clause)) table ≡ Ok then
+        → AreAdded table text ts from before ((after ++ clause_trees names piece.clauses.items) ++ clause_tree names clause ∷ []) then place
     operators_added then set =
         let found = at_operators in
-        added_on table text ts from before (after ++ clause_trees piece.clauses.items) table found.next.at (tree_of clause.term ∷ []) then place found.next.added
+        added_on table text ts from before (after ++ clause_trees names piece.clauses.items) table found.next.at (clause_tree names clause ∷ []) then place found.next.added
         (place, then, found.ends, record { clause = found.reads; items = set }, (refl, refl))
 
     pub operators_forward : from < place
     operators_forward = let found = at_operators in omega (arith, found.next.reached, found.ends.some)
 
-    pub operators_refused : (fault : TextFault) → items_on (items_of (tree_of clause.term)) table ≡ Err fault → IsFaultAhead table text ts from fault
+    pub operators_refused : (fault : TextFault) → items_on (items_of (clause_tree names clause)) table ≡ Err fault → IsFaultAhead table text ts from fault
     operators_refused fault refused =
         let found = at_operators in
         record {
@@ -205,13 +204,13 @@ module _ (table : Ops) (from : ℕ) (all : List Piece) (before : List Tree) (pie
           lead = found.next.added.lead;
           next = place;
           part = found.ends;
-          is = inr (tree_of clause.term, found.reads, refused);
+          is = inr (clause_tree names clause, found.reads, refused);
         }
 
   -- or the fault behind it
-  pub part_refused : (fault : TextFault) → piece.end ≡ Refused fault → fault ≢ NoMemory → (text : List ℕ) (ts : List Token) (end : ℕ) → ArePieces table text ts from all end
+  pub part_refused : (fault : TextFault) → piece.end ≡ Refused fault → fault ≢ NoMemory → (text : List ℕ) (ts : List Token) (end : ℕ) → ArePieces names table text ts from all end
       → IsFaultAhead table text ts from fault
   part_refused fault is some text ts end are =
       let next = next_of text ts end are in
-      let ends : (place : ℕ) × EndsFirst ts next.at place × IsPartFault table text (slice_range ts next.at place) fault = subst (EndIs table text ts next.at next.next) is next.ends some in
+      let ends : (place : ℕ) × EndsFirst ts next.at place × IsPartFault table text (slice_range ts next.at place) fault = subst (EndIs names table text ts next.at next.next) is next.ends some in
       record { before = next.added.more; left = table; at = next.at; lead = next.added.lead; next = ends.0; part = ends.1; is = ends.2 }

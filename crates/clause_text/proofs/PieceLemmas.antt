@@ -40,10 +40,10 @@ stretch_behind ts from stretches all at to are is some ends =
     subst (λ list. AreStretches ts from list to) (sym is) (stretches_more ts from stretches at to are (record { some = some; ends = ends }))
 
 -- what stretches are read as stands side by side as they do
-pub pieces_of : (table : Ops) (text : List ℕ) (ts : List Token) (stretches : List Stretch) (pieces : List Piece)
-    → AllZip (λ (stretch : Stretch) piece. IsPiece table text ts stretch.from stretch.to piece) stretches pieces → (from to : ℕ) → AreStretches ts from stretches to → ArePieces table text ts from pieces to
-pieces_of table text ts [] [] read from to are = are
-pieces_of table text ts [] (piece ∷ pieces) read from to are = absurd read
-pieces_of table text ts (stretch ∷ stretches) [] read from to are = absurd read
-pieces_of table text ts (stretch ∷ stretches) (piece ∷ pieces) read from to are =
-    (stretch.to, subst (λ n. IsPiece table text ts n stretch.to piece) are.0 read.0, pieces_of table text ts stretches pieces read.1 stretch.to to are.2)
+pub pieces_of : (names : List (List ℕ)) (table : Ops) (text : List ℕ) (ts : List Token) (stretches : List Stretch) (pieces : List Piece)
+    → AllZip (λ (stretch : Stretch) piece. IsPiece names table text ts stretch.from stretch.to piece) stretches pieces → (from to : ℕ) → AreStretches ts from stretches to → ArePieces names table text ts from pieces to
+pieces_of names table text ts [] [] read from to are = are
+pieces_of names table text ts [] (piece ∷ pieces) read from to are = absurd read
+pieces_of names table text ts (stretch ∷ stretches) [] read from to are = absurd read
+pieces_of names table text ts (stretch ∷ stretches) (piece ∷ pieces) read from to are =
+    (stretch.to, subst (λ n. IsPiece names table text ts n stretch.to piece) are.0 read.0, pieces_of names table text ts stretches pieces read.1 stretch.to to are.2)

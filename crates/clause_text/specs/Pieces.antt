@@ -4,7 +4,6 @@ use Rattle.prolog_tokens.specs.declared.token.Kind.TheVariants.{End}
 use Rattle.prolog_tokens.specs.declared.token.Token.{Token}
 use Rattle.prolog_ops.specs.Table.{Ops}
 use Rattle.prolog_terms.specs.Tree.{Tree}
-use Rattle.prolog_terms.specs.Terms.{tree_of}
 use Rattle.prolog_terms.specs.Words.{table_of}
 use Rattle.prolog_terms.specs.Clause.{IsClauseOf}
 use Rattle.clause_text.specs.declared.fault.TextFault.{TextFault}
@@ -13,7 +12,7 @@ use Rattle.clause_text.specs.declared.piece.Stretch.{Stretch}
 use Rattle.clause_text.specs.declared.piece.Piece.{Piece}
 use Rattle.clause_text.specs.declared.piece.PieceEnd.{PieceEnd}
 use Rattle.clause_text.specs.declared.piece.PieceEnd.TheVariants.{Whole, AtOperators, Refused}
-use Rattle.clause_text.specs.Clauses.{LeavesAs, IsPartFault, EndsFirst, clause_trees, kind_there}
+use Rattle.clause_text.specs.Clauses.{LeavesAs, IsPartFault, EndsFirst, clause_tree, clause_trees, kind_there}
 
 -- from the table on, the tokens from a place up to another are the clauses, and leave the other table
 abbrev pub LeadTo : Ops → List ℕ → List Token → ℕ → List Tree → Ops → ℕ → Type 0
@@ -36,25 +35,26 @@ abbrev pub AreStretches : List Token → ℕ → List Stretch → ℕ → Type 0
 AreStretches ts from [] to = from ≡ to
 AreStretches ts from (stretch ∷ stretches) to = (stretch.from ≡ from) × IsStretch ts stretch × AreStretches ts stretch.to stretches to
 
--- what stands behind the clauses of a piece, which end at a place: nothing more up to the end of its stretch, a clause, or a part that is none
-abbrev pub EndIs : Ops → List ℕ → List Token → ℕ → ℕ → PieceEnd → Type 0
-EndIs table text ts at to Whole = at ≡ to
-EndIs table text ts at to (AtOperators clause place) = EndsFirst ts at place × IsClauseOf (table_of table) text (slice_range ts at place) (tree_of clause.term)
-EndIs table text ts at to (Refused fault) = fault ≢ NoMemory → (next : ℕ) × EndsFirst ts at next × IsPartFault table text (slice_range ts at next) fault
+-- what stands behind the clauses of a piece, whose names are these and which end at a place: nothing more up to the end of its stretch, a clause, or a part that is none
+abbrev pub EndIs : List (List ℕ) → Ops → List ℕ → List Token → ℕ → ℕ → PieceEnd → Type 0
+EndIs names table text ts at to Whole = at ≡ to
+EndIs names table text ts at to (AtOperators clause place) =
+    EndsFirst ts at place × IsClauseOf (table_of table) text (slice_range ts at place) (clause_tree names clause)
+EndIs names table text ts at to (Refused fault) = fault ≢ NoMemory → (next : ℕ) × EndsFirst ts at next × IsPartFault table text (slice_range ts at next) fault
 
 -- what is read of the stretch from a place up to another under the table, which the clauses of the piece leave as it is
-pub record IsPiece (table : Ops) (text : List ℕ) (ts : List Token) (from to : ℕ) (piece : Piece) : Type 0 where
+pub record IsPiece (names : List (List ℕ)) (table : Ops) (text : List ℕ) (ts : List Token) (from to : ℕ) (piece : Piece) : Type 0 where
   pub some : from < to
   pub behind : IsBehindClause ts to
   pub told : piece.to ≡ to
   pub at : ℕ
-  pub clauses : LeadTo table text ts from (clause_trees piece.clauses.items) table at
-  pub end : EndIs table text ts at to piece.end
+  pub clauses : LeadTo table text ts from (clause_trees names piece.clauses.items) table at
+  pub end : EndIs names table text ts at to piece.end
 
 -- the pieces are read side by side from a place up to another
-abbrev pub ArePieces : Ops → List ℕ → List Token → ℕ → List Piece → ℕ → Type 0
-ArePieces table text ts from [] to = from ≡ to
-ArePieces table text ts from (piece ∷ pieces) to = (next : ℕ) × IsPiece table text ts from next piece × ArePieces table text ts next pieces to
+abbrev pub ArePieces : List (List ℕ) → Ops → List ℕ → List Token → ℕ → List Piece → ℕ → Type 0
+ArePieces names table text ts from [] to = from ≡ to
+ArePieces names table text ts from (piece ∷ pieces) to = (next : ℕ) × IsPiece names table text ts from next piece × ArePieces names table text ts next pieces to
 
 -- clauses are added that lead from one table and place to another
 pub record AreAdded (table : Ops) (text : List ℕ) (ts : List Token) (from : ℕ) (before after : List Tree) (left : Ops) (to : ℕ) : Type 0 where

@@ -1,4 +1,4 @@
-ghost use Rattle.std.specs.Prelude.{◌≡◌, ◌≢◌, Some, None, Ok, Err, option_map, map, is_some, OnOk, IfErr};
+ghost use Rattle.std.specs.Prelude.{◌≡◌, ◌≢◌, Some, None, Ok, Err, option_map, map, is_some, IfOk, OnOk, IfErr};
 ghost use Rattle.std.specs.Option.{option_to_list};
 ghost use Rattle.std.specs.List.{filter_map, list_all};
 ghost use Rattle.prolog_ops.specs.Table.{ops_of};
@@ -11,8 +11,8 @@ use crate::cause::Cause;
 use crate::fault::{TextFault, fault_at, fault_of_ops};
 use crate::terms::{directive_of, listed, operator_item, written_items};
 use prolog_ops::{OpKind, OpTable};
-use prolog_terms::{ConstKind, Term, atom_name, inside, sides, start_of};
-use std::alloc::Global;
+use prolog_terms::{ConstKind, Term, TermKind, atom_name, inside, sides, start_of};
+use std::alloc::{AllocError, Global};
 
 /// The greatest priority of an operator.
 const MOST_PRIORITY: u32 = 1200;
@@ -33,13 +33,8 @@ fn priority_when(kind: ConstKind, minus: bool, value: Option<u32>) -> Option<u32
 fn priority_of(term: &Term) -> Option<u32>
     ensures { result ≡ priority_of (tree_of term.now) }
 {
-    match inside(term) {
-        Term::Const {
-            kind,
-            minus,
-            value,
-            ..
-        } => priority_when(*kind, *minus, *value),
+    match inside(term).kind() {
+        TermKind::Const { kind, minus, value } => priority_when(kind, minus, value),
         _ => None,
     }
 }
@@ -67,7 +62,7 @@ fn kind_of(term: &Term) -> Option<OpKind>
 }
 
 /// The name of an atom, and where it stands.
-fn name_of(term: &Term) -> Option<(&str, u32)>
+fn name_of<'a>(term: &Term<'a>) -> Option<(&'a str, u32)>
     ensures { option_map (λ name. record { text = name.0.now; at = name.1 }) result ≡ name_of (tree_of term.now) }
 {
     let name = atom_name(term)?;
@@ -87,14 +82,17 @@ fn are_names(terms: &[Term]) -> bool
 }
 
 /// The terms of a list without a tail of nothing but atoms.
-fn listed_names(names: &Term) -> Option<&[Term]>
-    ensures { option_map (λ list. map tree_of list.now) result ≡ listed_names (tree_of names.now) }
+fn listed_names<'a>(alloc: Global, names: &Term<'a>) -> Result<Option<Vec<Term<'a>>>, AllocError>
+    ensures { IfOk result (λ list. option_map (λ terms. map tree_of terms.items) list ≡ listed_names (tree_of names.now)) }
 {
-    let items = written_items(names)?;
-    if !are_names(items) {
-        return None;
+    let Some(items) = written_items(names) else {
+        return Ok(None);
+    };
+    let list = items.to_vec(alloc)?;
+    if !are_names(&list) {
+        return Ok(None);
     }
-    Some(items)
+    Ok(Some(list))
 }
 
 /// Sets the operator at the name that the term is, where it is an atom.
@@ -151,8 +149,8 @@ fn set_names(
     if is_name(names) {
         return set_name(alloc, table, names, kind, priority);
     }
-    match listed_names(names) {
-        Some(list) => set_each(alloc, table, list, kind, priority),
+    match listed_names(alloc, names)? {
+        Some(list) => set_each(alloc, table, &list, kind, priority),
         None => Err(fault_at(Cause::BadName, names)),
     }
 }
@@ -186,7 +184,7 @@ fn apply_operator(alloc: Global, table: &mut OpTable, term: &Term) -> Result<(),
         ≡ Err fault) }
 {
     match operator_item(term) {
-        Some((priority, kind, names)) => apply_item(alloc, table, priority, kind, names),
+        Some((priority, kind, names)) => apply_item(alloc, table, &priority, &kind, &names),
         None => Ok(()),
     }
 }
@@ -196,8 +194,8 @@ fn apply_exports(alloc: Global, table: &mut OpTable, exports: &Term) -> Result<(
     ensures done { OnOk result (items_on (exported_items (tree_of exports.now)) (ops_of table.old) ≡ Ok (ops_of table.new)) }
     ensures refused { IfErr result (λ fault. fault ≢ TextFault.NoMemory → items_on (exported_items (tree_of exports.now)) (ops_of table.old) ≡ Err fault) }
 {
-    let list = listed(exports);
-    for export in list {
+    let list = listed(alloc, exports)?;
+    for export in &list {
         apply_operator(alloc, table, export)?;
     }
     Ok(())
@@ -209,7 +207,7 @@ fn apply_goal(alloc: Global, table: &mut OpTable, goal: &Term) -> Result<(), Tex
     ensures refused { IfErr result (λ fault. fault ≢ TextFault.NoMemory → items_on (goal_items (tree_of goal.now)) (ops_of table.old) ≡ Err fault) }
 {
     match sides(goal, "module") {
-        Some((_, exports)) => apply_exports(alloc, table, exports),
+        Some((_, exports)) => apply_exports(alloc, table, &exports),
         None => apply_operator(alloc, table, goal),
     }
 }
@@ -222,8 +220,8 @@ fn apply_directive(alloc: Global, table: &mut OpTable, directive: &Term) -> Resu
     let Some((first, others)) = sides(directive, ",") else {
         return apply_goal(alloc, table, directive);
     };
-    apply_directive(alloc, table, first)?;
-    apply_directive(alloc, table, others)
+    apply_directive(alloc, table, &first)?;
+    apply_directive(alloc, table, &others)
 }
 
 /// Does what the operator items of a clause say. After a refusal those before it are done.
@@ -232,7 +230,7 @@ pub fn apply_items(alloc: Global, table: &mut OpTable, clause: &Term) -> Result<
     ensures refused { IfErr result (λ fault. fault ≢ TextFault.NoMemory → items_on (items_of (tree_of clause.now)) (ops_of table.old) ≡ Err fault) }
 {
     match directive_of(clause) {
-        Some(directive) => apply_directive(alloc, table, directive),
+        Some(directive) => apply_directive(alloc, table, &directive),
         None => Ok(()),
     }
 }
@@ -245,38 +243,43 @@ fn is_item(term: &Term) -> bool
 }
 
 /// Whether a list that a module exports has operator items.
-fn exports_items(exports: &Term) -> bool
-    ensures { result ≡ has_some (exported_items (tree_of exports.now)) }
+fn exports_items(alloc: Global, exports: &Term) -> Result<bool, AllocError>
+    ensures { IfOk result (λ some. some ≡ has_some (exported_items (tree_of exports.now))) }
 {
-    listed(exports).iter().any(|export| is_item(export))
+    let list = listed(alloc, exports)?;
+    Ok(list.iter().any(|export| is_item(export)))
 }
 
 /// Whether a goal of a directive has operator items.
-fn goal_has_items(goal: &Term) -> bool
-    ensures { result ≡ has_some (goal_items (tree_of goal.now)) }
+fn goal_has_items(alloc: Global, goal: &Term) -> Result<bool, AllocError>
+    ensures { IfOk result (λ some. some ≡ has_some (goal_items (tree_of goal.now))) }
 {
     match sides(goal, "module") {
-        Some((_, exports)) => exports_items(exports),
-        None => is_item(goal),
+        Some((_, exports)) => exports_items(alloc, &exports),
+        None => Ok(is_item(goal)),
     }
 }
 
 /// Whether a directive has operator items.
-fn directive_has_items(directive: &Term) -> bool
-    ensures { result ≡ has_some (directive_items (tree_of directive.now)) }
+fn directive_has_items(alloc: Global, directive: &Term) -> Result<bool, AllocError>
+    ensures { IfOk result (λ some. some ≡ has_some (directive_items (tree_of directive.now))) }
 {
     let Some((first, others)) = sides(directive, ",") else {
-        return goal_has_items(directive);
+        return goal_has_items(alloc, directive);
     };
-    directive_has_items(first) || directive_has_items(others)
+    if directive_has_items(alloc, &first)? {
+        return Ok(true);
+    }
+    directive_has_items(alloc, &others)
 }
 
-/// Whether a clause has operator items, so that another table may be left by it.
-pub fn has_items(clause: &Term) -> bool
-    ensures { result ≡ has_some (items_of (tree_of clause.now)) }
+/// Whether a clause has operator items, so that another table may be left by it. Wants memory for the
+/// list that a module exports alone.
+pub fn has_items(alloc: Global, clause: &Term) -> Result<bool, AllocError>
+    ensures { IfOk result (λ some. some ≡ has_some (items_of (tree_of clause.now))) }
 {
     match directive_of(clause) {
-        Some(directive) => directive_has_items(directive),
-        None => false,
+        Some(directive) => directive_has_items(alloc, &directive),
+        None => Ok(false),
     }
 }

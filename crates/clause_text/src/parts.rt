@@ -4,14 +4,14 @@ ghost use Rattle.prolog_tokens.specs.declared.token.Token.{Token as TokenOf};
 ghost use Rattle.prolog_tokens.specs.Cut.{IsCut};
 ghost use Rattle.prolog_names.specs.Numbers.{AreNumbered};
 ghost use Rattle.prolog_ops.specs.Table.{ops_of};
-ghost use Rattle.clause_text.specs.Clauses.{AreClauses, HasClauseFault, clause_trees, opening_ops};
+ghost use Rattle.clause_text.specs.Clauses.{AreClauses, HasClauseFault, clause_trees, opening_ops, text_trees};
 ghost use Rattle.clause_text.specs.Pieces.{IsBehindClause, ArePieces, AreAdded, IsFaultAhead};
 
-use crate::Clause;
 use crate::fault::TextFault;
 use crate::items::apply_items;
 use crate::piece::{Piece, PieceEnd, read_each, stretches_from};
-use prolog_names::Numbered;
+use crate::text_clauses::{Clause, TextClauses};
+use prolog_names::{Names, Numbered};
 use prolog_ops::OpTable;
 use prolog_tokens::{Kind, Token};
 use std::alloc::Global;
@@ -27,25 +27,27 @@ struct Kept {
     ahead: usize,
 }
 
-/// Keeps the clauses of the pieces up to the first that sets operators, which it then does: what was
+/// Keeps the clauses of the pieces, whose names are these, up to the first that sets operators, which it then does: what was
 /// read behind it was read with other operators than it leaves, and the rest of its stretch comes
 /// next. Where no clause sets any, twice as many stretches may be read next, so that no more stretches
 /// are read for nothing than were kept.
 fn keep(
     alloc: Global,
+    names: &Names,
     table: &mut OpTable,
     from: usize,
     pieces: Vec<Piece>,
     clauses: &mut Vec<Clause>,
 ) -> Result<Kept, TextFault>
-    ensures kept { IfOk result (λ kept. (text : List ℕ) (ts : List TokenOf) (to : ℕ) → ArePieces (ops_of table.old) text ts from pieces.items to
-        → AreAdded (ops_of table.old) text ts from (clause_trees clauses.old.items) (clause_trees clauses.new.items) (ops_of table.new) kept.to) }
-    ensures forward { IfOk result (λ kept. (text : List ℕ) (ts : List TokenOf) (to : ℕ) → ArePieces (ops_of table.old) text ts from pieces.items to
+    ensures kept { IfOk result (λ kept. (text : List ℕ) (ts : List TokenOf) (to : ℕ) → ArePieces names.now (ops_of table.old) text ts from pieces.items to
+        → AreAdded (ops_of table.old) text ts from (clause_trees names.now clauses.old.items) (clause_trees names.now clauses.new.items)
+        (ops_of table.new) kept.to) }
+    ensures forward { IfOk result (λ kept. (text : List ℕ) (ts : List TokenOf) (to : ℕ) → ArePieces names.now (ops_of table.old) text ts from pieces.items to
         → from < to → from < kept.to) }
-    ensures until { IfOk result (λ kept. (text : List ℕ) (ts : List TokenOf) (to : ℕ) → ArePieces (ops_of table.old) text ts from pieces.items to
+    ensures until { IfOk result (λ kept. (text : List ℕ) (ts : List TokenOf) (to : ℕ) → ArePieces names.now (ops_of table.old) text ts from pieces.items to
         → from < to → IsBehindClause ts kept.until) }
     ensures fault { IfErr result (λ fault. fault ≢ TextFault.NoMemory → (text : List ℕ) (ts : List TokenOf) (to : ℕ)
-        → ArePieces (ops_of table.old) text ts from pieces.items to → IsFaultAhead (ops_of table.old) text ts from fault) }
+        → ArePieces names.now (ops_of table.old) text ts from pieces.items to → IsFaultAhead (ops_of table.old) text ts from fault) }
 {
     let ahead = pieces.len().saturating_mul(2);
     let mut to = from;
@@ -59,7 +61,7 @@ fn keep(
         match end {
             PieceEnd::Whole => to = until,
             PieceEnd::AtOperators(clause, place) => {
-                apply_items(alloc, table, &clause.term)?;
+                apply_items(alloc, table, &clause.term(names))?;
                 if clauses.push(clause).is_err() {
                     return Err(TextFault::NoMemory);
                 }
@@ -95,7 +97,7 @@ fn read_parts<R: Threads + Sync>(
     requires small { length text.now ≤ MOST_BYTES }
     requires cut { IsCut text.now tokens.now }
     requires numbered { AreNumbered text.now numbered.now.names tokens.now numbered.now.numbers.items }
-    ensures ok { IfOk result (λ clauses. AreClauses (ops_of table.old) text.now tokens.now (clause_trees clauses.items)) }
+    ensures ok { IfOk result (λ clauses. AreClauses (ops_of table.old) text.now tokens.now (clause_trees numbered.now.names clauses.items)) }
     ensures fault { IfErr result (λ fault. fault ≢ TextFault.NoMemory → HasClauseFault (ops_of table.old) text.now tokens.now fault) }
 {
     let mut clauses = Vec::with_capacity(alloc, count_ends(tokens))?;
@@ -105,7 +107,7 @@ fn read_parts<R: Threads + Sync>(
     while from < tokens.len() {
         let stretches = stretches_from(alloc, tokens, from, until, ahead)?;
         let pieces = read_each(rt, alloc, table, text, tokens, numbered, &stretches)?;
-        let kept = keep(alloc, table, from, pieces, &mut clauses)?;
+        let kept = keep(alloc, &numbered.names, table, from, pieces, &mut clauses)?;
         from = kept.to;
         until = kept.until;
         ahead = kept.ahead;
@@ -113,20 +115,23 @@ fn read_parts<R: Threads + Sync>(
     Ok(clauses)
 }
 
-/// The clauses that the tokens of the text are, from the operators on that each text begins with.
+/// The clauses that the tokens of the text are, from the operators on that each text begins with, and
+/// the names that the numbers of the tokens mean.
 pub fn read_clauses<R: Threads + Sync>(
     rt: &R,
     alloc: Global,
     text: &str,
     tokens: &[Token],
-    numbered: &Numbered,
-) -> Result<Vec<Clause>, TextFault>
+    numbered: Numbered,
+) -> Result<TextClauses, TextFault>
     requires small { length text.now ≤ MOST_BYTES }
     requires cut { IsCut text.now tokens.now }
-    requires numbered { AreNumbered text.now numbered.now.names tokens.now numbered.now.numbers.items }
-    ensures ok { IfOk result (λ clauses. AreClauses opening_ops text.now tokens.now (clause_trees clauses.items)) }
+    requires numbered { AreNumbered text.now numbered.names tokens.now numbered.numbers.items }
+    ensures ok { IfOk result (λ clauses. AreClauses opening_ops text.now tokens.now (text_trees clauses)) }
     ensures fault { IfErr result (λ fault. fault ≢ TextFault.NoMemory → HasClauseFault opening_ops text.now tokens.now fault) }
 {
     let mut table = OpTable::opening(alloc)?;
-    read_parts(rt, alloc, &mut table, text, tokens, numbered)
+    let clauses = read_parts(rt, alloc, &mut table, text, tokens, &numbered)?;
+    let names = numbered.names;
+    Ok(TextClauses { names, clauses })
 }

@@ -1,17 +1,20 @@
 //! Clauses that stand side by side in a text, read under one table of operators.
 
-ghost use Rattle.std.specs.Prelude.{◌≡◌, ◌≤◌, ◌<◌, ℕ, length, All, IfOk};
+ghost use Rattle.std.specs.Prelude.{◌≡◌, ◌≢◌, ◌≤◌, ◌<◌, ℕ, length, All, IfOk, IfErr};
 ghost use Rattle.prolog_tokens.specs.declared.limits.TheConstants.{MOST_BYTES};
 ghost use Rattle.prolog_tokens.specs.Cut.{IsCut};
 ghost use Rattle.prolog_names.specs.Numbers.{AreNumbered};
 ghost use Rattle.prolog_ops.specs.Table.{ops_of};
-ghost use Rattle.clause_text.specs.Clauses.{EndsFirst};
+ghost use Rattle.prolog_terms.specs.Clause.{ArePart, IsClauseOf, IsOneClause};
+ghost use Rattle.prolog_terms.specs.Words.{table_of};
+ghost use Rattle.clause_text.specs.Items.{has_some, items_of};
+ghost use Rattle.clause_text.specs.Clauses.{EndsFirst, IsUnread, clause_tree};
 ghost use Rattle.clause_text.specs.Pieces.{IsBehindClause, IsStretch, AreStretches, IsPiece, ArePieces};
 
 use crate::Clause;
 use crate::fault::TextFault;
 use crate::items::has_items;
-use prolog_names::{Numbered, numbered_part};
+use prolog_names::{Names, Numbered, numbered_part};
 use prolog_ops::OpTable;
 use prolog_terms::{Reader, read_clause};
 use prolog_tokens::{Kind, Token};
@@ -117,6 +120,37 @@ pub fn stretches_from(
     Ok(stretches)
 }
 
+/// A clause, and whether it sets operators.
+#[derive(Drop)]
+struct ReadPart {
+    clause: Clause,
+    sets: bool,
+}
+
+/// The clause that the tokens up to an End are under the table, with the numbers of their names.
+fn read_part(
+    alloc: Global,
+    reader: &mut Reader,
+    table: &OpTable,
+    names: &Names,
+    text: &str,
+    tokens: &[Token],
+    numbers: &[u32],
+) -> Result<ReadPart, TextFault>
+    requires small { length text.now ≤ MOST_BYTES }
+    requires part { ArePart text.now tokens.now }
+    requires clause { IsOneClause tokens.now }
+    requires numbered { AreNumbered text.now names.now tokens.now numbers.now }
+    ensures clause { IfOk result (λ part. IsClauseOf (table_of (ops_of table.now)) text.now tokens.now (clause_tree names.now part.clause)) }
+    ensures sets { IfOk result (λ part. part.sets ≡ has_some (items_of (clause_tree names.now part.clause))) }
+    ensures fault { IfErr result (λ fault. fault ≢ TextFault.NoMemory → IsUnread (ops_of table.now) text.now tokens.now fault) }
+{
+    let nodes = read_clause(alloc, reader, table, names, text, tokens, numbers)?;
+    let clause = Clause { nodes };
+    let sets = has_items(alloc, &clause.term(names))?;
+    Ok(ReadPart { clause, sets })
+}
+
 /// What the stretch is read as under the table.
 fn read_stretch(
     alloc: Global,
@@ -130,7 +164,7 @@ fn read_stretch(
     requires cut { IsCut text.now tokens.now }
     requires numbered { AreNumbered text.now numbered.now.names tokens.now numbered.now.numbers.items }
     requires stretch { IsStretch tokens.now stretch.now }
-    ensures { IsPiece (ops_of table.now) text.now tokens.now stretch.now.from stretch.now.to result }
+    ensures { IsPiece numbered.now.names (ops_of table.now) text.now tokens.now stretch.now.from stretch.now.to result }
 {
     numbered_part();
     let names = &numbered.names;
@@ -141,7 +175,7 @@ fn read_stretch(
     let mut at = stretch.from;
     while at < to {
         let next = part_end(tokens, at);
-        let clause = match read_clause(
+        let part = match read_part(
             alloc,
             &mut reader,
             table,
@@ -150,17 +184,17 @@ fn read_stretch(
             &tokens[at..next],
             &numbers[at..next],
         ) {
-            Ok(term) => Clause { term },
+            Ok(part) => part,
             Err(fault) => {
-                let end = PieceEnd::Refused(fault.into());
+                let end = PieceEnd::Refused(fault);
                 return Piece { clauses, to, end };
             }
         };
-        if has_items(&clause.term) {
-            let end = PieceEnd::AtOperators(clause, next);
+        if part.sets {
+            let end = PieceEnd::AtOperators(part.clause, next);
             return Piece { clauses, to, end };
         }
-        if clauses.push(clause).is_err() {
+        if clauses.push(part.clause).is_err() {
             let end = PieceEnd::Refused(TextFault::NoMemory);
             return Piece { clauses, to, end };
         }
@@ -185,7 +219,7 @@ pub fn read_each<R: Threads + Sync>(
     requires numbered { AreNumbered text.now numbered.now.names tokens.now numbered.now.numbers.items }
     requires stretches { All (IsStretch tokens.now) stretches.now }
     ensures { IfOk result (λ pieces. (from to : ℕ) → AreStretches tokens.now from stretches.now to
-        → ArePieces (ops_of table.now) text.now tokens.now from pieces.items to) }
+        → ArePieces numbered.now.names (ops_of table.now) text.now tokens.now from pieces.items to) }
 {
     stretches
         .par_iter()
@@ -194,7 +228,8 @@ pub fn read_each<R: Threads + Sync>(
             |stretch: &Stretch| -> Piece
                 requires { (length text.now ≤ MOST_BYTES) × IsCut text.now tokens.now
                     × AreNumbered text.now numbered.now.names tokens.now numbered.now.numbers.items × IsStretch tokens.now stretch.now }
-                ensures { IsPiece (ops_of table.entry.now) text.entry.now tokens.entry.now stretch.entry.now.from stretch.entry.now.to result }
+                ensures { IsPiece numbered.entry.now.names (ops_of table.entry.now) text.entry.now tokens.entry.now
+                    stretch.entry.now.from stretch.entry.now.to result }
             { read_stretch(alloc, table, text, tokens, numbered, stretch) },
         )
         .collect(rt, alloc)

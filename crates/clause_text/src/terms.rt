@@ -1,11 +1,12 @@
-ghost use Rattle.std.specs.Prelude.{◌≡◌, ◌||◌, option_map, codes, IfSome};
+ghost use Rattle.std.specs.Prelude.{◌≡◌, ◌||◌, option_map, map, codes, IfOk, IfSome};
 ghost use Rattle.std.specs.Str.{bytes_eq};
 ghost use Rattle.prolog_terms.specs.Terms.{tree_of, trees_of, IsOf};
 ghost use Rattle.prolog_terms.specs.Views.{trees_in};
-ghost use Rattle.clause_text.specs.Lists.{written_items};
+ghost use Rattle.clause_text.specs.Lists.{listed_items, written_items};
 ghost use Rattle.clause_text.specs.Items.{item_of, directive_of};
 
 use prolog_terms::{Parts, Term, TermKind, inside};
+use std::alloc::{AllocError, Global};
 
 /// The priority, the kind and the names of a term that is an operator item.
 pub fn operator_item<'a>(term: &Term<'a>) -> Option<(Term<'a>, Term<'a>, Term<'a>)>
@@ -47,5 +48,16 @@ pub fn written_items<'a>(term: &Term<'a>) -> Option<Parts<'a>>
     match inside(term).kind() {
         TermKind::List { items } => Some(items),
         _ => None,
+    }
+}
+
+/// The terms of a list, with a tail or without.
+pub fn listed<'a>(alloc: Global, term: &Term<'a>) -> Result<Vec<Term<'a>>, AllocError>
+    ensures { IfOk result (λ terms. map tree_of terms.items ≡ listed_items (tree_of term.now)) }
+{
+    match inside(term).kind() {
+        TermKind::List { items } => items.to_vec(alloc),
+        TermKind::Tailed { items, .. } => items.to_vec(alloc),
+        _ => Ok(Vec::new(alloc)),
     }
 }

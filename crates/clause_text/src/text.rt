@@ -2,13 +2,13 @@ ghost use Rattle.std.specs.Prelude.{◌≡◌, ◌≢◌, ◌≤◌, List, lengt
 ghost use Rattle.prolog_tokens.specs.declared.limits.TheConstants.{MOST_BYTES};
 ghost use Rattle.prolog_tokens.specs.Places.{IsOffset};
 ghost use Rattle.prolog_terms.specs.Tree.{Tree};
-ghost use Rattle.clause_text.specs.Clauses.{ReadsAs, clause_trees, total_weight};
+ghost use Rattle.clause_text.specs.Clauses.{ReadsAs, text_trees, total_weight};
 ghost use Rattle.clause_text.specs.TextFault.{HasTextFault, offset_of};
 
-use crate::Clause;
 use crate::cause::Cause;
 use crate::fault::TextFault;
 use crate::parts::read_clauses;
+use crate::text_clauses::TextClauses;
 use prolog_names::number_names;
 use prolog_tokens::tokens;
 use std::alloc::Global;
@@ -22,15 +22,15 @@ pub fn read_text<R: Threads + Sync>(
     rt: &R,
     alloc: Global,
     bytes: &[u8],
-) -> Result<Vec<Clause>, TextFault>
+) -> Result<TextClauses, TextFault>
     requires small { length bytes.now ≤ MOST_BYTES }
-    ensures ok { IfOk result (λ clauses. ReadsAs bytes.now (clause_trees clauses.items)) }
-    ensures only { IfOk result (λ clauses. (others : List Tree) → ReadsAs bytes.now others → others ≡ clause_trees clauses.items) }
+    ensures ok { IfOk result (λ clauses. ReadsAs bytes.now (text_trees clauses)) }
+    ensures only { IfOk result (λ clauses. (others : List Tree) → ReadsAs bytes.now others → others ≡ text_trees clauses) }
     ensures none { IfErr result (λ fault. fault ≢ TextFault.NoMemory → (others : List Tree) → ReadsAs bytes.now others → ⊥) }
     ensures fault { IfErr result (λ fault. fault ≢ TextFault.NoMemory → HasTextFault bytes.now fault) }
     ensures only_fault { IfErr result (λ fault. fault ≢ TextFault.NoMemory → (other : TextFault) → HasTextFault bytes.now other → other ≡ fault) }
     ensures offset { IfErr result (λ fault. IfSome (offset_of fault) (λ at. IsOffset bytes.now at)) }
-    ensures weights { IfOk result (λ clauses. total_weight (clause_trees clauses.items) ≤ length bytes.now) }
+    ensures weights { IfOk result (λ clauses. total_weight (text_trees clauses) ≤ length bytes.now) }
 {
     let text = match str::from_utf8(bytes) {
         Ok(text) => text,
@@ -38,5 +38,5 @@ pub fn read_text<R: Threads + Sync>(
     };
     let tokens = tokens(alloc, text)?;
     let numbered = number_names(alloc, text, &tokens)?;
-    read_clauses(rt, alloc, text, &tokens, &numbered)
+    read_clauses(rt, alloc, text, &tokens, numbered)
 }

@@ -7,4 +7,4 @@ use Rattle.clause_text.proofs.items.apply_items.Goals as goal
 pub returns-in-Some-clause-done : goal.returns-in-Some-clause-done
 returns-in-Some-clause-done c =
     ok_only c.apply_directive.result _ _ c.apply_directive.ensures.done
-    (λ done. ap (λ directive. items_on (items_under directive) (ops_of c.args.table.now)) (sym c.in-Some.ensures) ∙ done)
+    (λ done. ap (λ directive. items_on (items_under directive) (ops_of c.args.table.now)) (sym c.in-Some.ensures.tree) ∙ done)

@@ -7,4 +7,4 @@ use Rattle.clause_text.proofs.parts.keep.Given as goal
 abbrev pub invariant-loop-piece : goal.invariant-loop-piece
 invariant-loop-piece l =
     (ops_of l.table ≡ ops_of l.fn.table)
-    × AreKept (ops_of l.fn.table) l.fn.from l.fn.pieces.items (clause_trees l.fn.clauses.items) l.piece-iterator.rest.items (clause_trees l.clauses.items) l.to
+    × AreKept l.names (ops_of l.fn.table) l.fn.from l.fn.pieces.items (clause_trees l.names l.fn.clauses.items) l.piece-iterator.rest.items (clause_trees l.names l.clauses.items) l.to

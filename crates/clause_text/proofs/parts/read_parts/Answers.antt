@@ -9,14 +9,14 @@ use Rattle.clause_text.proofs.parts.read_parts.Goals as goal
 
 pub loop-from-init : goal.loop-from-init
 loop-from-init g c = (
-  subst (λ clauses. LeadTo (ops_of c.args.table.now) c.args.text.now c.args.tokens.now 0 clauses (ops_of c.args.table.now) 0) (ap clause_trees (sym c.in_ok-clauses.ensures.items))
+  subst (λ clauses. LeadTo (ops_of c.args.table.now) c.args.text.now c.args.tokens.now 0 clauses (ops_of c.args.table.now) 0) (ap (clause_trees c.args.numbered.now.names) (sym c.in_ok-clauses.ensures.items))
       (refl, refl),
   λ some. (let never : ⊥ = omega (arith, some) in absurd never),
 )
 
 pub returns-clause-ok : goal.returns-clause-ok
 returns-clause-ok g c =
-    lead_are (ops_of c.args.table.now) c.args.text.now c.args.tokens.now 0 (clause_trees c.loop-from.clauses.items) (ops_of c.loop-from.table) c.loop-from.from
+    lead_are (ops_of c.args.table.now) c.args.text.now c.args.tokens.now 0 (clause_trees c.args.numbered.now.names c.loop-from.clauses.items) (ops_of c.loop-from.table) c.loop-from.from
     c.loop-from.invariant.0 c.loop-from-test.false
 
 pub read_each-requires-clause-stretches : goal.read_each-requires-clause-stretches
@@ -32,7 +32,7 @@ returns-in_err-kept-clause-fault g c =
     (λ fault same some.
     subst (λ f. HasClauseFault (ops_of c.args.table.now) c.args.text.now c.args.tokens.now f) (sym same)
     (fault_from_start (ops_of c.args.table.now) c.args.text.now c.args.tokens.now c.in_err-kept.field-0.0
-    (fault_joined (ops_of c.args.table.now) c.args.text.now c.args.tokens.now 0 (clause_trees c.loop-from.clauses.items) (ops_of c.loop-from.table) c.loop-from.from c.in_err-kept.field-0.0
+    (fault_joined (ops_of c.args.table.now) c.args.text.now c.args.tokens.now 0 (clause_trees c.args.numbered.now.names c.loop-from.clauses.items) (ops_of c.loop-from.table) c.loop-from.from c.in_err-kept.field-0.0
     c.loop-from.invariant.0
     (c.in_err-kept.ensures.fault (λ none. some (same ∙ none)) c.args.text.now c.args.tokens.now to (c.in_ok-pieces.ensures c.loop-from.from to are)))))
 
@@ -51,7 +51,7 @@ loop-from-preserved g c =
     let to = c.in_ok-stretches.ensures.0 in
     let are = subst (λ stretches. AreStretches c.args.tokens.now c.loop-from.from stretches to) (sym c.deref.ensures.value) c.in_ok-stretches.ensures.2 in
     let pieces = c.in_ok-pieces.ensures c.loop-from.from to are in (
-      added_lead (ops_of c.args.table.now) c.args.text.now c.args.tokens.now 0 (clause_trees c.loop-from.clauses.items) (clause_trees c.keep.new.clauses.items) (ops_of c.loop-from.table)
+      added_lead (ops_of c.args.table.now) c.args.text.now c.args.tokens.now 0 (clause_trees c.args.numbered.now.names c.loop-from.clauses.items) (clause_trees c.args.numbered.now.names c.keep.new.clauses.items) (ops_of c.loop-from.table)
           c.loop-from.from (ops_of c.keep.new.table) c.in_ok-kept.kept.to c.loop-from.invariant.0
           (c.in_ok-kept.ensures.kept c.args.text.now c.args.tokens.now to pieces),
       λ some. c.in_ok-kept.ensures.until c.args.text.now c.args.tokens.now to pieces c.in_ok-stretches.ensures.1,

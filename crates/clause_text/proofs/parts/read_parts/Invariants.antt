@@ -6,7 +6,7 @@ use Rattle.clause_text.proofs.parts.read_parts.Given as goal
 
 abbrev pub invariant-loop-from : goal.invariant-loop-from
 invariant-loop-from g l =
-    LeadTo (ops_of l.fn.table) l.text l.tokens 0 (clause_trees l.clauses.items) (ops_of l.table) l.from × (l.from < l.until → IsBehindClause l.tokens l.until)
+    LeadTo (ops_of l.fn.table) l.text l.tokens 0 (clause_trees l.numbered.names l.clauses.items) (ops_of l.table) l.from × (l.from < l.until → IsBehindClause l.tokens l.until)
 
 abbrev pub decreases-loop-from : goal.decreases-loop-from
 decreases-loop-from g l = length l.tokens - l.from

@@ -20,7 +20,7 @@ returns g c =
     IfOk-then c.collect.result _ _ c.collect.ensures (λ v h.
     let chain = h.1 in
     let read =
-    subst (λ f. AllZip (λ (stretch : Bor Stretch) (piece : Piece). IsPiece (ops_of f.1.now) f.2.now f.3.now stretch.now.from stretch.now.to piece) chain.0 h.0) c.map.ensures.f chain.2 in
+    subst (λ f. AllZip (λ (stretch : Bor Stretch) (piece : Piece). IsPiece f.4.now.names (ops_of f.1.now) f.2.now f.3.now stretch.now.from stretch.now.to piece) chain.0 h.0) c.map.ensures.f chain.2 in
     rw h.2
-    (pieces_of table text ts stretches h.0
-    (slice-AllZip chain.0 stretches (chain.1 ∙ slice) (λ (stretch : Stretch) (piece : Piece). IsPiece table text ts stretch.from stretch.to piece) h.0 read)))
+    (pieces_of c.args.numbered.now.names table text ts stretches h.0
+    (slice-AllZip chain.0 stretches (chain.1 ∙ slice) (λ (stretch : Stretch) (piece : Piece). IsPiece c.args.numbered.now.names table text ts stretch.from stretch.to piece) h.0 read)))

@@ -1,7 +1,7 @@
 use Rattle.std.proofs.Common.{◌≤◌, length, arith, ap, sym, refl, subst}
 use Rattle.std.specs.Str.{IsValidUpTo}
 use Rattle.prolog_tokens.proofs.Lookups.{cut_fewer}
-use Rattle.clause_text.specs.Clauses.{clause_trees, opening_ops, total_weight}
+use Rattle.clause_text.specs.Clauses.{text_trees, opening_ops, total_weight}
 use Rattle.clause_text.specs.TextFault.{bytes, tokens, clauses}
 use Rattle.clause_text.proofs.Outcomes.{on_err, err_only, ok_with}
 use Rattle.clause_text.proofs.OneReading.{one_reading}
@@ -38,8 +38,8 @@ pub returns-clause-only : goal.returns-clause-only
 returns-clause-only g c =
     ok_with c.read_clauses.result _ _ c.read_clauses.ensures.ok
     (λ found are others reads.
-    one_reading c.args.bytes.now others (clause_trees found.items) reads
-    (reads_as c.args.bytes.now c.in-Ok.text.now c.in_ok-tokens.tokens.items c.deref-2.result.now (clause_trees found.items) c.in-Ok.ensures.cases.0 c.deref-2.ensures.value
+    one_reading c.args.bytes.now others (text_trees found) reads
+    (reads_as c.args.bytes.now c.in-Ok.text.now c.in_ok-tokens.tokens.items c.deref-2.result.now (text_trees found) c.in-Ok.ensures.cases.0 c.deref-2.ensures.value
     c.in-Ok.ensures.cases.1 c.in_ok-tokens.ensures.ok are))
 
 pub returns-clause-none : goal.returns-clause-none
@@ -72,6 +72,6 @@ returns-clause-weights g c =
     let fewer : length c.in_ok-tokens.tokens.items ≤ length c.in-Ok.text.now = cut_fewer c.in-Ok.text.now c.in_ok-tokens.tokens.items c.in_ok-tokens.ensures.ok in
     ok_with c.read_clauses.result _ _ c.read_clauses.ensures.ok
     (λ found are.
-    (let weigh : total_weight (clause_trees found.items) ≤ length c.deref-2.result.now =
-    clauses_weigh opening_ops c.in-Ok.text.now c.deref-2.result.now (clause_trees found.items) are in
+    (let weigh : total_weight (text_trees found) ≤ length c.deref-2.result.now =
+    clauses_weigh opening_ops c.in-Ok.text.now c.deref-2.result.now (text_trees found) are in
     omega (arith, fewer, weigh, ap length c.deref-2.ensures.value, ap length c.in-Ok.ensures.cases.0)))
