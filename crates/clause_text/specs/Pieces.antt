@@ -35,7 +35,8 @@ abbrev pub AreStretches : List Token → ℕ → List Stretch → ℕ → Type 0
 AreStretches ts from [] to = from ≡ to
 AreStretches ts from (stretch ∷ stretches) to = (stretch.from ≡ from) × IsStretch ts stretch × AreStretches ts stretch.to stretches to
 
--- what stands behind the clauses of a piece, whose names are these and which end at a place: nothing more up to the end of its stretch, a clause, or a part that is none
+-- what stands behind the clauses of a piece, which end at a place: nothing more up to the end of its stretch, a clause, or a part that is none;
+-- the names are those that the clauses' names are numbers in
 abbrev pub EndIs : List (List ℕ) → Ops → List ℕ → List Token → ℕ → ℕ → PieceEnd → Type 0
 EndIs names table text ts at to Whole = at ≡ to
 EndIs names table text ts at to (AtOperators clause place) =

@@ -1,8 +1,9 @@
 //! Texts of Prolog: from bytes to clauses, each read with the operators that those before it leave.
 //!
-//! `read_text` answers the one list of clauses that a text is, or its one fault with the byte offset:
-//! of its bytes, else of its tokens, else of the first clause that can't be read or whose operators
-//! can't be set. `Cause` has all faults of a program's files, and `cause_text` their words.
+//! `read_text` answers the one list of clauses that a text is, with the names in it, or its one fault
+//! with the byte offset: of its bytes, else of its tokens, else of the first clause that can't be read
+//! or whose operators can't be set. `Cause` has all faults of a program's files, and `cause_text` their
+//! words.
 //!
 //! Of directives it sees the operators alone, and of files nothing but their bytes.
 #![tactic(auto)]
