@@ -1,5 +1,5 @@
 -- What some tables of operators are, and what they aren't.
-use Rattle.std.proofs.Common.{◌≡◌, ℕ, List, Some, None, Option, refl, ap, codes, arith}
+use Rattle.std.proofs.Common.{◌≡◌, ℕ, Some, None, Option, refl, ap, codes, arith}
 use Rattle.std.specs.Prelude.{is_some}
 use Rattle.prolog_ops.specs.ByName.{no_op}
 use Rattle.prolog_ops.specs.Table.{Ops, Prefix, Infix, Postfix, IsOps, Fits, opening, set_fault, with_set}

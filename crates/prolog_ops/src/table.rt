@@ -1,4 +1,4 @@
-ghost use Rattle.std.specs.Prelude.{◌≡◌, ◌≤◌, ◌⊎◌, Some, None, false, IsOk, IfOk, IfErr, OnOk, OnErr};
+ghost use Rattle.std.specs.Prelude.{◌≡◌, ◌≤◌, ◌⊎◌, Some, None, true, false, IsOk, IfOk, IfErr, OnOk, OnErr};
 ghost use Rattle.prolog_ops.specs.declared.table.OpFault.TheVariants.{NoMemory};
 ghost use Rattle.prolog_ops.specs.Table.{Prefix, Infix, Postfix, IsOps, ops_of, opening, place_of, set_fault, with_set, is_fixed, has_rival};
 
@@ -43,16 +43,18 @@ pub struct OpTable {
     prefixes: PlaceOps,
     infixes: PlaceOps,
     postfixes: PlaceOps,
+    /// Whether no operator was set since the table began as the opening one.
+    is_unchanged: bool,
 }
 
 impl Model for OpTable {
-    ghost use Rattle.prolog_ops.specs.Table.{Lists, IsOps, ops_of};
+    ghost use Rattle.prolog_ops.specs.Table.{Lists, IsKept, ops_of};
 
     ghost Value = { Lists };
 
     ghost view = { λ table. record { prefixes = table.prefixes; infixes = table.infixes; postfixes = table.postfixes } };
 
-    ghost invariant = { λ table. IsOps (ops_of (record { prefixes = table.prefixes; infixes = table.infixes; postfixes = table.postfixes })) };
+    ghost invariant = { λ table. IsKept (ops_of (record { prefixes = table.prefixes; infixes = table.infixes; postfixes = table.postfixes })) table.is_unchanged };
 }
 
 /// Whether the operators of the name can't be changed.
@@ -73,7 +75,17 @@ impl OpTable {
             prefixes,
             infixes,
             postfixes: PlaceOps::new(alloc),
+            is_unchanged: true,
         })
+    }
+
+    /// Whether the table is known to be the one that each text begins with: no operator was set in it.
+    /// A table in which one was set may still be the same; of it `false` promises nothing.
+    pub fn is_opening(&self) -> bool
+        ensures opening { result ≡ true → ops_of self.now ≡ opening }
+        ensures table { IsOps (ops_of self.now) }
+    {
+        self.is_unchanged
     }
 
     /// The operator of the name before an operand. A look-up takes no memory.
@@ -166,6 +178,7 @@ impl OpTable {
         let Ok(()) = self.prefixes.set(alloc, name, op) else {
             return Err(OpFault::NoMemory);
         };
+        self.is_unchanged = false;
         Ok(())
     }
 
@@ -180,6 +193,7 @@ impl OpTable {
         let Ok(()) = self.infixes.set(alloc, name, op) else {
             return Err(OpFault::NoMemory);
         };
+        self.is_unchanged = false;
         Ok(())
     }
 
@@ -194,6 +208,7 @@ impl OpTable {
         let Ok(()) = self.postfixes.set(alloc, name, op) else {
             return Err(OpFault::NoMemory);
         };
+        self.is_unchanged = false;
         Ok(())
     }
 }

@@ -3,4 +3,4 @@ use Rattle.prolog_ops.specs.Table.{IsOps, ops_of}
 use Rattle.prolog_ops.proofs.table.OpTable.postfix.Goals as goal
 
 pub returns-clause-table : goal.returns-clause-table
-returns-clause-table c = subst (λ lists. IsOps (ops_of lists)) c.self.view_is c.self.invariant
+returns-clause-table c = subst (λ lists. IsOps (ops_of lists)) c.self.view_is c.self.invariant.is

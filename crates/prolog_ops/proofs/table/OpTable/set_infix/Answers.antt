@@ -1,14 +1,19 @@
-use Rattle.std.proofs.Common.{◌≡◌, None, ap, sym, subst, ◌∙◌}
-use Rattle.prolog_ops.specs.Table.{Lists, IsOps, ops_of, set_fault}
+use Rattle.std.proofs.Common.{◌≡◌, true, false, None, ap, sym, subst, ◌∙◌}
+use Rattle.prolog_ops.specs.Table.{Lists, IsKept, ops_of, set_fault}
 use Rattle.prolog_ops.proofs.Changes.{infixes_are}
 use Rattle.prolog_ops.proofs.table.OpTable.set_infix.Goals as goal
 
 pub invariant_of-self : goal.invariant_of-self
-invariant_of-self c = subst (λ x. IsOps (ops_of (record { prefixes = c.self.inside.prefixes; infixes = x; postfixes = c.self.inside.postfixes }))) (sym c.in_default.ensures.kept) c.self.invariant
+invariant_of-self c =
+    subst (λ x. IsKept (ops_of (record { prefixes = c.self.inside.prefixes; infixes = x; postfixes = c.self.inside.postfixes })) c.self.inside.is_unchanged)
+    (sym c.in_default.ensures.kept) c.self.invariant
 
 pub invariant_of-self-2 : goal.invariant_of-self-2
 invariant_of-self-2 c =
     let lists : Lists = record { prefixes = c.self.inside.prefixes; infixes = c.self.inside.infixes; postfixes = c.self.inside.postfixes } in
     let may : set_fault (ops_of lists) c.args.name.now c.args.op.kind c.args.op.priority ≡ None =
     ap (λ l. set_fault (ops_of l) c.args.name.now c.args.op.kind c.args.op.priority) c.self.view_is ∙ c.requires.lawful in
-    infixes_are lists c.self.invariant c.args.name.now c.args.op may c.set.new.self c.requires.place c.in-Ok.ensures.set
+    record {
+      is = infixes_are lists c.self.invariant.is c.args.name.now c.args.op may c.set.new.self c.requires.place c.in-Ok.ensures.set;
+      begun = λ unchanged. let both : false ≡ true = unchanged in cc;
+    }
