@@ -1,4 +1,7 @@
+pub mod Examples
 pub mod Chains
 pub mod NumberedParts
 pub mod GrownTable
 pub mod PlainNames
+pub mod OneNumber
+pub mod OpeningTable

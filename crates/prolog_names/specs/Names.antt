@@ -9,9 +9,27 @@ name_at names number = slice_index_or names number []
 abbrev pub AreDistinct : List (List ℕ) → Type 0
 AreDistinct names = (a b : ℕ) → a < length names → b < length names → name_at names a ≡ name_at names b → a ≡ b
 
--- the names that each table begins with; the first is the empty one
+-- the names that the reader asks for; the first is the empty one
+abbrev pub asked_names : List (List ℕ)
+asked_names = [] ∷ codes "," ∷ codes "|" ∷ codes "[]" ∷ codes "{}" ∷ codes "-" ∷ []
+
+-- the names of the operators that a text begins with, but for those among the names asked for: of those that stand before operands alone
+abbrev pub prefix_names : List (List ℕ)
+prefix_names =
+    codes "?-" ∷ codes "dynamic" ∷ codes "discontiguous" ∷ codes "multifile" ∷ codes "meta_predicate" ∷ codes "mode" ∷ codes "public"
+    ∷ codes "initialization" ∷ codes "table" ∷ codes "\\+" ∷ codes "\\" ∷ []
+
+-- and of those that stand between operands, the first two also before one
+abbrev pub infix_names : List (List ℕ)
+infix_names =
+    codes ":-" ∷ codes "+" ∷ codes "-->" ∷ codes ";" ∷ codes "->" ∷ codes "=" ∷ codes "\\=" ∷ codes "==" ∷ codes "\\==" ∷ codes "@<"
+    ∷ codes "@=<" ∷ codes "@>" ∷ codes "@>=" ∷ codes "=.." ∷ codes "is" ∷ codes "=:=" ∷ codes "=\\=" ∷ codes "<" ∷ codes "=<" ∷ codes ">"
+    ∷ codes ">=" ∷ codes "/\\" ∷ codes "\\/" ∷ codes "*" ∷ codes "/" ∷ codes "//" ∷ codes "rem" ∷ codes "mod" ∷ codes "div" ∷ codes "<<"
+    ∷ codes ">>" ∷ codes "**" ∷ codes "^" ∷ codes ":" ∷ []
+
+-- the names that each table begins with
 abbrev pub opening_names : List (List ℕ)
-opening_names = [] ∷ codes "," ∷ codes "|" ∷ codes "[]" ∷ codes "{}" ∷ codes "-" ∷ []
+opening_names = asked_names ++ prefix_names ++ infix_names
 
 -- the table begins with them
 abbrev pub IsOpened : List (List ℕ) → Type 0

@@ -2,10 +2,10 @@
 
 ghost use Rattle.std.specs.Prelude.{◌≡◌, ◌≢◌, ◌<◌, ◌≤◌, ℕ, [], List, length, codes, slice_range};
 ghost use Rattle.prolog_tokens.specs.declared.token.Token.{Token as TokenOf};
-ghost use Rattle.prolog_names.specs.Names.{name_at, AreDistinct, IsOpened};
+ghost use Rattle.prolog_names.specs.Names.{name_at, opening_names, AreDistinct, IsOpened};
 ghost use Rattle.prolog_names.specs.Numbers.{AreNumbered};
 
-use crate::names::{BAR, COMMA, CURLY, EMPTY, MINUS, Names, SQUARE};
+use crate::names::{BAR, COMMA, CURLY, EMPTY, MINUS, Names, OPENING_COUNT, SQUARE};
 
 /// Each table begins with the opening names. No name stands twice in it, so a name that isn't empty is
 /// that of one number alone.
@@ -21,6 +21,16 @@ pub fn names_law(names: &Names)
     ensures only { (a b : ℕ) → name_at names.now a ≡ name_at names.now b → name_at names.now b ≢ [] → a ≡ b }
 {
     let _count = names.table.len();
+}
+
+/// The opening names have the same numbers in each table, and a name with a number at or beyond their
+/// count is none of them.
+pub fn opening_law(names: &Names)
+    ensures named { (k : ℕ) → k < OPENING_COUNT → name_at names.now k ≡ name_at opening_names k }
+    ensures others { (number k : ℕ) → OPENING_COUNT ≤ number → name_at names.now number ≢ [] → k < OPENING_COUNT
+        → name_at opening_names k ≢ name_at names.now number }
+{
+    names_law(names);
 }
 
 /// Of numbered tokens a part is numbered by the part of the numbers.

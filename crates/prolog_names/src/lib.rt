@@ -12,6 +12,6 @@ mod names;
 mod numbers;
 mod table;
 
-pub use laws::{names_law, numbered_part};
-pub use names::{BAR, COMMA, CURLY, EMPTY, MINUS, Names, SQUARE};
+pub use laws::{names_law, numbered_part, opening_law};
+pub use names::{BAR, COMMA, CURLY, EMPTY, MINUS, Names, OPENING_COUNT, SQUARE};
 pub use numbers::{Numbered, number_names};

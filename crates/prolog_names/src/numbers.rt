@@ -6,7 +6,7 @@ ghost use Rattle.prolog_tokens.specs.Values.{IsQuotedText};
 ghost use Rattle.prolog_names.specs.Names.{opening_names};
 ghost use Rattle.prolog_names.specs.Numbers.{IsNumberOf, AreNumbered};
 
-use crate::names::Names;
+use crate::names::{Names, OPENING_COUNT};
 use crate::table::NameTable;
 use prolog_tokens::{Kind, Token, cut_fewer, cut_tokens, name_slice, name_text};
 use std::alloc::{AllocError, Global};
@@ -14,8 +14,62 @@ use std::alloc::{AllocError, Global};
 /// How many tokens of a text one bucket is made for.
 const BUCKET_TOKENS: usize = 4;
 
-/// The names that each table begins with, whose places are constants.
-const OPENING: [&str; 6] = ["", ",", "|", "[]", "{}", "-"];
+/// The names that each table begins with, whose places are constants: first those that the reader asks
+/// for, then the names of the operators that a text begins with, in the order of what stands beside
+/// them.
+const OPENING: [&str; OPENING_COUNT as usize] = [
+    "",
+    ",",
+    "|",
+    "[]",
+    "{}",
+    "-",
+    "?-",
+    "dynamic",
+    "discontiguous",
+    "multifile",
+    "meta_predicate",
+    "mode",
+    "public",
+    "initialization",
+    "table",
+    "\\+",
+    "\\",
+    ":-",
+    "+",
+    "-->",
+    ";",
+    "->",
+    "=",
+    "\\=",
+    "==",
+    "\\==",
+    "@<",
+    "@=<",
+    "@>",
+    "@>=",
+    "=..",
+    "is",
+    "=:=",
+    "=\\=",
+    "<",
+    "=<",
+    ">",
+    ">=",
+    "/\\",
+    "\\/",
+    "*",
+    "/",
+    "//",
+    "rem",
+    "mod",
+    "div",
+    "<<",
+    ">>",
+    "**",
+    "^",
+    ":",
+];
 
 /// The numbers of a text's tokens, one for each, and the names that they mean.
 #[derive(Drop)]
@@ -30,9 +84,7 @@ fn opening_table(alloc: Global, buckets: usize) -> Result<NameTable, AllocError>
     ensures { IfOk result (λ table. table ≡ opening_names) }
 {
     let mut table = NameTable::new(alloc, buckets)?;
-    for name in OPENING {
-        table.place_of(alloc, name)?;
-    }
+    table.place_each(alloc, &OPENING)?;
     Ok(table)
 }
 
@@ -91,7 +143,8 @@ pub fn number_names(alloc: Global, text: &str, tokens: &[Token]) -> Result<Numbe
 {
     cut_fewer();
     cut_tokens();
-    let mut table = opening_table(alloc, tokens.len() / BUCKET_TOKENS)?;
+    let buckets = tokens.len() / BUCKET_TOKENS + OPENING.len();
+    let mut table = opening_table(alloc, buckets)?;
     let mut numbers = Vec::with_capacity(alloc, tokens.len())?;
     for token in tokens {
         let number = number_of(alloc, &mut table, text, *token)?;

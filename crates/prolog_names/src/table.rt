@@ -1,6 +1,6 @@
 //! Names in chains, one for each bucket of a hash: a name is found by one look-up, without memory.
 
-ghost use Rattle.std.specs.Prelude.{◌≡◌, ◌<◌, ◌^◌, [], ℕ, false, length, IfOk, OnOk, MatchOption};
+ghost use Rattle.std.specs.Prelude.{◌≡◌, ◌<◌, ◌+◌, ◌^◌, [], ℕ, false, length, map, fold, IfOk, OnOk, MatchOption};
 ghost use Rattle.std.specs.List.{list_any};
 ghost use Rattle.std.specs.Str.{bytes_eq};
 ghost use Rattle.prolog_names.specs.Names.{name_at, AreDistinct};
@@ -127,6 +127,17 @@ impl NameTable {
         })?;
         self.heads[bucket] = place + 1;
         Ok(place)
+    }
+
+    /// Puts each of the names behind the others where it isn't there yet.
+    pub fn place_each(&mut self, alloc: Global, names: &[&str]) -> Result<(), AllocError>
+        requires { length self.old + length names.now < 4294967296 }
+        ensures { OnOk result (self.new ≡ fold with_name self.old (map (λ name. name.now) names.now)) }
+    {
+        for name in names {
+            self.place_of(alloc, name)?;
+        }
+        Ok(())
     }
 }
 

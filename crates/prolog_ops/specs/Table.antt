@@ -107,10 +107,10 @@ pub record IsOps (table : Ops) : Type 0 where
   pub apart : (name : List ℕ) → is_some (table Infix name) ≡ true → is_some (table Postfix name) ≡ true → ⊥
   pub fits : (place : Place) (name : List ℕ) (op : Op) → table place name ≡ Some op → Fits place op
 
--- what is true of a kept table: it is one, and where it is marked as unchanged it is the opening one
-pub record IsKept (table : Ops) (unchanged : Bool) : Type 0 where
+-- what is true of a kept table: it is one, and where nothing was changed in it the opening one
+pub record IsKept (table : Ops) (was_changed : Bool) : Type 0 where
   pub is : IsOps table
-  pub begun : unchanged ≡ true → table ≡ opening
+  pub begun : was_changed ≡ false → table ≡ opening
 
 -- the names of each place with their operators
 pub record Lists : Type 0 where

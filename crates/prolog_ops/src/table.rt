@@ -43,8 +43,8 @@ pub struct OpTable {
     prefixes: PlaceOps,
     infixes: PlaceOps,
     postfixes: PlaceOps,
-    /// Whether no operator was set since the table began as the opening one.
-    is_unchanged: bool,
+    /// Whether an operator was set since the table began as the opening one.
+    was_changed: bool,
 }
 
 impl Model for OpTable {
@@ -54,7 +54,7 @@ impl Model for OpTable {
 
     ghost view = { λ table. record { prefixes = table.prefixes; infixes = table.infixes; postfixes = table.postfixes } };
 
-    ghost invariant = { λ table. IsKept (ops_of (record { prefixes = table.prefixes; infixes = table.infixes; postfixes = table.postfixes })) table.is_unchanged };
+    ghost invariant = { λ table. IsKept (ops_of (record { prefixes = table.prefixes; infixes = table.infixes; postfixes = table.postfixes })) table.was_changed };
 }
 
 /// Whether the operators of the name can't be changed.
@@ -75,7 +75,7 @@ impl OpTable {
             prefixes,
             infixes,
             postfixes: PlaceOps::new(alloc),
-            is_unchanged: true,
+            was_changed: false,
         })
     }
 
@@ -85,7 +85,7 @@ impl OpTable {
         ensures opening { result ≡ true → ops_of self.now ≡ opening }
         ensures table { IsOps (ops_of self.now) }
     {
-        self.is_unchanged
+        !self.was_changed
     }
 
     /// The operator of the name before an operand. A look-up takes no memory.
@@ -178,7 +178,7 @@ impl OpTable {
         let Ok(()) = self.prefixes.set(alloc, name, op) else {
             return Err(OpFault::NoMemory);
         };
-        self.is_unchanged = false;
+        self.was_changed = true;
         Ok(())
     }
 
@@ -193,7 +193,7 @@ impl OpTable {
         let Ok(()) = self.infixes.set(alloc, name, op) else {
             return Err(OpFault::NoMemory);
         };
-        self.is_unchanged = false;
+        self.was_changed = true;
         Ok(())
     }
 
@@ -208,7 +208,7 @@ impl OpTable {
         let Ok(()) = self.postfixes.set(alloc, name, op) else {
             return Err(OpFault::NoMemory);
         };
-        self.is_unchanged = false;
+        self.was_changed = true;
         Ok(())
     }
 }

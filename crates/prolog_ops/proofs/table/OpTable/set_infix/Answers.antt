@@ -5,7 +5,7 @@ use Rattle.prolog_ops.proofs.table.OpTable.set_infix.Goals as goal
 
 pub invariant_of-self : goal.invariant_of-self
 invariant_of-self c =
-    subst (λ x. IsKept (ops_of (record { prefixes = c.self.inside.prefixes; infixes = x; postfixes = c.self.inside.postfixes })) c.self.inside.is_unchanged)
+    subst (λ x. IsKept (ops_of (record { prefixes = c.self.inside.prefixes; infixes = x; postfixes = c.self.inside.postfixes })) c.self.inside.was_changed)
     (sym c.in_default.ensures.kept) c.self.invariant
 
 pub invariant_of-self-2 : goal.invariant_of-self-2
@@ -15,5 +15,5 @@ invariant_of-self-2 c =
     ap (λ l. set_fault (ops_of l) c.args.name.now c.args.op.kind c.args.op.priority) c.self.view_is ∙ c.requires.lawful in
     record {
       is = infixes_are lists c.self.invariant.is c.args.name.now c.args.op may c.set.new.self c.requires.place c.in-Ok.ensures.set;
-      begun = λ unchanged. let both : false ≡ true = unchanged in cc;
+      begun = λ unchanged. let both : true ≡ false = unchanged in cc;
     }

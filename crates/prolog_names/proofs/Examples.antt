@@ -1,0 +1,107 @@
+-- What some tables of names, hashes and numbers are, and what they aren't.
+use Rattle.std.proofs.Common.{◌≡◌, ℕ, List, [], ◌∷◌, true, false, length, codes, refl, ap, arith, lit<}
+use Rattle.prolog_tokens.specs.declared.token.Kind.TheVariants.{Name, Quoted, Variable, Comma}
+use Rattle.prolog_names.specs.Names.{name_at, opening_names, AreDistinct, IsOpened}
+use Rattle.prolog_names.specs.Numbers.{has_name}
+use Rattle.prolog_names.specs.Table.{text_hash, bucket_in, buckets_of, with_name}
+
+abbrev two : List (List ℕ)
+two = codes "b" ∷ codes "foo" ∷ []
+
+-- a name's number is its place
+
+first_name : name_at two 0 ≡ codes "b"
+first_name = refl
+
+second_name : name_at two 1 ≡ codes "foo"
+second_name = refl
+
+no_name : name_at two 2 ≡ []
+no_name = refl
+
+-- a name that stands there already is put in no second time
+
+one_more : with_name two (codes "fo") ≡ codes "b" ∷ codes "foo" ∷ codes "fo" ∷ []
+one_more = refl
+
+not_twice : with_name two (codes "b") ≡ two
+not_twice = refl
+
+first_of_all : with_name [] [] ≡ [] ∷ []
+first_of_all = refl
+
+-- hashes are kept below 2 ^ 32; neighbours have neighbouring buckets
+
+hash_of_none : text_hash [] ≡ 0
+hash_of_none = refl
+
+hash_of_one : text_hash (codes "a") ≡ 97
+hash_of_one = refl
+
+hash_of_two : text_hash (codes "ab") ≡ 1627429141
+hash_of_two = refl
+
+hash_of_three : text_hash (codes "foo") ≡ 2482861314
+hash_of_three = refl
+
+bucket : bucket_in 10 97 ≡ 7
+bucket = refl
+
+last_bucket : bucket_in 10 99 ≡ 9
+last_bucket = refl
+
+only_bucket : bucket_in 1 97 ≡ 0
+only_bucket = refl
+
+side_by_side : buckets_of 10 (codes "a1" ∷ codes "a2" ∷ []) ≡ 2 ∷ 3 ∷ []
+side_by_side = refl
+
+-- the opening names: those that the reader asks for, and behind them the operators'
+
+many : length opening_names ≡ 51
+many = refl
+
+minus : name_at opening_names 5 ≡ codes "-"
+minus = refl
+
+first_prefix : name_at opening_names 6 ≡ codes "?-"
+first_prefix = refl
+
+first_infix : name_at opening_names 17 ≡ codes ":-"
+first_infix = refl
+
+last_infix : name_at opening_names 50 ≡ codes ":"
+last_infix = refl
+
+behind_the_last : name_at opening_names 51 ≡ []
+behind_the_last = refl
+
+-- a table is opened where it begins with them
+
+opened : IsOpened opening_names
+opened = ([], refl)
+
+opened_with_more : IsOpened (with_name opening_names (codes "foo"))
+opened_with_more = (codes "foo" ∷ [], refl)
+
+too_few : IsOpened two → ⊥
+too_few table = let same : codes "b" ≡ [] = ap (λ names. name_at names 0) table.1 in cc
+
+-- no name stands at two places
+
+twice : AreDistinct (codes "b" ∷ codes "b" ∷ []) → ⊥
+twice distinct = omega (arith, distinct 0 1 (lit< tt) (lit< tt) refl)
+
+-- Names and Quoted tokens have a name
+
+name_named : has_name Name ≡ true
+name_named = refl
+
+quoted_named : has_name Quoted ≡ true
+quoted_named = refl
+
+variable_unnamed : has_name Variable ≡ false
+variable_unnamed = refl
+
+comma_unnamed : has_name Comma ≡ false
+comma_unnamed = refl
