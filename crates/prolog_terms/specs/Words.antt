@@ -102,6 +102,10 @@ kind_operator ops _ text = None
 abbrev pub operator : (List ℕ → Option Op) → Word → Option Sides
 operator ops w = option_map sides (kind_operator ops w.kind w.text)
 
+-- the operator of a Name or Quoted token
+abbrev pub named_operator : (List ℕ → Option Op) → List ℕ → Option Sides
+named_operator ops text = option_map sides (kind_operator ops Name text)
+
 abbrev pub table_of : Ops → Table
 table_of ops = record { prefix = operator (ops Prefix); infix_ = operator (ops Infix); postfix = operator (ops Postfix) }
 

@@ -1,15 +1,14 @@
 //! Which words are operators, and what stands beside them.
 
-ghost use Rattle.std.specs.Prelude.{◌≡◌, ◌||◌, ℕ, List, Option, None, MatchOption, codes};
-ghost use Rattle.std.specs.Str.{bytes_eq};
-ghost use Rattle.prolog_ops.specs.Table.{ops_of, IsOps};
+ghost use Rattle.std.specs.Prelude.{◌≡◌, ℕ, List, Option, None, MatchOption, option_map};
+ghost use Rattle.prolog_ops.specs.Table.{Prefix, Infix, Postfix, ops_of, opening, IsOps};
 ghost use Rattle.prolog_ops.specs.declared.op.Op.{Op as OpSpec};
 ghost use Rattle.prolog_names.specs.Names.{name_at};
 ghost use Rattle.prolog_terms.specs.StackSeen.{see_word};
-ghost use Rattle.prolog_terms.specs.Words.{left_side, right_side, sides, kind_operator, table_of};
+ghost use Rattle.prolog_terms.specs.Words.{left_side, right_side, sides, named_operator, table_of};
 
 use crate::word::Word;
-use prolog_names::Names;
+use prolog_names::{BAR, COMMA, Names, OPENING_COUNT, names_law, opening_law};
 use prolog_ops::{Op, OpKind, OpTable};
 use prolog_tokens::Kind;
 
@@ -73,69 +72,270 @@ fn sides_of(op: Op) -> Sides
     }
 }
 
-/// Whether the name is spelled as a Comma or a Bar, which it isn't.
-fn is_separator(name: &str) -> bool
-    ensures { result ≡ (bytes_eq name.now (codes ",") || bytes_eq name.now (codes "|")) }
+/// `:-` and `?-` before an operand.
+const DIRECTIVE: Option<Sides> = Some(Sides {
+    priority: 1200,
+    left: 0,
+    right: 1199,
+});
+
+/// `dynamic` and the other declarations.
+const DECLARATION: Option<Sides> = Some(Sides {
+    priority: 1150,
+    left: 0,
+    right: 1149,
+});
+
+/// `\+`.
+const NEGATION: Option<Sides> = Some(Sides {
+    priority: 900,
+    left: 0,
+    right: 900,
+});
+
+/// `-`, `+` and `\` before an operand.
+const SIGN: Option<Sides> = Some(Sides {
+    priority: 200,
+    left: 0,
+    right: 200,
+});
+
+/// `:-` and `-->` between operands.
+const RULE: Option<Sides> = Some(Sides {
+    priority: 1200,
+    left: 1199,
+    right: 1199,
+});
+
+/// `;`.
+const CHOICE: Option<Sides> = Some(Sides {
+    priority: 1100,
+    left: 1099,
+    right: 1100,
+});
+
+/// `->`.
+const CONDITION: Option<Sides> = Some(Sides {
+    priority: 1050,
+    left: 1049,
+    right: 1050,
+});
+
+/// `=` and the other comparisons.
+const COMPARISON: Option<Sides> = Some(Sides {
+    priority: 700,
+    left: 699,
+    right: 699,
+});
+
+/// `+`, `-`, `/\` and `\/` between operands.
+const SUM: Option<Sides> = Some(Sides {
+    priority: 500,
+    left: 500,
+    right: 499,
+});
+
+/// `*` and the others of its priority.
+const PRODUCT: Option<Sides> = Some(Sides {
+    priority: 400,
+    left: 400,
+    right: 399,
+});
+
+/// `**`.
+const POWER: Option<Sides> = Some(Sides {
+    priority: 200,
+    left: 199,
+    right: 199,
+});
+
+/// `^` and `:`.
+const QUALIFIER: Option<Sides> = Some(Sides {
+    priority: 200,
+    left: 199,
+    right: 200,
+});
+
+/// What each opening name is before an operand, where the table is the opening one.
+static OPENING_PREFIXES: [Option<Sides>; OPENING_COUNT as usize] = [
+    None,
+    None,
+    None,
+    None,
+    None,
+    SIGN,
+    DIRECTIVE,
+    DECLARATION,
+    DECLARATION,
+    DECLARATION,
+    DECLARATION,
+    DECLARATION,
+    DECLARATION,
+    DECLARATION,
+    DECLARATION,
+    NEGATION,
+    SIGN,
+    DIRECTIVE,
+    SIGN,
+    None,
+    None,
+    None,
+    None,
+    None,
+    None,
+    None,
+    None,
+    None,
+    None,
+    None,
+    None,
+    None,
+    None,
+    None,
+    None,
+    None,
+    None,
+    None,
+    None,
+    None,
+    None,
+    None,
+    None,
+    None,
+    None,
+    None,
+    None,
+    None,
+    None,
+    None,
+    None,
+];
+
+/// What each opening name is between operands, where the table is the opening one.
+static OPENING_INFIXES: [Option<Sides>; OPENING_COUNT as usize] = [
+    None, None, None, None, None, SUM, None, None, None, None, None, None, None, None, None, None,
+    None, RULE, SUM, RULE, CHOICE, CONDITION, COMPARISON, COMPARISON, COMPARISON, COMPARISON,
+    COMPARISON, COMPARISON, COMPARISON, COMPARISON, COMPARISON, COMPARISON, COMPARISON, COMPARISON,
+    COMPARISON, COMPARISON, COMPARISON, COMPARISON, SUM, SUM, PRODUCT, PRODUCT, PRODUCT, PRODUCT,
+    PRODUCT, PRODUCT, PRODUCT, PRODUCT, POWER, QUALIFIER, QUALIFIER,
+];
+
+/// The name as it is looked up in a table of operators: a name `,` or `|` isn't the Comma or Bar, and
+/// no operator.
+fn operator_name(names: &Names, name: u32) -> Option<&str>
+    ensures { MatchOption result ((ops : List ℕ → Option OpSpec) → named_operator ops (name_at names.now name) ≡ None)
+        (λ text. (ops : List ℕ → Option OpSpec) → named_operator ops (name_at names.now name) ≡ option_map sides (ops text.now)) }
 {
-    name == "," || name == "|"
+    names_law(names);
+    if name == COMMA {
+        return None;
+    }
+    if name == BAR {
+        return None;
+    }
+    Some(names.text(name))
 }
 
-/// The name that the word has in the table of operators.
-fn operator_name(names: &Names, word: Word) -> Option<&str>
-    ensures { MatchOption result ((ops : List ℕ → Option OpSpec) → kind_operator ops word.kind (name_at names.now word.name)
-        ≡ None) (λ name. (ops : List ℕ → Option OpSpec) → kind_operator ops word.kind (name_at names.now word.name) ≡ ops name.now) }
+/// What the name is before an operand in the opening table. No text is read.
+fn opening_prefix(names: &Names, name: u32) -> Option<Sides>
+    ensures { result ≡ named_operator (opening Prefix) (name_at names.now name) }
 {
+    opening_law(names);
+    if name >= OPENING_COUNT {
+        return None;
+    }
+    OPENING_PREFIXES[name as usize]
+}
+
+/// What the name is between operands in the opening table. No text is read.
+fn opening_infix(names: &Names, name: u32) -> Option<Sides>
+    ensures { result ≡ named_operator (opening Infix) (name_at names.now name) }
+{
+    opening_law(names);
+    if name >= OPENING_COUNT {
+        return None;
+    }
+    OPENING_INFIXES[name as usize]
+}
+
+fn named_prefix(table: &OpTable, names: &Names, name: u32) -> Option<Sides>
+    ensures { result ≡ named_operator (ops_of table.now Prefix) (name_at names.now name) }
+{
+    if table.is_opening() {
+        return opening_prefix(names, name);
+    }
+    let text = operator_name(names, name)?;
+    let op = table.prefix(text)?;
+    Some(sides_of(op))
+}
+
+fn named_infix(table: &OpTable, names: &Names, name: u32) -> Option<Sides>
+    ensures { result ≡ named_operator (ops_of table.now Infix) (name_at names.now name) }
+{
+    if table.is_opening() {
+        return opening_infix(names, name);
+    }
+    let text = operator_name(names, name)?;
+    let op = table.infix(text)?;
+    Some(sides_of(op))
+}
+
+fn named_postfix(table: &OpTable, names: &Names, name: u32) -> Option<Sides>
+    ensures { result ≡ named_operator (ops_of table.now Postfix) (name_at names.now name) }
+{
+    if table.is_opening() {
+        return None;
+    }
+    let text = operator_name(names, name)?;
+    let op = table.postfix(text)?;
+    Some(sides_of(op))
+}
+
+/// The word as an operator before an operand. In no table is the Comma or Bar one.
+pub fn prefix_of(table: &OpTable, names: &Names, word: Word) -> Option<Sides>
+    ensures { result ≡ (table_of (ops_of table.now)).prefix (see_word names.now word) }
+{
+    table_law(table);
     match word.kind {
-        Kind::Name => {
-            let name = names.text(word.name);
-            if is_separator(name) {
-                return None;
-            }
-            Some(name)
-        }
-        Kind::Quoted => {
-            let name = names.text(word.name);
-            if is_separator(name) {
-                return None;
-            }
-            Some(name)
-        }
-        Kind::Comma => Some(","),
-        Kind::Bar => Some("|"),
+        Kind::Name => named_prefix(table, names, word.name),
+        Kind::Quoted => named_prefix(table, names, word.name),
+        Kind::Comma => None,
+        Kind::Bar => None,
         _ => None,
     }
 }
 
-/// The word as an operator before an operand.
-pub fn prefix_of(table: &OpTable, names: &Names, word: Word) -> Option<Sides>
-    ensures { result ≡ (table_of (ops_of table.now)).prefix (see_word names.now word) }
-{
-    let name = operator_name(names, word)?;
-    let op = table.prefix(name)?;
-    Some(sides_of(op))
-}
-
-/// The word as an operator between two operands.
+/// The word as an operator between two operands. The Comma and the Bar are the same in each table.
 pub fn infix_of(table: &OpTable, names: &Names, word: Word) -> Option<Sides>
     ensures { result ≡ (table_of (ops_of table.now)).infix_ (see_word names.now word) }
 {
-    let name = operator_name(names, word)?;
-    let op = table.infix(name)?;
-    Some(sides_of(op))
+    table_law(table);
+    match word.kind {
+        Kind::Name => named_infix(table, names, word.name),
+        Kind::Quoted => named_infix(table, names, word.name),
+        Kind::Comma => Some(COMMA_SIDES),
+        Kind::Bar => Some(BAR_SIDES),
+        _ => None,
+    }
 }
 
-/// The word as an operator behind an operand.
+/// The word as an operator behind an operand. In no table is the Comma or Bar one.
 pub fn postfix_of(table: &OpTable, names: &Names, word: Word) -> Option<Sides>
     ensures { result ≡ (table_of (ops_of table.now)).postfix (see_word names.now word) }
 {
-    let name = operator_name(names, word)?;
-    let op = table.postfix(name)?;
-    Some(sides_of(op))
+    table_law(table);
+    match word.kind {
+        Kind::Name => named_postfix(table, names, word.name),
+        Kind::Quoted => named_postfix(table, names, word.name),
+        Kind::Comma => None,
+        Kind::Bar => None,
+        _ => None,
+    }
 }
 
-/// What holds of each table of operators. A look-up tells it; there are few postfix operators, or none.
+/// What holds of each table of operators.
 pub fn table_law(table: &OpTable)
     ensures { IsOps (ops_of table.now) }
 {
-    let _ = table.postfix(",");
+    let _ = table.is_opening();
 }

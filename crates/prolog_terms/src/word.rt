@@ -6,7 +6,7 @@ ghost use Rattle.prolog_terms.specs.Clause.{IsWordOf};
 ghost use Rattle.prolog_terms.specs.StackSeen.{Names as NamesSeen, see_word};
 
 use crate::term::Span;
-use prolog_names::{Names, names_law};
+use prolog_names::{MINUS, Names, names_law};
 use prolog_tokens::{Kind, Token, integer_value};
 
 /// A token as terms see it: its kind, whether layout stands directly before it, where it stands,
@@ -50,7 +50,8 @@ pub fn is_name(kind: Kind) -> bool
 pub fn is_minus(names: &Names, word: Word) -> bool
     ensures { result ≡ is_minus (see_word names.now word) }
 {
-    word.kind == Kind::Name && names.text(word.name) == "-"
+    names_law(names);
+    word.kind == Kind::Name && word.name == MINUS
 }
 
 pub fn begins_term(kind: Kind) -> bool
