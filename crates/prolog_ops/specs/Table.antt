@@ -107,11 +107,6 @@ pub record IsOps (table : Ops) : Type 0 where
   pub apart : (name : List ℕ) → is_some (table Infix name) ≡ true → is_some (table Postfix name) ≡ true → ⊥
   pub fits : (place : Place) (name : List ℕ) (op : Op) → table place name ≡ Some op → Fits place op
 
--- what is true of a kept table: it is one, and where nothing was changed in it the opening one
-pub record IsKept (table : Ops) (was_changed : Bool) : Type 0 where
-  pub is : IsOps table
-  pub begun : was_changed ≡ false → table ≡ opening
-
 -- the names of each place with their operators
 pub record Lists : Type 0 where
   pub prefixes : Entries
@@ -123,3 +118,8 @@ abbrev pub ops_of : Lists → Ops
 ops_of lists Prefix = op_at lists.prefixes
 ops_of lists Infix = op_at lists.infixes
 ops_of lists Postfix = op_at lists.postfixes
+
+-- what is true of a kept table: it is one, and where nothing was changed in it the opening one
+pub record IsKept (lists : Lists) (was_changed : Bool) : Type 0 where
+  pub is : IsOps (ops_of lists)
+  pub begun : was_changed ≡ false → ops_of lists ≡ opening

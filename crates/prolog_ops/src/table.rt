@@ -48,13 +48,13 @@ pub struct OpTable {
 }
 
 impl Model for OpTable {
-    ghost use Rattle.prolog_ops.specs.Table.{Lists, IsKept, ops_of};
+    ghost use Rattle.prolog_ops.specs.Table.{Lists, IsKept};
 
     ghost Value = { Lists };
 
     ghost view = { λ table. record { prefixes = table.prefixes; infixes = table.infixes; postfixes = table.postfixes } };
 
-    ghost invariant = { λ table. IsKept (ops_of (record { prefixes = table.prefixes; infixes = table.infixes; postfixes = table.postfixes })) table.was_changed };
+    ghost invariant = { λ table. IsKept (record { prefixes = table.prefixes; infixes = table.infixes; postfixes = table.postfixes }) table.was_changed };
 }
 
 /// Whether the operators of the name can't be changed.

@@ -5,7 +5,7 @@ use Rattle.prolog_ops.proofs.table.OpTable.set_infix.Goals as goal
 
 pub invariant_of-self : goal.invariant_of-self
 invariant_of-self c =
-    subst (λ x. IsKept (ops_of (record { prefixes = c.self.inside.prefixes; infixes = x; postfixes = c.self.inside.postfixes })) c.self.inside.was_changed)
+    subst (λ x. IsKept (record { prefixes = c.self.inside.prefixes; infixes = x; postfixes = c.self.inside.postfixes }) c.self.inside.was_changed)
     (sym c.in_default.ensures.kept) c.self.invariant
 
 pub invariant_of-self-2 : goal.invariant_of-self-2
