@@ -27,10 +27,10 @@ struct Kept {
     ahead: usize,
 }
 
-/// Keeps the clauses of the pieces, whose names are these, up to the first that sets operators, which it then does: what was
-/// read behind it was read with other operators than it leaves, and the rest of its stretch comes
-/// next. Where no clause sets any, twice as many stretches may be read next, so that no more stretches
-/// are read for nothing than were kept.
+/// Keeps the clauses of the pieces, whose names are these, up to the first that sets operators, which
+/// it then does: what was read behind it was read with other operators than it leaves, and the rest of
+/// its stretch comes next. Where no clause sets any, twice as many stretches may be read next, so that
+/// no more stretches are read for nothing than were kept.
 fn keep(
     alloc: Global,
     names: &Names,
