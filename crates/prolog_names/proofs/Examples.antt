@@ -1,9 +1,9 @@
 -- What some tables of names, hashes and numbers are, and what they aren't.
-use Rattle.std.proofs.Common.{◌≡◌, ℕ, List, [], ◌∷◌, true, false, length, codes, refl, ap, arith, lit<}
+use Rattle.std.proofs.Common.{◌≡◌, ℕ, List, [], ◌∷◌, true, false, length, codes, refl, sym, ap, ◌∙◌, arith, lit<, lit≤}
 use Rattle.prolog_tokens.specs.declared.token.Kind.TheVariants.{Name, Quoted, Variable, Comma}
 use Rattle.prolog_names.specs.Names.{name_at, opening_names, AreDistinct, IsOpened}
 use Rattle.prolog_names.specs.Numbers.{has_name}
-use Rattle.prolog_names.specs.Table.{text_hash, bucket_in, buckets_of, with_name}
+use Rattle.prolog_names.specs.Table.{text_hash, bucket_in, buckets_of, bucket_at, IsLast, with_name}
 
 abbrev two : List (List ℕ)
 two = codes "b" ∷ codes "foo" ∷ []
@@ -55,6 +55,35 @@ only_bucket = refl
 
 side_by_side : buckets_of 10 (codes "a1" ∷ codes "a2" ∷ []) ≡ 2 ∷ 3 ∷ []
 side_by_side = refl
+
+-- the last place in a bucket, of the places before one
+
+abbrev in_two : List ℕ
+in_two = 2 ∷ 3 ∷ 2 ∷ []
+
+last_of_three : IsLast in_two 3 2 3
+last_of_three = record { within = lit≤ tt; none_behind = λ m from under. absurd (omega (arith, from, under)); is = λ _. refl }
+
+last_of_two : IsLast in_two 2 2 1
+last_of_two = record {
+  within = lit≤ tt;
+  none_behind = λ m from under there.
+      let second : m ≡ 1 = omega (arith, from, under) in
+      let both : 3 ≡ 2 = sym (ap (bucket_at in_two) second) ∙ there in omega (arith, both);
+  is = λ _. refl;
+}
+
+none_in_four : IsLast in_two 1 4 0
+none_in_four = record {
+  within = lit≤ tt;
+  none_behind = λ m from under there.
+      let first : m ≡ 0 = omega (arith, under) in
+      let both : 2 ≡ 4 = sym (ap (bucket_at in_two) first) ∙ there in omega (arith, both);
+  is = λ some. absurd (omega (arith, some));
+}
+
+not_the_last : IsLast in_two 3 2 1 → ⊥
+not_the_last last = last.none_behind 2 (lit≤ tt) (lit< tt) refl
 
 -- the opening names: those that the reader asks for, and behind them the operators'
 
