@@ -1,38 +1,37 @@
 -- Directives by the number of their arguments.
-use Rattle.std.proofs.Common.{◌≡◌, ◌≢◌, ℕ, Bool, List, [], ◌∷◌, length, get_or, refl, arith, ap, ◌∙◌}
+use Rattle.std.proofs.Common.{◌≡◌, ℕ, Bool, List, Option, Some, None, refl, ap, sym, ◌∙◌}
 use Rattle.prolog_terms.specs.declared.term.Span.{Span}
 use Rattle.prolog_terms.specs.declared.term.Form.{Form}
-use Rattle.prolog_terms.specs.Tree.{Tree, compound, trees_from}
+use Rattle.prolog_terms.specs.Tree.{Tree, Trees, compound, none, more as with_more}
+use Rattle.prolog_terms.specs.Views.{only_of, pair_of, triple_of}
 use Rattle.module_table.specs.Said.{only, goal}
 use Rattle.module_table.specs.Directives.{Home, one_said, two_said, three_said, shallow_said}
+use Rattle.module_table.proofs.Shapes.{only_seen, pair_seen}
 
 module _ (user : Home) (first : Bool) (name : List ℕ) (form : Form) (span : Span) where
-  abbrev whole : List Tree → Tree
-  whole parts = compound name (trees_from parts) form span
+  abbrev whole : Trees → Tree
+  whole args = compound name args form span
 
-  pub shallow_one : (parts : List Tree) (a : Tree) → length parts ≡ 1 → a ≡ get_or parts 0 a → one_said user name a (whole parts) ≡ shallow_said user first (whole parts)
-  shallow_one [] a count is = absurd (omega (arith, count))
-  shallow_one (x ∷ []) a count is = ap (λ t. one_said user name t (whole (x ∷ []))) is
-  shallow_one (x ∷ y ∷ parts) a count is = absurd (omega (arith, count))
+  pub shallow_one : (args : Trees) (a : Tree) → only_of args ≡ Some a → one_said user name a (whole args) ≡ shallow_said user first (whole args)
+  shallow_one args a is =
+      let args_are : args ≡ with_more a none = only_seen args a is in
+      ap (λ t. one_said user name a (whole t)) args_are ∙ ap (λ t. shallow_said user first (whole t)) (sym args_are)
 
-  pub shallow_two : (parts : List Tree) (a b : Tree) → length parts ≡ 2 → a ≡ get_or parts 0 a → b ≡ get_or parts 1 b
-      → two_said user first name a b (whole parts) ≡ shallow_said user first (whole parts)
-  shallow_two [] a b count is also = absurd (omega (arith, count))
-  shallow_two (x ∷ []) a b count is also = absurd (omega (arith, count))
-  shallow_two (x ∷ y ∷ []) a b count is also =
-      ap (λ t. two_said user first name t b (whole (x ∷ y ∷ []))) is ∙ ap (λ t. two_said user first name x t (whole (x ∷ y ∷ []))) also
-  shallow_two (x ∷ y ∷ z ∷ parts) a b count is also = absurd (omega (arith, count))
+  pub shallow_two : (args : Trees) (a b : Tree) → pair_of args ≡ Some (a, b) → two_said user first name a b (whole args) ≡ shallow_said user first (whole args)
+  shallow_two args a b is =
+      let args_are : args ≡ with_more a (with_more b none) = pair_seen args a b is in
+      ap (λ t. two_said user first name a b (whole t)) args_are ∙ ap (λ t. shallow_said user first (whole t)) (sym args_are)
 
-  pub shallow_three : (parts : List Tree) → length parts ≡ 3 → three_said name (whole parts) ≡ shallow_said user first (whole parts)
-  shallow_three [] count = absurd (omega (arith, count))
-  shallow_three (x ∷ []) count = absurd (omega (arith, count))
-  shallow_three (x ∷ y ∷ []) count = absurd (omega (arith, count))
-  shallow_three (x ∷ y ∷ z ∷ []) count = refl
-  shallow_three (x ∷ y ∷ z ∷ w ∷ parts) count = absurd (omega (arith, count))
+  pub shallow_three : (args : Trees) (three : Tree × Tree × Tree) → triple_of args ≡ Some three → three_said name (whole args) ≡ shallow_said user first (whole args)
+  shallow_three none three is = let both : None ≡ Some three = is in absurd (cc)
+  shallow_three (with_more x none) three is = let both : None ≡ Some three = is in absurd (cc)
+  shallow_three (with_more x (with_more y none)) three is = let both : None ≡ Some three = is in absurd (cc)
+  shallow_three (with_more x (with_more y (with_more z none))) three is = refl
+  shallow_three (with_more x (with_more y (with_more z (with_more w args)))) three is = let both : None ≡ Some three = is in absurd (cc)
 
-  pub shallow_other : (parts : List Tree) → length parts ≢ 1 → length parts ≢ 2 → length parts ≢ 3 → shallow_said user first (whole parts) ≡ only (goal (whole parts))
-  shallow_other [] one two three = refl
-  shallow_other (x ∷ []) one two three = absurd (one (omega arith))
-  shallow_other (x ∷ y ∷ []) one two three = absurd (two (omega arith))
-  shallow_other (x ∷ y ∷ z ∷ []) one two three = absurd (three (omega arith))
-  shallow_other (x ∷ y ∷ z ∷ w ∷ parts) one two three = refl
+  pub shallow_other : (args : Trees) → only_of args ≡ None → pair_of args ≡ None → triple_of args ≡ None → shallow_said user first (whole args) ≡ only (goal (whole args))
+  shallow_other none one two three = refl
+  shallow_other (with_more x none) one two three = let both : Some x ≡ None = one in absurd (cc)
+  shallow_other (with_more x (with_more y none)) one two three = let both : Some (x, y) ≡ None = two in absurd (cc)
+  shallow_other (with_more x (with_more y (with_more z none))) one two three = let both : Some (x, y, z) ≡ None = three in absurd (cc)
+  shallow_other (with_more x (with_more y (with_more z (with_more w args)))) one two three = refl

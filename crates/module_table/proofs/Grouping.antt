@@ -8,8 +8,9 @@ use Rattle.std.proofs.lemmas.Grind.{flat_map-append}
 use Rattle.std.proofs.lemmas.List.{append-nil, map-append}
 use Rattle.std.proofs.lemmas.List.Elements.{All-nil, All-contains, All-weaker, All-push, Contains-append_right, Contains-push, Contains-push_cases, Contains-append_left}
 use Rattle.prolog_terms.specs.Tree.{Tree}
+use Rattle.clause_text.specs.Clauses.{clause_tree, clause_trees}
 use Rattle.module_table.specs.declared.defined.Defined.{Defined}
-use Rattle.module_table.specs.Defined.{Defines, Predicate, IsDefined, AreDefined, NoneIsAfter, key, predicate_cmp, clause_for, clauses_for, clause_tree, see_defined, defined_by, defined_by_all, see_run}
+use Rattle.module_table.specs.Defined.{Defines, Predicate, IsDefined, AreDefined, NoneIsAfter, key, predicate_cmp, clause_for, clauses_for, see_defined, defined_by, defined_by_all, see_run}
 use Rattle.module_table.proofs.PredicateOrder.{predicate_cmp_total, same, same_parts, same_itself, apart_from_Less, Less-from_apart, sorted_push, sorted_front, sorted_below, not_itself, one_sorted_list}
 
 -- the predicate of that module, name and arity, with its clauses
@@ -230,48 +231,48 @@ all_before ds run before last are up other =
     (λ p e. predicate_cmp_total.trans p last run e less) before (sorted_below before last are.in_order))
     less
 
-pub add_to_none : (ds : List Defines) (run : Defined) (old new : List Defined) → old ≡ [] → new ≡ old ++ run ∷ []
-    → AreDefined ds (map see_defined old) → AreDefined (ds ++ see_run run) (map see_defined new)
-add_to_none ds run old new empty is are =
-    subst (AreDefined (ds ++ see_run run)) (sym (ap (map see_defined) (is ∙ ap (λ xs. xs ++ run ∷ []) empty)))
-    (run_added ds (see_defined run) [] (subst (AreDefined ds) (ap (map see_defined) empty) are) (All-nil (λ p. predicate_cmp p (see_defined run) ≡ Less)))
+pub add_to_none : (names : List (List ℕ)) (ds : List Defines) (run : Defined) (old new : List Defined) → old ≡ [] → new ≡ old ++ run ∷ []
+    → AreDefined ds (map (see_defined names) old) → AreDefined (ds ++ see_run names run) (map (see_defined names) new)
+add_to_none names ds run old new empty is are =
+    subst (AreDefined (ds ++ see_run names run)) (sym (ap (map (see_defined names)) (is ∙ ap (λ xs. xs ++ run ∷ []) empty)))
+    (run_added ds (see_defined names run) [] (subst (AreDefined ds) (ap (map (see_defined names)) empty) are) (All-nil (λ p. predicate_cmp p (see_defined names run) ≡ Less)))
 
-pub add_behind : (ds : List Defines) (run : Defined) (old kept held new : List Defined) (last : Defined) → old ≡ kept ++ last ∷ []
-    → held ≡ kept ++ last ∷ [] → new ≡ held ++ run ∷ [] → same last.module last.name last.arity run.module run.name run.arity ≡ false → NoneIsAfter (see_defined run) ds
-    → AreDefined ds (map see_defined old) → AreDefined (ds ++ see_run run) (map see_defined new)
-add_behind ds run old kept held new last was stays is other up are =
-    let front = map see_defined kept in
-    let before : map see_defined old ≡ front ++ see_defined last ∷ [] = ap (map see_defined) was ∙ map-append see_defined kept (last ∷ []) in
-    let after : (front ++ see_defined last ∷ []) ++ see_defined run ∷ [] ≡ map see_defined new =
+pub add_behind : (names : List (List ℕ)) (ds : List Defines) (run : Defined) (old kept held new : List Defined) (last : Defined) → old ≡ kept ++ last ∷ []
+    → held ≡ kept ++ last ∷ [] → new ≡ held ++ run ∷ [] → same last.module last.name last.arity run.module run.name run.arity ≡ false → NoneIsAfter (see_defined names run) ds
+    → AreDefined ds (map (see_defined names) old) → AreDefined (ds ++ see_run names run) (map (see_defined names) new)
+add_behind names ds run old kept held new last was stays is other up are =
+    let front = map (see_defined names) kept in
+    let before : map (see_defined names) old ≡ front ++ see_defined names last ∷ [] = ap (map (see_defined names)) was ∙ map-append (see_defined names) kept (last ∷ []) in
+    let after : (front ++ see_defined names last ∷ []) ++ see_defined names run ∷ [] ≡ map (see_defined names) new =
     sym
-    (ap (map see_defined) (is ∙ ap (λ xs. xs ++ run ∷ []) stays)
-    ∙ map-append see_defined (kept ++ last ∷ []) (run ∷ [])
-    ∙ ap (λ ps. ps ++ see_defined run ∷ []) (map-append see_defined kept (last ∷ []))) in
+    (ap (map (see_defined names)) (is ∙ ap (λ xs. xs ++ run ∷ []) stays)
+    ∙ map-append (see_defined names) (kept ++ last ∷ []) (run ∷ [])
+    ∙ ap (λ ps. ps ++ see_defined names run ∷ []) (map-append (see_defined names) kept (last ∷ []))) in
     let so_far = subst (AreDefined ds) before are in
-    subst (AreDefined (ds ++ see_run run)) after
-    (run_added ds (see_defined run) (front ++ see_defined last ∷ []) so_far (all_before ds (see_defined run) front (see_defined last) so_far up other))
+    subst (AreDefined (ds ++ see_run names run)) after
+    (run_added ds (see_defined names run) (front ++ see_defined names last ∷ []) so_far (all_before ds (see_defined names run) front (see_defined names last) so_far up other))
 
-pub add_to_last : (ds : List Defines) (run : Defined) (old kept new : List Defined) (last longer : Defined) → old ≡ kept ++ last ∷ []
+pub add_to_last : (names : List (List ℕ)) (ds : List Defines) (run : Defined) (old kept new : List Defined) (last longer : Defined) → old ≡ kept ++ last ∷ []
     → new ≡ kept ++ longer ∷ [] → longer.module ≡ last.module → longer.name ≡ last.name → longer.arity ≡ last.arity
     → longer.clauses.items ≡ last.clauses.items ++ run.clauses.items
     → same last.module last.name last.arity run.module run.name run.arity ≡ true
-    → AreDefined ds (map see_defined old) → AreDefined (ds ++ see_run run) (map see_defined new)
-add_to_last ds run old kept new last longer was is modules names arities clauses own are =
-    let front = map see_defined kept in
-    let before : map see_defined old ≡ front ++ see_defined last ∷ [] = ap (map see_defined) was ∙ map-append see_defined kept (last ∷ []) in
-    let trees : map clause_tree longer.clauses.items ≡ map clause_tree last.clauses.items ++ map clause_tree run.clauses.items =
-    ap (map clause_tree) clauses ∙ map-append clause_tree last.clauses.items run.clauses.items in
+    → AreDefined ds (map (see_defined names) old) → AreDefined (ds ++ see_run names run) (map (see_defined names) new)
+add_to_last names ds run old kept new last longer was is modules named arities clauses own are =
+    let front = map (see_defined names) kept in
+    let before : map (see_defined names) old ≡ front ++ see_defined names last ∷ [] = ap (map (see_defined names)) was ∙ map-append (see_defined names) kept (last ∷ []) in
+    let trees : clause_trees names longer.clauses.items ≡ clause_trees names last.clauses.items ++ clause_trees names run.clauses.items =
+    ap (clause_trees names) clauses ∙ map-append (clause_tree names) last.clauses.items run.clauses.items in
     let whole : Predicate = record {
       module_ = last.module;
       name = last.name;
       arity = last.arity;
-      clauses = map clause_tree last.clauses.items ++ map clause_tree run.clauses.items;
+      clauses = clause_trees names last.clauses.items ++ clause_trees names run.clauses.items;
     } in
-    let seen : see_defined longer ≡ whole = λ i. record { module_ = modules i; name = names i; arity = arities i; clauses = trees i } in
-    let after : front ++ whole ∷ [] ≡ map see_defined new =
-    sym (ap (map see_defined) is ∙ map-append see_defined kept (longer ∷ []) ∙ ap (λ p. front ++ p ∷ []) seen) in
-    subst (AreDefined (ds ++ see_run run)) after
-    (run_joined ds (see_defined run) front (see_defined last) (subst (AreDefined ds) before are) own)
+    let seen : see_defined names longer ≡ whole = λ i. record { module_ = modules i; name = named i; arity = arities i; clauses = trees i } in
+    let after : front ++ whole ∷ [] ≡ map (see_defined names) new =
+    sym (ap (map (see_defined names)) is ∙ map-append (see_defined names) kept (longer ∷ []) ∙ ap (λ p. front ++ p ∷ []) seen) in
+    subst (AreDefined (ds ++ see_run names run)) after
+    (run_joined ds (see_defined names run) front (see_defined names last) (subst (AreDefined ds) before are) own)
 
 pub none_defined : AreDefined [] []
 unfolding IsStrictlySortedBy

@@ -1,11 +1,15 @@
 -- What is said, by kind.
-use Rattle.std.proofs.Common.{◌≡◌, map, List, [], ◌∷◌, ◌++◌, Option, Some, None, Result, Ok, Err, refl, ap, sym, ◌∙◌, append_assoc, append-nil}
+use Rattle.std.proofs.Common.{◌≡◌, ℕ, map, flat_map, option_map, List, [], ◌∷◌, ◌++◌, Option, Some, None, Result, Ok, Err, refl, ap, sym, ◌∙◌, append_assoc, append-nil}
 use Rattle.std.specs.List.{filter_map}
 use Rattle.std.proofs.lemmas.List.Elements.{filter_map-append}
 use Rattle.module_table.specs.declared.kinds.Kinds.{Kinds}
-use Rattle.module_table.specs.Metas.{Declaration}
-use Rattle.module_table.specs.Said.{Said, Part, Refusal, Declares, declares, loads, defines, takes, goal, more, in_turn}
-use Rattle.module_table.specs.Kinds.{declared_part, load_part, defined_part, takes_part, goal_part, first_of, first_module_seen, ByKind, see_kinds, none_said, with_part, with_parts, with_said, AreSaid}
+use Rattle.prolog_terms.specs.declared.node.Node.{Node}
+use Rattle.prolog_terms.specs.Tree.{Tree}
+use Rattle.prolog_terms.specs.Terms.{tree_in}
+use Rattle.module_table.specs.Defined.{see_run}
+use Rattle.module_table.specs.Metas.{Declaration, see_meta}
+use Rattle.module_table.specs.Said.{Said, Part, Refusal, Declares, see_module, see_load, declares, loads, defines, takes, goal, more, in_turn}
+use Rattle.module_table.specs.Kinds.{declared_part, load_part, defined_part, takes_part, goal_part, first_of, first_module_seen, ByKind, goal_trees, see_kinds, none_said, with_part, with_parts, with_said, AreSaid, IsAdded}
 
 module _ {B : Type 0} (f : Part → Option B) (parts : List Part) (part : Part) where
   only_none : (found : Option B) → f part ≡ found → found ≡ None → filter_map f (part ∷ []) ≡ []
@@ -88,16 +92,24 @@ told k = Ok k
 told_once : (j k : ByKind) → told j ≡ told k → j ≡ k
 told_once j k is = cc
 
--- kinds that begin with none are of all that is said
-pub are_said : (said : Said) (kinds : Kinds) → with_said none_said said ≡ Ok (see_kinds kinds) → AreSaid said kinds
-are_said (Ok parts) kinds is =
-    let same : see_kinds kinds ≡ by_kind parts = sym (told_once (with_parts none_said parts) (see_kinds kinds) is) ∙ some_more [] parts in
+-- kinds that begin with none are of all that is said, where no directive is under way
+pub are_said : (names : List (List ℕ)) (said : Said) (kinds : Kinds) → kinds.ends.items ≡ [] → with_said none_said said ≡ Ok (see_kinds names [] kinds) → AreSaid names said kinds
+are_said names (Ok parts) kinds closed is =
+    let same : see_kinds names [] kinds ≡ by_kind parts = sym (told_once (with_parts none_said parts) (see_kinds names [] kinds) is) ∙ some_more [] parts in
+    let kept : List Tree = flat_map (goal_trees names) kinds.goals.items in
+    let goals : kept ≡ kept ++ map (tree_in names []) kinds.ends.items = sym (ap (λ ends. kept ++ map (tree_in names []) ends) closed ∙ append-nil kept) in
     record {
       parts = parts;
       is = refl;
-      are = record { declared = ap (λ k. k.declared) same; loads = ap (λ k. k.loads) same; definitions = ap (λ k. k.definitions) same; takes = ap (λ k. k.takes) same; goals = ap (λ k. k.goals) same };
+      are = record {
+        declared = ap (λ k. k.declared) same;
+        loads = ap (λ k. k.loads) same;
+        definitions = ap (λ k. k.definitions) same;
+        takes = ap (λ k. k.takes) same;
+        goals = goals ∙ ap (λ k. k.goals) same;
+      };
     }
-are_said (Err refusal) kinds is = let both : Err refusal ≡ told (see_kinds kinds) = is in absurd (cc)
+are_said names (Err refusal) kinds closed is = let both : Err refusal ≡ told (see_kinds names [] kinds) = is in absurd (cc)
 
 -- what is said in turn
 
@@ -122,3 +134,25 @@ takes_on k (one ∷ more) = takes_on (with_part k (takes one)) more ∙ (λ i. r
 pub added_parts : (old new : ByKind) (said : Said) → with_said old said ≡ Ok new → (parts : List Part) × (said ≡ Ok parts)
 added_parts old new (Ok parts) is = (parts, refl)
 added_parts old new (Err refusal) is = let both : Err refusal ≡ told new = is in absurd (cc)
+
+-- what is added in turn
+
+pub adds_on : (old mid new : Kinds) (a b : Said) → IsAdded old a mid → IsAdded mid b new → IsAdded old (in_turn a b) new
+adds_on old mid new a b is also names nodes = kinds_go_on (see_kinds names nodes old) (see_kinds names nodes mid) (see_kinds names nodes new) a b (is names nodes) (also names nodes)
+
+pub parts_of_added : (old new : Kinds) (said : Said) → IsAdded old said new → (parts : List Part) × (said ≡ Ok parts)
+parts_of_added old new said is = added_parts (see_kinds [] [] old) (see_kinds [] [] new) said (is [] [])
+
+-- where no directive is under way, its nodes are nothing to what is kept
+pub closed_same : (names : List (List ℕ)) (nodes others : List Node) (kinds : Kinds) → kinds.ends.items ≡ [] → see_kinds names nodes kinds ≡ see_kinds names others kinds
+closed_same names nodes others kinds closed =
+    let kept = flat_map (goal_trees names) kinds.goals.items in
+    let same : map (tree_in names nodes) kinds.ends.items ≡ map (tree_in names others) kinds.ends.items =
+    ap (map (tree_in names nodes)) closed ∙ sym (ap (map (tree_in names others)) closed) in
+    λ i. record {
+      declared = option_map see_module kinds.declared;
+      loads = map see_load kinds.loads.items;
+      definitions = flat_map (see_run names) kinds.definitions.items;
+      takes = map see_meta kinds.takes.items;
+      goals = kept ++ same i;
+    }

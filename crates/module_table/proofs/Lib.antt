@@ -3,6 +3,7 @@ pub mod Shapes
 pub mod FileNameLemmas
 pub mod Grouping
 pub mod RunLemmas
+pub mod Items
 pub mod SortedRuns
 pub mod PredicateOrder
 pub mod HeadLemmas

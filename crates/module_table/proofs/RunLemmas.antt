@@ -8,9 +8,10 @@ use Rattle.std.proofs.lemmas.Bool.Decides.{Decides-eqb}
 use Rattle.std.proofs.lemmas.Slice.Eq.{bytes_eq-Decides}
 use Rattle.std.proofs.lemmas.Grind.{flat_map-append}
 use Rattle.std.proofs.lemmas.List.{take_all, take_more, take_more_set, length-set, map-append}
-use Rattle.clause_text.specs.declared.Clause.{Clause}
+use Rattle.clause_text.specs.declared.text_clauses.Clause.{Clause}
+use Rattle.clause_text.specs.Clauses.{clause_tree, clause_trees}
 use Rattle.module_table.specs.declared.defined.Defined.{Defined}
-use Rattle.module_table.specs.Defined.{EndIn, clause_tree, defined_by, defined_by_all, see_run}
+use Rattle.module_table.specs.Defined.{EndIn, defined_by, defined_by_all, see_run}
 
 pub none_there : (runs : List Defined) → length runs ≤ 0 → runs ≡ []
 none_there [] none = refl
@@ -30,16 +31,16 @@ module _ (runs : List Defined) (count : ℕ) (run : Defined) (counted : count �
       ∙ take_more_set runs (count - 1) run (omega arith)
 
 -- what the runs define, and then the last one
-pub all_then : (before : List Defined) (run : Defined) → flat_map see_run (before ++ run ∷ []) ≡ flat_map see_run before ++ see_run run
-all_then before run = flat_map-append see_run before (run ∷ []) ∙ ap (λ ds. flat_map see_run before ++ ds) (append-nil (see_run run))
+pub all_then : (names : List (List ℕ)) (before : List Defined) (run : Defined) → flat_map (see_run names) (before ++ run ∷ []) ≡ flat_map (see_run names) before ++ see_run names run
+all_then names before run = flat_map-append (see_run names) before (run ∷ []) ∙ ap (λ ds. flat_map (see_run names) before ++ ds) (append-nil (see_run names run))
 
 -- one more clause of a run with clauses
-one_more : (owner name : List ℕ) (arity : ℕ) (clauses : List Clause) (clause : Clause) → clauses ≢ []
-    → defined_by_all owner name arity (map clause_tree (clauses ++ clause ∷ [])) ≡ defined_by_all owner name arity (map clause_tree clauses) ++ defined_by owner name arity (clause_tree clause) ∷ []
-one_more owner name arity [] clause some = absurd (some refl)
-one_more owner name arity (first ∷ clauses) clause some =
-    ap (map (defined_by owner name arity)) (map-append clause_tree (first ∷ clauses) (clause ∷ []))
-    ∙ map-append (defined_by owner name arity) (map clause_tree (first ∷ clauses)) (clause_tree clause ∷ [])
+one_more : (names : List (List ℕ)) (owner name : List ℕ) (arity : ℕ) (clauses : List Clause) (clause : Clause) → clauses ≢ []
+    → defined_by_all owner name arity (clause_trees names (clauses ++ clause ∷ [])) ≡ defined_by_all owner name arity (clause_trees names clauses) ++ defined_by owner name arity (clause_tree names clause) ∷ []
+one_more names owner name arity [] clause some = absurd (some refl)
+one_more names owner name arity (first ∷ clauses) clause some =
+    ap (map (defined_by owner name arity)) (map-append (clause_tree names) (first ∷ clauses) (clause ∷ []))
+    ∙ map-append (defined_by owner name arity) (clause_trees names (first ∷ clauses)) (clause_tree names clause ∷ [])
 
 -- two lists that end in one each end in the same
 ends_once : (xs ys : List Defined) (x y : Defined) → xs ++ x ∷ [] ≡ ys ++ y ∷ [] → (xs ≡ ys) × (x ≡ y)
@@ -55,25 +56,25 @@ ends_once (a ∷ xs) (b ∷ ys) x y e =
     ((λ i. first i ∷ rest.0 i), rest.1)
 
 -- one more clause of the last run
-pub push_to_last : (owner name : List ℕ) (arity : ℕ) (old before new : List Defined) (last longer : Defined) (clause : Clause) → EndIn owner name arity old
+pub push_to_last : (names : List (List ℕ)) (owner name : List ℕ) (arity : ℕ) (old before new : List Defined) (last longer : Defined) (clause : Clause) → EndIn owner name arity old
     → old ≡ before ++ last ∷ [] → new ≡ before ++ longer ∷ [] → longer.module ≡ last.module → longer.name ≡ last.name → longer.arity ≡ last.arity
     → longer.clauses.items ≡ last.clauses.items ++ clause ∷ []
-    → flat_map see_run new ≡ flat_map see_run old ++ defined_by owner name arity (clause_tree clause) ∷ []
-push_to_last owner name arity old before new last longer clause end was is modules names arities clauses =
+    → flat_map (see_run names) new ≡ flat_map (see_run names) old ++ defined_by owner name arity (clause_tree names clause) ∷ []
+push_to_last names owner name arity old before new last longer clause end was is modules named arities clauses =
     let it : last ≡ end.last = (ends_once before end.before last end.last (sym was ∙ end.are)).1 in
     let some : last.clauses.items ≢ [] = λ none. end.some (subst (λ (r : Defined). r.clauses.items ≡ []) it none) in
     let own_module : last.module ≡ owner = ap (λ (r : Defined). r.module) it ∙ end.modules in
     let own_name : last.name ≡ name = ap (λ (r : Defined). r.name) it ∙ end.names in
     let own_arity : last.arity ≡ arity = ap (λ (r : Defined). r.arity) it ∙ end.arities in
-    let seen : see_run longer ≡ see_run last ++ defined_by owner name arity (clause_tree clause) ∷ [] =
-    (λ i. defined_by_all (modules i) (names i) (arities i) (map clause_tree (clauses i)))
-    ∙ one_more last.module last.name last.arity last.clauses.items clause some
-    ∙ (λ i. see_run last ++ defined_by (own_module i) (own_name i) (own_arity i) (clause_tree clause) ∷ []) in
-    ap (flat_map see_run) is
-    ∙ all_then before longer
-    ∙ ap (λ ds. flat_map see_run before ++ ds) seen
-    ∙ sym (append_assoc (flat_map see_run before) (see_run last) (defined_by owner name arity (clause_tree clause) ∷ []))
-    ∙ ap (λ ds. ds ++ defined_by owner name arity (clause_tree clause) ∷ []) (sym (ap (flat_map see_run) was ∙ all_then before last))
+    let seen : see_run names longer ≡ see_run names last ++ defined_by owner name arity (clause_tree names clause) ∷ [] =
+    (λ i. defined_by_all (modules i) (named i) (arities i) (clause_trees names (clauses i)))
+    ∙ one_more names last.module last.name last.arity last.clauses.items clause some
+    ∙ (λ i. see_run names last ++ defined_by (own_module i) (own_name i) (own_arity i) (clause_tree names clause) ∷ []) in
+    ap (flat_map (see_run names)) is
+    ∙ all_then names before longer
+    ∙ ap (λ ds. flat_map (see_run names) before ++ ds) seen
+    ∙ sym (append_assoc (flat_map (see_run names) before) (see_run names last) (defined_by owner name arity (clause_tree names clause) ∷ []))
+    ∙ ap (λ ds. ds ++ defined_by owner name arity (clause_tree names clause) ∷ []) (sym (ap (flat_map (see_run names)) was ∙ all_then names before last))
 
 -- whether there are clauses, and the last run is of a predicate
 

@@ -1,38 +1,35 @@
--- Terms by the number of their arguments, and terms taken apart.
-use Rattle.std.proofs.Common.{◌≡◌, ◌≢◌, ℕ, true, false, List, [], ◌∷◌, Option, Some, None, is_some, option_map, length, codes, refl, arith, ap, sym, ◌∙◌}
+-- Terms by the number of their arguments.
+use Rattle.std.proofs.Common.{◌≡◌, ◌≢◌, Option, Some, None, refl, ap, sym, ◌∙◌}
 use Rattle.prolog_terms.specs.declared.term.Span.{Span}
 use Rattle.prolog_terms.specs.declared.term.Form.{Form}
-use Rattle.prolog_terms.specs.Tree.{Tree, compound, trees_from}
-use Rattle.prolog_terms.specs.Views.{inside, sides_at}
-use Rattle.prolog_terms.proofs.ViewLemmas.{inside_once}
-use Rattle.clause_text.specs.Items.{directive_at}
-use Rattle.module_table.specs.declared.taken.Sides.{Sides}
-use Rattle.module_table.specs.declared.taken.Sides.TheVariants.{Both, Alone}
-use Rattle.module_table.specs.Told.{AreSides}
+use Rattle.prolog_terms.specs.Tree.{Tree, Trees, compound, none, more, count}
+use Rattle.prolog_terms.specs.Views.{only_of, pair_of, triple_of}
+use Rattle.std.proofs.Common.{ℕ, List, false, arith}
 use Rattle.module_table.specs.Loading.{is_functional, system_at}
 
-pub same_test : {A B : Type 0} (f : A → B) (o : Option A) (p : Option B) → option_map f o ≡ p → is_some p ≡ is_some o
-same_test f (Some x) p is = ap is_some (sym is)
-same_test f None p is = ap is_some (sym is)
+-- one argument, two or three
 
-pub sides_moved : (sides : Sides) (bare tree : Tree) → bare ≡ inside tree → AreSides sides bare → AreSides sides tree
-sides_moved (Both left right) bare tree same are =
-    ap (λ t. sides_at (codes ",") t) (sym (ap inside same ∙ inside_once tree)) ∙ are
-sides_moved (Alone term) bare tree same are =
-    (ap (λ t. sides_at (codes ",") t) (sym (ap inside same ∙ inside_once tree)) ∙ are.0, are.1 ∙ (ap inside same ∙ inside_once tree))
+some_once : {A : Type 0} {x y : A} → Some x ≡ Some y → x ≡ y
+some_once is = cc
+
+pub only_seen : (trees : Trees) (a : Tree) → only_of trees ≡ Some a → trees ≡ more a none
+only_seen none a is = let both : None ≡ Some a = is in absurd (cc)
+only_seen (more x none) a is = ap (λ t. more t none) (some_once is)
+only_seen (more x (more y trees)) a is = let both : None ≡ Some a = is in absurd (cc)
+
+pub pair_seen : (trees : Trees) (a b : Tree) → pair_of trees ≡ Some (a, b) → trees ≡ more a (more b none)
+pair_seen none a b is = let both : None ≡ Some (a, b) = is in absurd (cc)
+pair_seen (more x none) a b is = let both : None ≡ Some (a, b) = is in absurd (cc)
+pair_seen (more x (more y none)) a b is =
+    let same : (x, y) ≡ (a, b) = some_once is in
+    λ i. more ((same i).0) (more ((same i).1) none)
+pair_seen (more x (more y (more z trees))) a b is = let both : None ≡ Some (a, b) = is in absurd (cc)
 
 module _ (name : List ℕ) (form : Form) (span : Span) where
-  pub no_system : (parts : List Tree) → length parts ≢ 1 → false ≡ system_at (compound name (trees_from parts) form span)
-  no_system [] other = refl
-  no_system (one ∷ []) other = absurd (other (omega arith))
-  no_system (one ∷ next ∷ parts) other = refl
+  pub no_system : (args : Trees) → only_of args ≡ None → false ≡ system_at (compound name args form span)
+  no_system none other = refl
+  no_system (more one none) other = let both : Some one ≡ None = other in absurd (cc)
+  no_system (more one (more next args)) other = refl
 
-  pub one_system : (parts : List Tree) → length parts ≡ 1 → is_functional form ≡ system_at (compound name (trees_from parts) form span)
-  one_system [] is = absurd (omega (arith, is))
-  one_system (one ∷ []) is = refl
-  one_system (one ∷ next ∷ parts) is = absurd (omega (arith, is))
-
-  pub directive_count : (parts : List Tree) → is_some (directive_at (compound name (trees_from parts) form span)) ≡ true → length parts ≡ 1
-  directive_count [] is = let both : false ≡ true = is in absurd (cc)
-  directive_count (a ∷ []) is = refl
-  directive_count (a ∷ b ∷ parts) is = let both : false ≡ true = is in absurd (cc)
+  pub one_system : (args : Trees) (one : Tree) → only_of args ≡ Some one → is_functional form ≡ system_at (compound name args form span)
+  one_system args one is = ap (λ parts. system_at (compound name parts form span)) (sym (only_seen args one is))

@@ -3,14 +3,10 @@ use Rattle.std.proofs.Common.{◌≡◌, ℕ, zero, suc, ◌+◌, ◌<◌, ◌�
 use Rattle.std.specs.Str.{bytes_eq}
 use Rattle.std.proofs.lemmas.List.{map_more}
 use Rattle.std.proofs.lemmas.Option.{same_Some, slice_get-map, slice_get_read}
-use Rattle.prolog_terms.specs.declared.term.Span.{Span}
-use Rattle.prolog_terms.specs.declared.term.ConstKind.{ConstKind}
-use Rattle.prolog_terms.specs.declared.term.Term.{Term, fold-roll-Term}
-use Rattle.prolog_terms.specs.declared.term.Term.TheOpen.{Term-F}
-use Rattle.prolog_terms.specs.declared.term.Term.TheVariants as kept
-use Rattle.prolog_terms.specs.Tree.{Tree, tree_step, depth, deepest, variable, constant, atom, compound, listed, tailed, curly, paren, more as with_more, none, trees_from}
+use Rattle.prolog_terms.specs.declared.term.Term.{Term}
+use Rattle.prolog_terms.specs.Tree.{Tree, Trees, depth, deepest, variable, constant, atom, compound, listed, tailed, curly, paren, more as with_more, none, trees_from}
 use Rattle.prolog_terms.specs.Terms.{tree_of}
-use Rattle.prolog_terms.specs.Views.{inside, sides_of, atom_name}
+use Rattle.prolog_terms.specs.Views.{inside, trees_in, sides_of, atom_name}
 use Rattle.prolog_terms.proofs.ViewLemmas.{of_sides, of_none}
 use Rattle.module_table.specs.Metas.{Declaration, taking, takes_of, all_takes}
 
@@ -91,15 +87,10 @@ deepest_one (first ∷ args) (suc i) tree is = omega (arith, deepest_one args i 
 pub read_seen : (terms : List Term) (i : ℕ) (found : Term) → i < length terms → found ≡ get_or terms i found → slice_get (map tree_of terms) i ≡ Some (tree_of found)
 read_seen terms i found lt is = slice_get-map tree_of terms i ∙ ap (option_map tree_of) (slice_get_read terms (length terms) i found refl lt is)
 
--- other terms declare nothing
-
-pub variable_seen : (found : Term) (span : Span) → found ≡ kept.Var span → tree_of found ≡ variable span
-variable_seen found span is = ap tree_of (is ∙ sym (kept.rolls-Var span)) ∙ fold-roll-Term Tree tree_step (Term-F.Var span)
-
-pub constant_seen : (found : Term) (kind : ConstKind) (minus : Bool) (value : Option ℕ) (span : Span) → found ≡ kept.Const kind minus value span
-    → tree_of found ≡ constant kind minus value span
-constant_seen found kind minus value span is =
-    ap tree_of (is ∙ sym (kept.rolls-Const kind minus value span)) ∙ fold-roll-Term Tree tree_step (Term-F.Const kind minus value span)
+-- trees from their list are the trees
+pub trees_again : (trees : Trees) → trees_from (trees_in trees) ≡ trees
+trees_again none = refl
+trees_again (with_more tree trees) = ap (with_more tree) (trees_again trees)
 
 -- what is kept where the term inside all brackets declares nothing
 pub nothing_more : (owner : List ℕ) (tree bare : Tree) (old : List Declaration) → None ≡ sides_of (codes ",") tree → None ≡ sides_of (codes ":") tree → bare ≡ inside tree

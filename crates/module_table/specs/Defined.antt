@@ -6,8 +6,7 @@ use Rattle.std.specs.Cmp.Lexicographic.{slice_cmp}
 use Rattle.std.specs.List.Sorted.{IsStrictlySortedBy}
 use Rattle.std.specs.Str.{bytes_eq}
 use Rattle.prolog_terms.specs.Tree.{Tree}
-use Rattle.prolog_terms.specs.Terms.{tree_of}
-use Rattle.clause_text.specs.declared.Clause.{Clause}
+use Rattle.clause_text.specs.Clauses.{clause_trees}
 use Rattle.module_table.specs.declared.defined.Defined.{Defined}
 
 -- a predicate of a module is defined, by a clause or without one
@@ -24,11 +23,9 @@ pub record Predicate : Type 0 where
   pub arity : ℕ
   pub clauses : List Tree
 
-abbrev pub clause_tree : Clause → Tree
-clause_tree clause = tree_of clause.term
-
-abbrev pub see_defined : Defined → Predicate
-see_defined d = record { module_ = d.module; name = d.name; arity = d.arity; clauses = map clause_tree d.clauses.items }
+-- a predicate that is kept; the names are those of its clauses
+abbrev pub see_defined : List (List ℕ) → Defined → Predicate
+see_defined names d = record { module_ = d.module; name = d.name; arity = d.arity; clauses = clause_trees names d.clauses.items }
 
 -- the predicate is defined by the clause
 abbrev pub defined_by : List ℕ → List ℕ → ℕ → Tree → Defines
@@ -40,8 +37,8 @@ defined_by_all owner name arity [] = record { module_ = owner; name = name; arit
 defined_by_all owner name arity (tree ∷ trees) = map (defined_by owner name arity) (tree ∷ trees)
 
 -- what a run defines: its predicate, by each of its clauses or without one
-abbrev pub see_run : Defined → List Defines
-see_run run = defined_by_all run.module run.name run.arity (map clause_tree run.clauses.items)
+abbrev pub see_run : List (List ℕ) → Defined → List Defines
+see_run names run = defined_by_all run.module run.name run.arity (clause_trees names run.clauses.items)
 
 -- the last of the runs is of the predicate, and has clauses
 pub record EndIn (owner name : List ℕ) (arity : ℕ) (runs : List Defined) : Type 0 where
@@ -83,6 +80,9 @@ pub record AreDefined (ds : List Defines) (defined : List Predicate) : Type 0 wh
 -- a predicate of that module, name and arity, with which others are compared
 abbrev pub key : List ℕ → List ℕ → ℕ → Predicate
 key owner name arity = record { module_ = owner; name = name; arity = arity; clauses = [] }
+
+abbrev pub key_of : Defined → Predicate
+key_of d = key d.module d.name d.arity
 
 -- none of these is of a predicate that comes after p
 abbrev pub NoneIsAfter : Predicate → List Defines → Type 0

@@ -1,9 +1,8 @@
 -- What the clauses of a file say, and the facts of the file.
-use Rattle.std.specs.Prelude.{ℕ, ◌≡◌, List, [], ◌∷◌, Option, Some, None, Result, Ok, Err, Bool, true, false, if◌then◌else◌, codes, map, ◌+◌, ◌&&◌, nat_eq}
+use Rattle.std.specs.Prelude.{ℕ, ◌≡◌, List, [], ◌∷◌, Option, Some, None, Result, Ok, Err, Bool, true, false, if◌then◌else◌, codes, map, flat_map, ◌+◌, ◌&&◌, nat_eq}
 use Rattle.std.specs.List.{filter_map}
 use Rattle.std.specs.Str.{bytes_eq}
 use Rattle.prolog_terms.specs.Tree.{Tree}
-use Rattle.prolog_terms.specs.Terms.{tree_of}
 use Rattle.prolog_terms.specs.Views.{Binary, binary, sides_of, atom_name}
 use Rattle.clause_text.specs.Items.{directive_of}
 use Rattle.module_table.specs.declared.indicator.Indicator.{Indicator}
@@ -13,7 +12,7 @@ use Rattle.module_table.specs.Metas.{Declaration, see_meta}
 use Rattle.module_table.specs.Said.{Said, Part, Loads, defines, nothing, only, Refusal, in_turn, each_said, see_load}
 use Rattle.module_table.specs.Heads.{Owned, head, grammar_head}
 use Rattle.module_table.specs.Directives.{Home, home, directive_said}
-use Rattle.module_table.specs.Kinds.{declared_part, load_part, defined_part, goal_part, first_of, IsModule, takes_part}
+use Rattle.module_table.specs.Kinds.{goal_trees, declared_part, load_part, defined_part, goal_part, first_of, IsModule, takes_part}
 
 abbrev pub with_added : ℕ → Result Owned Refusal → Result Owned Refusal
 with_added added (Ok own) = Ok (record { module_ = own.module_; name = own.name; arity = own.arity + added })
@@ -90,9 +89,9 @@ see_facts f = record {
   module_from = f.module_from;
   exports = f.exports.items;
   loads = map see_load f.loads.items;
-  defined = map see_defined f.defined.items;
+  defined = map (see_defined f.names) f.defined.items;
   metas = map see_meta f.metas.items;
-  goals = map tree_of f.goals.items;
+  goals = flat_map (goal_trees f.names) f.goals.items;
 }
 
 -- the facts that the parts are

@@ -1,7 +1,6 @@
 -- What a file says, part by part, or why it is refused.
 use Rattle.std.specs.Prelude.{ℕ, ◌≡◌, List, [], ◌∷◌, ◌++◌, Result, Ok, Err}
 use Rattle.prolog_terms.specs.Tree.{Tree}
-use Rattle.prolog_terms.specs.Terms.{tree_of}
 use Rattle.prolog_terms.specs.Views.{start_of}
 use Rattle.clause_text.specs.declared.cause.Cause.{Cause}
 use Rattle.module_table.specs.declared.indicator.Indicator.{Indicator}
@@ -85,4 +84,3 @@ see_load l = record { file = l.file; kind = l.kind; items = l.items.items; from 
 abbrev pub see_part : PartKept → Part
 see_part (kept.Module own) = declares (see_module own)
 see_part (kept.Load own) = loads (see_load own)
-see_part (kept.Goal own) = goal (tree_of own)

@@ -1,7 +1,7 @@
-ghost use Rattle.std.specs.Prelude.{◌≡◌, ◌++◌, ◌&&◌, List, nat_eq, map, flat_map, IfOk, OnOk};
+ghost use Rattle.std.specs.Prelude.{◌≡◌, ◌++◌, ◌&&◌, ℕ, List, nat_eq, map, flat_map, IfOk, OnOk};
 ghost use Rattle.std.specs.Ordering.{is_lt};
 ghost use Rattle.std.specs.Str.{bytes_eq};
-ghost use Rattle.module_table.specs.Defined.{AreDefined, Defines, NoneIsAfter, predicate_cmp, see_defined, see_run};
+ghost use Rattle.module_table.specs.Defined.{AreDefined, Defines, NoneIsAfter, key_of, predicate_cmp, see_defined, see_run};
 
 use clause_text::Clause;
 use prolog_tokens::Text;
@@ -21,7 +21,7 @@ pub struct Defined {
 /// The predicates of the runs, each once, in the order of modules, names and arities. Each has its
 /// clauses, in the order of the runs.
 pub fn group(alloc: Global, mut runs: Vec<Defined>) -> Result<Vec<Defined>, AllocError>
-    ensures { IfOk result (λ defined. AreDefined (flat_map see_run runs.items) (map see_defined defined.items)) }
+    ensures { IfOk result (λ defined. (names : List (List ℕ)) → AreDefined (flat_map (see_run names) runs.items) (map (see_defined names) defined.items)) }
 {
     runs.sort_by(|a, b| compare(a, b))?;
     // Mostly the clauses of each predicate stand together, and so each run is a predicate.
@@ -36,7 +36,7 @@ pub fn group(alloc: Global, mut runs: Vec<Defined>) -> Result<Vec<Defined>, Allo
 }
 
 fn compare(a: &Defined, b: &Defined) -> Ordering
-    ensures { result ≡ predicate_cmp (see_defined a.now) (see_defined b.now) }
+    ensures { result ≡ predicate_cmp (key_of a.now) (key_of b.now) }
 {
     a.module
         .cmp(&b.module)
@@ -44,16 +44,16 @@ fn compare(a: &Defined, b: &Defined) -> Ordering
 }
 
 fn comes_before(a: &Defined, b: &Defined) -> bool
-    ensures { result ≡ is_lt (predicate_cmp (see_defined a.now) (see_defined b.now)) }
+    ensures { result ≡ is_lt (predicate_cmp (key_of a.now) (key_of b.now)) }
 {
     compare(a, b).is_lt()
 }
 
 /// Adds one more run, of the last predicate or of one after it.
 fn add(defined: &mut Vec<Defined>, mut run: Defined) -> Result<(), AllocError>
-    ensures { OnOk result ((ds : List Defines) → NoneIsAfter (see_defined run) ds
-        → AreDefined ds (map see_defined defined.old.items)
-        → AreDefined (ds ++ see_run run) (map see_defined defined.new.items)) }
+    ensures { OnOk result ((names : List (List ℕ)) (ds : List Defines) → NoneIsAfter (see_defined names run) ds
+        → AreDefined ds (map (see_defined names) defined.old.items)
+        → AreDefined (ds ++ see_run names run) (map (see_defined names) defined.new.items)) }
 {
     let Some(last) = defined.last_mut() else {
         defined.push(run)?;

@@ -3,21 +3,21 @@
 ghost use Rattle.std.specs.Prelude.{◌≡◌, IfOk, IfErr, OnOk, Ok};
 ghost use Rattle.prolog_terms.specs.Terms.{tree_of};
 ghost use Rattle.module_table.specs.Said.{IsWhy};
-ghost use Rattle.module_table.specs.Kinds.{ByKind, see_kinds, with_said};
+ghost use Rattle.module_table.specs.declared.kinds.Kinds.{Kinds as KindsOf};
+ghost use Rattle.module_table.specs.Kinds.{IsAdded, see_kinds, with_said};
 ghost use Rattle.module_table.specs.Told.{IsTold};
 ghost use Rattle.module_table.specs.Directives.{home, use_some_said, one_said, two_said, three_said, shallow_said, directive_said, meta_said};
 
 use crate::dynamic::{Standing, push_dynamic};
 use crate::indicator::listed_indicators;
-use crate::kinds::{Kinds, push_part};
+use crate::kinds::{Kinds, push_goal, push_part};
 use crate::load::{LoadKind, push_load, push_loads, push_use_all};
 use crate::meta::push_takes;
 use crate::module_directive::module_of;
 use crate::said::{FactFault, Part, refusal};
-use crate::taken::{Sides, sides_taken};
 use crate::terms::is_one_of;
 use clause_text::Cause;
-use prolog_terms::{Term, start_of};
+use prolog_terms::{Term, TermKind, inside, sides, start_of};
 use std::alloc::Global;
 
 /// Whether a directive is a goal, which is still to be kept, or has been told.
@@ -34,7 +34,7 @@ fn push_meta(
     declared: &Term,
     kinds: &mut Kinds,
 ) -> Result<(), FactFault>
-    ensures ok { OnOk result (with_said (see_kinds kinds.old) (meta_said owner.now (tree_of declared.now)) ≡ Ok (see_kinds kinds.new)) }
+    ensures ok { OnOk result (IsAdded kinds.old (meta_said owner.now (tree_of declared.now)) kinds.new) }
     ensures refused { IfErr result (λ fault. IsWhy (meta_said owner.now (tree_of declared.now)) fault) }
 {
     push_takes(alloc, owner, declared, &mut kinds.takes)?;
@@ -49,7 +49,7 @@ fn push_use_some(
     list: &Term,
     kinds: &mut Kinds,
 ) -> Result<(), FactFault>
-    ensures ok { OnOk result (with_said (see_kinds kinds.old) (use_some_said user.now (tree_of spec.now) (tree_of list.now)) ≡ Ok (see_kinds kinds.new)) }
+    ensures ok { OnOk result (IsAdded kinds.old (use_some_said user.now (tree_of spec.now) (tree_of list.now)) kinds.new) }
     ensures refused { IfErr result (λ fault. IsWhy (use_some_said user.now (tree_of spec.now) (tree_of list.now)) fault) }
 {
     match listed_indicators(alloc, list) {
@@ -72,8 +72,8 @@ fn one_told(
     directive: &Term,
     kinds: &mut Kinds,
 ) -> Result<Told, FactFault>
-    ensures ok { IfOk result (λ told. IsTold told (see_kinds kinds.old)
-        (one_said (home user.now owner.now) name.now (tree_of argument.now) (tree_of directive.now)) (tree_of directive.now) (see_kinds kinds.new)) }
+    ensures ok { IfOk result (λ told. IsTold told kinds.old
+        (one_said (home user.now owner.now) name.now (tree_of argument.now) (tree_of directive.now)) (tree_of directive.now) kinds.new) }
     ensures refused { IfErr result (λ fault. IsWhy (one_said (home user.now owner.now) name.now (tree_of argument.now) (tree_of directive.now)) fault) }
 {
     if name == "use_module" {
@@ -121,9 +121,9 @@ fn two_told(
     directive: &Term,
     kinds: &mut Kinds,
 ) -> Result<Told, FactFault>
-    ensures ok { IfOk result (λ told. IsTold told (see_kinds kinds.old)
+    ensures ok { IfOk result (λ told. IsTold told kinds.old
         (two_said (home user.now owner.now) first name.now (tree_of left.now) (tree_of right.now) (tree_of directive.now)) (tree_of directive.now)
-        (see_kinds kinds.new)) }
+        kinds.new) }
     ensures refused { IfErr result (λ fault. IsWhy
         (two_said (home user.now owner.now) first name.now (tree_of left.now) (tree_of right.now) (tree_of directive.now)) fault) }
 {
@@ -150,7 +150,7 @@ fn two_told(
 
 /// A directive of three arguments.
 fn three_told(name: &str, directive: &Term) -> Result<Told, FactFault>
-    ensures ok { IfOk result (λ told. (kinds : ByKind) → IsTold told kinds (three_said name.now (tree_of directive.now)) (tree_of directive.now) kinds) }
+    ensures ok { IfOk result (λ told. (kinds : KindsOf) → IsTold told kinds (three_said name.now (tree_of directive.now)) (tree_of directive.now) kinds) }
     ensures refused { IfErr result (λ fault. IsWhy (three_said name.now (tree_of directive.now)) fault) }
 {
     if name == "op" {
@@ -171,39 +171,37 @@ fn tell(
     directive: &Term,
     kinds: &mut Kinds,
 ) -> Result<Told, FactFault>
-    ensures ok { IfOk result (λ told. IsTold told (see_kinds kinds.old)
-        (shallow_said (home user.now owner.now) first (tree_of directive.now)) (tree_of directive.now) (see_kinds kinds.new)) }
+    ensures ok { IfOk result (λ told. IsTold told kinds.old
+        (shallow_said (home user.now owner.now) first (tree_of directive.now)) (tree_of directive.now) kinds.new) }
     ensures refused { IfErr result (λ fault. IsWhy (shallow_said (home user.now owner.now) first (tree_of directive.now)) fault) }
 {
-    match directive {
-        Term::Compound { name, args, .. } => {
-            let name = name.as_str();
-            if args.len() == 1 {
-                return one_told(alloc, user, owner, name, &args[0], directive, kinds);
+    match directive.kind() {
+        TermKind::Compound { name, args, .. } => {
+            if let Some(argument) = args.only() {
+                return one_told(alloc, user, owner, name, &argument, directive, kinds);
             }
-            if args.len() == 2 {
+            if let Some((left, right)) = args.pair() {
                 return two_told(
-                    alloc, user, owner, first, name, &args[0], &args[1], directive, kinds,
+                    alloc, user, owner, first, name, &left, &right, directive, kinds,
                 );
             }
-            if args.len() == 3 {
+            if args.triple().is_some() {
                 return three_told(name, directive);
             }
             Ok(Told::Goal)
         }
-        Term::Atom { name, .. } => {
-            if is_one_of(&["else", "endif"], name.as_str()) {
+        TermKind::Atom { name } => {
+            if is_one_of(&["else", "endif"], name) {
                 return Err(refusal(Cause::NotInProfile, directive));
             }
             Ok(Told::Goal)
         }
-        Term::List { items, tail, .. } => match tail {
-            Some(_) => Err(refusal(Cause::BadSpec, directive)),
-            None => {
-                push_loads(alloc, user, LoadKind::Ensure, items, kinds)?;
-                Ok(Told::Done)
-            }
-        },
+        TermKind::List { items } => {
+            let specs = items.to_vec(alloc)?;
+            push_loads(alloc, user, LoadKind::Ensure, &specs, kinds)?;
+            Ok(Told::Done)
+        }
+        TermKind::Tailed { .. } => Err(refusal(Cause::BadSpec, directive)),
         _ => Ok(Told::Goal),
     }
 }
@@ -214,20 +212,24 @@ pub fn push_directive(
     user: &str,
     owner: &str,
     first: bool,
-    directive: Term,
+    directive: &Term,
     kinds: &mut Kinds,
 ) -> Result<(), FactFault>
-    ensures ok { OnOk result (with_said (see_kinds kinds.old) (directive_said (home user.now owner.now) first (tree_of directive)) ≡ Ok (see_kinds kinds.new)) }
-    ensures refused { IfErr result (λ fault. IsWhy (directive_said (home user.now owner.now) first (tree_of directive)) fault) }
+    ensures ok { OnOk result (with_said (see_kinds directive.now.names.now directive.now.nodes.now kinds.old)
+        (directive_said (home user.now owner.now) first (tree_of directive.now))
+        ≡ Ok (see_kinds directive.now.names.now directive.now.nodes.now kinds.new)) }
+    ensures refused { IfErr result (λ fault. IsWhy (directive_said (home user.now owner.now) first (tree_of directive.now)) fault) }
 {
-    match sides_taken(directive) {
-        Sides::Both(left, right) => {
-            push_directive(alloc, user, owner, false, left, kinds)?;
-            push_directive(alloc, user, owner, false, right, kinds)
+    if let Some((left, right)) = sides(directive, ",") {
+        push_directive(alloc, user, owner, false, &left, kinds)?;
+        return push_directive(alloc, user, owner, false, &right, kinds);
+    }
+    let alone = inside(directive);
+    match tell(alloc, user, owner, first, &alone, kinds)? {
+        Told::Goal => {
+            push_goal(kinds, alone.end)?;
+            Ok(())
         }
-        Sides::Alone(alone) => match tell(alloc, user, owner, first, &alone, kinds)? {
-            Told::Goal => push_part(kinds, Part::Goal(alone)),
-            Told::Done => Ok(()),
-        },
+        Told::Done => Ok(()),
     }
 }

@@ -1,12 +1,12 @@
 //! The facts of a file, from its clauses.
 
-ghost use Rattle.std.specs.Prelude.{◌≡◌, ◌≤◌, ◌+◌, IfOk, IfErr, OnOk, Ok, All, ℕ, List, map};
+ghost use Rattle.std.specs.Prelude.{◌≡◌, ◌≤◌, ◌+◌, [], IfOk, IfErr, OnOk, Ok, All};
 ghost use Rattle.prolog_tokens.specs.declared.limits.TheConstants.{MOST_BYTES};
 ghost use Rattle.prolog_terms.specs.Terms.{tree_of};
 ghost use Rattle.prolog_terms.specs.Weight.{weight};
-ghost use Rattle.module_table.specs.Defined.{clause_tree};
+ghost use Rattle.clause_text.specs.Clauses.{clause_tree, clause_trees, text_trees};
 ghost use Rattle.module_table.specs.Said.{IsWhy};
-ghost use Rattle.module_table.specs.Kinds.{AreSaid, see_kinds, with_said};
+ghost use Rattle.module_table.specs.Kinds.{AreSaid, IsAdded, see_kinds, with_said};
 ghost use Rattle.module_table.specs.Directives.{home};
 ghost use Rattle.module_table.specs.Facts.{clause_head, headed, clause_said, module_of, trees_said, file_said, AreFacts, Facts, see_facts};
 
@@ -14,13 +14,13 @@ use crate::defined::{Defined, group};
 use crate::directive::push_directive;
 use crate::head::{OwnedHead, grammar_head, head};
 use crate::indicator::Indicator;
-use crate::kinds::{Kinds, module_of_file, none_said};
+use crate::kinds::{DirectiveGoals, Kinds, close_directive, module_of_file, none_said};
 use crate::load::Load;
 use crate::meta::Meta;
 use crate::runs::{end_in, push_last, push_run};
 use crate::said::FactFault;
-use crate::taken::{Taken, directive_taken};
-use clause_text::{Clause, directive_of};
+use clause_text::{Clause, TextClauses, directive_of};
+use prolog_names::Names;
 use prolog_terms::{Term, atom_name, binary, sides};
 use prolog_tokens::Text;
 use std::alloc::Global;
@@ -29,6 +29,8 @@ use std::alloc::Global;
 /// 0 and `exports` is empty; else `module_from` is the byte offset of the term `module(M, L)`.
 #[derive(Drop)]
 pub struct FileFacts {
+    /// The names of the terms, which are numbers in them.
+    pub names: Names,
     pub file: Text,
     pub module: Text,
     pub is_module: bool,
@@ -40,12 +42,12 @@ pub struct FileFacts {
     pub defined: Vec<Defined>,
     /// How arguments of goals stand, as it is declared, in the order of the text.
     pub metas: Vec<Meta>,
-    /// The terms of the goal directives, in the order of the text.
-    pub goals: Vec<Term>,
+    /// The goals of the directives that have some, in the order of the text.
+    pub goals: Vec<DirectiveGoals>,
 }
 
 /// The predicate that a clause defines in a file of the module `owner`.
-fn clause_head<'a>(owner: &'a str, clause: &'a Term) -> Result<OwnedHead<'a>, FactFault>
+fn clause_head<'a>(owner: &'a str, clause: &Term<'a>) -> Result<OwnedHead<'a>, FactFault>
     requires { weight (tree_of clause.now) ≤ MOST_BYTES }
     ensures ok { IfOk result (λ own. clause_head owner.now (tree_of clause.now)
         ≡ Ok (record { module_ = own.module.now; name = own.name.now; arity = own.arity })) }
@@ -55,12 +57,12 @@ fn clause_head<'a>(owner: &'a str, clause: &'a Term) -> Result<OwnedHead<'a>, Fa
         return head(owner, clause);
     };
     if pair.name == ":-" {
-        return head(owner, pair.left);
+        return head(owner, &pair.left);
     }
     if pair.name != "-->" {
         return head(owner, clause);
     }
-    match head(owner, grammar_head(pair.left)) {
+    match head(owner, &grammar_head(&pair.left)) {
         Ok(own) => Ok(OwnedHead {
             module: own.module,
             name: own.name,
@@ -75,15 +77,17 @@ fn clause_head<'a>(owner: &'a str, clause: &'a Term) -> Result<OwnedHead<'a>, Fa
 fn push_headed(
     alloc: Global,
     owner: &str,
+    names: &Names,
     clause: Clause,
     kinds: &mut Kinds,
 ) -> Result<(), FactFault>
-    requires { weight (clause_tree clause) ≤ MOST_BYTES }
-    ensures ok { OnOk result (with_said (see_kinds kinds.old) (headed (clause_head owner.now (clause_tree clause)) (clause_tree clause))
-        ≡ Ok (see_kinds kinds.new)) }
-    ensures refused { IfErr result (λ fault. IsWhy (headed (clause_head owner.now (clause_tree clause)) (clause_tree clause)) fault) }
+    requires { weight (clause_tree names.now clause) ≤ MOST_BYTES }
+    ensures ok { OnOk result (with_said (see_kinds names.now [] kinds.old)
+        (headed (clause_head owner.now (clause_tree names.now clause)) (clause_tree names.now clause)) ≡ Ok (see_kinds names.now [] kinds.new)) }
+    ensures ends { OnOk result (kinds.new.ends ≡ kinds.old.ends) }
+    ensures refused { IfErr result (λ fault. IsWhy (headed (clause_head owner.now (clause_tree names.now clause)) (clause_tree names.now clause)) fault) }
 {
-    let own = match clause_head(owner, &clause.term) {
+    let own = match clause_head(owner, &clause.term(names)) {
         Ok(own) => own,
         Err(fault) => return Err(fault),
     };
@@ -112,64 +116,80 @@ fn push_clause(
     file: &str,
     owner: &str,
     first: bool,
+    names: &Names,
     clause: Clause,
     kinds: &mut Kinds,
 ) -> Result<(), FactFault>
-    requires { weight (clause_tree clause) ≤ MOST_BYTES }
-    ensures ok { OnOk result (with_said (see_kinds kinds.old) (clause_said (home file.now owner.now) first (clause_tree clause)) ≡ Ok (see_kinds kinds.new)) }
-    ensures refused { IfErr result (λ fault. IsWhy (clause_said (home file.now owner.now) first (clause_tree clause)) fault) }
+    requires light { weight (clause_tree names.now clause) ≤ MOST_BYTES }
+    requires closed { kinds.now.ends.items ≡ [] }
+    ensures ok { OnOk result (with_said (see_kinds names.now [] kinds.old) (clause_said (home file.now owner.now) first (clause_tree names.now clause))
+        ≡ Ok (see_kinds names.now [] kinds.new)) }
+    ensures ends { OnOk result (kinds.new.ends.items ≡ []) }
+    ensures refused { IfErr result (λ fault. IsWhy (clause_said (home file.now owner.now) first (clause_tree names.now clause)) fault) }
 {
-    match directive_taken(clause) {
-        Taken::Directive(directive) => push_directive(alloc, file, owner, first, directive, kinds),
-        Taken::Headed(clause) => push_headed(alloc, owner, clause, kinds),
-    }
+    let term = clause.term(names);
+    let Some(directive) = directive_of(&term) else {
+        return push_headed(alloc, owner, names, clause, kinds);
+    };
+    push_directive(alloc, file, owner, first, &directive, kinds)?;
+    close_directive(alloc, kinds, clause.nodes)?;
+    Ok(())
 }
 
 /// The module of a file with these clauses.
-fn module_of(clauses: &[Clause]) -> &str
-    ensures { result.now ≡ module_of (map clause_tree clauses.now) }
+fn module_of<'a>(names: &'a Names, clauses: &'a [Clause]) -> &'a str
+    ensures { result.now ≡ module_of (clause_trees names.now clauses.now) }
 {
     let Some(first) = clauses.first() else {
         return "user";
     };
-    let Some(directive) = directive_of(&first.term) else {
+    let Some(directive) = directive_of(&first.term(names)) else {
         return "user";
     };
-    let Some((name, _exports)) = sides(directive, "module") else {
+    let Some((name, _exports)) = sides(&directive, "module") else {
         return "user";
     };
-    match atom_name(name) {
+    match atom_name(&name) {
         Some(own) => own,
         None => "user",
     }
 }
 
 /// All that the clauses say in a file of the module `owner`, by kind.
-fn said(alloc: Global, file: &str, owner: &str, clauses: Vec<Clause>) -> Result<Kinds, FactFault>
-    requires { All (λ tree. weight tree ≤ MOST_BYTES) (map clause_tree clauses.items) }
-    ensures ok { IfOk result (λ kinds. AreSaid (trees_said (home file.now owner.now) (map clause_tree clauses.items)) kinds) }
-    ensures refused { IfErr result (λ fault. IsWhy (trees_said (home file.now owner.now) (map clause_tree clauses.items)) fault) }
+fn said(
+    alloc: Global,
+    file: &str,
+    owner: &str,
+    names: &Names,
+    clauses: Vec<Clause>,
+) -> Result<Kinds, FactFault>
+    requires { All (λ tree. weight tree ≤ MOST_BYTES) (clause_trees names.now clauses.items) }
+    ensures ok { IfOk result (λ kinds. AreSaid names.now (trees_said (home file.now owner.now) (clause_trees names.now clauses.items)) kinds) }
+    ensures refused { IfErr result (λ fault. IsWhy (trees_said (home file.now owner.now) (clause_trees names.now clauses.items)) fault) }
 {
     let mut kinds = none_said(alloc, clauses.len())?;
     let mut first = true;
     for clause in clauses {
-        push_clause(alloc, file, owner, first, clause, &mut kinds)?;
+        push_clause(alloc, file, owner, first, names, clause, &mut kinds)?;
         first = false;
     }
     Ok(kinds)
 }
 
-/// The facts of a file with these clauses (ISO/IEC 13211-1, 7.4).
-pub fn facts(alloc: Global, file: &str, clauses: Vec<Clause>) -> Result<FileFacts, FactFault>
-    requires { All (λ tree. weight tree ≤ MOST_BYTES) (map clause_tree clauses.items) }
-    ensures ok { IfOk result (λ found. AreFacts file.now (map clause_tree clauses.items) (see_facts found)) }
-    ensures only { IfOk result (λ found. (other : Facts) → AreFacts file.now (map clause_tree clauses.items) other → other ≡ see_facts found) }
-    ensures refused { IfErr result (λ fault. IsWhy (file_said file.now (map clause_tree clauses.items)) fault) }
+/// The facts of a file with the clauses of this text (ISO/IEC 13211-1, 7.4).
+pub fn facts(alloc: Global, file: &str, text: TextClauses) -> Result<FileFacts, FactFault>
+    requires { All (λ tree. weight tree ≤ MOST_BYTES) (text_trees text) }
+    ensures ok { IfOk result (λ found. AreFacts file.now (text_trees text) (see_facts found)) }
+    ensures only { IfOk result (λ found. (other : Facts) → AreFacts file.now (text_trees text) other → other ≡ see_facts found) }
+    ensures refused { IfErr result (λ fault. IsWhy (file_said file.now (text_trees text)) fault) }
 {
-    let owner = Text::new(alloc, module_of(&clauses))?;
-    let kinds = said(alloc, file, owner.as_str(), clauses)?;
+    let names = text.names;
+    let clauses = text.clauses;
+    let owner = Text::new(alloc, module_of(&names, &clauses))?;
+    let kinds = said(alloc, file, owner.as_str(), &names, clauses)?;
     let own = module_of_file(alloc, kinds.declared)?;
     Ok(FileFacts {
+        names,
         file: Text::new(alloc, file)?,
         module: own.name,
         is_module: own.is_declared,

@@ -8,7 +8,7 @@ ghost use Rattle.module_table.specs.Heads.{is_among, control_names, headless_nam
 use crate::said::{FactFault, refusal};
 use crate::terms::is_one_of;
 use clause_text::Cause;
-use prolog_terms::{ConstKind, Term, atom_name, inside, name_and_arity, sides};
+use prolog_terms::{ConstKind, Term, TermKind, atom_name, inside, name_and_arity, sides};
 
 fn is_control(name: &str, arity: usize) -> bool
     ensures { result ≡ is_among (control_names arity) name.now }
@@ -49,12 +49,12 @@ fn named_head<'a>(term: &Term, name: &'a str, arity: usize) -> Result<(&'a str, 
 #[derive(Clone, Copy)]
 pub struct Within<'a> {
     pub module: &'a str,
-    pub term: &'a Term,
+    pub term: Term<'a>,
 }
 
 /// The term behind the names of modules, in the innermost of these; in `owner` where none is named.
-fn behind_modules<'a>(owner: &'a str, term: &'a Term) -> Within<'a>
-    ensures { record { module_ = result.module.now; tree = tree_of result.term.now } ≡ behind_modules owner.now (tree_of term.now) }
+fn behind_modules<'a>(owner: &'a str, term: &Term<'a>) -> Within<'a>
+    ensures { record { module_ = result.module.now; tree = tree_of result.term } ≡ behind_modules owner.now (tree_of term.now) }
 {
     let Some((left, right)) = sides(term, ":") else {
         return Within {
@@ -62,8 +62,8 @@ fn behind_modules<'a>(owner: &'a str, term: &'a Term) -> Within<'a>
             term: inside(term),
         };
     };
-    match atom_name(left) {
-        Some(own) => behind_modules(own, right),
+    match atom_name(&left) {
+        Some(own) => behind_modules(own, &right),
         None => Within {
             module: owner,
             term: inside(term),
@@ -72,7 +72,7 @@ fn behind_modules<'a>(owner: &'a str, term: &'a Term) -> Within<'a>
 }
 
 /// The name and the number of arguments of what a head without modules defines.
-fn plain_head(term: &Term) -> Result<(&str, usize), FactFault>
+fn plain_head<'a>(term: &Term<'a>) -> Result<(&'a str, usize), FactFault>
     ensures ok { IfOk result (λ named. plain_head (tree_of term.now) ≡ Ok (record { name = named.0.now; arity = named.1 })) }
     ensures refused { IfErr result (λ fault. IsWhy (plain_head (tree_of term.now)) fault) }
 {
@@ -91,12 +91,12 @@ pub struct OwnedHead<'a> {
 }
 
 /// What a head defines in a file of the module `owner`.
-pub fn head<'a>(owner: &'a str, term: &'a Term) -> Result<OwnedHead<'a>, FactFault>
+pub fn head<'a>(owner: &'a str, term: &Term<'a>) -> Result<OwnedHead<'a>, FactFault>
     ensures ok { IfOk result (λ own. head owner.now (tree_of term.now) ≡ Ok (record { module_ = own.module.now; name = own.name.now; arity = own.arity })) }
     ensures refused { IfErr result (λ fault. IsWhy (head owner.now (tree_of term.now)) fault) }
 {
     let within = behind_modules(owner, term);
-    match plain_head(within.term) {
+    match plain_head(&within.term) {
         Ok((name, arity)) => Ok(OwnedHead {
             module: within.module,
             name,
@@ -110,23 +110,24 @@ pub fn head<'a>(owner: &'a str, term: &'a Term) -> Result<OwnedHead<'a>, FactFau
 fn is_pushback(term: &Term) -> bool
     ensures { result ≡ is_pushback (tree_of term.now) }
 {
-    match inside(term) {
-        Term::List { .. } => true,
-        Term::Const { kind, .. } => *kind == ConstKind::Str,
-        Term::Atom { name, .. } => name.as_str() == "[]",
+    match inside(term).kind() {
+        TermKind::List { .. } => true,
+        TermKind::Tailed { .. } => true,
+        TermKind::Const { kind, .. } => kind == ConstKind::Str,
+        TermKind::Atom { name } => name == "[]",
         _ => false,
     }
 }
 
 /// The head of a grammar rule without its pushback.
-pub fn grammar_head(term: &Term) -> &Term
-    ensures { tree_of result.now ≡ grammar_head (tree_of term.now) }
+pub fn grammar_head<'a>(term: &Term<'a>) -> Term<'a>
+    ensures { tree_of result ≡ grammar_head (tree_of term.now) }
 {
     let Some((left, right)) = sides(term, ",") else {
-        return term;
+        return *term;
     };
-    if is_pushback(right) {
+    if is_pushback(&right) {
         return left;
     }
-    term
+    *term
 }

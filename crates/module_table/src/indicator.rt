@@ -8,7 +8,7 @@ ghost use Rattle.module_table.specs.Indicators.{arity_of, arguments_added, indic
 use crate::said::{FactFault, refusal};
 use crate::terms::list_items;
 use clause_text::Cause;
-use prolog_terms::{ConstKind, Term, atom_name, binary, inside, start_of};
+use prolog_terms::{ConstKind, Term, TermKind, atom_name, binary, inside, start_of};
 use prolog_tokens::Text;
 use std::alloc::{AllocError, Global};
 
@@ -24,19 +24,13 @@ pub struct Indicator {
 pub fn arity_of(term: &Term, added: u32) -> Option<u32>
     ensures { result ≡ arity_of (tree_of term.now) added }
 {
-    let Term::Const {
-        kind,
-        minus,
-        value,
-        ..
-    } = inside(term)
-    else {
+    let TermKind::Const { kind, minus, value } = inside(term).kind() else {
         return None;
     };
-    if *kind != ConstKind::Integer {
+    if kind != ConstKind::Integer {
         return None;
     }
-    if *minus {
+    if minus {
         return None;
     }
     match value {
@@ -68,10 +62,10 @@ fn read_indicator(alloc: Global, term: &Term) -> Result<Option<Indicator>, Alloc
     let Some(added) = arguments_added(pair.name) else {
         return Ok(None);
     };
-    let Some(name) = atom_name(pair.left) else {
+    let Some(name) = atom_name(&pair.left) else {
         return Ok(None);
     };
-    let Some(arity) = arity_of(pair.right, added) else {
+    let Some(arity) = arity_of(&pair.right, added) else {
         return Ok(None);
     };
     Ok(Some(Indicator {
@@ -116,8 +110,8 @@ pub fn listed_indicators(alloc: Global, term: &Term) -> Result<Vec<Indicator>, F
     ensures ok { IfOk result (λ found. listed_indicators (tree_of term.now) ≡ Ok found.items) }
     ensures refused { IfErr result (λ fault. IsWhy (listed_indicators (tree_of term.now)) fault) }
 {
-    match list_items(term) {
-        Some(items) => indicators(alloc, items),
+    match list_items(alloc, term)? {
+        Some(items) => indicators(alloc, &items),
         None => Err(refusal(Cause::BadIndicator, term)),
     }
 }

@@ -1,8 +1,10 @@
 //! What a file says, by kind.
 
-ghost use Rattle.std.specs.Prelude.{◌≡◌, IfErr, IfOk, OnOk, option_map};
+ghost use Rattle.std.specs.Prelude.{◌≡◌, [], ℕ, List, IfErr, IfOk, OnOk, option_map};
+ghost use Rattle.prolog_terms.specs.declared.node.Node.{Node as NodeOf};
+ghost use Rattle.prolog_terms.specs.Terms.{tree_in};
 ghost use Rattle.module_table.specs.declared.said.FactFault.TheVariants.{NoMemory};
-ghost use Rattle.module_table.specs.Said.{declares, see_module, see_part};
+ghost use Rattle.module_table.specs.Said.{declares, goal, see_module, see_part};
 ghost use Rattle.module_table.specs.Kinds.{IsModule, none_said, see_kinds, with_part};
 
 use crate::defined::Defined;
@@ -10,24 +12,34 @@ use crate::indicator::Indicator;
 use crate::load::Load;
 use crate::meta::Meta;
 use crate::said::{FactFault, Module, Part};
-use prolog_terms::Term;
+use prolog_terms::NodeList;
 use prolog_tokens::Text;
 use std::alloc::{AllocError, Global};
 
+/// The goals of a directive: its nodes, and for each goal how many of them there are up to the goal's
+/// own.
+#[derive(Drop)]
+pub struct DirectiveGoals {
+    pub nodes: NodeList,
+    pub ends: Vec<usize>,
+}
+
 /// What a file says, by kind and each kind in order: of modules the first, and what it defines as
-/// runs.
+/// runs. The ends are those of the goals of the directive under way, whose nodes are still to come.
 #[derive(Drop)]
 pub struct Kinds {
     pub declared: Option<Module>,
     pub loads: Vec<Load>,
     pub definitions: Vec<Defined>,
     pub takes: Vec<Meta>,
-    pub goals: Vec<Term>,
+    pub goals: Vec<DirectiveGoals>,
+    pub ends: Vec<usize>,
 }
 
 /// Nothing said so far, with room for so many runs.
 pub fn none_said(alloc: Global, room: usize) -> Result<Kinds, AllocError>
-    ensures { IfOk result (λ kinds. see_kinds kinds ≡ none_said) }
+    ensures none { IfOk result (λ kinds. (names : List (List ℕ)) (nodes : List NodeOf) → see_kinds names nodes kinds ≡ none_said) }
+    ensures ends { IfOk result (λ kinds. kinds.ends.items ≡ []) }
 {
     Ok(Kinds {
         declared: None,
@@ -35,12 +47,14 @@ pub fn none_said(alloc: Global, room: usize) -> Result<Kinds, AllocError>
         definitions: Vec::with_capacity(alloc, room)?,
         takes: Vec::new(alloc),
         goals: Vec::new(alloc),
+        ends: Vec::new(alloc),
     })
 }
 
 /// Keeps the module, where none was there.
 fn keep_module(kinds: &mut Kinds, own: Module)
-    ensures { see_kinds kinds.new ≡ with_part (see_kinds kinds.old) (declares (see_module own)) }
+    ensures { (names : List (List ℕ)) (nodes : List NodeOf) → see_kinds names nodes kinds.new
+        ≡ with_part (see_kinds names nodes kinds.old) (declares (see_module own)) }
 {
     if kinds.declared.is_some() {
         return;
@@ -48,9 +62,10 @@ fn keep_module(kinds: &mut Kinds, own: Module)
     kinds.declared = Some(own);
 }
 
-/// Adds one thing that the file says beside its definitions.
+/// Adds a module or a load.
 pub fn push_part(kinds: &mut Kinds, part: Part) -> Result<(), FactFault>
-    ensures ok { OnOk result (see_kinds kinds.new ≡ with_part (see_kinds kinds.old) (see_part part)) }
+    ensures ok { OnOk result ((names : List (List ℕ)) (nodes : List NodeOf) → see_kinds names nodes kinds.new
+        ≡ with_part (see_kinds names nodes kinds.old) (see_part part)) }
     ensures refused { IfErr result (λ fault. fault ≡ NoMemory) }
 {
     match part {
@@ -64,13 +79,30 @@ pub fn push_part(kinds: &mut Kinds, part: Part) -> Result<(), FactFault>
             }
             Ok(())
         }
-        Part::Goal(goal) => {
-            if kinds.goals.push(goal).is_err() {
-                return Err(FactFault::NoMemory);
-            }
-            Ok(())
-        }
     }
+}
+
+/// Adds a goal of the directive under way, of which there are so many nodes up to the goal's own.
+pub fn push_goal(kinds: &mut Kinds, end: usize) -> Result<(), AllocError>
+    ensures { OnOk result ((names : List (List ℕ)) (nodes : List NodeOf) → see_kinds names nodes kinds.new
+        ≡ with_part (see_kinds names nodes kinds.old) (goal (tree_in names nodes end))) }
+{
+    kinds.ends.push(end)?;
+    Ok(())
+}
+
+/// Keeps the nodes of a directive with its goals, where it has some.
+pub fn close_directive(alloc: Global, kinds: &mut Kinds, nodes: NodeList) -> Result<(), AllocError>
+    ensures same { OnOk result ((names : List (List ℕ)) (others : List NodeOf) → see_kinds names others kinds.new ≡ see_kinds names nodes kinds.old) }
+    ensures ends { OnOk result (kinds.new.ends.items ≡ []) }
+{
+    if kinds.ends.is_empty() {
+        return Ok(());
+    }
+    let mut ends = Vec::new(alloc);
+    std::mem::swap(&mut ends, &mut kinds.ends);
+    kinds.goals.push(DirectiveGoals { nodes, ends })?;
+    Ok(())
 }
 
 /// The module that a file belongs to, with what it exports.

@@ -1,10 +1,10 @@
 //! File specifications, and the loads that they make.
 
-ghost use Rattle.std.specs.Prelude.{◌≡◌, IfOk, IfErr, OnOk, Ok, [], map, option_map};
+ghost use Rattle.std.specs.Prelude.{◌≡◌, IfOk, IfErr, OnOk, [], map, option_map};
 ghost use Rattle.std.specs.String.{string_bytes};
 ghost use Rattle.prolog_terms.specs.Terms.{tree_of};
 ghost use Rattle.module_table.specs.Said.{IsWhy};
-ghost use Rattle.module_table.specs.Kinds.{see_kinds, with_said};
+ghost use Rattle.module_table.specs.Kinds.{IsAdded};
 ghost use Rattle.module_table.specs.Loading.{path_text, file_of, is_system, load_said, loads_said, use_all_said};
 
 use crate::file_name::resolve_name;
@@ -12,7 +12,7 @@ use crate::indicator::Indicator;
 use crate::kinds::{Kinds, push_part};
 use crate::said::{FactFault, Part, refusal};
 use clause_text::{Cause, written_items};
-use prolog_terms::{Form, Term, atom_name, inside, sides, start_of};
+use prolog_terms::{Form, Term, TermKind, atom_name, inside, sides, start_of};
 use prolog_tokens::Text;
 use std::alloc::{AllocError, Global};
 
@@ -47,10 +47,10 @@ fn path_text(alloc: Global, term: &Term) -> Result<Option<String>, AllocError>
     let Some((left, right)) = sides(term, "/") else {
         return Ok(None);
     };
-    let Some(mut path) = path_text(alloc, left)? else {
+    let Some(mut path) = path_text(alloc, &left)? else {
         return Ok(None);
     };
-    let Some(behind) = path_text(alloc, right)? else {
+    let Some(behind) = path_text(alloc, &right)? else {
         return Ok(None);
     };
     path.push_str("/")?;
@@ -72,13 +72,13 @@ fn file_of(alloc: Global, user: &str, spec: &Term) -> Result<Option<Text>, Alloc
 fn is_system(spec: &Term) -> bool
     ensures { result ≡ is_system (tree_of spec.now) }
 {
-    let Term::Compound { args, form, .. } = inside(spec) else {
+    let TermKind::Compound { args, form, .. } = inside(spec).kind() else {
         return false;
     };
-    if args.len() != 1 {
+    let Some(_inner) = args.only() else {
         return false;
-    }
-    *form == Form::Functional
+    };
+    form == Form::Functional
 }
 
 /// Adds the load that the specification makes.
@@ -90,7 +90,7 @@ pub fn push_load(
     spec: &Term,
     kinds: &mut Kinds,
 ) -> Result<(), FactFault>
-    ensures ok { OnOk result (with_said (see_kinds kinds.old) (load_said user.now kind items.items (tree_of spec.now)) ≡ Ok (see_kinds kinds.new)) }
+    ensures ok { OnOk result (IsAdded kinds.old (load_said user.now kind items.items (tree_of spec.now)) kinds.new) }
     ensures refused { IfErr result (λ fault. IsWhy (load_said user.now kind items.items (tree_of spec.now)) fault) }
 {
     if is_system(spec) {
@@ -116,7 +116,7 @@ pub fn push_loads(
     specs: &[Term],
     kinds: &mut Kinds,
 ) -> Result<(), FactFault>
-    ensures ok { OnOk result (with_said (see_kinds kinds.old) (loads_said user.now kind (map tree_of specs.now)) ≡ Ok (see_kinds kinds.new)) }
+    ensures ok { OnOk result (IsAdded kinds.old (loads_said user.now kind (map tree_of specs.now)) kinds.new) }
     ensures refused { IfErr result (λ fault. IsWhy (loads_said user.now kind (map tree_of specs.now)) fault) }
 {
     for spec in specs {
@@ -132,11 +132,11 @@ pub fn push_use_all(
     spec: &Term,
     kinds: &mut Kinds,
 ) -> Result<(), FactFault>
-    ensures ok { OnOk result (with_said (see_kinds kinds.old) (use_all_said user.now (tree_of spec.now)) ≡ Ok (see_kinds kinds.new)) }
+    ensures ok { OnOk result (IsAdded kinds.old (use_all_said user.now (tree_of spec.now)) kinds.new) }
     ensures refused { IfErr result (λ fault. IsWhy (use_all_said user.now (tree_of spec.now)) fault) }
 {
     match written_items(spec) {
-        Some(specs) => push_loads(alloc, user, LoadKind::UseAll, specs, kinds),
+        Some(specs) => push_loads(alloc, user, LoadKind::UseAll, &specs.to_vec(alloc)?, kinds),
         None => push_load(alloc, user, LoadKind::UseAll, Vec::new(alloc), spec, kinds),
     }
 }

@@ -5,7 +5,7 @@ ghost use Rattle.prolog_terms.specs.Terms.{tree_of};
 ghost use Rattle.module_table.specs.Metas.{digit_arg, name_arg, goal_arg, takes_of, see_meta};
 
 use crate::goal_arg::GoalArg;
-use prolog_terms::{ConstKind, Term, atom_name, inside, sides};
+use prolog_terms::{ConstKind, Term, TermKind, atom_name, inside, sides};
 use prolog_tokens::Text;
 use std::alloc::{AllocError, Global};
 
@@ -58,14 +58,9 @@ fn name_arg(name: &str) -> GoalArg
 fn goal_arg(term: &Term) -> GoalArg
     ensures { result ≡ goal_arg (tree_of term.now) }
 {
-    match inside(term) {
-        Term::Const {
-            kind,
-            minus,
-            value,
-            ..
-        } => digit_arg(*kind, *minus, *value),
-        Term::Atom { name, .. } => name_arg(name.as_str()),
+    match inside(term).kind() {
+        TermKind::Const { kind, minus, value } => digit_arg(kind, minus, value),
+        TermKind::Atom { name } => name_arg(name),
         _ => GoalArg::Plain,
     }
 }
@@ -112,35 +107,33 @@ pub fn push_takes(
     ensures { OnOk result (map see_meta takes.new.items ≡ map see_meta takes.old.items ++ takes_of owner.now (tree_of term.now)) }
 {
     if let Some((left, right)) = sides(term, ",") {
-        push_takes(alloc, owner, left, takes)?;
-        return push_takes(alloc, owner, right, takes);
+        push_takes(alloc, owner, &left, takes)?;
+        return push_takes(alloc, owner, &right, takes);
     }
     if let Some((left, right)) = sides(term, ":") {
-        let Some(own) = atom_name(left) else {
+        let Some(own) = atom_name(&left) else {
             return Ok(());
         };
-        return push_takes(alloc, own, right, takes);
+        return push_takes(alloc, own, &right, takes);
     }
-    match inside(term) {
-        Term::Compound {
-            name,
-            args,
-            span,
-            ..
-        } => push_taking(alloc, owner, name.as_str(), args, span.from, takes),
-        Term::List { items, tail, .. } => match tail {
-            Some(_) => Ok(()),
-            None => {
-                for item in items {
-                    push_takes(alloc, owner, item, takes)?;
-                }
-                Ok(())
+    let bare = inside(term);
+    match bare.kind() {
+        TermKind::Compound { name, args, .. } => {
+            let args = args.to_vec(alloc)?;
+            push_taking(alloc, owner, name, &args, bare.span().from, takes)
+        }
+        TermKind::List { items } => {
+            let items = items.to_vec(alloc)?;
+            for item in &items {
+                push_takes(alloc, owner, item, takes)?;
             }
-        },
-        Term::Var { .. } => Ok(()),
-        Term::Const { .. } => Ok(()),
-        Term::Atom { .. } => Ok(()),
-        Term::Curly { .. } => Ok(()),
-        Term::Paren { .. } => Ok(()),
+            Ok(())
+        }
+        TermKind::Var => Ok(()),
+        TermKind::Const { .. } => Ok(()),
+        TermKind::Atom { .. } => Ok(()),
+        TermKind::Tailed { .. } => Ok(()),
+        TermKind::Curly { .. } => Ok(()),
+        TermKind::Paren { .. } => Ok(()),
     }
 }

@@ -25,11 +25,11 @@ fn exports(alloc: Global, list: &Term) -> Result<Vec<Indicator>, FactFault>
     ensures ok { IfOk result (λ found. exports (tree_of list.now) ≡ Ok found.items) }
     ensures refused { IfErr result (λ fault. IsWhy (exports (tree_of list.now)) fault) }
 {
-    let Some(items) = list_items(list) else {
+    let Some(items) = list_items(alloc, list)? else {
         return Err(refusal(Cause::BadIndicator, list));
     };
     let mut found = Vec::new(alloc);
-    for item in items {
+    for item in &items {
         if is_operator(item) {
             continue;
         }
@@ -39,7 +39,7 @@ fn exports(alloc: Global, list: &Term) -> Result<Vec<Indicator>, FactFault>
 }
 
 /// The name of a module: any atom but `user`.
-fn module_name(term: &Term) -> Option<&str>
+fn module_name<'a>(term: &Term<'a>) -> Option<&'a str>
     ensures { option_map (λ name. name.now) result ≡ module_name (tree_of term.now) }
 {
     let name = atom_name(term)?;

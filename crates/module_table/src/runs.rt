@@ -4,7 +4,8 @@
 ghost use Rattle.std.specs.Prelude.{◌≡◌, ◌++◌, ◌∷◌, [], ◌&&◌, ℕ, List, None, nat_eq, flat_map, OnOk};
 ghost use Rattle.std.specs.Bool.{OnTrue};
 ghost use Rattle.std.specs.Str.{bytes_eq};
-ghost use Rattle.module_table.specs.Defined.{EndIn, clause_tree, defined_by, see_run};
+ghost use Rattle.clause_text.specs.Clauses.{clause_tree};
+ghost use Rattle.module_table.specs.Defined.{EndIn, defined_by, see_run};
 
 use crate::defined::Defined;
 use clause_text::Clause;
@@ -32,8 +33,8 @@ pub fn end_in(runs: &[Defined], owner: &str, name: &str, arity: usize) -> bool
 
 /// Adds a clause to the last run.
 pub fn push_last(runs: &mut Vec<Defined>, clause: Clause) -> Result<(), AllocError>
-    ensures { OnOk result ((owner name : List ℕ) (arity : ℕ) → EndIn owner name arity runs.old.items
-        → flat_map see_run runs.new.items ≡ flat_map see_run runs.old.items ++ defined_by owner name arity (clause_tree clause) ∷ []) }
+    ensures { OnOk result ((names : List (List ℕ)) (owner name : List ℕ) (arity : ℕ) → EndIn owner name arity runs.old.items
+        → flat_map (see_run names) runs.new.items ≡ flat_map (see_run names) runs.old.items ++ defined_by owner name arity (clause_tree names clause) ∷ []) }
 {
     let Some(last) = runs.last_mut() else {
         return Ok(());
@@ -51,7 +52,8 @@ pub fn push_run(
     arity: u32,
     clause: Clause,
 ) -> Result<(), AllocError>
-    ensures { OnOk result (flat_map see_run runs.new.items ≡ flat_map see_run runs.old.items ++ defined_by owner name arity (clause_tree clause) ∷ []) }
+    ensures { OnOk result ((names : List (List ℕ)) → flat_map (see_run names) runs.new.items
+        ≡ flat_map (see_run names) runs.old.items ++ defined_by owner name arity (clause_tree names clause) ∷ []) }
 {
     let clauses = vec![in alloc; clause]?;
     runs.push(Defined {
@@ -71,7 +73,7 @@ pub fn push_bare(
     name: Text,
     arity: u32,
 ) -> Result<(), AllocError>
-    ensures { OnOk result (flat_map see_run runs.new.items ≡ flat_map see_run runs.old.items
+    ensures { OnOk result ((names : List (List ℕ)) → flat_map (see_run names) runs.new.items ≡ flat_map (see_run names) runs.old.items
         ++ record { module_ = owner; name = name; arity = arity; clause = None } ∷ []) }
 {
     runs.push(Defined {

@@ -33,12 +33,11 @@ pub struct Module {
     pub exports: Vec<Indicator>,
 }
 
-/// One thing that a file says.
+/// One thing that a file says, beside its definitions, its declarations of goal arguments and its goals.
 #[derive(Drop)]
 pub enum Part {
     Module(Module),
     Load(Load),
-    Goal(Term),
 }
 
 /// The refusal at the term.

@@ -1,6 +1,6 @@
 //! What terms are, without the brackets round them.
 
-ghost use Rattle.std.specs.Prelude.{◌≡◌, option_map, map};
+ghost use Rattle.std.specs.Prelude.{◌≡◌, IfOk, option_map, map};
 ghost use Rattle.std.specs.List.{list_any};
 ghost use Rattle.std.specs.Str.{bytes_eq};
 ghost use Rattle.prolog_terms.specs.Terms.{tree_of};
@@ -8,6 +8,7 @@ ghost use Rattle.module_table.specs.Indicators.{list_of};
 
 use clause_text::written_items;
 use prolog_terms::{Term, atom_name};
+use std::alloc::{AllocError, Global};
 
 /// Whether the name is one of the words.
 pub fn is_one_of(words: &[&str], name: &str) -> bool
@@ -17,14 +18,17 @@ pub fn is_one_of(words: &[&str], name: &str) -> bool
 }
 
 /// The items of a list without a tail.
-pub fn list_items(term: &Term) -> Option<&[Term]>
-    ensures { option_map (λ items. map tree_of items.now) result ≡ list_of (tree_of term.now) }
+pub fn list_items<'a>(alloc: Global, term: &Term<'a>) -> Result<Option<Vec<Term<'a>>>, AllocError>
+    ensures { IfOk result (λ found. option_map (λ items. map tree_of items.items) found ≡ list_of (tree_of term.now)) }
 {
-    let Some(name) = atom_name(term) else {
-        return written_items(term);
-    };
-    if name == "[]" {
-        return Some(&[]);
+    if let Some(name) = atom_name(term) {
+        if name == "[]" {
+            return Ok(Some(Vec::new(alloc)));
+        }
+        return Ok(None);
     }
-    None
+    let Some(items) = written_items(term) else {
+        return Ok(None);
+    };
+    Ok(Some(items.to_vec(alloc)?))
 }

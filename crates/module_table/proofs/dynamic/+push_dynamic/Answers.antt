@@ -1,16 +1,18 @@
-use Rattle.std.proofs.Common.{◌≡◌, ◌<◌, [], Ok, get_or, map, take, sym, ◌∙◌, ap, subst, arith, codes}
+use Rattle.std.proofs.Math.ListN.{get_or-map}
+use Rattle.module_table.proofs.Items.{items_found, none_found}
+use Rattle.std.proofs.Common.{◌≡◌, ◌<◌, [], Some, None, refl, get_or, map, take, sym, ◌∙◌, ap, subst, arith, codes}
 use Rattle.std.specs.Prelude.{IfErr, OnOk}
 use Rattle.std.proofs.lemmas.List.{length-map, take_all}
 use Rattle.std.proofs.lemmas.Result.{err_from_is_err_and, on_ok_weaker, IfErr-weaker}
 use Rattle.prolog_terms.specs.Tree.{depth}
 use Rattle.prolog_terms.specs.Terms.{tree_of}
-use Rattle.prolog_terms.proofs.ViewLemmas.{AreBelow, sides_below, read_tree}
+use Rattle.prolog_terms.proofs.ViewLemmas.{AreBelow, sides_below}
 use Rattle.module_table.specs.declared.dynamic.Standing.TheVariants.{Joint, Item}
 use Rattle.module_table.specs.Said.{IsWhy, each_said}
-use Rattle.module_table.specs.Kinds.{see_kinds, with_said}
-use Rattle.module_table.specs.Dynamic.{dynamic_at}
+use Rattle.module_table.specs.Kinds.{IsAdded}
+use Rattle.module_table.specs.Dynamic.{dynamic_at, whole_items}
 use Rattle.module_table.proofs.SaidLemmas.{more_none, stops_first, stops_second, each_step, each_stops}
-use Rattle.module_table.proofs.KindLemmas.{kinds_go_on, added_parts}
+use Rattle.module_table.proofs.KindLemmas.{adds_on, parts_of_added}
 use Rattle.module_table.proofs.DynamicShapes.{dynamic_joint, dynamic_within, dynamic_nameless, dynamic_list, dynamic_alone, items_below, whole_list, joint_pair}
 use Rattle.module_table.proofs.dynamic.+push_dynamic.Goals as goal
 
@@ -18,21 +20,21 @@ use Rattle.module_table.proofs.dynamic.+push_dynamic.Goals as goal
 
 pub push_dynamic-requires : goal.push_dynamic-requires
 push_dynamic-requires t c =
-    let below : AreBelow (tree_of c.args.term.now) (tree_of c.in-Some.left.now) (tree_of c.in-Some.right.now) =
-    sides_below (codes ",") _ _ _ (joint_pair c.args.at (tree_of c.args.term.now) (tree_of c.in-Some.left.now) (tree_of c.in-Some.right.now) (sym c.in-Some.ensures)) in
+    let below : AreBelow (tree_of c.args.term.now) (tree_of c.in-Some.left) (tree_of c.in-Some.right) =
+    sides_below (codes ",") _ _ _ (joint_pair c.args.at (tree_of c.args.term.now) (tree_of c.in-Some.left) (tree_of c.in-Some.right) (sym c.in-Some.ensures)) in
     (omega (arith, below.left_below), tt)
 
 pub push_dynamic-requires-in-Some : goal.push_dynamic-requires-in-Some
 push_dynamic-requires-in-Some t c =
-    let below : AreBelow (tree_of c.args.term.now) (tree_of c.in-Some.left.now) (tree_of c.in-Some.right.now) =
-    sides_below (codes ",") _ _ _ (joint_pair c.args.at (tree_of c.args.term.now) (tree_of c.in-Some.left.now) (tree_of c.in-Some.right.now) (sym c.in-Some.ensures)) in
+    let below : AreBelow (tree_of c.args.term.now) (tree_of c.in-Some.left) (tree_of c.in-Some.right) =
+    sides_below (codes ",") _ _ _ (joint_pair c.args.at (tree_of c.args.term.now) (tree_of c.in-Some.left) (tree_of c.in-Some.right) (sym c.in-Some.ensures)) in
     (omega (arith, below.right_below), tt)
 
 pub returns-in_err-push_dynamic-in-Some-clause-refused : goal.returns-in_err-push_dynamic-in-Some-clause-refused
 returns-in_err-push_dynamic-in-Some-clause-refused t c =
     let owner = c.args.owner.now in
-    let left = tree_of c.in-Some.left.now in
-    let right = tree_of c.in-Some.right.now in
+    let left = tree_of c.in-Some.left in
+    let right = tree_of c.in-Some.right in
     let both = dynamic_joint c.args.at owner (tree_of c.args.term.now) left right (sym c.in-Some.ensures) in
     let exit = err_from_is_err_and c.from_residual.result c.from_residual.ensures.1 in
     rw (exit.1, exit.2)
@@ -42,27 +44,27 @@ returns-in_err-push_dynamic-in-Some-clause-refused t c =
 pub returns-in_ok-push_dynamic-in-Some-clause-ok : goal.returns-in_ok-push_dynamic-in-Some-clause-ok
 returns-in_ok-push_dynamic-in-Some-clause-ok t c =
     let owner = c.args.owner.now in
-    let left = tree_of c.in-Some.left.now in
-    let right = tree_of c.in-Some.right.now in
+    let left = tree_of c.in-Some.left in
+    let right = tree_of c.in-Some.right in
     let both = dynamic_joint c.args.at owner (tree_of c.args.term.now) left right (sym c.in-Some.ensures) in
-    let old = see_kinds c.args.kinds.now in
-    let mid = see_kinds c.push_dynamic.new.kinds in
-    let new = see_kinds c.push_dynamic-in-Some.new.kinds in
+    let old = c.args.kinds.now in
+    let mid = c.push_dynamic.new.kinds in
+    let new = c.push_dynamic-in-Some.new.kinds in
     on_ok_weaker c.push_dynamic-in-Some.result
-    (λ is. subst (λ said. with_said old said ≡ Ok new) (sym both)
-    (kinds_go_on old mid new (dynamic_at Joint owner left) (dynamic_at Joint owner right) c.in_ok-push_dynamic-in-Some.ensures.ok is))
+    (λ is. subst (λ said. IsAdded old said new) (sym both)
+    (adds_on old mid new (dynamic_at Joint owner left) (dynamic_at Joint owner right) c.in_ok-push_dynamic-in-Some.ensures.ok is))
     c.push_dynamic-in-Some.ensures.ok
 
 pub returns-in_ok-push_dynamic-in-Some-clause-refused : goal.returns-in_ok-push_dynamic-in-Some-clause-refused
 returns-in_ok-push_dynamic-in-Some-clause-refused t c =
     let owner = c.args.owner.now in
     let tree = tree_of c.args.term.now in
-    let left = tree_of c.in-Some.left.now in
-    let right = tree_of c.in-Some.right.now in
+    let left = tree_of c.in-Some.left in
+    let right = tree_of c.in-Some.right in
     let both = dynamic_joint c.args.at owner tree left right (sym c.in-Some.ensures) in
     let a = dynamic_at Joint owner left in
     let b = dynamic_at Joint owner right in
-    let added = added_parts (see_kinds c.args.kinds.now) (see_kinds c.push_dynamic.new.kinds) a c.in_ok-push_dynamic-in-Some.ensures.ok in
+    let added = parts_of_added c.args.kinds.now c.push_dynamic.new.kinds a c.in_ok-push_dynamic-in-Some.ensures.ok in
     IfErr-weaker c.push_dynamic-in-Some.result (λ fault. IsWhy b fault) (λ fault. IsWhy (dynamic_at c.args.at owner tree) fault)
     (λ fault why. subst (λ said. IsWhy said fault) (sym both) (stops_second [] added.0 a b fault (more_none a ∙ added.1) why))
     c.push_dynamic-in-Some.ensures.refused
@@ -71,30 +73,30 @@ returns-in_ok-push_dynamic-in-Some-clause-refused t c =
 
 pub push_dynamic-requires-in-Some-atom_name : goal.push_dynamic-requires-in-Some-atom_name
 push_dynamic-requires-in-Some-atom_name t c =
-    let below : AreBelow (tree_of c.args.term.now) (tree_of c.in-Some-sides.module.now) (tree_of c.in-Some-sides.inner.now) =
-    sides_below (codes ":") _ _ _ (sym c.in-Some-sides.ensures) in
+    let below : AreBelow (tree_of c.args.term.now) (tree_of c.in-Some-sides.module) (tree_of c.in-Some-sides.inner) =
+    sides_below (codes ":") _ _ _ (sym c.in-Some-sides.ensures.trees) in
     (omega (arith, below.right_below), tt)
 
 pub returns-in-Some-atom_name-clause-ok : goal.returns-in-Some-atom_name-clause-ok
 returns-in-Some-atom_name-clause-ok t c =
     let within =
-    dynamic_within c.args.at c.args.owner.now (tree_of c.args.term.now) (tree_of c.in-Some-sides.module.now) (tree_of c.in-Some-sides.inner.now) c.in-Some-atom_name.own.now
-    (sym c.in-None.ensures) (sym c.in-Some-sides.ensures) (sym c.in-Some-atom_name.ensures) in
-    subst (λ said. OnOk c.push_dynamic-in-Some-atom_name.result (with_said (see_kinds c.args.kinds.now) said ≡ Ok (see_kinds c.push_dynamic-in-Some-atom_name.new.kinds)))
+    dynamic_within c.args.at c.args.owner.now (tree_of c.args.term.now) (tree_of c.in-Some-sides.module) (tree_of c.in-Some-sides.inner) c.in-Some-atom_name.own.now
+    (sym c.in-None.ensures) (sym c.in-Some-sides.ensures.trees) (sym c.in-Some-atom_name.ensures) in
+    subst (λ said. OnOk c.push_dynamic-in-Some-atom_name.result (IsAdded c.args.kinds.now said c.push_dynamic-in-Some-atom_name.new.kinds))
     (sym within) c.push_dynamic-in-Some-atom_name.ensures.ok
 
 pub returns-in-Some-atom_name-clause-refused : goal.returns-in-Some-atom_name-clause-refused
 returns-in-Some-atom_name-clause-refused t c =
     let within =
-    dynamic_within c.args.at c.args.owner.now (tree_of c.args.term.now) (tree_of c.in-Some-sides.module.now) (tree_of c.in-Some-sides.inner.now) c.in-Some-atom_name.own.now
-    (sym c.in-None.ensures) (sym c.in-Some-sides.ensures) (sym c.in-Some-atom_name.ensures) in
+    dynamic_within c.args.at c.args.owner.now (tree_of c.args.term.now) (tree_of c.in-Some-sides.module) (tree_of c.in-Some-sides.inner) c.in-Some-atom_name.own.now
+    (sym c.in-None.ensures) (sym c.in-Some-sides.ensures.trees) (sym c.in-Some-atom_name.ensures) in
     subst (λ said. IfErr c.push_dynamic-in-Some-atom_name.result (λ fault. IsWhy said fault)) (sym within) c.push_dynamic-in-Some-atom_name.ensures.refused
 
 pub returns-in-None-atom_name-clause-refused : goal.returns-in-None-atom_name-clause-refused
 returns-in-None-atom_name-clause-refused t c =
     let tree = tree_of c.args.term.now in
     subst (λ fault. IsWhy (dynamic_at c.args.at c.args.owner.now tree) fault) (sym c.refusal.ensures)
-    (dynamic_nameless c.args.at c.args.owner.now tree (tree_of c.in-Some-sides.module.now) (tree_of c.in-Some-sides.inner.now) (sym c.in-None.ensures) (sym c.in-Some-sides.ensures)
+    (dynamic_nameless c.args.at c.args.owner.now tree (tree_of c.in-Some-sides.module) (tree_of c.in-Some-sides.inner) (sym c.in-None.ensures) (sym c.in-Some-sides.ensures.trees)
     (sym c.in-None-atom_name.ensures))
 
 -- the items of a list
@@ -102,55 +104,73 @@ returns-in-None-atom_name-clause-refused t c =
 pub push_dynamic-requires-in-loop-item : goal.push_dynamic-requires-in-loop-item
 push_dynamic-requires-in-loop-item t c =
     let tree = tree_of c.args.term.now in
-    let items = c.in-Some-whole_items.items.now in
+    let items = c.deref-item-items.result.now in
     let item = c.item-item.result in
     let at = c.loop-item.item-index in
-    let here : tree_of item ≡ get_or (map tree_of items) at (tree_of item) = read_tree items at item c.item-item.is in
+    let listed : whole_items c.args.at tree ≡ Some (map tree_of items) =
+    items_found tree_of (whole_items c.args.at tree) c.in_ok-items-in-None-sides.field-0 c.in-Some-2.items items c.in_ok-items-in-None-sides.ensures c.in-Some-2.is
+    c.deref-item-items.ensures.value in
+    let here : get_or (map tree_of items) at (tree_of item) ≡ tree_of item = get_or-map tree_of items at item ∙ ap tree_of (sym c.item-item.is) in
     let less : depth (get_or (map tree_of items) at (tree_of item)) < depth tree =
-    items_below tree (map tree_of items) (whole_list c.args.at tree (map tree_of items) (sym c.in-Some-whole_items.ensures)) at (tree_of item)
-    (omega (arith, c.loop-item-test.true, length-map items tree_of)) in
+    items_below tree (map tree_of items) (whole_list c.args.at tree (map tree_of items) listed) at (tree_of item) (omega (arith, c.loop-item-test.true, length-map items tree_of)) in
     (omega (arith, less, ap depth here), tt)
 
-pub returns-in_err-push_dynamic-in-Some-whole_items-clause-refused : goal.returns-in_err-push_dynamic-in-Some-whole_items-clause-refused
-returns-in_err-push_dynamic-in-Some-whole_items-clause-refused t c =
-    let items = c.in-Some-whole_items.items.now in
+pub returns-in_err-push_dynamic-in-Some-2-clause-refused : goal.returns-in_err-push_dynamic-in-Some-2-clause-refused
+returns-in_err-push_dynamic-in-Some-2-clause-refused t c =
+    let tree = tree_of c.args.term.now in
+    let items = c.deref-item-items.result.now in
     let says = dynamic_at Item c.args.owner.now in
     let before = each_said says (map tree_of (take c.loop-item.item-index items)) in
-    let whole = dynamic_list c.args.at c.args.owner.now (tree_of c.args.term.now) (map tree_of items) (sym c.in-Some-whole_items.ensures) in
-    let added = added_parts (see_kinds c.args.kinds.now) (see_kinds c.loop-item.kinds) before c.loop-item.invariant in
-    let exit =
-    err_from_is_err_and c.from_residual-in_err-push_dynamic-in-Some-whole_items.result c.from_residual-in_err-push_dynamic-in-Some-whole_items.ensures.1 in
+    let listed : whole_items c.args.at tree ≡ Some (map tree_of items) =
+    items_found tree_of (whole_items c.args.at tree) c.in_ok-items-in-None-sides.field-0 c.in-Some-2.items items c.in_ok-items-in-None-sides.ensures c.in-Some-2.is
+    c.deref-item-items.ensures.value in
+    let whole = dynamic_list c.args.at c.args.owner.now tree (map tree_of items) listed in
+    let added = parts_of_added c.args.kinds.now c.loop-item.kinds before c.loop-item.invariant in
+    let exit = err_from_is_err_and c.from_residual-in_err-push_dynamic-in-Some-2.result c.from_residual-in_err-push_dynamic-in-Some-2.ensures.1 in
     rw (exit.1, exit.2)
-    (subst (λ said. IsWhy said c.in_err-push_dynamic-in-Some-whole_items.field-0.0) (sym whole)
-    (each_stops says items c.loop-item.item-index c.item-item.result c.in_err-push_dynamic-in-Some-whole_items.field-0.0 [] added.0 c.loop-item-test.true c.item-item.is
-    (more_none before ∙ added.1) c.in_err-push_dynamic-in-Some-whole_items.ensures.refused))
+    (subst (λ said. IsWhy said c.in_err-push_dynamic-in-Some-2.field-0.0) (sym whole)
+    (each_stops says items c.loop-item.item-index c.item-item.result c.in_err-push_dynamic-in-Some-2.field-0.0 [] added.0 c.loop-item-test.true c.item-item.is
+    (more_none before ∙ added.1) c.in_err-push_dynamic-in-Some-2.ensures.refused))
+
+pub loop-item-init : goal.loop-item-init
+loop-item-init t c names nodes = refl
 
 pub loop-item-preserved : goal.loop-item-preserved
 loop-item-preserved t c =
-    let items = c.in-Some-whole_items.items.now in
+    let items = c.deref-item-items.result.now in
     let says = dynamic_at Item c.args.owner.now in
-    let old = see_kinds c.args.kinds.now in
-    ap (with_said old) (each_step says items c.loop-item.item-index c.item-item.result c.loop-item-test.true c.item-item.is)
-    ∙ kinds_go_on old (see_kinds c.loop-item.kinds) (see_kinds c.push_dynamic-in-loop-item.new.kinds) (each_said says (map tree_of (take c.loop-item.item-index items)))
-    (says (tree_of c.item-item.result)) c.loop-item.invariant c.in_ok-push_dynamic-in-Some-whole_items.ensures.ok
+    subst (λ said. IsAdded c.args.kinds.now said c.push_dynamic-in-loop-item.new.kinds)
+    (sym (each_step says items c.loop-item.item-index c.item-item.result c.loop-item-test.true c.item-item.is))
+    (adds_on c.args.kinds.now c.loop-item.kinds c.push_dynamic-in-loop-item.new.kinds (each_said says (map tree_of (take c.loop-item.item-index items)))
+    (says (tree_of c.item-item.result)) c.loop-item.invariant c.in_ok-push_dynamic-in-Some-2.ensures.ok)
 
 pub returns-after-loop-item-clause-ok : goal.returns-after-loop-item-clause-ok
 returns-after-loop-item-clause-ok t c =
-    let items = c.in-Some-whole_items.items.now in
+    let tree = tree_of c.args.term.now in
+    let items = c.deref-item-items.result.now in
     let says = dynamic_at Item c.args.owner.now in
-    let whole = dynamic_list c.args.at c.args.owner.now (tree_of c.args.term.now) (map tree_of items) (sym c.in-Some-whole_items.ensures) in
-    ap (with_said (see_kinds c.args.kinds.now))
-    (whole ∙ ap (λ terms. each_said says (map tree_of terms)) (sym (take_all c.loop-item.item-index items (omega (arith, c.loop-item-test.false)))))
-    ∙ c.loop-item.invariant
+    let listed : whole_items c.args.at tree ≡ Some (map tree_of items) =
+    items_found tree_of (whole_items c.args.at tree) c.in_ok-items-in-None-sides.field-0 c.in-Some-2.items items c.in_ok-items-in-None-sides.ensures c.in-Some-2.is
+    c.deref-item-items.ensures.value in
+    let whole = dynamic_list c.args.at c.args.owner.now tree (map tree_of items) listed in
+    subst (λ said. IsAdded c.args.kinds.now said c.loop-item.kinds)
+    (sym (whole ∙ ap (λ terms. each_said says (map tree_of terms)) (sym (take_all c.loop-item.item-index items (omega (arith, c.loop-item-test.false))))))
+    c.loop-item.invariant
 
 -- an indicator
 
-pub returns-in-None-whole_items-clause-ok : goal.returns-in-None-whole_items-clause-ok
-returns-in-None-whole_items-clause-ok t c =
-    let alone = dynamic_alone c.args.at c.args.owner.now (tree_of c.args.term.now) (sym c.in-None.ensures) (sym c.in-None-sides.ensures) (sym c.in-None-whole_items.ensures) in
-    subst (λ said. OnOk c.push_one.result (with_said (see_kinds c.args.kinds.now) said ≡ Ok (see_kinds c.push_one.new.kinds))) (sym alone) c.push_one.ensures.ok
+pub returns-in-None-2-clause-ok : goal.returns-in-None-2-clause-ok
+returns-in-None-2-clause-ok t c =
+    let tree = tree_of c.args.term.now in
+    let bare : whole_items c.args.at tree ≡ None =
+    none_found tree_of (whole_items c.args.at tree) c.in_ok-items-in-None-sides.field-0 c.in_ok-items-in-None-sides.ensures c.in-None-2.is in
+    let alone = dynamic_alone c.args.at c.args.owner.now tree (sym c.in-None.ensures) (sym c.in-None-sides.ensures.trees) bare in
+    subst (λ said. OnOk c.push_one.result (IsAdded c.args.kinds.now said c.push_one.new.kinds)) (sym alone) c.push_one.ensures.ok
 
-pub returns-in-None-whole_items-clause-refused : goal.returns-in-None-whole_items-clause-refused
-returns-in-None-whole_items-clause-refused t c =
-    let alone = dynamic_alone c.args.at c.args.owner.now (tree_of c.args.term.now) (sym c.in-None.ensures) (sym c.in-None-sides.ensures) (sym c.in-None-whole_items.ensures) in
+pub returns-in-None-2-clause-refused : goal.returns-in-None-2-clause-refused
+returns-in-None-2-clause-refused t c =
+    let tree = tree_of c.args.term.now in
+    let bare : whole_items c.args.at tree ≡ None =
+    none_found tree_of (whole_items c.args.at tree) c.in_ok-items-in-None-sides.field-0 c.in_ok-items-in-None-sides.ensures c.in-None-2.is in
+    let alone = dynamic_alone c.args.at c.args.owner.now tree (sym c.in-None.ensures) (sym c.in-None-sides.ensures.trees) bare in
     subst (λ said. IfErr c.push_one.result (λ fault. IsWhy said fault)) (sym alone) c.push_one.ensures.refused

@@ -1,9 +1,9 @@
-use Rattle.std.proofs.Common.{◌≡◌, Ok, map, take}
+use Rattle.std.proofs.Common.{map, take}
 use Rattle.prolog_terms.specs.Tree.{depth}
 use Rattle.prolog_terms.specs.Terms.{tree_of}
 use Rattle.module_table.specs.declared.dynamic.Standing.TheVariants.{Item}
 use Rattle.module_table.specs.Said.{each_said}
-use Rattle.module_table.specs.Kinds.{see_kinds, with_said}
+use Rattle.module_table.specs.Kinds.{IsAdded}
 use Rattle.module_table.specs.Dynamic.{dynamic_at}
 use Rattle.module_table.proofs.dynamic.+push_dynamic.Given as goal
 
@@ -12,5 +12,4 @@ decreases-push_dynamic l = depth (tree_of l.term.now)
 
 -- the items so far are added
 abbrev pub invariant-loop-item : goal.invariant-loop-item
-invariant-loop-item l =
-    with_said (see_kinds l.initial.kinds) (each_said (dynamic_at Item l.owner) (map tree_of (take l.item-index l.items))) ≡ Ok (see_kinds l.kinds)
+invariant-loop-item l = IsAdded l.initial.kinds (each_said (dynamic_at Item l.owner) (map tree_of (take l.item-index l.item-items))) l.kinds

@@ -1,17 +1,17 @@
-use Rattle.std.proofs.Common.{◌≡◌, [], Ok, map, take, ap, ◌∙◌, subst}
+use Rattle.std.proofs.Common.{[], map, take, sym, ◌∙◌, subst}
 use Rattle.std.proofs.lemmas.Result.{err_from_is_err_and}
 use Rattle.prolog_terms.specs.Terms.{tree_of}
 use Rattle.module_table.specs.Said.{IsWhy}
-use Rattle.module_table.specs.Kinds.{see_kinds, with_said}
+use Rattle.module_table.specs.Kinds.{IsAdded}
 use Rattle.module_table.specs.Loading.{load_said, loads_said}
 use Rattle.module_table.proofs.SaidLemmas.{each_step, each_stops, more_none}
-use Rattle.module_table.proofs.KindLemmas.{kinds_go_on, added_parts}
+use Rattle.module_table.proofs.KindLemmas.{adds_on, parts_of_added}
 use Rattle.module_table.proofs.load.push_loads.Goals as goal
 
 pub returns-in_err-push_load-clause-refused : goal.returns-in_err-push_load-clause-refused
 returns-in_err-push_load-clause-refused c =
     let before = loads_said c.args.user.now c.args.kind (map tree_of (take c.loop-spec.spec-index c.args.specs.now)) in
-    let added = added_parts (see_kinds c.args.kinds.now) (see_kinds c.loop-spec.kinds) before c.loop-spec.invariant in
+    let added = parts_of_added c.args.kinds.now c.loop-spec.kinds before c.loop-spec.invariant in
     let exit = err_from_is_err_and c.from_residual.result c.from_residual.ensures.1 in
     rw (exit.1, exit.2)
     (each_stops (load_said c.args.user.now c.args.kind []) c.args.specs.now c.loop-spec.spec-index c.spec-item.result c.in_err-push_load.field-0.0
@@ -21,7 +21,7 @@ returns-in_err-push_load-clause-refused c =
 pub loop-spec-preserved : goal.loop-spec-preserved
 loop-spec-preserved c =
     let says = load_said c.args.user.now c.args.kind [] in
-    ap (with_said (see_kinds c.args.kinds.now)) (each_step says c.args.specs.now c.loop-spec.spec-index c.spec-item.result c.loop-spec-test.true c.spec-item.is)
-    ∙ kinds_go_on (see_kinds c.args.kinds.now) (see_kinds c.loop-spec.kinds) (see_kinds c.push_load.new.kinds)
+    subst (λ said. IsAdded c.args.kinds.now said c.push_load.new.kinds) (sym (each_step says c.args.specs.now c.loop-spec.spec-index c.spec-item.result c.loop-spec-test.true c.spec-item.is))
+    (adds_on c.args.kinds.now c.loop-spec.kinds c.push_load.new.kinds
     (loads_said c.args.user.now c.args.kind (map tree_of (take c.loop-spec.spec-index c.args.specs.now))) (says (tree_of c.spec-item.result)) c.loop-spec.invariant
-    (subst (λ items. with_said (see_kinds c.loop-spec.kinds) (load_said c.args.user.now c.args.kind items (tree_of c.spec-item.result)) ≡ Ok (see_kinds c.push_load.new.kinds)) c.new.ensures.items c.in_ok-push_load.ensures.ok)
+    (subst (λ items. IsAdded c.loop-spec.kinds (load_said c.args.user.now c.args.kind items (tree_of c.spec-item.result)) c.push_load.new.kinds) c.new.ensures.items c.in_ok-push_load.ensures.ok))

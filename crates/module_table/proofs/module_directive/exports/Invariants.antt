@@ -6,4 +6,4 @@ use Rattle.module_table.proofs.module_directive.exports.Given as goal
 
 -- the exports so far
 abbrev pub invariant-loop-item : goal.invariant-loop-item
-invariant-loop-item l = each_said item_exports (map tree_of (take l.item-index l.items)) ≡ Ok l.found.items
+invariant-loop-item l = each_said item_exports (map tree_of (take l.item-index l.item-items)) ≡ Ok l.found.items
