@@ -1,11 +1,12 @@
 -- What is said, by kind.
-use Rattle.std.proofs.Common.{◌≡◌, ℕ, map, flat_map, option_map, List, [], ◌∷◌, ◌++◌, Option, Some, None, Result, Ok, Err, refl, ap, sym, ◌∙◌, append_assoc, append-nil}
+use Rattle.std.proofs.Common.{◌≡◌, ℕ, map, flat_map, option_map, List, [], ◌∷◌, ◌++◌, Option, Some, None, Result, Ok, Err, refl, ap, sym, ◌∙◌, append_assoc, append-nil, subst}
 use Rattle.std.specs.List.{filter_map}
 use Rattle.std.proofs.lemmas.List.Elements.{filter_map-append}
 use Rattle.module_table.specs.declared.kinds.Kinds.{Kinds}
 use Rattle.prolog_terms.specs.declared.node.Node.{Node}
 use Rattle.prolog_terms.specs.Tree.{Tree}
-use Rattle.prolog_terms.specs.Terms.{tree_in}
+use Rattle.prolog_terms.specs.declared.term.Term.{Term}
+use Rattle.prolog_terms.specs.Terms.{tree_in, IsOf}
 use Rattle.module_table.specs.Defined.{see_run}
 use Rattle.module_table.specs.Metas.{Declaration, see_meta}
 use Rattle.module_table.specs.Said.{Said, Part, Refusal, Declares, see_module, see_load, declares, loads, defines, takes, goal, more, in_turn}
@@ -156,3 +157,13 @@ closed_same names nodes others kinds closed =
       takes = map see_meta kinds.takes.items;
       goals = kept ++ same i;
     }
+
+-- what is added while a directive of these nodes is under way
+
+abbrev pub IsAddedAt : List (List ℕ) → List Node → Kinds → Said → Kinds → Type 0
+IsAddedAt names nodes old said new = with_said (see_kinds names nodes old) said ≡ Ok (see_kinds names nodes new)
+
+pub added_by : (names : List (List ℕ)) (nodes : List Node) (term : Term) (old new : Kinds) (said : Said) → IsOf names nodes term
+    → IsAddedAt term.names.now term.nodes.now old said new → IsAddedAt names nodes old said new
+added_by names nodes term old new said of is =
+    subst (λ n. IsAddedAt names n old said new) of.1 (subst (λ n. IsAddedAt n term.nodes.now old said new) of.0 is)
