@@ -1,5 +1,5 @@
 -- What is said, by kind.
-use Rattle.std.proofs.Common.{◌≡◌, ℕ, map, flat_map, option_map, List, [], ◌∷◌, ◌++◌, Option, Some, None, Result, Ok, Err, refl, ap, sym, ◌∙◌, append_assoc, append-nil, subst}
+use Rattle.std.proofs.Common.{◌≡◌, ℕ, map, flat_map, List, [], ◌∷◌, ◌++◌, Option, Some, None, Result, Ok, Err, refl, ap, sym, ◌∙◌, append_assoc, append-nil, subst}
 use Rattle.std.specs.List.{filter_map}
 use Rattle.std.proofs.lemmas.List.Elements.{filter_map-append}
 use Rattle.module_table.specs.declared.kinds.Kinds.{Kinds}
@@ -7,9 +7,8 @@ use Rattle.prolog_terms.specs.declared.node.Node.{Node}
 use Rattle.prolog_terms.specs.Tree.{Tree}
 use Rattle.prolog_terms.specs.declared.term.Term.{Term}
 use Rattle.prolog_terms.specs.Terms.{tree_in, IsOf}
-use Rattle.module_table.specs.Defined.{see_run}
-use Rattle.module_table.specs.Metas.{Declaration, see_meta}
-use Rattle.module_table.specs.Said.{Said, Part, Refusal, Declares, see_module, see_load, declares, loads, defines, takes, goal, more, in_turn}
+use Rattle.module_table.specs.Metas.{Declaration}
+use Rattle.module_table.specs.Said.{Said, Part, Refusal, Declares, declares, loads, defines, takes, goal, more, in_turn}
 use Rattle.module_table.specs.Kinds.{declared_part, load_part, defined_part, takes_part, goal_part, first_of, first_module_seen, ByKind, goal_trees, see_kinds, none_said, with_part, with_parts, with_said, AreSaid, IsAdded}
 
 module _ {B : Type 0} (f : Part → Option B) (parts : List Part) (part : Part) where
@@ -143,20 +142,6 @@ adds_on old mid new a b is also names nodes = kinds_go_on (see_kinds names nodes
 
 pub parts_of_added : (old new : Kinds) (said : Said) → IsAdded old said new → (parts : List Part) × (said ≡ Ok parts)
 parts_of_added old new said is = added_parts (see_kinds [] [] old) (see_kinds [] [] new) said (is [] [])
-
--- where no directive is under way, its nodes are nothing to what is kept
-pub closed_same : (names : List (List ℕ)) (nodes others : List Node) (kinds : Kinds) → kinds.ends.items ≡ [] → see_kinds names nodes kinds ≡ see_kinds names others kinds
-closed_same names nodes others kinds closed =
-    let kept = flat_map (goal_trees names) kinds.goals.items in
-    let same : map (tree_in names nodes) kinds.ends.items ≡ map (tree_in names others) kinds.ends.items =
-    ap (map (tree_in names nodes)) closed ∙ sym (ap (map (tree_in names others)) closed) in
-    λ i. record {
-      declared = option_map see_module kinds.declared;
-      loads = map see_load kinds.loads.items;
-      definitions = flat_map (see_run names) kinds.definitions.items;
-      takes = map see_meta kinds.takes.items;
-      goals = kept ++ same i;
-    }
 
 -- what is added while a directive of these nodes is under way
 

@@ -12,7 +12,8 @@ use Rattle.module_table.specs.Metas.{Declaration, see_meta}
 use Rattle.module_table.specs.Said.{Said, Part, Loads, defines, nothing, only, Refusal, in_turn, each_said, see_load}
 use Rattle.module_table.specs.Heads.{Owned, head, grammar_head}
 use Rattle.module_table.specs.Directives.{Home, home, directive_said}
-use Rattle.module_table.specs.Kinds.{goal_trees, declared_part, load_part, defined_part, goal_part, first_of, IsModule, takes_part}
+pub use Rattle.module_table.specs.Kinds.{goal_trees}
+use Rattle.module_table.specs.Kinds.{declared_part, load_part, defined_part, goal_part, first_of, IsModule, takes_part}
 
 abbrev pub with_added : ℕ → Result Owned Refusal → Result Owned Refusal
 with_added added (Ok own) = Ok (record { module_ = own.module_; name = own.name; arity = own.arity + added })

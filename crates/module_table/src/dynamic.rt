@@ -97,7 +97,11 @@ fn joint_sides<'a>(at: Standing, term: &Term<'a>) -> Option<(Term<'a>, Term<'a>)
 }
 
 /// The items of a list, where it may stand there.
-fn whole_items<'a>(alloc: Global, at: Standing, term: &Term<'a>) -> Result<Option<Vec<Term<'a>>>, AllocError>
+fn whole_items<'a>(
+    alloc: Global,
+    at: Standing,
+    term: &Term<'a>,
+) -> Result<Option<Vec<Term<'a>>>, AllocError>
     ensures { IfOk result (λ found. option_map (λ items. map tree_of items.items) found ≡ whole_items at (tree_of term.now)) }
 {
     match at {
