@@ -30,24 +30,24 @@ parts_below place file n = map (part_of place file) (take n (enumerate_from 0 fi
 
 pub more_part : (place : ℕ) (file : FileFacts) (n : ℕ) (d : Defined) (old now new : List DefinedAt) → n < length file.defined.items
     → d ≡ get_or file.defined.items n d → now ≡ old ++ parts_below place (see_facts file) n
-    → new ≡ now ++ part_of place (see_facts file) (n, see_defined d) ∷ [] → new ≡ old ++ parts_below place (see_facts file) (n + 1)
+    → new ≡ now ++ part_of place (see_facts file) (n, see_defined file.names d) ∷ [] → new ≡ old ++ parts_below place (see_facts file) (n + 1)
 more_part place file n d old now new within is so_far pushed =
-    let defined = map see_defined file.defined.items in
-    let seen : see_defined d ≡ get_or defined n (see_defined d) =
-    ap see_defined is ∙ sym (get_or-map see_defined file.defined.items n d (see_defined d) within) in
-    let one = part_of place (see_facts file) (n, see_defined d) in
+    let defined = map (see_defined file.names) file.defined.items in
+    let seen : see_defined file.names d ≡ get_or defined n (see_defined file.names d) =
+    ap (see_defined file.names) is ∙ sym (get_or-map (see_defined file.names) file.defined.items n d (see_defined file.names d) within) in
+    let one = part_of place (see_facts file) (n, see_defined file.names d) in
     pushed
     ∙ ap (λ xs. xs ++ one ∷ []) so_far
     ∙ append_assoc old (parts_below place (see_facts file) n) (one ∷ [])
     ∙ ap (λ xs. old ++ xs)
     (sym
-    (ap (map (part_of place (see_facts file))) (enumerate_more defined n (see_defined d) (omega (arith, within, length-map file.defined.items see_defined)) seen)
-    ∙ map-append (part_of place (see_facts file)) (take n (enumerate_from 0 defined)) ((n, see_defined d) ∷ [])))
+    (ap (map (part_of place (see_facts file))) (enumerate_more defined n (see_defined file.names d) (omega (arith, within, length-map file.defined.items (see_defined file.names))) seen)
+    ∙ map-append (part_of place (see_facts file)) (take n (enumerate_from 0 defined)) ((n, see_defined file.names d) ∷ [])))
 
 pub all_parts : (place : ℕ) (file : FileFacts) (n : ℕ) → length file.defined.items ≤ n → parts_below place (see_facts file) n ≡ parts_of_file place (see_facts file)
 all_parts place file n past =
     ap (map (part_of place (see_facts file)))
-    (enumerate_all (map see_defined file.defined.items) n (omega (arith, past, length-map file.defined.items see_defined)))
+    (enumerate_all (map (see_defined file.names) file.defined.items) n (omega (arith, past, length-map file.defined.items (see_defined file.names))))
 
 abbrev pub of_file : ℕ × Facts → List DefinedAt
 of_file at = parts_of_file at.0 at.1

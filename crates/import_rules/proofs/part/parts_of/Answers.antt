@@ -17,7 +17,7 @@ push_parts-requires c =
     get_or-map see_facts files n file (see_facts file) within ∙ ap see_facts (sym c.index-files-place.is) in
     let small : length (see_facts file).defined ≤ 4294967295 =
     subst (λ (f : Facts). length f.defined ≤ 4294967295) is (c.requires.small n (see_facts file) inside) in
-    omega (arith, small, length-map file.defined.items see_defined)
+    omega (arith, small, length-map file.defined.items (see_defined file.names))
 
 pub loop-place-preserved : goal.loop-place-preserved
 loop-place-preserved c =
