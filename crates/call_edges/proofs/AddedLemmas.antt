@@ -6,11 +6,12 @@ use Rattle.std.proofs.Common.{◌≡◌, inl, inr, ℕ, zero, suc, ◌+◌, ◌*
 use Rattle.std.specs.Str.{bytes_eq}
 use Rattle.std.proofs.lemmas.Bool.{eqb-true}
 use Rattle.std.proofs.lemmas.Option.{same_Some, slice_get_within}
-use Rattle.prolog_terms.specs.Tree.{Tree, trees_from}
-use Rattle.prolog_terms.specs.Views.{atom_name}
+use Rattle.prolog_terms.specs.Tree.{Tree, Trees}
+use Rattle.prolog_terms.specs.Views.{atom_name, trees_in}
 use Rattle.prolog_terms.specs.Weight.{weight, weights}
 use Rattle.module_table.specs.Heads.{is_among}
 use Rattle.call_edges.proofs.MeantLemmas.{meant_small}
+use Rattle.call_edges.proofs.PartLemmas.{part_count}
 use Rattle.module_table.specs.declared.goal_arg.GoalArg.{GoalArg}
 use Rattle.module_table.specs.declared.goal_arg.GoalArg.TheVariants.{Plain, Goal, Caret, Grammar}
 use Rattle.call_edges.specs.declared.role.Row.{Row}
@@ -111,16 +112,6 @@ settled_within (Goal e) = omega arith
 settled_within Caret = omega arith
 settled_within Grammar = omega arith
 
--- a compound has no more arguments than it weighs
-pub arguments_within : (args : List Tree) → length args ≤ weights (trees_from args)
-arguments_within [] = omega arith
-arguments_within (tree ∷ args) = omega (arith, arguments_within args)
-
-part_count : (args : List Tree) (i : ℕ) (tree : Tree) → slice_get args i ≡ Some tree → weight tree + length args ≤ weights (trees_from args)
-part_count [] i tree is = let both : None ≡ Some tree = is in absurd (cc)
-part_count (first ∷ args) zero tree is = omega (arith, ap weight (same_Some first tree is), arguments_within args)
-part_count (first ∷ args) (suc i) tree is = omega (arith, part_count args i tree is)
-
 module _ (T : Rows) (within : RowsWithin T) where
   named_within : (owner : List ℕ) (role : GoalArg) (tree : Tree) (found : Option (List ℕ)) (n : ℕ) → added role ≤ n → IsWithin n (goal_named owner role tree found).standing
   named_within owner role tree (Some name) n small = second_within n (settled role) (omega (arith, settled_within role, small))
@@ -140,8 +131,9 @@ module _ (T : Rows) (within : RowsWithin T) where
   by_within Calling at owner role name args = within.each owner name (length args + added role)
 
   -- what is added to an argument and ten times its weight are no more than what is added to the compound and ten times the weight of all its arguments
-  pub argument_within : (at : ℕ) (owner : List ℕ) (role : GoalArg) (name : List ℕ) (args : List Tree) (i : ℕ) (tree : Tree) → slice_get args i ≡ Some tree
-      → added (role_at (taken T at owner role name args).standing i) + 10 * weight tree ≤ added role + 10 * weights (trees_from args)
+  pub argument_within : (at : ℕ) (owner : List ℕ) (role : GoalArg) (name : List ℕ) (args : Trees) (i : ℕ) (tree : Tree) → slice_get (trees_in args) i ≡ Some tree
+      → added (role_at (taken T at owner role name (trees_in args)).standing i) + 10 * weight tree ≤ added role + 10 * weights args
   argument_within at owner role name args i tree is =
-      let few = (by_within (way role name (length args)) at owner role name args).each i in
-      omega (arith, few, part_count args i tree is, slice_get_within args i tree is)
+      let parts = trees_in args in
+      let few = (by_within (way role name (length parts)) at owner role name parts).each i in
+      omega (arith, few, part_count args i tree is, slice_get_within parts i tree is)

@@ -1,6 +1,8 @@
 pub mod Examples
 pub mod AddsLemmas
 pub mod AmongLemmas
+pub mod PartLemmas
+pub mod TakenLemmas
 pub mod MetLemmas
 pub mod ReadLemmas
 mod MeantLemmas

@@ -2,17 +2,13 @@
 use Rattle.std.proofs.Common.{◌≡◌, ◌↔◌, inl, inr, ℕ, suc, ◌+◌, List, [], ◌∷◌, ◌++◌, Some, length, slice_get, ap, sym, ◌∙◌, subst, refl, arith, append_assoc, append-nil}
 use Rattle.std.specs.Prelude.{Contains}
 use Rattle.std.specs.Option.{option_to_list}
-use Rattle.prolog_terms.specs.Tree.{Tree, Trees, variable, constant, atom, compound, listed, tailed, curly, paren, more, none, trees_from}
+use Rattle.prolog_terms.specs.Tree.{Tree, Trees, variable, constant, atom, compound, listed, tailed, curly, paren, more, none}
 use Rattle.prolog_terms.specs.Views.{trees_in}
 use Rattle.module_table.specs.declared.goal_arg.GoalArg.{GoalArg}
 use Rattle.call_edges.specs.Goals.{Met, place, Rows, Taken, taken, met_at, role_at, curly_role, IsMet, AddsMet}
 use Rattle.call_edges.specs.Listed.{mets_in, mets_among}
 use Rattle.call_edges.proofs.AddsLemmas.{none_in}
 use Rattle.call_edges.proofs.MetLemmas.{adds_own, adds_part, AddsFirst, first_none, first_more, first_all}
-
-trees_forth : (trees : Trees) → trees_from (trees_in trees) ≡ trees
-trees_forth none = refl
-trees_forth (more tree trees) = ap (more tree) (trees_forth trees)
 
 -- the trees are those of the list from a place on
 record AreFrom (all : List Tree) (k : ℕ) (trees : List Tree) : Type 0 where
@@ -34,10 +30,9 @@ module _ (T : Rows) where
         let first : AddsFirst T apart (trees_in args) 0 old own = first_none T apart (trees_in args) old own refl in
         let all = among_add apart (trees_in args) 0 args old own (record { each = λ i. ap (slice_get (trees_in args)) (omega arith) }) first in
         let new = own ++ mets_among T apart.module_ apart.standing 0 args in
-        let whole = first_all T owner role name (trees_in args) form span (0 + length (trees_in args)) old new (omega arith) all in
-        let P : Trees → Type 0 = λ xs. AddsMet T (place owner role (compound name xs form span)) old new in
+        let whole = first_all T owner role name args form span (0 + length (trees_in args)) old new (omega arith) all in
         let Q : List Met → Type 0 = λ xs. AddsMet T (place owner role (compound name args form span)) old xs in
-        subst Q (append_assoc old (option_to_list apart.met) (mets_among T apart.module_ apart.standing 0 args)) (subst P (trees_forth args) whole)
+        subst Q (append_assoc old (option_to_list apart.met) (mets_among T apart.module_ apart.standing 0 args)) whole
     mets_add owner role (listed items span) old = adds_own T (place owner role (listed items span)) old (old ++ []) (λ q is. is) refl
     mets_add owner role (tailed items tail span) old = adds_own T (place owner role (tailed items tail span)) old (old ++ []) (λ q is. is) refl
     mets_add owner role (curly inner span) old =

@@ -5,12 +5,13 @@ use Rattle.std.proofs.lemmas.Bool.{cases_eq}
 use Rattle.std.proofs.lemmas.Option.{none-some, same_Some, slice_get_within}
 use Rattle.prolog_terms.specs.declared.term.Span.{Span}
 use Rattle.prolog_terms.specs.declared.term.Form.{Form}
-use Rattle.prolog_terms.specs.Tree.{Tree, variable, constant, atom, compound, listed, tailed, curly, paren, trees_from}
-use Rattle.prolog_terms.proofs.ViewLemmas.{trees_back}
+use Rattle.prolog_terms.specs.Tree.{Tree, Trees, variable, constant, atom, compound, listed, tailed, curly, paren}
+use Rattle.prolog_terms.specs.Views.{trees_in, only_of, pair_of}
 use Rattle.module_table.specs.declared.goal_arg.GoalArg.{GoalArg}
 use Rattle.module_table.specs.declared.goal_arg.GoalArg.TheVariants.{Plain}
 use Rattle.call_edges.specs.Goals.{Met, Place, place, Rows, no_goals, Taken, taken, met_at, role_at, IsArgument, IsPart, Leads, IsMet, Adds, AddsMet}
 use Rattle.call_edges.proofs.AddsLemmas.{adds_as, adds_option, adds_then}
+use Rattle.call_edges.proofs.PartLemmas.{only_is, pair_is}
 
 place_same : (q : Place) (owner : List ℕ) (role : GoalArg) (tree : Tree) → q.module_ ≡ owner → q.role ≡ role → q.tree ≡ tree → q ≡ place owner role tree
 place_same q owner role tree in_module stands is = λ i. place (in_module i) (stands i) (is i)
@@ -19,8 +20,8 @@ place_same q owner role tree in_module stands is = λ i. place (in_module i) (st
 abbrev pub argument_at : Taken → ℕ → Tree → Place
 argument_at apart k tree = place apart.module_ (role_at apart.standing k) tree
 
-abbrev pub compound_at : List ℕ → GoalArg → List ℕ → List Tree → Form → Span → Place
-compound_at owner role name args form span = place owner role (compound name (trees_from args) form span)
+abbrev pub compound_at : List ℕ → GoalArg → List ℕ → Trees → Form → Span → Place
+compound_at owner role name args form span = place owner role (compound name args form span)
 
 module _ (T : Rows) where
   -- it is met within a part of the place
@@ -159,38 +160,30 @@ module _ (T : Rows) where
                 ]
           ]
 
-  pub first_all : (owner : List ℕ) (role : GoalArg) (name : List ℕ) (args : List Tree) (form : Form) (span : Span) (k : ℕ) (old new : List Met)
-      → length args ≤ k → AddsFirst (taken T span.from owner role name args) args k old new → AddsMet T (compound_at owner role name args form span) old new
+  pub first_all : (owner : List ℕ) (role : GoalArg) (name : List ℕ) (args : Trees) (form : Form) (span : Span) (k : ℕ) (old new : List Met)
+      → length (trees_in args) ≤ k → AddsFirst (taken T span.from owner role name (trees_in args)) (trees_in args) k old new
+      → AddsMet T (compound_at owner role name args form span) old new
   first_all owner role name args form span k old new all first =
-      adds_as (IsMetFirst (taken T span.from owner role name args) args k) (IsMet T (compound_at owner role name args form span)) old new to back first
+      adds_as (IsMetFirst (taken T span.from owner role name (trees_in args)) (trees_in args) k) (IsMet T (compound_at owner role name args form span)) old new to back first
     where
-      to : (m : Met) → IsMetFirst (taken T span.from owner role name args) args k m → IsMet T (compound_at owner role name args form span) m
+      to : (m : Met) → IsMetFirst (taken T span.from owner role name (trees_in args)) (trees_in args) k m → IsMet T (compound_at owner role name args form span) m
       to m either =
           elim either [
-            | inl own ↦
-                met_here (compound_at owner role name args form span) m
-                (subst (λ (xs : List Tree). (taken T span.from owner role name xs).met ≡ Some m) (sym (trees_back args)) own)
-            | inr below ↦
-                met_within (compound_at owner role name args form span) m
-                (record {
-                  part = below.part;
-                  is = subst (λ (xs : List Tree). IsArgument (taken T span.from owner role name xs) xs below.part) (sym (trees_back args)) below.is;
-                  met = below.met;
-                })
+            | inl own ↦ met_here (compound_at owner role name args form span) m own
+            | inr below ↦ met_within (compound_at owner role name args form span) m (record { part = below.part; is = below.is; met = below.met })
           ]
 
-      behind : (m : Met) → IsWithinPart (compound_at owner role name args form span) m → IsMetBelow (taken T span.from owner role name args) args k m
-      behind m within =
-          let is : IsArgument (taken T span.from owner role name args) args within.part =
-          subst (λ (xs : List Tree). IsArgument (taken T span.from owner role name xs) xs within.part) (trees_back args) within.is in
-          record { part = within.part; is = is; below = omega (arith, slice_get_within args is.i within.part.tree is.argument, all); met = within.met }
+      behind : (m : Met) → IsWithinPart (compound_at owner role name args form span) m
+          → IsMetBelow (taken T span.from owner role name (trees_in args)) (trees_in args) k m
+      behind m within = record {
+        part = within.part;
+        is = within.is;
+        below = omega (arith, slice_get_within (trees_in args) within.is.i within.part.tree within.is.argument, all);
+        met = within.met;
+      }
 
-      back : (m : Met) → IsMet T (compound_at owner role name args form span) m → IsMetFirst (taken T span.from owner role name args) args k m
-      back m met =
-          elim (parted (compound_at owner role name args form span) m met) [
-            | inl own ↦ inl (subst (λ (xs : List Tree). (taken T span.from owner role name xs).met ≡ Some m) (trees_back args) own)
-            | inr within ↦ inr (behind m within)
-          ]
+      back : (m : Met) → IsMet T (compound_at owner role name args form span) m → IsMetFirst (taken T span.from owner role name (trees_in args)) (trees_in args) k m
+      back m met = elim (parted (compound_at owner role name args form span) m met) [ inl own ↦ inl own | inr within ↦ inr (behind m within) ]
 
   -- where none of the arguments is a goal nothing is met in them
   pub first_rowless : (apart : Taken) (args : List Tree) (k : ℕ) (old new : List Met) → apart.standing ≡ no_goals → AddsFirst apart args 0 old new → AddsFirst apart args k old new
@@ -203,3 +196,20 @@ module _ (T : Rows) where
         | inr below ↦ absurd (plain_silent below.part m (below.is.stands ∙ ap (λ standing. role_at standing below.is.i) none) below.met)
       ])
       first
+
+  -- one argument, or two
+
+  pub first_one : (apart : Taken) (args : Trees) (tree : Tree) (old mid new : List Met) → only_of args ≡ Some tree → mid ≡ old ++ option_to_list apart.met
+      → AddsMet T (argument_at apart 0 tree) mid new → AddsFirst apart (trees_in args) 1 old new
+  first_one apart args tree old mid new one is adds =
+      first_more apart (trees_in args) 0 tree old mid new (ap (λ ts. slice_get (trees_in ts) 0) (only_is args tree one))
+      (first_none apart (trees_in args) old mid is) adds
+
+  pub first_two : (apart : Taken) (args : Trees) (left right : Tree) (old mid between new : List Met) → pair_of args ≡ Some (left, right)
+      → mid ≡ old ++ option_to_list apart.met → AddsMet T (argument_at apart 0 left) mid between → AddsMet T (argument_at apart 1 right) between new
+      → AddsFirst apart (trees_in args) 2 old new
+  first_two apart args left right old mid between new two is first second =
+      let are : trees_in args ≡ left ∷ right ∷ [] = ap trees_in (pair_is args left right two) in
+      first_more apart (trees_in args) 1 right old between new (ap (λ ts. slice_get ts 1) are)
+      (first_more apart (trees_in args) 0 left old mid between (ap (λ ts. slice_get ts 0) are) (first_none apart (trees_in args) old mid is) first)
+      second

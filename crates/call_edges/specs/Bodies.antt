@@ -19,7 +19,7 @@ pub record Body : Type 0 where
   pub at : Place
 
 abbrev pub see_body : BodyKept → Body
-see_body b = record { file = b.file; at = place b.owner.now b.role (tree_of b.term.now) }
+see_body b = record { file = b.file; at = place b.owner.now b.role (tree_of b.term) }
 
 abbrev pub body_in : ℕ → Place → Body
 body_in file at = record { file = file; at = at }
@@ -44,9 +44,13 @@ bodies_at files at = file_bodies at.0 at.1 (slice_get files at.0)
 abbrev pub bodies_in : Seen → ℕ → List Body
 bodies_in seen node = flat_map (bodies_at seen.loaded.files) (places_in seen node)
 
--- the goals of directives of a file are bodies too
+-- a goal of a directive is a body too
+abbrev pub goal_body : ℕ → List ℕ → Tree → Body
+goal_body file owner goal = body_in file (place owner (Goal 0) goal)
+
+-- the goals of directives of a file
 abbrev pub goals_of_file : ℕ × Facts → List Body
-goals_of_file at = map (λ goal. body_in at.0 (place at.1.module_ (Goal 0) goal)) at.1.goals
+goals_of_file at = map (goal_body at.0 at.1.module_) at.1.goals
 
 -- all goals of directives
 abbrev pub goals_in : List Facts → List Body

@@ -5,6 +5,7 @@ use Rattle.std.specs.List.{AllZip, range_with_len}
 use Rattle.std.specs.List.Sorted.{IsStrictlyIncreasing}
 use Rattle.std.specs.declared.alloc.AllocError.{AllocError}
 use Rattle.import_rules.specs.Program.{Seen}
+use Rattle.call_edges.specs.declared.piece.TheConstants.{PIECE_SIZE}
 use Rattle.call_edges.specs.declared.piece.Piece.{Piece}
 use Rattle.call_edges.specs.Bodies.{bodies_in}
 use Rattle.call_edges.specs.ProgramRows.{rows_of}
@@ -30,13 +31,13 @@ pub record AreLaidOut (lists : List (List ℕ)) (starts all : List ℕ) : Type 0
 
 -- those of the lists that are in the piece of that number
 abbrev pub piece_lists : List (List ℕ) → ℕ → List (List ℕ)
-piece_lists lists number = take 512 (drop (number * 512) lists)
+piece_lists lists number = take PIECE_SIZE (drop (number * PIECE_SIZE) lists)
 
 -- a goal of a predicate of the piece isn't callable, there
 pub record IsPieceFault (seen : Seen) (number : ℕ) (p : ℕ × ℕ) : Type 0 where
   pub node : ℕ
   pub below : node < length seen.predicates
-  pub in_piece : node / 512 ≡ number
+  pub in_piece : node / PIECE_SIZE ≡ number
   pub is : IsAmong (IsFaultIn (rows_of seen)) (bodies_in seen node) p
 
 -- what the predicates of the piece call, and where their goals aren't callable
@@ -46,15 +47,15 @@ pub record IsPiece (seen : Seen) (number : ℕ) (piece : Piece) : Type 0 where
 
 -- what is found in each piece, in the order of their numbers: so many that no predicate is left out
 pub record AreOpened (seen : Seen) (found : List (Result Piece AllocError)) : Type 0 where
-  pub as_many : (number : ℕ) → number * 512 < length seen.predicates → number < length found
+  pub as_many : (number : ℕ) → number * PIECE_SIZE < length seen.predicates → number < length found
   pub each : AllZip (λ number one. IfOk one (IsPiece seen number)) (range_with_len 0 (length found)) found
 
 -- the pieces of all predicates
 pub record ArePieces (seen : Seen) (pieces : List Piece) : Type 0 where
-  pub as_many : (number : ℕ) → number * 512 < length seen.predicates → number < length pieces
+  pub as_many : (number : ℕ) → number * PIECE_SIZE < length seen.predicates → number < length pieces
   pub each : (number : ℕ) (piece : Piece) → slice_get pieces number ≡ Some piece → IsPiece seen number piece
 
 -- the lists of all predicates, piece by piece
 pub record AreListed (lists : List (List ℕ)) (pieces : List Piece) : Type 0 where
-  pub as_many : (number : ℕ) → number * 512 < length lists → number < length pieces
+  pub as_many : (number : ℕ) → number * PIECE_SIZE < length lists → number < length pieces
   pub each : (number : ℕ) (piece : Piece) → slice_get pieces number ≡ Some piece → AreLaidOut (piece_lists lists number) piece.starts.items piece.callees.items

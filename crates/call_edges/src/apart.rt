@@ -1,7 +1,9 @@
 //! What a compound is to the body that it stands in.
 
-ghost use Rattle.std.specs.Prelude.{◌≡◌, ◌≤◌, ◌+◌, length, map, IfSome};
-ghost use Rattle.prolog_terms.specs.Terms.{tree_of};
+ghost use Rattle.std.specs.Prelude.{◌≡◌, ◌≤◌, ◌+◌, IfSome};
+ghost use Rattle.prolog_terms.specs.Tree.{count};
+ghost use Rattle.prolog_terms.specs.Terms.{tree_of, trees_of};
+ghost use Rattle.prolog_terms.specs.Views.{trees_in};
 ghost use Rattle.module_table.specs.Metas.{added};
 ghost use Rattle.call_edges.specs.Goals.{is_control, goal_way, way, settled, is_variable, goal_of, qualified_taken, row, taken};
 ghost use Rattle.call_edges.specs.Meant.{IsMeaning, IsMeant};
@@ -13,7 +15,7 @@ use crate::role::{Meaning, Meant, Met, Standing, Taken, Way};
 use crate::table::{first_two, is_one_of, row_of, second_only};
 use import_rules::Program;
 use module_table::GoalArg;
-use prolog_terms::{Term, atom_name, inside, start_of};
+use prolog_terms::{Parts, Term, TermKind, atom_name, inside, start_of};
 
 /// How many arguments are added to those that are written.
 fn added(role: GoalArg) -> u32
@@ -81,14 +83,14 @@ fn way_of(role: GoalArg, name: &str, count: usize) -> Way
 fn is_variable(term: &Term) -> bool
     ensures { result ≡ is_variable (tree_of term.now) }
 {
-    match inside(term) {
-        Term::Var { .. } => true,
+    match inside(term).kind() {
+        TermKind::Var => true,
         _ => false,
     }
 }
 
 /// `M:G`, by the term for the module `M`.
-fn goal_of<'a>(owner: &'a str, role: GoalArg, module: &'a Term) -> Taken<'a>
+fn goal_of<'a>(owner: &'a str, role: GoalArg, module: &Term<'a>) -> Taken<'a>
     ensures taken { see_taken result ≡ goal_of owner.now role (tree_of «module».now) }
     ensures meant { (seen : Seen) → IfSome result.met (IsMeant seen) }
 {
@@ -113,17 +115,18 @@ fn goal_of<'a>(owner: &'a str, role: GoalArg, module: &'a Term) -> Taken<'a>
     }
 }
 
-fn qualified<'a>(owner: &'a str, role: GoalArg, args: &'a [Term]) -> Taken<'a>
-    ensures taken { see_taken result ≡ qualified_taken owner.now role (map tree_of args.now) }
+fn qualified<'a>(owner: &'a str, role: GoalArg, args: &Parts<'a>) -> Taken<'a>
+    requires { count (trees_of args.now) ≡ 2 }
+    ensures taken { see_taken result ≡ qualified_taken owner.now role (trees_in (trees_of args.now)) }
     ensures meant { (seen : Seen) → IfSome result.met (IsMeant seen) }
 {
-    match args {
-        [] => Taken {
+    match args.pair() {
+        Some((module, _goal)) => goal_of(owner, role, &module),
+        None => Taken {
             met: None,
             module: owner,
             standing: Standing::Silent,
         },
-        [first, ..] => goal_of(owner, role, first),
     }
 }
 
@@ -172,10 +175,10 @@ pub fn take_apart<'a>(
     owner: &'a str,
     role: GoalArg,
     name: &'a str,
-    args: &'a [Term],
+    args: &Parts<'a>,
 ) -> Taken<'a>
-    requires { length args.now + added role ≤ 4294967295 }
-    ensures taken { see_taken result ≡ taken (rows_of (see_program program.now)) at owner.now role name.now (map tree_of args.now) }
+    requires { count (trees_of args.now) + added role ≤ 4294967295 }
+    ensures taken { see_taken result ≡ taken (rows_of (see_program program.now)) at owner.now role name.now (trees_in (trees_of args.now)) }
     ensures meant { IfSome result.met (IsMeant (see_program program.now)) }
 {
     match way_of(role, name, args.len()) {

@@ -2,15 +2,16 @@
 
 ghost use Rattle.std.specs.Prelude.{◌≡◌, ◌<◌, ◌++◌, map, length, option_map, IfOk, OnOk};
 ghost use Rattle.prolog_terms.specs.Terms.{tree_of};
-ghost use Rattle.module_table.specs.Defined.{clause_tree};
-ghost use Rattle.module_table.specs.Facts.{see_facts};
+ghost use Rattle.clause_text.specs.Clauses.{clause_trees};
+ghost use Rattle.module_table.specs.Facts.{goal_trees, see_facts};
 ghost use Rattle.import_rules.specs.Program.{see_program};
 ghost use Rattle.call_edges.specs.Calls.{body_of};
-ghost use Rattle.call_edges.specs.Bodies.{see_body, body_in, clause_bodies, bodies_in, goals_of_file, goals_in};
+ghost use Rattle.call_edges.specs.Bodies.{see_body, body_in, clause_bodies, bodies_in, goal_body, goals_of_file, goals_in};
 
 use clause_text::Clause;
 use import_rules::Program;
-use module_table::{FileFacts, GoalArg};
+use module_table::{DirectiveGoals, FileFacts, GoalArg};
+use prolog_names::Names;
 use prolog_terms::{Term, binary};
 use std::alloc::{AllocError, Global};
 
@@ -21,12 +22,12 @@ pub struct Body<'a> {
     pub file: u32,
     pub owner: &'a str,
     pub role: GoalArg,
-    pub term: &'a Term,
+    pub term: Term<'a>,
 }
 
 /// The body of a clause: of a rule a goal, and of a grammar rule a grammar body
 /// (ISO/IEC 13211-1, 7.4.3).
-fn body_of<'a>(file: u32, owner: &'a str, clause: &'a Term) -> Option<Body<'a>>
+fn body_of<'a>(file: u32, owner: &'a str, clause: &Term<'a>) -> Option<Body<'a>>
     ensures { option_map see_body result ≡ option_map (body_in file) (body_of owner.now (tree_of clause.now)) }
 {
     let pair = binary(clause)?;
@@ -49,17 +50,18 @@ fn body_of<'a>(file: u32, owner: &'a str, clause: &'a Term) -> Option<Body<'a>>
     None
 }
 
-/// Adds the bodies of clauses of a module.
+/// Adds the bodies of clauses of a module, in which names are numbers in these names.
 fn push_bodies<'a>(
     file: u32,
     owner: &'a str,
+    names: &'a Names,
     clauses: &'a [Clause],
     bodies: &mut Vec<Body<'a>>,
 ) -> Result<(), AllocError>
-    ensures { OnOk result (map see_body bodies.new.items ≡ map see_body bodies.old.items ++ clause_bodies file owner.now (map clause_tree clauses.now)) }
+    ensures { OnOk result (map see_body bodies.new.items ≡ map see_body bodies.old.items ++ clause_bodies file owner.now (clause_trees names.now clauses.now)) }
 {
     for clause in clauses {
-        let Some(body) = body_of(file, owner, &clause.term) else {
+        let Some(body) = body_of(file, owner, &clause.term(names)) else {
             continue;
         };
         bodies.push(body)?;
@@ -80,7 +82,13 @@ pub fn push_bodies_of<'a>(
     for place in program.places_of(node) {
         let file = &files[place.0 as usize];
         let predicate = &file.defined[place.1 as usize];
-        push_bodies(place.0, file.module.as_str(), &predicate.clauses, bodies)?;
+        push_bodies(
+            place.0,
+            file.module.as_str(),
+            &file.names,
+            &predicate.clauses,
+            bodies,
+        )?;
     }
     Ok(())
 }
@@ -99,6 +107,31 @@ pub fn bodies_of<'a>(
     Ok(bodies)
 }
 
+/// Adds the goals of a directive of a file.
+fn push_goals_in<'a>(
+    place: u32,
+    file: &'a FileFacts,
+    goals: &'a DirectiveGoals,
+    bodies: &mut Vec<Body<'a>>,
+) -> Result<(), AllocError>
+    ensures { OnOk result (map see_body bodies.new.items
+        ≡ map see_body bodies.old.items ++ map (goal_body place file.now.module) (goal_trees file.now.names goals.now)) }
+{
+    for end in &goals.ends {
+        bodies.push(Body {
+            file: place,
+            owner: file.module.as_str(),
+            role: GoalArg::Goal(0),
+            term: Term {
+                names: &file.names,
+                nodes: &goals.nodes,
+                end: *end,
+            },
+        })?;
+    }
+    Ok(())
+}
+
 /// Adds the goals of the directives of a file.
 fn push_goals<'a>(
     place: u32,
@@ -107,13 +140,8 @@ fn push_goals<'a>(
 ) -> Result<(), AllocError>
     ensures { OnOk result (map see_body bodies.new.items ≡ map see_body bodies.old.items ++ goals_of_file (place, see_facts file.now)) }
 {
-    for goal in &file.goals {
-        bodies.push(Body {
-            file: place,
-            owner: file.module.as_str(),
-            role: GoalArg::Goal(0),
-            term: goal,
-        })?;
+    for goals in &file.goals {
+        push_goals_in(place, file, goals, bodies)?;
     }
     Ok(())
 }

@@ -64,10 +64,11 @@ pub fn push_called<'a>(
         (GoesTo (see_program program.now) (IsAmong (IsMetInBody (rows_of (see_program program.now))) (map see_body bodies.now)))
         out.old.items out.new.items) }
 {
-    let mut met = Vec::new(*out.allocator());
+    let alloc = *out.allocator();
+    let mut met = Vec::new(alloc);
     for body in bodies {
         met.clear();
-        walk(program, body.term, body.owner, body.role, &mut met)?;
+        walk(alloc, program, &body.term, body.owner, body.role, &mut met)?;
         push_targets(program, &met, out)?;
     }
     Ok(())

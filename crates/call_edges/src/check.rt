@@ -3,6 +3,7 @@
 ghost use Rattle.std.specs.Prelude.{[], ◌≡◌, ◌*◌, ◌<◌, ◌↔◌, ℕ, Ok, Contains, length, map, IfOk, OnOk, IfErr};
 ghost use Rattle.import_rules.specs.Program.{see_program};
 ghost use Rattle.call_edges.specs.Calls.{IsAmong};
+ghost use Rattle.call_edges.specs.declared.piece.TheConstants.{PIECE_SIZE};
 ghost use Rattle.call_edges.specs.CallLists.{IsPiece, AreOpened, ArePieces};
 ghost use Rattle.call_edges.specs.FaultPlaces.{AreFaultPlaces, HasPlace};
 ghost use Rattle.call_edges.specs.GoalFaults.{AreGoalFaults, IsGoalStop};
@@ -34,7 +35,7 @@ fn open_each<R: Threads + Sync>(
         .with_min_len(FEWEST)
         .map(
             |number: u32| -> Result<Piece, AllocError>
-                requires { number * 512 < length (see_program program.now).predicates }
+                requires { number * PIECE_SIZE < length (see_program program.now).predicates }
                 ensures { IfOk result (IsPiece (see_program program.entry.now) number) }
             { open_piece(alloc, program, number) },
         )

@@ -50,7 +50,7 @@ fn faults_in(
     let mut faults = Vec::new(alloc);
     for body in bodies {
         met.clear();
-        walk(program, body.term, body.owner, body.role, &mut met)?;
+        walk(alloc, program, &body.term, body.owner, body.role, &mut met)?;
         push_places(body.file, &met, &mut faults)?;
     }
     Ok(faults)

@@ -6,7 +6,7 @@ ghost use Rattle.import_rules.specs.Program.{see_program};
 ghost use Rattle.call_edges.specs.CallLists.{ArePieces, AreListed};
 ghost use Rattle.call_edges.specs.Successors.{successor_lists};
 
-use crate::piece::{Piece, SIZE};
+use crate::piece::{PIECE_SIZE, Piece};
 use graph_law::Opener;
 use import_rules::Program;
 use std::alloc::AllocError;
@@ -37,8 +37,8 @@ impl<'a> CallLists<'a> {
         requires { node < length (successor_lists (see_call_lists self.now)) }
         ensures { result.now ≡ slice_index_or (successor_lists (see_call_lists self.now)) node [] }
     {
-        let piece = &self.pieces[(node / SIZE) as usize];
-        let at = (node % SIZE) as usize;
+        let piece = &self.pieces[(node / PIECE_SIZE) as usize];
+        let at = (node % PIECE_SIZE) as usize;
         between(&piece.callees, piece.starts[at], piece.starts[at + 1])
     }
 }

@@ -16,6 +16,7 @@ use std::alloc::{AllocError, Global};
 
 /// Adds what is met in bodies, one after another.
 fn push_met<'a>(
+    alloc: Global,
     program: &'a Program,
     bodies: &[Body<'a>],
     met: &mut Vec<Met<'a>>,
@@ -25,7 +26,7 @@ fn push_met<'a>(
         (see_mets met.old.items) (see_mets met.new.items)) }
 {
     for body in bodies {
-        walk(program, body.term, body.owner, body.role, met)?;
+        walk(alloc, program, &body.term, body.owner, body.role, met)?;
     }
     Ok(())
 }
@@ -43,6 +44,6 @@ pub fn met_in<'a>(
     program.is_known();
     let bodies = bodies_of(alloc, program, node)?;
     let mut met = Vec::new(alloc);
-    push_met(program, &bodies, &mut met)?;
+    push_met(alloc, program, &bodies, &mut met)?;
     Ok(met)
 }

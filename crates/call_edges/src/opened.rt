@@ -36,6 +36,7 @@ impl<'a> Buffers<'a> {
 
 /// Adds what bodies call, in their order, and where goals in them aren't callable.
 fn found_in<'a>(
+    alloc: Global,
     program: &'a Program,
     bodies: &[Body<'a>],
     met: &mut Vec<Met<'a>>,
@@ -50,7 +51,7 @@ fn found_in<'a>(
 {
     for body in bodies {
         met.clear();
-        walk(program, body.term, body.owner, body.role, met)?;
+        walk(alloc, program, &body.term, body.owner, body.role, met)?;
         push_targets(program, met, callees)?;
         push_places(body.file, met, faults)?;
     }
@@ -60,6 +61,7 @@ fn found_in<'a>(
 /// What is found in the clauses of the predicate of that number, by one walk: `callees` is what it
 /// calls, ascending and each once, and to `faults` is added where its goals aren't callable.
 pub fn open<'a>(
+    alloc: Global,
     program: &'a Program,
     node: u32,
     buffers: &mut Buffers<'a>,
@@ -75,7 +77,14 @@ pub fn open<'a>(
     callees.clear();
     buffers.bodies.clear();
     push_bodies_of(program, node, &mut buffers.bodies)?;
-    found_in(program, &buffers.bodies, &mut buffers.met, callees, faults)?;
+    found_in(
+        alloc,
+        program,
+        &buffers.bodies,
+        &mut buffers.met,
+        callees,
+        faults,
+    )?;
     callees.sort_unstable();
     callees.dedup();
     Ok(())

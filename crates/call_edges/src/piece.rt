@@ -2,6 +2,7 @@
 
 ghost use Rattle.std.specs.Prelude.{◌≡◌, ◌∷◌, ◌++◌, ◌+◌, ◌*◌, ◌<◌, ◌↔◌, ℕ, [], length, IfOk, OnOk};
 ghost use Rattle.import_rules.specs.Program.{see_program};
+ghost use Rattle.call_edges.specs.declared.piece.TheConstants.{PIECE_SIZE};
 ghost use Rattle.call_edges.specs.CallLists.{IsPiece};
 
 use crate::opened::{Buffers, open};
@@ -9,7 +10,7 @@ use import_rules::Program;
 use std::alloc::{AllocError, Global};
 
 /// How many predicates are opened one after another. Only the last piece holds fewer.
-pub const SIZE: u32 = 512;
+pub const PIECE_SIZE: u32 = 512;
 
 /// What predicates call whose numbers stand side by side, and where goals of theirs aren't callable.
 #[derive(Drop)]
@@ -29,7 +30,7 @@ impl Piece {
         ensures callees { IfOk result (λ piece. piece.callees.items ≡ []) }
         ensures faults { IfOk result (λ piece. piece.faults.items ≡ []) }
     {
-        let mut starts = Vec::with_capacity(alloc, SIZE as usize + 1)?;
+        let mut starts = Vec::with_capacity(alloc, PIECE_SIZE as usize + 1)?;
         starts.push(0usize)?;
         Ok(Piece {
             starts,
@@ -52,27 +53,34 @@ impl Piece {
 
 /// How many pieces so many predicates make.
 pub fn piece_count(count: u32) -> u32
-    ensures { (number : ℕ) → number < result ↔ number * 512 < count }
+    ensures { (number : ℕ) → number < result ↔ number * PIECE_SIZE < count }
 {
-    if count % SIZE == 0 {
-        return count / SIZE;
+    if count % PIECE_SIZE == 0 {
+        return count / PIECE_SIZE;
     }
-    count / SIZE + 1
+    count / PIECE_SIZE + 1
 }
 
 /// What is found in the predicates of the piece of that number.
 pub fn open_piece(alloc: Global, program: &Program, number: u32) -> Result<Piece, AllocError>
-    requires { number * 512 < length (see_program program.now).predicates }
+    requires { number * PIECE_SIZE < length (see_program program.now).predicates }
     ensures { IfOk result (IsPiece (see_program program.now) number) }
 {
     let count = program.count();
-    let from = number * SIZE;
-    let to = from + (count - from).min(SIZE);
+    let from = number * PIECE_SIZE;
+    let to = from + (count - from).min(PIECE_SIZE);
     let mut piece = Piece::none(alloc)?;
     let mut buffers = Buffers::new(alloc);
     let mut callees = Vec::new(alloc);
     for node in from..to {
-        open(program, node, &mut buffers, &mut callees, &mut piece.faults)?;
+        open(
+            alloc,
+            program,
+            node,
+            &mut buffers,
+            &mut callees,
+            &mut piece.faults,
+        )?;
         piece.push(&callees)?;
     }
     Ok(piece)

@@ -75,6 +75,7 @@ fn push_calls<'a>(
 /// Adds the calls in bodies of clauses of a predicate. `met` is a list whose memory serves one body
 /// after another.
 fn push_calls_in<'a>(
+    alloc: Global,
     program: &'a Program,
     bodies: &[Body<'a>],
     node: u32,
@@ -87,7 +88,7 @@ fn push_calls_in<'a>(
 {
     for body in bodies {
         met.clear();
-        walk(program, body.term, body.owner, body.role, met)?;
+        walk(alloc, program, &body.term, body.owner, body.role, met)?;
         push_calls(body.file, node, met, calls)?;
     }
     Ok(())
@@ -109,7 +110,7 @@ fn calls_from<'a>(
     for caller in callers {
         bodies.clear();
         push_bodies_of(program, *caller, &mut bodies)?;
-        push_calls_in(program, &bodies, *caller, &mut met, &mut calls)?;
+        push_calls_in(alloc, program, &bodies, *caller, &mut met, &mut calls)?;
     }
     Ok(calls)
 }

@@ -16,8 +16,8 @@ use crate::role::{Meant, Met, Row, Standing};
 use crate::table::is_one_of;
 use import_rules::Program;
 use module_table::GoalArg;
-use prolog_terms::{ConstKind, Term};
-use std::alloc::AllocError;
+use prolog_terms::{ConstKind, Term, TermKind};
+use std::alloc::{AllocError, Global};
 
 /// What is met at a constant that stands so, at this byte offset. No constant is callable, but texts
 /// stand in grammar bodies.
@@ -127,10 +127,12 @@ fn push_met<'a>(met: &mut Vec<Met<'a>>, one: Option<Met<'a>>) -> Result<(), Allo
 }
 
 /// Adds what is met within a term that stands so in a body of the module `owner`. A compound's name is
-/// looked up only where a predicate declares goals, and what it means is kept.
+/// looked up only where a predicate declares goals, and what it means is kept. One argument or two, as
+/// most goals have, are walked without memory.
 pub fn walk<'a>(
+    alloc: Global,
     program: &'a Program,
-    term: &'a Term,
+    term: &Term<'a>,
     owner: &'a str,
     role: GoalArg,
     met: &mut Vec<Met<'a>>,
@@ -140,31 +142,36 @@ pub fn walk<'a>(
         (see_mets met.old.items) (see_mets met.new.items)) }
     ensures meant { OnOk result (AreMeant (see_program program.now) met.old.items → AreMeant (see_program program.now) met.new.items) }
 {
-    match term {
-        Term::Var { .. } => Ok(()),
-        Term::Const { kind, span, .. } => push_met(met, constant_met(role, *kind, span.from)),
-        Term::Atom { name, span } => {
-            push_met(met, atom_met(span.from, owner, role, name.as_str()))
-        }
-        Term::Compound {
-            name,
-            args,
-            span,
-            ..
-        } => {
+    match term.kind() {
+        TermKind::Var => Ok(()),
+        TermKind::Const { kind, .. } => push_met(met, constant_met(role, kind, term.span().from)),
+        TermKind::Atom { name } => push_met(met, atom_met(term.span().from, owner, role, name)),
+        TermKind::Compound { name, args, .. } => {
             program.is_known();
-            let taken = take_apart(program, span.from, owner, role, name.as_str(), args);
+            let taken = take_apart(program, term.span().from, owner, role, name, &args);
             push_met(met, taken.met)?;
             if is_silent(taken.standing) {
                 return Ok(());
             }
-            for (at, arg) in args.iter().enumerate() {
-                walk(program, arg, taken.module, role_of(taken.standing, at), met)?;
+            let first = role_of(taken.standing, 0);
+            if let Some(only) = args.only() {
+                return walk(alloc, program, &only, taken.module, first, met);
+            }
+            if let Some((left, right)) = args.pair() {
+                walk(alloc, program, &left, taken.module, first, met)?;
+                let second = role_of(taken.standing, 1);
+                return walk(alloc, program, &right, taken.module, second, met);
+            }
+            let terms = args.to_vec(alloc)?;
+            for (at, arg) in terms.iter().enumerate() {
+                let own = role_of(taken.standing, at);
+                walk(alloc, program, arg, taken.module, own, met)?;
             }
             Ok(())
         }
-        Term::List { .. } => Ok(()),
-        Term::Curly { inner, .. } => walk(program, inner, owner, curly_role(role), met),
-        Term::Paren { inner, .. } => walk(program, inner, owner, role, met),
+        TermKind::List { .. } => Ok(()),
+        TermKind::Tailed { .. } => Ok(()),
+        TermKind::Curly { inner } => walk(alloc, program, &inner, owner, curly_role(role), met),
+        TermKind::Paren { inner } => walk(alloc, program, &inner, owner, role, met),
     }
 }

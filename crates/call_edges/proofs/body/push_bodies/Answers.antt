@@ -1,7 +1,7 @@
 use Rattle.std.proofs.Common.{◌++◌, ◌∷◌, [], None, Some, map, take, ap, sym, ◌∙◌, append_assoc, append-nil}
 use Rattle.std.specs.Option.{option_map}
 use Rattle.std.proofs.lemmas.List.{map-append}
-use Rattle.module_table.specs.Defined.{clause_tree}
+use Rattle.clause_text.specs.Clauses.{clause_tree, clause_trees}
 use Rattle.call_edges.specs.Calls.{body_of}
 use Rattle.call_edges.specs.Bodies.{see_body, body_in, clause_bodies}
 use Rattle.call_edges.proofs.BodyLemmas.{given_more}
@@ -14,10 +14,10 @@ loop-clause-preserved-in_default c =
     let k = c.loop-clause.clause-index in
     let before = map see_body c.args.bodies.now.items in
     let more =
-    given_more (λ clause. option_map (body_in c.args.file) (body_of owner clause)) clause_tree clauses k c.clause-item.result None c.loop-clause-test.true c.clause-item.is
-    (sym c.in_default.ensures) in
+    given_more (λ clause. option_map (body_in c.args.file) (body_of owner clause)) (clause_tree c.args.names.now) clauses k c.clause-item.result None c.loop-clause-test.true c.clause-item.is
+    (ap (λ tree. option_map (body_in c.args.file) (body_of owner tree)) (sym c.term.ensures.tree) ∙ sym c.in_default.ensures) in
     c.loop-clause.invariant
-    ∙ ap (λ xs. before ++ xs) (sym (append-nil (clause_bodies c.args.file owner (map clause_tree (take k clauses)))) ∙ sym more)
+    ∙ ap (λ xs. before ++ xs) (sym (append-nil (clause_bodies c.args.file owner (clause_trees c.args.names.now (take k clauses)))) ∙ sym more)
 
 pub loop-clause-preserved : goal.loop-clause-preserved
 loop-clause-preserved c =
@@ -26,10 +26,10 @@ loop-clause-preserved c =
     let k = c.loop-clause.clause-index in
     let before = map see_body c.args.bodies.now.items in
     let one = see_body c.in-Some.body in
-    let sofar = clause_bodies c.args.file owner (map clause_tree (take k clauses)) in
+    let sofar = clause_bodies c.args.file owner (clause_trees c.args.names.now (take k clauses)) in
     let more =
-    given_more (λ clause. option_map (body_in c.args.file) (body_of owner clause)) clause_tree clauses k c.clause-item.result (Some one) c.loop-clause-test.true c.clause-item.is
-    (sym c.in-Some.ensures) in
+    given_more (λ clause. option_map (body_in c.args.file) (body_of owner clause)) (clause_tree c.args.names.now) clauses k c.clause-item.result (Some one) c.loop-clause-test.true c.clause-item.is
+    (ap (λ tree. option_map (body_in c.args.file) (body_of owner tree)) (sym c.term.ensures.tree) ∙ sym c.in-Some.ensures) in
     ap (map see_body) c.in_ok-push.ensures.items
     ∙ (map-append see_body c.loop-clause.bodies.items (c.in-Some.body ∷ [])
     ∙ (ap (λ xs. xs ++ one ∷ []) c.loop-clause.invariant ∙ (append_assoc before sofar (one ∷ []) ∙ ap (λ xs. before ++ xs) (sym more))))

@@ -1,12 +1,11 @@
 use Rattle.std.proofs.Common.{◌≡◌, ◌++◌, map, take}
-use Rattle.prolog_terms.specs.Terms.{tree_of}
-use Rattle.module_table.specs.declared.goal_arg.GoalArg.TheVariants.{Goal}
-use Rattle.call_edges.specs.Goals.{place}
-use Rattle.call_edges.specs.Bodies.{see_body, body_in}
+use Rattle.std.specs.List.{flat_map}
+use Rattle.module_table.specs.Facts.{goal_trees}
+use Rattle.call_edges.specs.Bodies.{see_body, goal_body}
 use Rattle.call_edges.proofs.body.push_goals.Given as goal
 
--- the goals so far
-abbrev pub invariant-loop-goal : goal.invariant-loop-goal
-invariant-loop-goal l =
+-- the goals of the directives so far
+abbrev pub invariant-loop-goals : goal.invariant-loop-goals
+invariant-loop-goals l =
     map see_body l.bodies.items
-    ≡ map see_body l.fn.bodies.items ++ map (λ tree. body_in l.place (place l.file.module (Goal 0) tree)) (map tree_of (take l.goal-index l.goal-items))
+    ≡ map see_body l.fn.bodies.items ++ map (goal_body l.place l.file.module) (flat_map (goal_trees l.file.names) (take l.goals-index l.goals-items))

@@ -1,29 +1,108 @@
-use Rattle.std.proofs.Common.{◌≡◌, ◌++◌, map, length, Some, slice_get, ap, ◌∙◌, subst, refl, arith}
+use Rattle.std.proofs.Common.{◌≡◌, ◌++◌, ◌≤◌, ℕ, List, Some, map, length, slice_get, ap, sym, ◌∙◌, subst, refl, arith}
 use Rattle.std.specs.Option.{option_to_list}
 use Rattle.std.proofs.lemmas.List.{length-map}
-use Rattle.module_table.proofs.TakesLemmas.{deepest_one}
-use Rattle.prolog_terms.specs.Tree.{depth}
-use Rattle.prolog_terms.specs.Terms.{tree_of}
+use Rattle.prolog_terms.specs.declared.term.Span.{Span}
+use Rattle.prolog_terms.specs.Tree.{Tree, span_of}
+use Rattle.prolog_terms.specs.Terms.{tree_of, trees_of}
+use Rattle.prolog_terms.specs.Views.{trees_in}
 use Rattle.prolog_terms.specs.Weight.{weight}
-use Rattle.prolog_terms.proofs.ViewLemmas.{compound_seen}
+use Rattle.prolog_terms.proofs.ViewLemmas.{count_weight}
 use Rattle.module_table.specs.declared.goal_arg.GoalArg.{GoalArg}
-use Rattle.module_table.specs.Metas.{added}
-use Rattle.call_edges.specs.Goals.{atom_met, place, taken, Taken, role_at, AddsMet}
+use Rattle.call_edges.specs.Goals.{atom_met, constant_met, place, taken, role_at, AddsMet}
 use Rattle.import_rules.specs.Program.{see_program}
 use Rattle.call_edges.specs.ProgramRows.{rows_of}
 use Rattle.call_edges.specs.Seen.{see_mets, see_taken}
-use Rattle.call_edges.proofs.AddedLemmas.{rows_within, argument_within, arguments_within}
+use Rattle.call_edges.proofs.AddedLemmas.{rows_within}
 use Rattle.call_edges.proofs.KeptMeanings.{meant_more}
-use Rattle.call_edges.proofs.MetLemmas.{first_none, first_more, first_rowless}
-use Rattle.call_edges.proofs.WalkLemmas.{taken_is, on_ok, read_seen, variable_walked, list_walked, constant_walked, atom_walked, curly_walked, paren_walked, compound_walked}
+use Rattle.call_edges.proofs.MetLemmas.{first_none, first_more, first_rowless, first_one, first_two}
+use Rattle.call_edges.proofs.PartLemmas.{only_is, pair_is}
+use Rattle.call_edges.proofs.WalkLemmas.{on_ok, read_seen, part_falls, variable_walked, list_walked, tailed_walked, constant_walked, atom_walked, curly_walked, paren_walked, compound_walked}
 use Rattle.call_edges.proofs.walking.+walk.Goals as goal
 
 pub take_apart-taken-requires : goal.take_apart-taken-requires
-take_apart-taken-requires t c =
+take_apart-taken-requires t c = omega (arith, c.requires, count_weight (trees_of c.in-Compound.args), ap weight c.in-Compound.ensures.tree)
+
+pub walk-requires : goal.walk-requires
+walk-requires t c =
+    let T = rows_of (see_program c.args.program.now) in
     let v = c.in-Compound in
-    let parts = map tree_of v.args.items in
-    let is = compound_seen c.args.term.now v.name v.args v.form v.span v.is in
-    omega (arith, c.requires, ap weight is, arguments_within parts, length-map v.args.items tree_of, ap length c.deref.ensures.value)
+    let owner = c.args.owner.now in
+    let role = c.args.role in
+    let tree = tree_of c.args.term.now in
+    let args = trees_of v.args in
+    let span = span_of tree in
+    let here = see_taken c.take_apart-taken.result in
+    let apart : here ≡ taken T span.from owner role v.name.now (trees_in args) =
+    c.take_apart-taken.ensures.taken ∙ ap (λ (s : Span). taken T s.from owner role v.name.now (trees_in args)) c.span-in-Compound.ensures in
+    let within = rows_within (see_program c.args.program.now) c.is_known.ensures in
+    let own = tree_of c.in-Some.only in
+    let one = sym c.in-Some.ensures.tree in
+    let falls =
+    part_falls T within owner role tree v.name.now args v.form span here 0 own c.role_of-first.result v.ensures.tree apart (ap (λ ts. slice_get (trees_in ts) 0) (only_is args own one))
+    c.role_of-first.ensures (omega (arith, c.requires)) in (omega (arith, falls.0), falls.1)
+
+pub walk-requires-in-Some-pair : goal.walk-requires-in-Some-pair
+walk-requires-in-Some-pair t c =
+    let T = rows_of (see_program c.args.program.now) in
+    let v = c.in-Compound in
+    let owner = c.args.owner.now in
+    let role = c.args.role in
+    let tree = tree_of c.args.term.now in
+    let args = trees_of v.args in
+    let span = span_of tree in
+    let here = see_taken c.take_apart-taken.result in
+    let apart : here ≡ taken T span.from owner role v.name.now (trees_in args) =
+    c.take_apart-taken.ensures.taken ∙ ap (λ (s : Span). taken T s.from owner role v.name.now (trees_in args)) c.span-in-Compound.ensures in
+    let within = rows_within (see_program c.args.program.now) c.is_known.ensures in
+    let left = tree_of c.in-Some-pair.left in
+    let right = tree_of c.in-Some-pair.right in
+    let two = sym c.in-Some-pair.ensures.trees in
+    let falls =
+    part_falls T within owner role tree v.name.now args v.form span here 0 left c.role_of-first.result v.ensures.tree apart
+    (ap (λ ts. slice_get (trees_in ts) 0) (pair_is args left right two)) c.role_of-first.ensures (omega (arith, c.requires)) in (omega (arith, falls.0), falls.1)
+
+pub walk-requires-in-Some-pair-2 : goal.walk-requires-in-Some-pair-2
+walk-requires-in-Some-pair-2 t c =
+    let T = rows_of (see_program c.args.program.now) in
+    let v = c.in-Compound in
+    let owner = c.args.owner.now in
+    let role = c.args.role in
+    let tree = tree_of c.args.term.now in
+    let args = trees_of v.args in
+    let span = span_of tree in
+    let here = see_taken c.take_apart-taken.result in
+    let apart : here ≡ taken T span.from owner role v.name.now (trees_in args) =
+    c.take_apart-taken.ensures.taken ∙ ap (λ (s : Span). taken T s.from owner role v.name.now (trees_in args)) c.span-in-Compound.ensures in
+    let within = rows_within (see_program c.args.program.now) c.is_known.ensures in
+    let left = tree_of c.in-Some-pair.left in
+    let right = tree_of c.in-Some-pair.right in
+    let two = sym c.in-Some-pair.ensures.trees in
+    let falls =
+    part_falls T within owner role tree v.name.now args v.form span here 1 right c.role_of-second.result v.ensures.tree apart
+    (ap (λ ts. slice_get (trees_in ts) 1) (pair_is args left right two)) c.role_of-second.ensures (omega (arith, c.requires)) in (omega (arith, falls.0), falls.1)
+
+pub walk-requires-in-loop-at : goal.walk-requires-in-loop-at
+walk-requires-in-loop-at t c =
+    let T = rows_of (see_program c.args.program.now) in
+    let v = c.in-Compound in
+    let owner = c.args.owner.now in
+    let role = c.args.role in
+    let tree = tree_of c.args.term.now in
+    let args = trees_of v.args in
+    let span = span_of tree in
+    let here = see_taken c.take_apart-taken.result in
+    let apart : here ≡ taken T span.from owner role v.name.now (trees_in args) =
+    c.take_apart-taken.ensures.taken ∙ ap (λ (s : Span). taken T s.from owner role v.name.now (trees_in args)) c.span-in-Compound.ensures in
+    let within = rows_within (see_program c.args.program.now) c.is_known.ensures in
+    let items = c.deref-arg-items.result.now in
+    let are : map tree_of items ≡ trees_in args = ap (map tree_of) c.deref-arg-items.ensures.value ∙ c.in_ok-terms-in-Compound.ensures in
+    let k = c.loop-at.at in
+    let own = tree_of c.arg-item.result in
+    let read : slice_get (trees_in args) k ≡ Some own =
+    subst (λ (ts : List Tree). slice_get ts k ≡ Some own) are (read_seen items k c.arg-item.result c.loop-at-test.true c.arg-item.is) in
+    let falls =
+    part_falls T within owner role tree v.name.now args v.form span here k own c.role_of-own.result v.ensures.tree apart read c.role_of-own.ensures (omega (arith, c.requires)) in
+    (omega (arith, falls.0), falls.1)
 
 pub loop-at-init : goal.loop-at-init
 loop-at-init t c =
@@ -37,129 +116,195 @@ loop-at-init t c =
           c.take_apart-taken.ensures.meant;
     }
 
-pub walk-requires : goal.walk-requires
-walk-requires t c =
-    let v = c.in-Compound in
-    let parts = map tree_of v.args.items in
-    let owner = c.args.owner.now in
-    let role = c.args.role in
-    let k = c.loop-at.at in
-    let tree = tree_of c.arg-item.result in
-    let is = compound_seen c.args.term.now v.name v.args v.form v.span v.is in
-    let read : slice_get parts k ≡ Some tree =
-    subst (λ xs. slice_get (map tree_of xs) k ≡ Some tree) c.deref-arg-items.ensures.value
-    (read_seen c.deref-arg-items.result.now k c.arg-item.result c.loop-at-test.true c.arg-item.is) in
-    let apart : see_taken c.take_apart-taken.result ≡ taken (rows_of (see_program c.args.program.now)) v.span.from owner role v.name parts =
-    taken_is (rows_of (see_program c.args.program.now)) v.span.from owner role c.as_str-in-Compound.result.now v.name c.deref.result.now v.args.items (see_taken c.take_apart-taken.result) c.take_apart-taken.ensures.taken
-    c.as_str-in-Compound.ensures c.deref.ensures.value in
-    let stands : c.role_of.result ≡ role_at (taken (rows_of (see_program c.args.program.now)) v.span.from owner role v.name parts).standing k = c.role_of.ensures ∙ ap (λ (a : Taken). role_at a.standing k) apart in (
-      omega (arith, deepest_one parts k tree read, ap depth is),
-      omega (arith, argument_within (rows_of (see_program c.args.program.now)) (rows_within (see_program c.args.program.now) c.is_known.ensures) v.span.from owner role v.name parts k tree read, ap added stands, ap weight is, c.requires),
-    )
-
 pub loop-at-preserved : goal.loop-at-preserved
 loop-at-preserved t c =
+    let T = rows_of (see_program c.args.program.now) in
     let k = c.loop-at.at in
     let apart = see_taken c.take_apart-taken.result in
     let items = c.deref-arg-items.result.now in
     let tree = tree_of c.arg-item.result in
     let old = see_mets c.args.met.now.items in
     let mid = see_mets c.loop-at.met.items in
-    let new = see_mets c.walk.new.met.items in
-    let stands : c.role_of.result ≡ role_at apart.standing k = c.role_of.ensures in
-    let P : GoalArg → Type 0 = λ role. AddsMet (rows_of (see_program c.args.program.now)) (place apart.module_ role tree) mid new in
+    let new = see_mets c.walk-in-loop-at.new.met.items in
+    let P : GoalArg → Type 0 = λ role. AddsMet T (place apart.module_ role tree) mid new in
     record {
       met =
-          first_more (rows_of (see_program c.args.program.now)) apart (map tree_of items) k tree old mid new
-          (read_seen items k c.arg-item.result c.loop-at-test.true c.arg-item.is) c.loop-at.invariant.met (subst P stands c.in_ok-walk-in-Compound.ensures.met);
-      meant = λ all. c.in_ok-walk-in-Compound.ensures.meant (c.loop-at.invariant.meant all);
+          first_more T apart (map tree_of items) k tree old mid new (read_seen items k c.arg-item.result c.loop-at-test.true c.arg-item.is) c.loop-at.invariant.met
+          (subst P c.role_of-own.ensures c.in_ok-walk-in-Compound-2.ensures.met);
+      meant = λ all. c.in_ok-walk-in-Compound-2.ensures.meant (c.loop-at.invariant.meant all);
     }
-
-pub returns-in-Var-clause-met : goal.returns-in-Var-clause-met
-returns-in-Var-clause-met t c =
-    let old = see_mets c.args.met.now.items in
-    variable_walked (rows_of (see_program c.args.program.now)) c.args.owner.now c.args.role c.args.term.now old old c.in-Var.span c.in-Var.is refl
-
-pub returns-in-Const-clause-met : goal.returns-in-Const-clause-met
-returns-in-Const-clause-met t c =
-    let v = c.in-Const in
-    let old = see_mets c.args.met.now.items in
-    let new = see_mets c.push_met.new.met.items in
-    on_ok c.push_met.result c.push_met.ensures.mets (λ adds.
-    constant_walked (rows_of (see_program c.args.program.now)) c.args.owner.now c.args.role c.args.term.now old new v.kind v.minus v.value v.span v.is
-    (adds ∙ ap (λ o. old ++ option_to_list o) c.constant_met.ensures.met))
-
-pub returns-in-Atom-clause-met : goal.returns-in-Atom-clause-met
-returns-in-Atom-clause-met t c =
-    let v = c.in-Atom in
-    let owner = c.args.owner.now in
-    let role = c.args.role in
-    let old = see_mets c.args.met.now.items in
-    let new = see_mets c.push_met-in-Atom.new.met.items in
-    on_ok c.push_met-in-Atom.result c.push_met-in-Atom.ensures.mets (λ adds.
-    atom_walked (rows_of (see_program c.args.program.now)) owner role c.args.term.now old new v.name v.span v.is
-    (adds ∙ (ap (λ o. old ++ option_to_list o) c.atom_met.ensures.met ∙ ap (λ name. old ++ option_to_list (atom_met v.span.from owner role name)) c.as_str.ensures)))
 
 pub returns-then-is_silent-clause-met : goal.returns-then-is_silent-clause-met
 returns-then-is_silent-clause-met t c =
+    let T = rows_of (see_program c.args.program.now) in
     let v = c.in-Compound in
-    let parts = map tree_of v.args.items in
     let owner = c.args.owner.now in
     let role = c.args.role in
-    let old = see_mets c.args.met.now.items in
-    let new = see_mets c.push_met-in-Compound.new.met.items in
+    let tree = tree_of c.args.term.now in
+    let args = trees_of v.args in
+    let span = span_of tree in
     let here = see_taken c.take_apart-taken.result in
-    let apart : here ≡ taken (rows_of (see_program c.args.program.now)) v.span.from owner role v.name parts =
-    taken_is (rows_of (see_program c.args.program.now)) v.span.from owner role c.as_str-in-Compound.result.now v.name c.deref.result.now v.args.items (see_taken c.take_apart-taken.result) c.take_apart-taken.ensures.taken
-    c.as_str-in-Compound.ensures c.deref.ensures.value in
-    compound_walked (rows_of (see_program c.args.program.now)) owner role c.args.term.now old new v.name v.args v.form v.span here parts (length parts) v.is refl apart (omega arith)
-    (first_rowless (rows_of (see_program c.args.program.now)) here parts (length parts) old new (c.is_silent.ensures c.if-is_silent.true) (first_none (rows_of (see_program c.args.program.now)) here parts old new c.in_ok-push_met-in-Compound.ensures.mets))
+    let apart : here ≡ taken T span.from owner role v.name.now (trees_in args) =
+    c.take_apart-taken.ensures.taken ∙ ap (λ (s : Span). taken T s.from owner role v.name.now (trees_in args)) c.span-in-Compound.ensures in
+    let old = see_mets c.args.met.now.items in
+    let mid = see_mets c.push_met-in-Compound.new.met.items in
+    compound_walked T owner role tree old mid v.name.now args v.form span here (trees_in args) (length (trees_in args)) v.ensures.tree refl apart (omega arith)
+    (first_rowless T here (trees_in args) (length (trees_in args)) old mid (c.is_silent.ensures c.if-is_silent.true)
+    (first_none T here (trees_in args) old mid c.in_ok-push_met-in-Compound.ensures.mets))
+
+pub returns-in-Some-clause-met : goal.returns-in-Some-clause-met
+returns-in-Some-clause-met t c =
+    let T = rows_of (see_program c.args.program.now) in
+    let v = c.in-Compound in
+    let owner = c.args.owner.now in
+    let role = c.args.role in
+    let tree = tree_of c.args.term.now in
+    let args = trees_of v.args in
+    let span = span_of tree in
+    let here = see_taken c.take_apart-taken.result in
+    let apart : here ≡ taken T span.from owner role v.name.now (trees_in args) =
+    c.take_apart-taken.ensures.taken ∙ ap (λ (s : Span). taken T s.from owner role v.name.now (trees_in args)) c.span-in-Compound.ensures in
+    let own = tree_of c.in-Some.only in
+    let one = sym c.in-Some.ensures.tree in
+    let old = see_mets c.args.met.now.items in
+    let mid = see_mets c.push_met-in-Compound.new.met.items in
+    let new = see_mets c.walk.new.met.items in
+    let P : GoalArg → Type 0 = λ role. AddsMet T (place here.module_ role own) mid new in
+    on_ok c.walk.result c.walk.ensures.met (λ adds.
+    compound_walked T owner role tree old new v.name.now args v.form span here (trees_in args) 1 v.ensures.tree refl apart
+    (omega (arith, ap (λ ts. length (trees_in ts)) (only_is args own one)))
+    (first_one T here args own old mid new one c.in_ok-push_met-in-Compound.ensures.mets (subst P c.role_of-first.ensures adds)))
+
+pub returns-in-Some-pair-clause-met : goal.returns-in-Some-pair-clause-met
+returns-in-Some-pair-clause-met t c =
+    let T = rows_of (see_program c.args.program.now) in
+    let v = c.in-Compound in
+    let owner = c.args.owner.now in
+    let role = c.args.role in
+    let tree = tree_of c.args.term.now in
+    let args = trees_of v.args in
+    let span = span_of tree in
+    let here = see_taken c.take_apart-taken.result in
+    let apart : here ≡ taken T span.from owner role v.name.now (trees_in args) =
+    c.take_apart-taken.ensures.taken ∙ ap (λ (s : Span). taken T s.from owner role v.name.now (trees_in args)) c.span-in-Compound.ensures in
+    let left = tree_of c.in-Some-pair.left in
+    let right = tree_of c.in-Some-pair.right in
+    let two = sym c.in-Some-pair.ensures.trees in
+    let old = see_mets c.args.met.now.items in
+    let mid = see_mets c.push_met-in-Compound.new.met.items in
+    let between = see_mets c.walk-in-Some-pair.new.met.items in
+    let new = see_mets c.walk-in-Some-pair-2.new.met.items in
+    let P : GoalArg → Type 0 = λ role. AddsMet T (place here.module_ role left) mid between in
+    let Q : GoalArg → Type 0 = λ role. AddsMet T (place here.module_ role right) between new in
+    on_ok c.walk-in-Some-pair-2.result c.walk-in-Some-pair-2.ensures.met (λ adds.
+    compound_walked T owner role tree old new v.name.now args v.form span here (trees_in args) 2 v.ensures.tree refl apart
+    (omega (arith, ap (λ ts. length (trees_in ts)) (pair_is args left right two)))
+    (first_two T here args left right old mid between new two c.in_ok-push_met-in-Compound.ensures.mets
+    (subst P c.role_of-first.ensures c.in_ok-walk-in-Compound.ensures.met) (subst Q c.role_of-second.ensures adds)))
 
 pub returns-after-loop-at-clause-met : goal.returns-after-loop-at-clause-met
 returns-after-loop-at-clause-met t c =
+    let T = rows_of (see_program c.args.program.now) in
     let v = c.in-Compound in
-    let parts = map tree_of v.args.items in
     let owner = c.args.owner.now in
     let role = c.args.role in
+    let tree = tree_of c.args.term.now in
+    let args = trees_of v.args in
+    let span = span_of tree in
+    let here = see_taken c.take_apart-taken.result in
+    let apart : here ≡ taken T span.from owner role v.name.now (trees_in args) =
+    c.take_apart-taken.ensures.taken ∙ ap (λ (s : Span). taken T s.from owner role v.name.now (trees_in args)) c.span-in-Compound.ensures in
+    let items = c.deref-arg-items.result.now in
+    let are : map tree_of items ≡ trees_in args = ap (map tree_of) c.deref-arg-items.ensures.value ∙ c.in_ok-terms-in-Compound.ensures in
     let old = see_mets c.args.met.now.items in
     let new = see_mets c.loop-at.met.items in
-    let here = see_taken c.take_apart-taken.result in
-    let items = c.deref-arg-items.result.now in
-    let apart : here ≡ taken (rows_of (see_program c.args.program.now)) v.span.from owner role v.name parts =
-    taken_is (rows_of (see_program c.args.program.now)) v.span.from owner role c.as_str-in-Compound.result.now v.name c.deref.result.now v.args.items (see_taken c.take_apart-taken.result) c.take_apart-taken.ensures.taken
-    c.as_str-in-Compound.ensures c.deref.ensures.value in
-    compound_walked (rows_of (see_program c.args.program.now)) owner role c.args.term.now old new v.name v.args v.form v.span here (map tree_of items) c.loop-at.at v.is
-    (ap (map tree_of) c.deref-arg-items.ensures.value) apart (omega (arith, length-map items tree_of, c.loop-at-test.false)) c.loop-at.invariant.met
+    compound_walked T owner role tree old new v.name.now args v.form span here (map tree_of items) c.loop-at.at v.ensures.tree are apart
+    (omega (arith, length-map items tree_of, c.loop-at-test.false)) c.loop-at.invariant.met
+
+pub returns-in-Var-clause-met : goal.returns-in-Var-clause-met
+returns-in-Var-clause-met t c =
+    let T = rows_of (see_program c.args.program.now) in
+    let owner = c.args.owner.now in
+    let role = c.args.role in
+    let tree = tree_of c.args.term.now in
+    let span = span_of tree in
+    let old = see_mets c.args.met.now.items in
+    variable_walked T owner role tree old old span c.in-Var.ensures.tree refl
+
+pub returns-in-Const-clause-met : goal.returns-in-Const-clause-met
+returns-in-Const-clause-met t c =
+    let T = rows_of (see_program c.args.program.now) in
+    let owner = c.args.owner.now in
+    let role = c.args.role in
+    let tree = tree_of c.args.term.now in
+    let span = span_of tree in
+    let old = see_mets c.args.met.now.items in
+    let v = c.in-Const in
+    let new = see_mets c.push_met.new.met.items in
+    on_ok c.push_met.result c.push_met.ensures.mets (λ adds.
+    constant_walked T owner role tree old new v.kind v.minus v.value span v.ensures.tree
+    (adds ∙ (ap (λ o. old ++ option_to_list o) c.constant_met.ensures.met ∙ ap (λ (s : Span). old ++ option_to_list (constant_met role v.kind s.from)) c.span.ensures)))
+
+pub returns-in-Atom-clause-met : goal.returns-in-Atom-clause-met
+returns-in-Atom-clause-met t c =
+    let T = rows_of (see_program c.args.program.now) in
+    let owner = c.args.owner.now in
+    let role = c.args.role in
+    let tree = tree_of c.args.term.now in
+    let span = span_of tree in
+    let old = see_mets c.args.met.now.items in
+    let v = c.in-Atom in
+    let new = see_mets c.push_met-in-Atom.new.met.items in
+    on_ok c.push_met-in-Atom.result c.push_met-in-Atom.ensures.mets (λ adds.
+    atom_walked T owner role tree old new v.name.now span v.ensures.tree
+    (adds ∙ (ap (λ o. old ++ option_to_list o) c.atom_met.ensures.met ∙ ap (λ (s : Span). old ++ option_to_list (atom_met s.from owner role v.name.now)) c.span-in-Atom.ensures)))
 
 pub returns-in-List-clause-met : goal.returns-in-List-clause-met
 returns-in-List-clause-met t c =
-    let v = c.in-List in
+    let T = rows_of (see_program c.args.program.now) in
+    let owner = c.args.owner.now in
+    let role = c.args.role in
+    let tree = tree_of c.args.term.now in
+    let span = span_of tree in
     let old = see_mets c.args.met.now.items in
-    list_walked (rows_of (see_program c.args.program.now)) c.args.owner.now c.args.role c.args.term.now old old v.items v.tail v.span v.is refl
+    list_walked T owner role tree old old (trees_of c.in-List.items) span c.in-List.ensures.tree refl
+
+pub returns-in-Tailed-clause-met : goal.returns-in-Tailed-clause-met
+returns-in-Tailed-clause-met t c =
+    let T = rows_of (see_program c.args.program.now) in
+    let owner = c.args.owner.now in
+    let role = c.args.role in
+    let tree = tree_of c.args.term.now in
+    let span = span_of tree in
+    let old = see_mets c.args.met.now.items in
+    tailed_walked T owner role tree old old (trees_of c.in-Tailed.items) (tree_of c.in-Tailed.tail) span c.in-Tailed.ensures.tree refl
 
 pub returns-in-Curly-clause-met : goal.returns-in-Curly-clause-met
 returns-in-Curly-clause-met t c =
-    let v = c.in-Curly in
+    let T = rows_of (see_program c.args.program.now) in
     let owner = c.args.owner.now in
+    let role = c.args.role in
+    let tree = tree_of c.args.term.now in
+    let span = span_of tree in
     let old = see_mets c.args.met.now.items in
+    let v = c.in-Curly in
     let new = see_mets c.walk-in-Curly.new.met.items in
     on_ok c.walk-in-Curly.result c.walk-in-Curly.ensures.met (λ adds.
-    curly_walked (rows_of (see_program c.args.program.now)) owner c.args.role c.args.term.now old new v.inner v.span v.is
-    (rw (c.curly_role.ensures, c.deref-in-Curly.ensures) at adds))
+    curly_walked T owner role tree old new (tree_of v.inner) span v.ensures.tree (rw c.curly_role.ensures at adds))
 
 pub returns-in-Paren-clause-met : goal.returns-in-Paren-clause-met
 returns-in-Paren-clause-met t c =
-    let v = c.in-Paren in
+    let T = rows_of (see_program c.args.program.now) in
     let owner = c.args.owner.now in
+    let role = c.args.role in
+    let tree = tree_of c.args.term.now in
+    let span = span_of tree in
     let old = see_mets c.args.met.now.items in
+    let v = c.in-Paren in
     let new = see_mets c.walk-in-Paren.new.met.items in
-    on_ok c.walk-in-Paren.result c.walk-in-Paren.ensures.met (λ adds.
-    paren_walked (rows_of (see_program c.args.program.now)) owner c.args.role c.args.term.now old new v.inner v.span v.is (rw c.deref-in-Paren.ensures at adds))
+    on_ok c.walk-in-Paren.result c.walk-in-Paren.ensures.met (λ adds. paren_walked T owner role tree old new (tree_of v.inner) span v.ensures.tree adds)
 
 -- what is kept of names
-
-pub returns-in-Var-clause-meant : goal.returns-in-Var-clause-meant
-returns-in-Var-clause-meant t c = λ all. all
 
 pub returns-in-Const-clause-meant : goal.returns-in-Const-clause-meant
 returns-in-Const-clause-meant t c =
@@ -178,14 +323,16 @@ returns-then-is_silent-clause-meant t c =
     meant_more (see_program c.args.program.now) c.args.met.now.items c.push_met-in-Compound.new.met.items c.take_apart-taken.result.met
     c.in_ok-push_met-in-Compound.ensures.kept c.take_apart-taken.ensures.meant
 
-pub returns-after-loop-at-clause-meant : goal.returns-after-loop-at-clause-meant
-returns-after-loop-at-clause-meant t c = c.loop-at.invariant.meant
+pub returns-in-Some-clause-meant : goal.returns-in-Some-clause-meant
+returns-in-Some-clause-meant t c =
+    let first =
+    meant_more (see_program c.args.program.now) c.args.met.now.items c.push_met-in-Compound.new.met.items c.take_apart-taken.result.met
+    c.in_ok-push_met-in-Compound.ensures.kept c.take_apart-taken.ensures.meant in
+    on_ok c.walk.result c.walk.ensures.meant (λ more all. more (first all))
 
-pub returns-in-List-clause-meant : goal.returns-in-List-clause-meant
-returns-in-List-clause-meant t c = λ all. all
-
-pub returns-in-Curly-clause-meant : goal.returns-in-Curly-clause-meant
-returns-in-Curly-clause-meant t c = c.walk-in-Curly.ensures.meant
-
-pub returns-in-Paren-clause-meant : goal.returns-in-Paren-clause-meant
-returns-in-Paren-clause-meant t c = c.walk-in-Paren.ensures.meant
+pub returns-in-Some-pair-clause-meant : goal.returns-in-Some-pair-clause-meant
+returns-in-Some-pair-clause-meant t c =
+    let first =
+    meant_more (see_program c.args.program.now) c.args.met.now.items c.push_met-in-Compound.new.met.items c.take_apart-taken.result.met
+    c.in_ok-push_met-in-Compound.ensures.kept c.take_apart-taken.ensures.meant in
+    on_ok c.walk-in-Some-pair-2.result c.walk-in-Some-pair-2.ensures.meant (λ more all. more (c.in_ok-walk-in-Compound.ensures.meant (first all)))

@@ -1,5 +1,5 @@
 use Rattle.std.proofs.Common.{map}
-use Rattle.prolog_terms.specs.Tree.{depth}
+use Rattle.prolog_terms.specs.Weight.{weight}
 use Rattle.prolog_terms.specs.Terms.{tree_of}
 use Rattle.import_rules.specs.Program.{see_program}
 use Rattle.call_edges.specs.ProgramRows.{rows_of}
@@ -16,4 +16,4 @@ invariant-loop-at l = record {
 }
 
 abbrev pub decreases-walk : goal.decreases-walk
-decreases-walk l = depth (tree_of l.term.now)
+decreases-walk l = weight (tree_of l.term.now)

@@ -1,0 +1,10 @@
+use Rattle.std.proofs.Common.{◌≡◌, ◌++◌, map, take}
+use Rattle.prolog_terms.specs.Terms.{tree_in}
+use Rattle.call_edges.specs.Bodies.{see_body, goal_body}
+use Rattle.call_edges.proofs.body.push_goals_in.Given as goal
+
+-- the goals so far
+abbrev pub invariant-loop-end : goal.invariant-loop-end
+invariant-loop-end l =
+    map see_body l.bodies.items
+    ≡ map see_body l.fn.bodies.items ++ map (goal_body l.place l.file.module) (map (tree_in l.file.names l.goals.nodes) (take l.end-index l.end-items))
