@@ -1,5 +1,5 @@
 -- The arguments of a compound, where there is one of them or two, and what they weigh.
-use Rattle.std.proofs.Common.{◌≡◌, ℕ, zero, suc, ◌+◌, ◌≤◌, ◌==◌, Bool, true, false, ◌&&◌, List, Option, Some, None, length, slice_get, if◌then◌else◌, codes, ap, refl, arith}
+use Rattle.std.proofs.Common.{◌≡◌, ℕ, zero, suc, ◌+◌, ◌≤◌, ◌==◌, Bool, true, false, ◌&&◌, List, Some, None, length, slice_get, if◌then◌else◌, codes, ap, refl, arith}
 use Rattle.std.specs.Str.{bytes_eq}
 use Rattle.std.proofs.lemmas.Bool.{eqb-true}
 use Rattle.std.proofs.lemmas.Option.{same_Some}
@@ -8,7 +8,6 @@ use Rattle.prolog_terms.specs.Views.{trees_in, only_of, pair_of}
 use Rattle.prolog_terms.specs.Weight.{weight, weights}
 use Rattle.module_table.specs.declared.goal_arg.GoalArg.{GoalArg}
 use Rattle.module_table.specs.declared.goal_arg.GoalArg.TheVariants.{Plain, Goal, Caret, Grammar}
-use Rattle.call_edges.specs.declared.role.Way.{Way}
 use Rattle.call_edges.specs.declared.role.Way.TheVariants.{Silent, Behind, Control, Qualified, Calling}
 use Rattle.call_edges.specs.Goals.{is_control, goal_way, way}
 

@@ -1,6 +1,5 @@
 -- Lines and columns of goals that aren't callable.
-use Rattle.std.proofs.Common.{◌≡◌, ◌⊎◌, inl, inr, ℕ, ◌+◌, ◌<◌, ◌≤◌, List, [], ◌∷◌, ◌++◌, Some, Vec, Global, All, length, get_or, take, slice_get, ap, sym, ◌∙◌, subst, refl, arith}
-use Rattle.std.specs.Prelude.{Contains}
+use Rattle.std.proofs.Common.{◌≡◌, ◌⊎◌, inl, inr, ℕ, ◌+◌, ◌<◌, List, [], ◌∷◌, ◌++◌, Some, Vec, Global, length, get_or, take, slice_get, ap, sym, ◌∙◌, subst, refl, arith}
 use Rattle.std.specs.List.{AllZip}
 use Rattle.std.specs.Ordering.{ordering_then, nat_cmp}
 use Rattle.std.specs.declared.cmp.Ordering.{Ordering}
@@ -20,7 +19,7 @@ use Rattle.import_rules.specs.Files.{pair_cmp}
 use Rattle.import_rules.specs.Program.{Seen, IsKnown, IsReadFrom}
 use Rattle.call_edges.specs.ProgramRows.{rows_of}
 use Rattle.import_rules.proofs.MetaTold.{seen_at}
-use Rattle.call_edges.specs.FaultPlaces.{IsFaultPlace, AreFaultPlaces, IsPlaced}
+use Rattle.call_edges.specs.FaultPlaces.{AreFaultPlaces, IsPlaced}
 use Rattle.call_edges.proofs.CallOffsets.{zip_text}
 use Rattle.call_edges.proofs.OffsetLemmas.{file_fault_stands}
 

@@ -1,9 +1,7 @@
-use Rattle.std.proofs.Common.{◌≡◌, ◌+◌, ℕ, length, ap, sym, ◌∙◌, arith}
+use Rattle.std.proofs.Common.{◌≡◌, ◌+◌, length, ap, sym, ◌∙◌, arith}
 use Rattle.prolog_terms.specs.Terms.{trees_of}
 use Rattle.prolog_terms.specs.Views.{trees_in}
-use Rattle.module_table.specs.Metas.{added}
 use Rattle.import_rules.specs.Program.{see_program}
-use Rattle.call_edges.specs.declared.role.Way.{Way}
 use Rattle.call_edges.specs.declared.role.Way.TheVariants.{Behind, Control, Qualified, Calling}
 use Rattle.call_edges.specs.Goals.{way, taken_by, first_two}
 use Rattle.call_edges.specs.ProgramRows.{rows_of, standing_by}

@@ -1,4 +1,4 @@
-use Rattle.std.proofs.Common.{◌≡◌, Some, None, sym, ap, ◌∙◌, subst}
+use Rattle.std.proofs.Common.{sym, ap, ◌∙◌, subst}
 use Rattle.import_rules.specs.Program.{see_program, found}
 use Rattle.call_edges.specs.Calls.{target}
 use Rattle.call_edges.specs.Meant.{IsMeaning, IsMeant}

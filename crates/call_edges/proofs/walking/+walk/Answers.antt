@@ -1,4 +1,4 @@
-use Rattle.std.proofs.Common.{◌≡◌, ◌++◌, ◌≤◌, ℕ, List, Some, map, length, slice_get, ap, sym, ◌∙◌, subst, refl, arith}
+use Rattle.std.proofs.Common.{◌≡◌, ◌++◌, List, Some, map, length, slice_get, ap, sym, ◌∙◌, subst, refl, arith}
 use Rattle.std.specs.Option.{option_to_list}
 use Rattle.std.proofs.lemmas.List.{length-map}
 use Rattle.prolog_terms.specs.declared.term.Span.{Span}
@@ -8,7 +8,7 @@ use Rattle.prolog_terms.specs.Views.{trees_in}
 use Rattle.prolog_terms.specs.Weight.{weight}
 use Rattle.prolog_terms.proofs.ViewLemmas.{count_weight}
 use Rattle.module_table.specs.declared.goal_arg.GoalArg.{GoalArg}
-use Rattle.call_edges.specs.Goals.{atom_met, constant_met, place, taken, role_at, AddsMet}
+use Rattle.call_edges.specs.Goals.{atom_met, constant_met, place, taken, AddsMet}
 use Rattle.import_rules.specs.Program.{see_program}
 use Rattle.call_edges.specs.ProgramRows.{rows_of}
 use Rattle.call_edges.specs.Seen.{see_mets, see_taken}
