@@ -5,12 +5,18 @@ use Rattle.prolog_tokens.specs.Cut.{IsCut}
 use Rattle.prolog_terms.specs.Tree.{Tree, constant}
 use Rattle.prolog_terms.specs.declared.term.ConstKind.TheVariants.{Integer}
 use Rattle.prolog_terms.specs.Views.{inside, sides_of, joined, atom_name}
+use Rattle.prolog_terms.specs.Terms.{root_tree}
 use Rattle.prolog_terms.specs.Words.{table_of}
 use Rattle.prolog_terms.specs.Clause.{IsClauseOf}
 use Rattle.clause_text.specs.Clauses.{opening_ops}
 use Rattle.import_rules.specs.declared.names.PredName.{PredName}
 use Rattle.import_rules.specs.Names.{pred_name}
 use Rattle.group_words.specs.declared.limits.TheConstants.{MOST_LIST}
+use Rattle.group_words.specs.declared.root_list.ListTerm.{ListTerm}
+
+-- the tree of a list
+abbrev pub list_tree : ListTerm → Tree
+list_tree list = root_tree list.names list.nodes
 
 abbrev pub named : Option (List ℕ) → Option (List ℕ) → Option ℕ → Option PredName
 named (Some own) (Some name) (Some arity) = Some (pred_name own name arity)

@@ -10,36 +10,39 @@ ghost use Rattle.prolog_terms.specs.Clause.{IsClauseOf, IsOneClause};
 ghost use Rattle.prolog_terms.specs.Views.{joined};
 ghost use Rattle.clause_text.specs.Clauses.{opening_ops};
 ghost use Rattle.group_words.specs.declared.limits.TheConstants.{MOST_LIST};
-ghost use Rattle.group_words.specs.RootList.{IsRootList, IsList, AddsRoots, arity_of, named, named_predicate, all_there};
+ghost use Rattle.group_words.specs.RootList.{IsRootList, IsList, AddsRoots, list_tree, arity_of, named, named_predicate, all_there};
 
 use crate::limits::MOST_LIST;
 use import_rules::PredName;
-use prolog_names::number_names;
+use prolog_names::{Names, number_names};
 use prolog_ops::OpTable;
-use prolog_terms::{ConstKind, ReadFault, Reader, Term, atom_name, inside, read_clause, sides};
+use prolog_terms::{
+    ConstKind, NodeList, ReadFault, Reader, Term, TermKind, atom_name, inside, read_clause, sides,
+};
 use prolog_tokens::{Kind, Text, Token, TokenFault, tokens};
 use std::alloc::{AllocError, Global};
+
+/// The term of a list: its nodes, and the names in them.
+#[derive(Drop)]
+struct ListTerm {
+    names: Names,
+    nodes: NodeList,
+}
 
 /// The value of an integer without minus.
 fn arity_of(term: &Term) -> Option<u32>
     ensures { result ≡ arity_of (tree_of term.now) }
 {
-    let Term::Const {
-        kind,
-        minus,
-        value,
-        ..
-    } = inside(term)
-    else {
+    let TermKind::Const { kind, minus, value } = inside(term).kind() else {
         return None;
     };
-    if *kind != ConstKind::Integer {
+    if kind != ConstKind::Integer {
         return None;
     }
-    if *minus {
+    if minus {
         return None;
     }
-    *value
+    value
 }
 
 /// The predicate of these parts, where all are there.
@@ -68,10 +71,10 @@ fn named_predicate(alloc: Global, term: &Term) -> Result<Option<PredName>, Alloc
     let Some((name, arity)) = sides(term, "/") else {
         return Ok(None);
     };
-    let arity = arity_of(arity);
-    match sides(name, ":") {
-        Some((owner, name)) => named(alloc, atom_name(owner), atom_name(name), arity),
-        None => named(alloc, Some("user"), atom_name(name), arity),
+    let arity = arity_of(&arity);
+    match sides(&name, ":") {
+        Some((owner, name)) => named(alloc, atom_name(&owner), atom_name(&name), arity),
+        None => named(alloc, Some("user"), atom_name(&name), arity),
     }
 }
 
@@ -80,10 +83,10 @@ fn push_joined(alloc: Global, term: &Term, roots: &mut Vec<PredName>) -> Result<
     ensures { IfOk result (λ all. AddsRoots roots.old.items roots.new.items all (all_there (map named_predicate (joined (tree_of term.now))))) }
 {
     if let Some((left, right)) = sides(term, ",") {
-        if !push_joined(alloc, left, roots)? {
+        if !push_joined(alloc, &left, roots)? {
             return Ok(false);
         }
-        return push_joined(alloc, right, roots);
+        return push_joined(alloc, &right, roots);
     }
     let Some(root) = named_predicate(alloc, term)? else {
         return Ok(false);
@@ -114,12 +117,12 @@ fn opening_table(alloc: Global) -> Result<OpTable, AllocError>
 }
 
 /// The one clause that the tokens are.
-fn read_tokens(alloc: Global, text: &str, tokens: &[Token]) -> Result<Option<Term>, AllocError>
+fn read_tokens(alloc: Global, text: &str, tokens: &[Token]) -> Result<Option<ListTerm>, AllocError>
     requires small { length text.now ≤ MOST_BYTES }
     requires cut { IsCut text.now tokens.now }
     ensures { IfOk result (λ found. MatchOption found
         ((tree : Tree) → IsClauseOf (table_of opening_ops) text.now tokens.now tree → ⊥)
-        (λ term. IsClauseOf (table_of opening_ops) text.now tokens.now (tree_of term))) }
+        (λ term. IsClauseOf (table_of opening_ops) text.now tokens.now (list_tree term))) }
 {
     if !is_one_clause(tokens) {
         return Ok(None);
@@ -136,7 +139,10 @@ fn read_tokens(alloc: Global, text: &str, tokens: &[Token]) -> Result<Option<Ter
         tokens,
         numbered.numbers.as_slice(),
     ) {
-        Ok(term) => Ok(Some(term)),
+        Ok(nodes) => Ok(Some(ListTerm {
+            names: numbered.names,
+            nodes,
+        })),
         Err(fault) => match fault {
             ReadFault::NoMemory => Err(AllocError),
             _ => Ok(None),
@@ -145,9 +151,9 @@ fn read_tokens(alloc: Global, text: &str, tokens: &[Token]) -> Result<Option<Ter
 }
 
 /// The term of the list.
-fn read_list(alloc: Global, list: &str) -> Result<Option<Term>, AllocError>
+fn read_list(alloc: Global, list: &str) -> Result<Option<ListTerm>, AllocError>
     requires { length list.now ≤ MOST_LIST }
-    ensures { IfOk result (λ found. MatchOption found ((tree : Tree) → IsList list.now tree → ⊥) (λ term. IsList list.now (tree_of term))) }
+    ensures { IfOk result (λ found. MatchOption found ((tree : Tree) → IsList list.now tree → ⊥) (λ term. IsList list.now (list_tree term))) }
 {
     let mut text = String::from_str(alloc, list)?;
     text.push_str(" .")?;
@@ -170,9 +176,10 @@ pub fn read_roots(alloc: Global, list: &str) -> Result<Option<Vec<PredName>>, Al
     if list.len() > MOST_LIST {
         return Ok(None);
     }
-    let Some(term) = read_list(alloc, list)? else {
+    let Some(read) = read_list(alloc, list)? else {
         return Ok(None);
     };
+    let term = Term::root(&read.names, &read.nodes);
     let mut roots = Vec::new(alloc);
     if push_joined(alloc, &term, &mut roots)? {
         Ok(Some(roots))

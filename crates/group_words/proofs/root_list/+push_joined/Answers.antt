@@ -16,29 +16,29 @@ named_inside tree = ap (λ t. named_by (sides_at (codes "/") t)) (inside_once tr
 
 pub push_joined-requires : goal.push_joined-requires
 push_joined-requires t c =
-    let below : AreBelow (tree_of c.args.term.now) (tree_of c.in-Some.left.now) (tree_of c.in-Some.right.now) = sides_below (codes ",") _ _ _ (sym c.in-Some.ensures) in
+    let below : AreBelow (tree_of c.args.term.now) (tree_of c.in-Some.left) (tree_of c.in-Some.right) = sides_below (codes ",") _ _ _ (sym c.in-Some.ensures.trees) in
     (omega (arith, below.left_below), tt)
 
 pub push_joined-requires-in-Some : goal.push_joined-requires-in-Some
 push_joined-requires-in-Some t c =
-    let below : AreBelow (tree_of c.args.term.now) (tree_of c.in-Some.left.now) (tree_of c.in-Some.right.now) = sides_below (codes ",") _ _ _ (sym c.in-Some.ensures) in
+    let below : AreBelow (tree_of c.args.term.now) (tree_of c.in-Some.left) (tree_of c.in-Some.right) = sides_below (codes ",") _ _ _ (sym c.in-Some.ensures.trees) in
     (omega (arith, below.right_below), tt)
 
 pub returns-then-not-branch : goal.returns-then-not-branch
 returns-then-not-branch t c =
     let tree = tree_of c.args.term.now in
-    let left = tree_of c.in-Some.left.now in
-    let right = tree_of c.in-Some.right.now in
-    let both = ap (map named_predicate) (joined_sides tree left right (sym c.in-Some.ensures)) ∙ map-append named_predicate (joined left) (joined right) in
+    let left = tree_of c.in-Some.left in
+    let right = tree_of c.in-Some.right in
+    let both = ap (map named_predicate) (joined_sides tree left right (sym c.in-Some.ensures.trees)) ∙ map-append named_predicate (joined left) (joined right) in
     let none = rw c.if-not-branch.true at c.in_ok-push_joined.ensures in
     ap all_there both ∙ first_absent (map named_predicate (joined left)) (map named_predicate (joined right)) none
 
 pub returns-in-Some : goal.returns-in-Some
 returns-in-Some t c =
     let tree = tree_of c.args.term.now in
-    let left = tree_of c.in-Some.left.now in
-    let right = tree_of c.in-Some.right.now in
-    let both = ap (map named_predicate) (joined_sides tree left right (sym c.in-Some.ensures)) ∙ map-append named_predicate (joined left) (joined right) in
+    let left = tree_of c.in-Some.left in
+    let right = tree_of c.in-Some.right in
+    let both = ap (map named_predicate) (joined_sides tree left right (sym c.in-Some.ensures.trees)) ∙ map-append named_predicate (joined left) (joined right) in
     let first = rw c.if-not-branch.false at c.in_ok-push_joined.ensures in
     let old = c.args.roots.now.items in
     let mid = c.push_joined.new.roots.items in
@@ -51,12 +51,12 @@ returns-in-Some t c =
 pub returns-in_default-2 : goal.returns-in_default-2
 returns-in_default-2 t c =
     let tree = tree_of c.args.term.now in
-    let alone = ap (map named_predicate) (joined_alone tree (sym c.in_default.ensures)) in
+    let alone = ap (map named_predicate) (joined_alone tree (sym c.in_default.ensures.trees)) in
     ap all_there alone ∙ ap (λ found. all_there (found ∷ [])) (named_inside tree ∙ (sym c.in_ok-root.ensures ∙ c.in_default-2.is))
 
 pub returns : goal.returns
 returns t c =
     let tree = tree_of c.args.term.now in
-    let alone = ap (map named_predicate) (joined_alone tree (sym c.in_default.ensures)) in
+    let alone = ap (map named_predicate) (joined_alone tree (sym c.in_default.ensures.trees)) in
     subst (λ found. AddsRoots c.args.roots.now.items c.push.new.self.items true (all_there found)) (sym alone)
     (adds_one c.args.roots.now.items c.push.new.self.items c.in-Some-2.root (named_predicate (inside tree)) (named_inside tree ∙ (sym c.in_ok-root.ensures ∙ c.in-Some-2.is)) c.in_ok-push.ensures.items)
