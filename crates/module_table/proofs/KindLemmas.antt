@@ -9,7 +9,9 @@ use Rattle.prolog_terms.specs.declared.term.Term.{Term}
 use Rattle.prolog_terms.specs.Terms.{tree_in, IsOf}
 use Rattle.module_table.specs.Metas.{Declaration}
 use Rattle.module_table.specs.Said.{Said, Part, Refusal, Declares, declares, loads, defines, takes, goal, more, in_turn}
-use Rattle.module_table.specs.Kinds.{declared_part, load_part, defined_part, takes_part, goal_part, first_of, first_module_seen, ByKind, goal_trees, see_kinds, none_said, with_part, with_parts, with_said, AreSaid, IsAdded}
+use Rattle.module_table.specs.Kinds.{declared_part, load_part, defined_part, takes_part, goal_part, first_of, first_module_seen, ByKind, none_said, with_part, with_parts, with_said}
+use Rattle.module_table.specs.Facts.{goal_trees}
+use Rattle.module_table.specs.Kept.{see_kinds, AreSaid, IsAdded}
 
 module _ {B : Type 0} (f : Part → Option B) (parts : List Part) (part : Part) where
   only_none : (found : Option B) → f part ≡ found → found ≡ None → filter_map f (part ∷ []) ≡ []

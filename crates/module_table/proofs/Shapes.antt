@@ -1,10 +1,9 @@
 -- Terms by the number of their arguments.
-use Rattle.std.proofs.Common.{◌≡◌, ◌≢◌, Option, Some, None, refl, ap, sym, ◌∙◌}
+use Rattle.std.proofs.Common.{◌≡◌, ℕ, false, List, Some, None, refl, ap, sym}
 use Rattle.prolog_terms.specs.declared.term.Span.{Span}
 use Rattle.prolog_terms.specs.declared.term.Form.{Form}
-use Rattle.prolog_terms.specs.Tree.{Tree, Trees, compound, none, more, count}
-use Rattle.prolog_terms.specs.Views.{only_of, pair_of, triple_of}
-use Rattle.std.proofs.Common.{ℕ, List, false, arith}
+use Rattle.prolog_terms.specs.Tree.{Tree, Trees, compound, none, more}
+use Rattle.prolog_terms.specs.Views.{only_of, pair_of}
 use Rattle.module_table.specs.Loading.{is_functional, system_at}
 
 -- one argument, two or three

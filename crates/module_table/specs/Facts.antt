@@ -1,18 +1,20 @@
 -- What the clauses of a file say, and the facts of the file.
-use Rattle.std.specs.Prelude.{ℕ, ◌≡◌, List, [], ◌∷◌, Option, Some, None, Result, Ok, Err, Bool, true, false, if◌then◌else◌, codes, map, flat_map, ◌+◌, ◌&&◌, nat_eq}
+use Rattle.std.specs.Prelude.{ℕ, ◌≡◌, List, [], ◌∷◌, Option, Some, None, Result, Ok, Err, Bool, true, false, if◌then◌else◌, codes}
+use Rattle.std.specs.Prelude.{map, flat_map, ◌+◌, ◌&&◌, nat_eq}
 use Rattle.std.specs.List.{filter_map}
 use Rattle.std.specs.Str.{bytes_eq}
 use Rattle.prolog_terms.specs.Tree.{Tree}
+use Rattle.prolog_terms.specs.Terms.{tree_in}
 use Rattle.prolog_terms.specs.Views.{Binary, binary, sides_of, atom_name}
 use Rattle.clause_text.specs.Items.{directive_of}
 use Rattle.module_table.specs.declared.indicator.Indicator.{Indicator}
 use Rattle.module_table.specs.declared.file_facts.FileFacts.{FileFacts}
+use Rattle.module_table.specs.declared.file_facts.DirectiveGoals.{DirectiveGoals}
 use Rattle.module_table.specs.Defined.{Predicate, AreDefined, see_defined}
 use Rattle.module_table.specs.Metas.{Declaration, see_meta}
 use Rattle.module_table.specs.Said.{Said, Part, Loads, defines, nothing, only, Refusal, in_turn, each_said, see_load}
 use Rattle.module_table.specs.Heads.{Owned, head, grammar_head}
 use Rattle.module_table.specs.Directives.{Home, home, directive_said}
-pub use Rattle.module_table.specs.Kinds.{goal_trees}
 use Rattle.module_table.specs.Kinds.{declared_part, load_part, defined_part, goal_part, first_of, IsModule, takes_part}
 
 abbrev pub with_added : ℕ → Result Owned Refusal → Result Owned Refusal
@@ -81,6 +83,10 @@ pub record Facts : Type 0 where
   pub defined : List Predicate
   pub metas : List Declaration
   pub goals : List Tree
+
+-- the goals of a directive, whose names are numbers in these names
+abbrev pub goal_trees : List (List ℕ) → DirectiveGoals → List Tree
+goal_trees names goals = map (tree_in names goals.nodes) goals.ends.items
 
 abbrev pub see_facts : FileFacts → Facts
 see_facts f = record {

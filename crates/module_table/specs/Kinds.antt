@@ -1,15 +1,10 @@
 -- The parts of a file by kind.
-use Rattle.std.specs.Prelude.{ℕ, ◌≡◌, List, [], ◌∷◌, ◌++◌, Option, Some, None, Result, Ok, Err, Bool, true, false, codes, map, flat_map, option_map}
-use Rattle.std.specs.List.{filter_map}
+use Rattle.std.specs.Prelude.{ℕ, ◌≡◌, List, [], ◌∷◌, ◌++◌, Option, Some, None, Result, Ok, Err, Bool, true, false, codes}
 use Rattle.prolog_terms.specs.Tree.{Tree}
-use Rattle.prolog_terms.specs.declared.node.Node.{Node}
-use Rattle.prolog_terms.specs.Terms.{tree_in}
 use Rattle.module_table.specs.declared.indicator.Indicator.{Indicator}
-use Rattle.module_table.specs.declared.kinds.Kinds.{Kinds}
-use Rattle.module_table.specs.declared.kinds.DirectiveGoals.{DirectiveGoals}
-use Rattle.module_table.specs.Defined.{Defines, see_run}
-use Rattle.module_table.specs.Metas.{Declaration, see_meta}
-use Rattle.module_table.specs.Said.{Part, Said, Refusal, Declares, Loads, declares, loads, defines, takes, goal, see_module, see_load}
+use Rattle.module_table.specs.Defined.{Defines}
+use Rattle.module_table.specs.Metas.{Declaration}
+use Rattle.module_table.specs.Said.{Part, Said, Refusal, Declares, Loads, declares, loads, defines, takes, goal}
 
 abbrev pub declared_part : Part → Option Declares
 declared_part (declares own) = Some own
@@ -45,18 +40,6 @@ abbrev pub IsModule : Option Declares → List ℕ → Bool → ℕ → List Ind
 IsModule (Some own) name is_declared from exports = (name ≡ own.name) × (is_declared ≡ true) × (from ≡ own.from) × (exports ≡ own.exports)
 IsModule None name is_declared from exports = (name ≡ codes "user") × (is_declared ≡ false) × (from ≡ 0) × (exports ≡ [])
 
--- the goals of a directive, whose names are numbers in these names
-abbrev pub goal_trees : List (List ℕ) → DirectiveGoals → List Tree
-goal_trees names goals = map (tree_in names goals.nodes) goals.ends.items
-
--- the parts of each kind, in order, and of the modules the first; no directive is under way
-pub record AreKinds (names : List (List ℕ)) (parts : List Part) (kinds : Kinds) : Type 0 where
-  pub declared : option_map see_module kinds.declared ≡ first_of (filter_map declared_part parts)
-  pub loads : map see_load kinds.loads.items ≡ filter_map load_part parts
-  pub definitions : flat_map (see_run names) kinds.definitions.items ≡ filter_map defined_part parts
-  pub takes : map see_meta kinds.takes.items ≡ filter_map takes_part parts
-  pub goals : flat_map (goal_trees names) kinds.goals.items ≡ filter_map goal_part parts
-
 -- what is said, by kind
 pub record ByKind : Type 0 where
   pub declared : Option Declares
@@ -64,16 +47,6 @@ pub record ByKind : Type 0 where
   pub definitions : List Defines
   pub takes : List Declaration
   pub goals : List Tree
-
--- what is kept, while a directive is under way whose nodes these are
-abbrev pub see_kinds : List (List ℕ) → List Node → Kinds → ByKind
-see_kinds names nodes k = record {
-  declared = option_map see_module k.declared;
-  loads = map see_load k.loads.items;
-  definitions = flat_map (see_run names) k.definitions.items;
-  takes = map see_meta k.takes.items;
-  goals = flat_map (goal_trees names) k.goals.items ++ map (tree_in names nodes) k.ends.items;
-}
 
 abbrev pub none_said : ByKind
 none_said = record { declared = None; loads = []; definitions = []; takes = []; goals = [] }
@@ -94,13 +67,3 @@ with_parts k (part ∷ parts) = with_parts (with_part k part) parts
 abbrev pub with_said : ByKind → Said → Result ByKind Refusal
 with_said k (Ok parts) = Ok (with_parts k parts)
 with_said k (Err refusal) = Err refusal
-
--- what is said is added, whatever the nodes of the directive are
-abbrev pub IsAdded : Kinds → Said → Kinds → Type 0
-IsAdded old said new = (names : List (List ℕ)) (nodes : List Node) → with_said (see_kinds names nodes old) said ≡ Ok (see_kinds names nodes new)
-
--- the kinds are of all that is said
-pub record AreSaid (names : List (List ℕ)) (said : Said) (kinds : Kinds) : Type 0 where
-  pub parts : List Part
-  pub is : said ≡ Ok parts
-  pub are : AreKinds names parts kinds

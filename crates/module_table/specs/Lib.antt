@@ -11,5 +11,6 @@ pub mod Directives
 pub mod Told
 pub mod Kinds
 pub mod Facts
+pub mod Kept
 pub mod Placed
 pub mod FileText

@@ -5,7 +5,7 @@ use Rattle.module_table.specs.declared.directive.Told.{Told}
 use Rattle.module_table.specs.declared.directive.Told.TheVariants.{Goal, Done}
 use Rattle.module_table.specs.declared.kinds.Kinds.{Kinds}
 use Rattle.module_table.specs.Said.{Said, only, goal}
-use Rattle.module_table.specs.Kinds.{IsAdded}
+use Rattle.module_table.specs.Kept.{IsAdded}
 
 -- the directive is a goal and nothing was added, or all that it says was
 abbrev pub IsTold : Told → Kinds → Said → Tree → Kinds → Type 0

@@ -4,7 +4,8 @@ ghost use Rattle.std.specs.Prelude.{◌≡◌, IfOk, IfErr, OnOk, Ok};
 ghost use Rattle.prolog_terms.specs.Terms.{tree_of};
 ghost use Rattle.module_table.specs.Said.{IsWhy};
 ghost use Rattle.module_table.specs.declared.kinds.Kinds.{Kinds as KindsOf};
-ghost use Rattle.module_table.specs.Kinds.{IsAdded, see_kinds, with_said};
+ghost use Rattle.module_table.specs.Kinds.{with_said};
+ghost use Rattle.module_table.specs.Kept.{IsAdded, see_kinds};
 ghost use Rattle.module_table.specs.Told.{IsTold};
 ghost use Rattle.module_table.specs.Directives.{home, use_some_said, one_said, two_said, three_said, shallow_said, directive_said, meta_said};
 

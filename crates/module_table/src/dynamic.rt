@@ -3,7 +3,7 @@
 ghost use Rattle.std.specs.Prelude.{◌≡◌, IfOk, IfErr, OnOk, option_map, map};
 ghost use Rattle.prolog_terms.specs.Terms.{tree_of};
 ghost use Rattle.module_table.specs.Said.{IsWhy};
-ghost use Rattle.module_table.specs.Kinds.{IsAdded};
+ghost use Rattle.module_table.specs.Kept.{IsAdded};
 ghost use Rattle.module_table.specs.Dynamic.{name_in, owned, bare_said, joint_sides, whole_items, dynamic_at};
 
 use crate::indicator::{arguments_added, arity_of};

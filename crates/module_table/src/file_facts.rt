@@ -6,7 +6,8 @@ ghost use Rattle.prolog_terms.specs.Terms.{tree_of};
 ghost use Rattle.prolog_terms.specs.Weight.{weight};
 ghost use Rattle.clause_text.specs.Clauses.{clause_tree, clause_trees, text_trees};
 ghost use Rattle.module_table.specs.Said.{IsWhy};
-ghost use Rattle.module_table.specs.Kinds.{AreSaid, IsAdded, see_kinds, with_said};
+ghost use Rattle.module_table.specs.Kinds.{with_said};
+ghost use Rattle.module_table.specs.Kept.{AreSaid, see_kinds};
 ghost use Rattle.module_table.specs.Directives.{home};
 ghost use Rattle.module_table.specs.Facts.{clause_head, headed, clause_said, module_of, trees_said, file_said, AreFacts, Facts, see_facts};
 
@@ -14,16 +15,24 @@ use crate::defined::{Defined, group};
 use crate::directive::push_directive;
 use crate::head::{OwnedHead, grammar_head, head};
 use crate::indicator::Indicator;
-use crate::kinds::{DirectiveGoals, Kinds, close_directive, module_of_file, none_said};
+use crate::kinds::{Kinds, close_directive, module_of_file, none_said};
 use crate::load::Load;
 use crate::meta::Meta;
 use crate::runs::{end_in, push_last, push_run};
 use crate::said::FactFault;
 use clause_text::{Clause, TextClauses, directive_of};
 use prolog_names::Names;
-use prolog_terms::{Term, atom_name, binary, sides};
+use prolog_terms::{NodeList, Term, atom_name, binary, sides};
 use prolog_tokens::Text;
 use std::alloc::Global;
+
+/// The goals of a directive: its nodes, and for each goal how many of them there are up to the goal's
+/// own.
+#[derive(Drop)]
+pub struct DirectiveGoals {
+    pub nodes: NodeList,
+    pub ends: Vec<usize>,
+}
 
 /// What a file says. A file without a module directive belongs to `user`, and then `module_from` is
 /// 0 and `exports` is empty; else `module_from` is the byte offset of the term `module(M, L)`.

@@ -5,9 +5,11 @@ ghost use Rattle.prolog_terms.specs.declared.node.Node.{Node as NodeOf};
 ghost use Rattle.prolog_terms.specs.Terms.{tree_in};
 ghost use Rattle.module_table.specs.declared.said.FactFault.TheVariants.{NoMemory};
 ghost use Rattle.module_table.specs.Said.{declares, goal, see_module, see_part};
-ghost use Rattle.module_table.specs.Kinds.{IsModule, none_said, see_kinds, with_part};
+ghost use Rattle.module_table.specs.Kinds.{IsModule, none_said, with_part};
+ghost use Rattle.module_table.specs.Kept.{see_kinds};
 
 use crate::defined::Defined;
+use crate::file_facts::DirectiveGoals;
 use crate::indicator::Indicator;
 use crate::load::Load;
 use crate::meta::Meta;
@@ -15,14 +17,6 @@ use crate::said::{FactFault, Module, Part};
 use prolog_terms::NodeList;
 use prolog_tokens::Text;
 use std::alloc::{AllocError, Global};
-
-/// The goals of a directive: its nodes, and for each goal how many of them there are up to the goal's
-/// own.
-#[derive(Drop)]
-pub struct DirectiveGoals {
-    pub nodes: NodeList,
-    pub ends: Vec<usize>,
-}
 
 /// What a file says, by kind and each kind in order: of modules the first, and what it defines as
 /// runs. The ends are those of the goals of the directive under way, whose nodes are still to come.

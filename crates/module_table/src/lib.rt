@@ -26,11 +26,10 @@ mod said;
 mod terms;
 
 pub use defined::Defined;
-pub use file_facts::{FileFacts, facts};
+pub use file_facts::{DirectiveGoals, FileFacts, facts};
 pub use file_name::resolve_name;
 pub use goal_arg::GoalArg;
 pub use indicator::Indicator;
-pub use kinds::DirectiveGoals;
 pub use laws::{
     clauses_kept, facts_light, facts_placed, few_added, few_defined, folders_cut, loads_named,
     names_kept, names_lead, names_resolved, none_named, one_facts, one_name, one_of_text,

@@ -4,7 +4,7 @@ ghost use Rattle.std.specs.Prelude.{◌≡◌, IfOk, IfErr, OnOk, [], map, optio
 ghost use Rattle.std.specs.String.{string_bytes};
 ghost use Rattle.prolog_terms.specs.Terms.{tree_of};
 ghost use Rattle.module_table.specs.Said.{IsWhy};
-ghost use Rattle.module_table.specs.Kinds.{IsAdded};
+ghost use Rattle.module_table.specs.Kept.{IsAdded};
 ghost use Rattle.module_table.specs.Loading.{path_text, file_of, is_system, load_said, loads_said, use_all_said};
 
 use crate::file_name::resolve_name;

@@ -33,7 +33,7 @@ pub struct Module {
     pub exports: Vec<Indicator>,
 }
 
-/// One thing that a file says, beside its definitions, its declarations of goal arguments and its goals.
+/// What a file says of modules: which one it declares, or a file that it loads.
 #[derive(Drop)]
 pub enum Part {
     Module(Module),

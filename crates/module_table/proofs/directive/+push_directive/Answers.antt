@@ -4,7 +4,8 @@ use Rattle.prolog_terms.specs.Terms.{tree_in, tree_of}
 use Rattle.prolog_terms.proofs.ViewLemmas.{AreBelow, sides_below}
 use Rattle.module_table.specs.declared.directive.Told.TheVariants.{Goal, Done}
 use Rattle.module_table.specs.Said.{IsWhy, goal as goal_said}
-use Rattle.module_table.specs.Kinds.{see_kinds, with_part, with_said}
+use Rattle.module_table.specs.Kinds.{with_part, with_said}
+use Rattle.module_table.specs.Kept.{see_kinds}
 use Rattle.module_table.specs.Told.{IsTold}
 use Rattle.module_table.specs.Directives.{home, shallow_said, directive_said}
 use Rattle.module_table.proofs.SaidLemmas.{more_none, stops_first, stops_second}

@@ -1,7 +1,7 @@
 use Rattle.std.proofs.Common.{Ok, sym, ap, ◌∙◌}
 use Rattle.prolog_terms.specs.Terms.{tree_of}
 use Rattle.module_table.specs.Metas.{takes_of}
-use Rattle.module_table.specs.Kinds.{see_kinds}
+use Rattle.module_table.specs.Kept.{see_kinds}
 use Rattle.module_table.proofs.KindLemmas.{takes_on}
 use Rattle.module_table.proofs.directive.push_meta.Goals as goal
 

@@ -2,7 +2,7 @@ use Rattle.std.proofs.Common.{◌≡◌, [], Err, ap, ◌∙◌, subst}
 use Rattle.prolog_terms.specs.Terms.{tree_of}
 use Rattle.module_table.specs.declared.load.LoadKind.TheVariants.{UseSome}
 use Rattle.module_table.specs.Said.{Refusal, in_turn}
-use Rattle.module_table.specs.Kinds.{IsAdded}
+use Rattle.module_table.specs.Kept.{IsAdded}
 use Rattle.module_table.specs.Indicators.{listed_indicators}
 use Rattle.module_table.specs.Loading.{load_said}
 use Rattle.module_table.specs.Directives.{some_said}

@@ -9,7 +9,7 @@ use Rattle.prolog_terms.specs.Terms.{tree_of}
 use Rattle.prolog_terms.proofs.ViewLemmas.{AreBelow, sides_below}
 use Rattle.module_table.specs.declared.dynamic.Standing.TheVariants.{Joint, Item}
 use Rattle.module_table.specs.Said.{IsWhy, each_said}
-use Rattle.module_table.specs.Kinds.{IsAdded}
+use Rattle.module_table.specs.Kept.{IsAdded}
 use Rattle.module_table.specs.Dynamic.{dynamic_at, whole_items}
 use Rattle.module_table.proofs.SaidLemmas.{more_none, stops_first, stops_second, each_step, each_stops}
 use Rattle.module_table.proofs.KindLemmas.{adds_on, parts_of_added}

@@ -3,7 +3,7 @@ use Rattle.prolog_terms.specs.Tree.{depth}
 use Rattle.prolog_terms.specs.Terms.{tree_of}
 use Rattle.module_table.specs.declared.dynamic.Standing.TheVariants.{Item}
 use Rattle.module_table.specs.Said.{each_said}
-use Rattle.module_table.specs.Kinds.{IsAdded}
+use Rattle.module_table.specs.Kept.{IsAdded}
 use Rattle.module_table.specs.Dynamic.{dynamic_at}
 use Rattle.module_table.proofs.dynamic.+push_dynamic.Given as goal
 

@@ -1,4 +1,4 @@
-use Rattle.std.proofs.Common.{◌≡◌, ◌<◌, ◌≤◌, List, [], ◌∷◌, Ok, false, length, map, sym, ◌∙◌, ap, subst, arith}
+use Rattle.std.proofs.Common.{◌≡◌, ◌<◌, ◌≤◌, List, [], ◌∷◌, Ok, false, length, sym, ◌∙◌, ap, subst, arith}
 use Rattle.std.proofs.lemmas.List.{length-map}
 use Rattle.std.proofs.Common.{◌++◌, get_or, take, drop}
 use Rattle.std.specs.Prelude.{suc}
@@ -15,7 +15,8 @@ use Rattle.prolog_terms.specs.Weight.{weight}
 use Rattle.clause_text.specs.declared.text_clauses.Clause.{Clause}
 use Rattle.clause_text.specs.Clauses.{clause_tree, clause_trees}
 use Rattle.module_table.specs.Said.{IsWhy}
-use Rattle.module_table.specs.Kinds.{none_said, see_kinds, with_said}
+use Rattle.module_table.specs.Kinds.{none_said, with_said}
+use Rattle.module_table.specs.Kept.{see_kinds}
 use Rattle.module_table.specs.Directives.{home}
 use Rattle.module_table.specs.Facts.{clause_said, trees_said}
 use Rattle.module_table.proofs.KindLemmas.{kinds_go_on, added_parts, are_said}

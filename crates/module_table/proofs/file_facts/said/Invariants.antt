@@ -1,6 +1,7 @@
 use Rattle.std.proofs.Common.{◌≡◌, [], Ok}
 use Rattle.clause_text.specs.Clauses.{clause_trees}
-use Rattle.module_table.specs.Kinds.{none_said, see_kinds, with_said}
+use Rattle.module_table.specs.Kinds.{none_said, with_said}
+use Rattle.module_table.specs.Kept.{see_kinds}
 use Rattle.module_table.specs.Directives.{home}
 use Rattle.module_table.specs.Facts.{trees_said}
 use Rattle.module_table.proofs.FileLemmas.{IsFirst}

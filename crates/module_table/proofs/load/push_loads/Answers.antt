@@ -2,7 +2,7 @@ use Rattle.std.proofs.Common.{[], map, take, sym, ◌∙◌, subst}
 use Rattle.std.proofs.lemmas.Result.{err_from_is_err_and}
 use Rattle.prolog_terms.specs.Terms.{tree_of}
 use Rattle.module_table.specs.Said.{IsWhy}
-use Rattle.module_table.specs.Kinds.{IsAdded}
+use Rattle.module_table.specs.Kept.{IsAdded}
 use Rattle.module_table.specs.Loading.{load_said, loads_said}
 use Rattle.module_table.proofs.SaidLemmas.{each_step, each_stops, more_none}
 use Rattle.module_table.proofs.KindLemmas.{adds_on, parts_of_added}

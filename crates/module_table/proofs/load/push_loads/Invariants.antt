@@ -1,6 +1,6 @@
 use Rattle.std.proofs.Common.{map, take}
 use Rattle.prolog_terms.specs.Terms.{tree_of}
-use Rattle.module_table.specs.Kinds.{IsAdded}
+use Rattle.module_table.specs.Kept.{IsAdded}
 use Rattle.module_table.specs.Loading.{loads_said}
 use Rattle.module_table.proofs.load.push_loads.Given as goal
 
