@@ -8,6 +8,7 @@ use Rattle.std.proofs.lemmas.List.FromFn.{length-range_with_len, get_or-range_wi
 use Rattle.std.proofs.lemmas.Option.{slice_get_within, slice_get-get_or, get_or_from_slice_get}
 use Rattle.list_laws.proofs.Members.{map_from, map_has, stands_in}
 use Rattle.graph_law.specs.Graph.{IsGraph}
+use Rattle.import_rules.specs.declared.resolve.TheConstants.{MOST_PREDICATES}
 use Rattle.module_table.specs.declared.load.Load.{Load}
 use Rattle.module_table.specs.Said.{Loads}
 use Rattle.module_table.specs.Facts.{Facts}
@@ -288,7 +289,7 @@ files_done files modules lists are = record {
 
 -- the lists are those of a graph
 pub is_graph : (files : List Facts) (modules : List (List ℕ)) (lists : List (List ℕ)) (roots : List ℕ) → AreLoadLists files modules lists
-    → roots ≡ range_with_len 0 (length modules) → length modules ≤ 1048576 → IsGraph (record { lists = lists; roots = roots })
+    → roots ≡ range_with_len 0 (length modules) → length modules ≤ MOST_PREDICATES → IsGraph (record { lists = lists; roots = roots })
 is_graph files modules lists roots are all few = record {
   closed = λ p q call.
       let pl = (are.calls p q).0 call in

@@ -2,6 +2,7 @@ ghost use Rattle.std.specs.Prelude.{◌≡◌, ◌<◌, ◌≤◌, ◌^◌, [], 
 ghost use Rattle.std.specs.List.{range_with_len};
 ghost use Rattle.graph_law.specs.Graph.{lists_of};
 ghost use Rattle.module_table.specs.Facts.{see_facts};
+ghost use Rattle.import_rules.specs.declared.resolve.TheConstants.{MOST_PREDICATES};
 ghost use Rattle.loop_report.specs.ImportLoops.{AreModules};
 ghost use Rattle.loop_report.specs.ModuleGraph.{AddsLoads, AreLoadLists, AreRising, file_names, texts_of};
 
@@ -84,7 +85,7 @@ pub(crate) fn module_graph(
     requires modules { AreModules (map see_facts files.now) (texts_of modules.now) }
     requires rising { AreRising (file_names (map see_facts files.now)) }
     requires few_files { length files.now < 2 ^ 32 }
-    requires few_modules { length modules.now ≤ 1048576 }
+    requires few_modules { length modules.now ≤ MOST_PREDICATES }
     ensures lists { IfOk result (λ graph. AreLoadLists (map see_facts files.now) (texts_of modules.now) graph.lists) }
     ensures roots { IfOk result (λ graph. graph.roots ≡ range_with_len 0 (length modules.now)) }
 {
