@@ -6,10 +6,11 @@ ghost use Rattle.file_library.specs.Spots.{StandsInText};
 ghost use Rattle.call_table.specs.Clauses.{AreClausesOf, clause_at, clauses_in};
 ghost use Rattle.call_table.specs.declared.clauses.ClauseAt.{ClauseAt as Clauses};
 ghost use Rattle.import_rules.specs.Program.{see_program};
-ghost use Rattle.module_table.specs.Defined.{clause_tree};
+ghost use Rattle.clause_text.specs.Clauses.{clause_trees};
 
 use clause_text::Clause;
 use import_rules::Program;
+use prolog_names::Names;
 use prolog_terms::start_of;
 use std::alloc::{AllocError, Global};
 
@@ -22,19 +23,20 @@ pub struct ClauseAt {
     pub node: u32,
 }
 
-/// Adds where these clauses start.
+/// Adds where these clauses start, in which names are numbers in these names.
 fn push_clauses(
     file: u32,
     node: u32,
+    names: &Names,
     clauses: &[Clause],
     out: &mut Vec<ClauseAt>,
 ) -> Result<(), AllocError>
-    ensures { OnOk result (out.new.items ≡ out.old.items ++ map (clause_at file node) (map clause_tree clauses.now)) }
+    ensures { OnOk result (out.new.items ≡ out.old.items ++ map (clause_at file node) (clause_trees names.now clauses.now)) }
 {
     for clause in clauses {
         out.push(ClauseAt {
             file,
-            offset: start_of(&clause.term),
+            offset: start_of(&clause.term(names)),
             node,
         })?;
     }
@@ -50,7 +52,7 @@ fn push_clauses_of(program: &Program, node: u32, out: &mut Vec<ClauseAt>) -> Res
     for place in program.places_of(node) {
         let file = &files[place.0 as usize];
         let predicate = &file.defined[place.1 as usize];
-        push_clauses(place.0, node, &predicate.clauses, out)?;
+        push_clauses(place.0, node, &file.names, &predicate.clauses, out)?;
     }
     Ok(())
 }
