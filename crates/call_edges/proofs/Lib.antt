@@ -30,3 +30,4 @@ pub mod GoalFaultLemmas
 pub mod UnresolvedLemmas
 pub mod PlacedCallLemmas
 pub mod CallOffsets
+pub mod SpreadLemmas

@@ -1,5 +1,6 @@
 -- What the code keeps of calls, as it is seen.
-use Rattle.std.specs.Prelude.{ℕ, List, Option, Some, None, map}
+use Rattle.std.specs.Prelude.{ℕ, List, Option, Some, None, Vec, Contains, map}
+use Rattle.std.specs.declared.alloc.Global.{Global}
 use Rattle.import_rules.specs.Names.{pred_name}
 use Rattle.call_edges.specs.declared.placed_calls.PlacedCall.{PlacedCall}
 use Rattle.call_edges.specs.CallPlaces.{CallAt}
@@ -10,6 +11,10 @@ see_call c = record { file = c.file; offset = c.offset; caller = c.caller; calle
 
 abbrev pub see_calls : List PlacedCall → List CallAt
 see_calls calls = map see_call calls
+
+-- the call is one of the list
+abbrev pub HasCall : Vec PlacedCall Global → CallAt → Type 0
+HasCall calls c = Contains (see_calls calls.items) c
 
 -- the call in that file and by that predicate, where what is met is one
 abbrev pub call_met : ℕ → ℕ → Met → Option CallAt

@@ -31,6 +31,7 @@ mod placed;
 mod placed_calls;
 mod role;
 mod roots;
+mod spread_calls;
 mod table;
 mod unresolved;
 mod walking;

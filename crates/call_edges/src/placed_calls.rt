@@ -13,9 +13,11 @@ ghost use Rattle.import_rules.specs.Program.{see_program};
 
 use crate::body::{Body, push_bodies_of};
 use crate::role::Met;
+use crate::spread_calls::spread_calls;
 use crate::walking::walk;
 use import_rules::Program;
 use std::alloc::{AllocError, Global};
+use std::thread::Threads;
 
 /// A call in a clause: the place of its file among the files, the byte offset at which its goal
 /// starts, the number of the predicate that calls, and the name that it calls in a module. Calls are
@@ -95,7 +97,7 @@ fn push_calls_in<'a>(
 }
 
 /// The calls of these predicates, in no order.
-fn calls_from<'a>(
+pub(crate) fn calls_from<'a>(
     alloc: Global,
     program: &'a Program,
     callers: &[u32],
@@ -117,8 +119,10 @@ fn calls_from<'a>(
 
 /// All calls of these predicates, by file and offset and each once: where each goal starts, who calls,
 /// and the name that is called in a module, whether or not it means a predicate there. The files are
-/// given by their places among those of the program, the offsets are of their bytes.
-pub fn calls_of<'a>(
+/// given by their places among those of the program, the offsets are of their bytes. The predicates are
+/// walked side by side.
+pub fn calls_of<'a, R: Threads + Sync>(
+    rt: &R,
     alloc: Global,
     program: &'a Program,
     callers: &[u32],
@@ -128,7 +132,7 @@ pub fn calls_of<'a>(
     ensures stand { IfOk result (λ calls. All (λ (c : CallAt). StandsInText (see_program program.now).loaded.texts c.file c.offset) (see_calls calls.items)) }
 {
     program.is_known();
-    let mut calls = calls_from(alloc, program, callers)?;
+    let mut calls = spread_calls(rt, alloc, program, callers)?;
     calls.sort_unstable();
     calls.dedup();
     Ok(calls)

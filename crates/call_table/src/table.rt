@@ -11,6 +11,7 @@ use call_edges::{PlacedCall, calls_of};
 use import_rules::Program;
 use prolog_tokens::Place;
 use std::alloc::{AllocError, Global};
+use std::thread::Threads;
 
 /// The clauses and the calls of predicates with their places, and which group each predicate of the
 /// program is in.
@@ -47,8 +48,10 @@ fn call_spots(alloc: Global, calls: &[PlacedCall<'_>]) -> Result<Vec<(u32, u32)>
         .collect(alloc)
 }
 
-/// The table of these predicates of the program, and of these groups of its predicates.
-pub fn call_table<'a>(
+/// The table of these predicates of the program, and of these groups of its predicates. The predicates are
+/// walked side by side.
+pub fn call_table<'a, R: Threads + Sync>(
+    rt: &R,
     alloc: Global,
     program: &'a Program,
     nodes: &[u32],
@@ -61,7 +64,7 @@ pub fn call_table<'a>(
     let clauses = clauses_of(alloc, program, nodes)?;
     let clause_spots = clause_spots(alloc, &clauses)?;
     let clause_places = program.places_of_spots(alloc, &clause_spots)?;
-    let calls = calls_of(alloc, program, nodes)?;
+    let calls = calls_of(rt, alloc, program, nodes)?;
     let call_spots = call_spots(alloc, &calls)?;
     let call_places = program.places_of_spots(alloc, &call_spots)?;
     let groups = groups_of(alloc, program.count(), groups)?;

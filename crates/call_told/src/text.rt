@@ -65,11 +65,15 @@ fn predicate_text(alloc: Global, told: &Told<'_>) -> Result<String, AllocError>
 }
 
 /// The clauses and calls of what is told.
-fn table_of<'a>(alloc: Global, told: &Told<'a>) -> Result<CallTable<'a>, AllocError>
+fn table_of<'a, R: Threads + Sync>(
+    rt: &R,
+    alloc: Global,
+    told: &Told<'a>,
+) -> Result<CallTable<'a>, AllocError>
     requires { IsTold told.now }
     ensures { IfOk result (IsTable (see_program told.now.program.now) told.now.nodes.items (lists_of told.now.groups.items)) }
 {
-    call_table(alloc, told.program, &told.nodes, &told.groups)
+    call_table(rt, alloc, told.program, &told.nodes, &told.groups)
 }
 
 /// All lines, of predicates, clauses and calls, in texts one behind the other.
@@ -82,7 +86,7 @@ fn lines_texts<R: Threads + Sync>(
     ensures { IfOk result (λ texts. TellsForm Lines (see_program told.now.program.now) (lists_of told.now.groups.items) told.now.levels.items
         told.now.places.items told.now.nodes.items (joined texts.items)) }
 {
-    let table = table_of(alloc, told)?;
+    let table = table_of(rt, alloc, told)?;
     let mut texts = Vec::new(alloc);
     texts.push(predicate_text(alloc, told)?)?;
     let mut clauses = clause_texts(rt, alloc, told.program, &table)?;
@@ -103,7 +107,7 @@ fn undefined_texts<R: Threads + Sync>(
     ensures { IfOk result (λ texts. TellsForm Undefined (see_program told.now.program.now) (lists_of told.now.groups.items) told.now.levels.items
         told.now.places.items told.now.nodes.items (joined texts.items)) }
 {
-    let table = table_of(alloc, told)?;
+    let table = table_of(rt, alloc, told)?;
     let texts = call_texts(rt, alloc, told.program, &table, true)?;
     forget(table);
     Ok(texts)

@@ -11,7 +11,7 @@ use Rattle.call_table.proofs.SpotOrder.{clauses_are_spots, calls_are_spots}
 use Rattle.call_table.proofs.table.call_table.Goals as goal
 
 pub places_of_spots-requires : goal.places_of_spots-requires
-places_of_spots-requires c =
+places_of_spots-requires g c =
     let seen = see_program c.args.program.now in
     let clauses = c.in_ok-clauses.clauses.items in
     let is : c.deref-2.result.now ≡ map clause_spot clauses =
@@ -19,7 +19,7 @@ places_of_spots-requires c =
     subst (AreSpots seen.loaded.texts) (sym is) (clauses_are_spots seen c.args.nodes.now clauses c.in_ok-clauses.ensures.clauses c.in_ok-clauses.ensures.stand)
 
 pub places_of_spots-requires-2 : goal.places_of_spots-requires-2
-places_of_spots-requires-2 c =
+places_of_spots-requires-2 g c =
     let seen = see_program c.args.program.now in
     let calls = c.in_ok-calls.calls.items in
     let is : c.deref-4.result.now ≡ map call_spot (see_calls calls) =
@@ -27,7 +27,7 @@ places_of_spots-requires-2 c =
     subst (AreSpots seen.loaded.texts) (sym is) (calls_are_spots seen c.args.nodes.now (see_calls calls) c.in_ok-calls.ensures.calls c.in_ok-calls.ensures.stand)
 
 pub returns : goal.returns
-returns c =
+returns g c =
     let seen = see_program c.args.program.now in
     let clauses = c.in_ok-clauses.clauses.items in
     let calls = c.in_ok-calls.calls.items in
