@@ -22,7 +22,7 @@ returns g c =
     let made =
     subst
     (λ f. AllZip (λ (part : Bor (List ℕ)) (one : Result (Vec PlacedCall Global) AllocError). IfOk one
-        (λ calls. (m : CallAt) → Contains (see_calls calls.items) m ↔ IsAmong (IsCallOf (see_program f.1.now)) part.now m)) chain.0 h.0)
+    (λ calls. (m : CallAt) → Contains (see_calls calls.items) m ↔ IsAmong (IsCallOf (see_program f.1.now)) part.now m)) chain.0 h.0)
     c.map.ensures.f chain.2 in
     lists_found (IsCallOf seen) HasCall (λ v. v.items) (chunks_of 1024 callers) callers h.0 c.in_ok-collect.field-0 (chunks_of-concat 1024 callers (omega arith))
     (slice-AllZip chain.0 (chunks_of 1024 callers) chain.1
