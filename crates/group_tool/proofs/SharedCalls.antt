@@ -2,12 +2,14 @@
 use denote.Param.Send.{IsSync, sendable}
 use Rattle.std.proofs.Crossing.{crosses}
 use Rattle.prolog_tokens.proofs.text.Text.TheSendSync as text
-use Rattle.prolog_terms.proofs.term.Term.TheLaws.TheKnot as term
-use Rattle.clause_text.specs.contracts.Clause as of_clause
+use Rattle.prolog_names.proofs.names.Names.TheSendSync as text_names
+use Rattle.prolog_terms.proofs.node_list.NodeList.TheSendSync as nodes
+use Rattle.clause_text.specs.contracts.text_clauses.Clause as of_clause
 use Rattle.module_table.proofs.indicator.Indicator.TheSendSync as indicator
 use Rattle.module_table.proofs.load.Load.TheSendSync as load
 use Rattle.module_table.proofs.meta.Meta.TheSendSync as meta
 use Rattle.module_table.specs.contracts.defined.Defined as of_defined
+use Rattle.module_table.specs.contracts.file_facts.DirectiveGoals as of_goals
 use Rattle.module_table.specs.contracts.file_facts.FileFacts as of_facts
 use Rattle.file_library.specs.contracts.loaded.Loaded as of_loaded
 use Rattle.import_rules.proofs.name_table.NameTable.TheSendSync as names
@@ -15,15 +17,19 @@ use Rattle.import_rules.proofs.places.Places.TheSendSync as places
 use Rattle.import_rules.specs.contracts.program.Program as of_program
 
 clause_shared : IsSync of_clause.the_field.row
-clause_shared = search (sendable, crosses, term.sync-Term) depth 20
+clause_shared = search (sendable, crosses, nodes.the_sync) depth 20
 
 defined_shared : IsSync of_defined.the_field.row
 defined_shared = let clause = clause_shared in search (sendable, crosses, text.the_sync) depth 20
 
+goals_shared : IsSync of_goals.the_field.row
+goals_shared = search (sendable, crosses, nodes.the_sync) depth 20
+
 facts_shared : IsSync of_facts.the_field.row
 facts_shared =
     let defined = defined_shared in
-    search (sendable, crosses, text.the_sync, term.sync-Term, indicator.the_sync, load.the_sync, meta.the_sync) depth 20 fits 3000
+    let goals = goals_shared in
+    search (sendable, crosses, text.the_sync, text_names.the_sync, indicator.the_sync, load.the_sync, meta.the_sync) depth 20 fits 3000
 
 loaded_shared : IsSync of_loaded.the_field.row
 loaded_shared = let facts = facts_shared in search (sendable, crosses, text.the_sync) depth 20 fits 3000

@@ -3,9 +3,10 @@ ghost use Rattle.prolog_tokens.specs.declared.limits.TheConstants.{MOST_BYTES};
 
 use clause_text::{TextFault, cause_text, read_text};
 use module_table::{
-    FactFault, FileFacts, GoalArg, Indicator, Load, LoadKind, Meta, facts, resolve_name,
+    DirectiveGoals, FactFault, FileFacts, GoalArg, Indicator, Load, LoadKind, Meta, facts,
+    resolve_name,
 };
-use prolog_terms::{Term, span_at};
+use prolog_terms::Term;
 use std::alloc::{AllocError, Global};
 use std::thread::Threads;
 
@@ -88,11 +89,29 @@ fn push_metas(alloc: Global, out: &mut String, metas: &[Meta]) -> Result<(), All
     Ok(())
 }
 
-fn push_goals(alloc: Global, out: &mut String, goals: &[Term]) -> Result<(), AllocError> {
-    for goal in goals {
-        let from = span_at(goal).from;
+/// Adds the goals of a directive.
+fn push_goals_in(
+    alloc: Global,
+    out: &mut String,
+    facts: &FileFacts,
+    goals: &DirectiveGoals,
+) -> Result<(), AllocError> {
+    for end in &goals.ends {
+        let goal = Term {
+            names: &facts.names,
+            nodes: &goals.nodes,
+            end: *end,
+        };
+        let from = goal.span().from;
         let text = format!(in alloc; "goal@{from};")?;
         out.push_str(&text)?;
+    }
+    Ok(())
+}
+
+fn push_goals(alloc: Global, out: &mut String, facts: &FileFacts) -> Result<(), AllocError> {
+    for goals in &facts.goals {
+        push_goals_in(alloc, out, facts, goals)?;
     }
     Ok(())
 }
@@ -111,7 +130,7 @@ fn written(alloc: Global, facts: &FileFacts) -> Result<String, AllocError> {
     push_loads(alloc, &mut out, &facts.loads)?;
     push_defined(alloc, &mut out, facts)?;
     push_metas(alloc, &mut out, &facts.metas)?;
-    push_goals(alloc, &mut out, &facts.goals)?;
+    push_goals(alloc, &mut out, facts)?;
     if out.is_empty() {
         out.push_str("nothing")?;
     }
@@ -127,7 +146,7 @@ fn starts(alloc: Global, facts: &FileFacts) -> Result<String, AllocError> {
         let text = format!(in alloc; "{name}/{arity}")?;
         out.push_str(&text)?;
         for clause in &predicate.clauses {
-            let from = span_at(&clause.term).from;
+            let from = clause.term(&facts.names).span().from;
             let text = format!(in alloc; " {from}")?;
             out.push_str(&text)?;
         }
@@ -140,8 +159,8 @@ fn starts(alloc: Global, facts: &FileFacts) -> Result<String, AllocError> {
 fn facts_in<R: Threads + Sync>(rt: &R, alloc: Global, bytes: &[u8]) -> Result<FileFacts, TextFault>
     requires { length bytes.now ≤ MOST_BYTES }
 {
-    let clauses = read_text(rt, alloc, bytes)?;
-    match facts(alloc, "d/f.pl", clauses) {
+    let text = read_text(rt, alloc, bytes)?;
+    match facts(alloc, "d/f.pl", text) {
         Ok(found) => Ok(found),
         Err(FactFault::At(cause, offset)) => Err(TextFault::At(cause, offset)),
         Err(FactFault::NoMemory) => Err(TextFault::NoMemory),

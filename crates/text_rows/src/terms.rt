@@ -2,9 +2,11 @@ ghost use Rattle.std.specs.Prelude.{◌≡◌, ◌≤◌, ◌↔◌, length, sli
 ghost use Rattle.prolog_tokens.specs.declared.limits.TheConstants.{MOST_BYTES};
 ghost use Rattle.prolog_terms.specs.Clause.{IsOneClause};
 
-use prolog_names::number_names;
+use prolog_names::{Names, number_names};
 use prolog_ops::{OpFault, OpKind, OpTable};
-use prolog_terms::{ConstKind, Form, ReadFault, Reader, Term, read_clause};
+use prolog_terms::{
+    ConstKind, Form, NodeList, Parts, ReadFault, Reader, Term, TermKind, read_clause,
+};
 use prolog_tokens::{Kind, Token, TokenFault, tokens};
 use std::alloc::{AllocError, Global};
 
@@ -52,12 +54,13 @@ fn write_constant(
 
 /// Writes the terms with spaces between.
 #[cycle(writing)]
-fn write_parts(alloc: Global, out: &mut String, parts: &[Term]) -> Result<(), AllocError> {
-    for k in 0..parts.len() {
+fn write_parts(alloc: Global, out: &mut String, parts: &Parts) -> Result<(), AllocError> {
+    let terms = parts.to_vec(alloc)?;
+    for (k, term) in terms.iter().enumerate() {
         if k > 0 {
             out.push_str(" ")?;
         }
-        write_term(alloc, out, &parts[k])?;
+        write_term(alloc, out, term)?;
     }
     Ok(())
 }
@@ -67,7 +70,7 @@ fn write_parts(alloc: Global, out: &mut String, parts: &[Term]) -> Result<(), Al
 fn write_items(
     alloc: Global,
     out: &mut String,
-    items: &[Term],
+    items: &Parts,
     close: &str,
 ) -> Result<(), AllocError> {
     out.push_str("[")?;
@@ -92,37 +95,25 @@ fn write_between(
 /// Writes the term with its form's mark before each operator, and parts in brackets.
 #[cycle(writing)]
 fn write_term(alloc: Global, out: &mut String, term: &Term) -> Result<(), AllocError> {
-    match term {
-        Term::Var { .. } => out.push_str("_"),
-        Term::Const {
-            kind,
-            minus,
-            value,
-            ..
-        } => write_constant(alloc, out, *kind, *minus, *value),
-        Term::Atom { name, .. } => out.push_str(name.as_str()),
-        Term::Compound {
-            name,
-            args,
-            form,
-            ..
-        } => {
-            out.push_str(form_mark(*form))?;
-            out.push_str(name.as_str())?;
+    match term.kind() {
+        TermKind::Var => out.push_str("_"),
+        TermKind::Const { kind, minus, value } => write_constant(alloc, out, kind, minus, value),
+        TermKind::Atom { name } => out.push_str(name),
+        TermKind::Compound { name, args, form } => {
+            out.push_str(form_mark(form))?;
+            out.push_str(name)?;
             out.push_str("(")?;
-            write_parts(alloc, out, args)?;
+            write_parts(alloc, out, &args)?;
             out.push_str(")")
         }
-        Term::List { items, tail, .. } => match tail {
-            None => write_items(alloc, out, items, "]"),
-            Some(tail) => {
-                write_items(alloc, out, items, "|")?;
-                write_term(alloc, out, tail)?;
-                out.push_str("]")
-            }
-        },
-        Term::Curly { inner, .. } => write_between(alloc, out, "{", inner, "}"),
-        Term::Paren { inner, .. } => write_between(alloc, out, "(", inner, ")"),
+        TermKind::List { items } => write_items(alloc, out, &items, "]"),
+        TermKind::Tailed { items, tail } => {
+            write_items(alloc, out, &items, "|")?;
+            write_term(alloc, out, &tail)?;
+            out.push_str("]")
+        }
+        TermKind::Curly { inner } => write_between(alloc, out, "{", &inner, "}"),
+        TermKind::Paren { inner } => write_between(alloc, out, "(", &inner, ")"),
     }
 }
 
@@ -150,6 +141,13 @@ fn is_one_clause(tokens: &[Token]) -> bool
     true
 }
 
+/// The nodes of a term, with the names in them.
+#[derive(Drop)]
+struct ReadTerm {
+    names: Names,
+    nodes: NodeList,
+}
+
 /// Why a text isn't read as a term.
 #[derive(Debug, Drop)]
 enum Unread {
@@ -165,7 +163,7 @@ impl From<TokenFault> for Unread {
 }
 
 /// The term that the text is, which is one clause.
-fn read_term(alloc: Global, table: &OpTable, text: &str) -> Result<Term, Unread>
+fn read_term(alloc: Global, table: &OpTable, text: &str) -> Result<ReadTerm, Unread>
     requires { length text.now ≤ MOST_BYTES }
 {
     let found = tokens(alloc, text)?;
@@ -186,7 +184,10 @@ fn read_term(alloc: Global, table: &OpTable, text: &str) -> Result<Term, Unread>
         cut,
         numbered.numbers.as_slice(),
     ) {
-        Ok(term) => Ok(term),
+        Ok(nodes) => Ok(ReadTerm {
+            names: numbered.names,
+            nodes,
+        }),
         Err(fault) => Err(Unread::Clause(fault)),
     }
 }
@@ -218,9 +219,9 @@ pub fn clause_told(alloc: Global, text: &str) -> Result<String, AllocError>
         return String::from_str(alloc, "no table");
     };
     match read_term(alloc, &table, text) {
-        Ok(term) => {
+        Ok(read) => {
             let mut out = String::new(alloc);
-            write_term(alloc, &mut out, &term)?;
+            write_term(alloc, &mut out, &Term::root(&read.names, &read.nodes))?;
             Ok(out)
         }
         Err(unread) => unread_told(alloc, &unread),
@@ -229,9 +230,10 @@ pub fn clause_told(alloc: Global, text: &str) -> Result<String, AllocError>
 
 /// How many items or arguments the term has.
 fn count_parts(term: &Term) -> usize {
-    match term {
-        Term::List { items, .. } => items.len(),
-        Term::Compound { args, .. } => args.len(),
+    match term.kind() {
+        TermKind::List { items } => items.len(),
+        TermKind::Tailed { items, .. } => items.len(),
+        TermKind::Compound { args, .. } => args.len(),
         _ => 0,
     }
 }
@@ -244,7 +246,10 @@ pub fn parts_told(alloc: Global, text: &str) -> Result<String, AllocError>
         return String::from_str(alloc, "no table");
     };
     match read_term(alloc, &table, text) {
-        Ok(term) => format!(in alloc; "{}", count_parts(&term)),
+        Ok(read) => {
+            let count = count_parts(&Term::root(&read.names, &read.nodes));
+            format!(in alloc; "{count}")
+        }
         Err(unread) => unread_told(alloc, &unread),
     }
 }

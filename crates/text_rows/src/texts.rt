@@ -1,8 +1,8 @@
 ghost use Rattle.std.specs.Prelude.{◌≤◌, length};
 ghost use Rattle.prolog_tokens.specs.declared.limits.TheConstants.{MOST_BYTES};
 
-use clause_text::{Clause, read_text};
-use prolog_terms::{Form, Term, inside};
+use clause_text::read_text;
+use prolog_terms::{Form, Term, TermKind, inside};
 use std::alloc::{AllocError, Global};
 use std::thread::Threads;
 
@@ -15,15 +15,15 @@ pub fn count_told<R: Threads + Sync>(
     requires { length bytes.now ≤ MOST_BYTES }
 {
     match read_text(rt, alloc, bytes) {
-        Ok(clauses) => format!(in alloc; "{}", clauses.len()),
+        Ok(text) => format!(in alloc; "{}", text.clauses.len()),
         Err(fault) => format!(in alloc; "{fault:?}"),
     }
 }
 
 /// How a clause is written inside its brackets, where it is a compound term.
-fn form_of(clause: &Clause) -> Option<Form> {
-    match inside(&clause.term) {
-        Term::Compound { form, .. } => Some(*form),
+fn form_of(clause: &Term) -> Option<Form> {
+    match inside(clause).kind() {
+        TermKind::Compound { form, .. } => Some(form),
         _ => None,
     }
 }
@@ -36,13 +36,13 @@ pub fn forms_told<R: Threads + Sync>(
 ) -> Result<String, AllocError>
     requires { length bytes.now ≤ MOST_BYTES }
 {
-    let clauses = match read_text(rt, alloc, bytes) {
-        Ok(clauses) => clauses,
+    let read = match read_text(rt, alloc, bytes) {
+        Ok(text) => text,
         Err(fault) => return format!(in alloc; "{fault:?}"),
     };
     let mut out = String::new(alloc);
-    for clause in &clauses {
-        let form = form_of(clause);
+    for clause in &read.clauses {
+        let form = form_of(&clause.term(&read.names));
         let text = format!(in alloc; "{form:?};")?;
         out.push_str(&text)?;
     }
