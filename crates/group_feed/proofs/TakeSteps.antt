@@ -3,31 +3,25 @@ use Rattle.std.proofs.Common.{◌≡◌, ℕ, ◌<◌, ◌≤◌, ◌+◌, List,
 use Rattle.std.proofs.lemmas.List.{get_or_append_left, get_or_push, length_push, take_at}
 use Rattle.std.proofs.lemmas.List.Elements.{Contains-get_or}
 use Rattle.std.specs.Prelude.{All, Contains}
+use Rattle.graph_law.specs.CallOrder.{AreGroupPlaces}
 use Rattle.graph_law.specs.Classes.{GroupCalls, group_at}
 use Rattle.graph_law.specs.Graph.{Calls}
 use Rattle.graph_law.specs.LegalOrder.{IsLegalOrder}
 use Rattle.graph_law.specs.Stamp.{IsStamped}
 use Rattle.group_release.specs.declared.level.Level.{Level}
 use Rattle.group_release.specs.Level.{level_at}
-use Rattle.group_release.specs.Levels.{IsLevelOf}
-use Rattle.group_release.proofs.LevelSteps.{ArePlacesBelow, AreLevelsSoFar, calls_before, heights_fit, levels_more, places_more, callee_place}
+use Rattle.group_release.specs.Levels.{AreRaised, IsLevelOf}
+use Rattle.group_release.proofs.LevelSteps.{ArePlacesBelow, calls_before, heights_fit, levels_more, places_more, callee_place}
 use Rattle.group_release.proofs.RaisedSteps.{raised_same}
-use Rattle.group_feed.specs.Leveling.{AreLeveled, ArePlaces, AreRaised}
+use Rattle.group_feed.specs.Leveling.{AreLeveled}
 use Rattle.group_feed.specs.Ordered.{AreOrdered}
 
 -- the same in the words of all levels
-places_below : {count : ℕ} {groups : List (List ℕ)} {places : List ℕ} → ArePlaces count groups places → ArePlacesBelow count groups (length groups) places
+places_below : {count : ℕ} {groups : List (List ℕ)} {places : List ℕ} → AreGroupPlaces count groups places → ArePlacesBelow count groups (length groups) places
 places_below are = record { each = are.each; at = are.at }
 
-places_from_below : {count : ℕ} {groups : List (List ℕ)} {places : List ℕ} → ArePlacesBelow count groups (length groups) places → ArePlaces count groups places
+places_from_below : {count : ℕ} {groups : List (List ℕ)} {places : List ℕ} → ArePlacesBelow count groups (length groups) places → AreGroupPlaces count groups places
 places_from_below are = record { each = are.each; at = are.at }
-
-pub levels_so_far : {calls : ℕ → ℕ → Type 0} {groups : List (List ℕ)} {levels : List Level} → AreRaised calls groups levels → AreLevelsSoFar calls groups levels
-levels_so_far are = record { low = are.low; heights = are.heights; marks = are.marks }
-
-raised_from_so_far : {calls : ℕ → ℕ → Type 0} {groups : List (List ℕ)} {levels : List Level} → AreLevelsSoFar calls groups levels
-    → AreRaised calls groups levels
-raised_from_so_far are = record { low = are.low; heights = are.heights; marks = are.marks }
 
 -- the groups that were there stand where they stood, and the new one behind them
 pub old_group : (taken : List (List ℕ)) (group : List ℕ) (i : ℕ) → i < length taken → group_at (taken ++ group ∷ []) i ≡ group_at taken i
@@ -108,7 +102,7 @@ from_all calls taken group i j legal i_lt led =
 
 -- the levels of the old groups are levels among all
 pub old_levels : (calls : ℕ → ℕ → Type 0) (taken : List (List ℕ)) (group : List ℕ) (levels : List Level) → IsLegalOrder calls (taken ++ group ∷ [])
-    → length levels ≡ length taken → AreLevelsSoFar calls taken levels → AreLevelsSoFar calls (taken ++ group ∷ []) levels
+    → length levels ≡ length taken → AreRaised calls taken levels → AreRaised calls (taken ++ group ∷ []) levels
 old_levels calls taken group levels legal each so_far = record {
   low = so_far.low;
   heights = λ i lt.
@@ -135,10 +129,9 @@ leveled_more lists taken group old new levels level ordered are placed is =
       each = omega (arith, long, long_levels, each);
       placed = places_from_below (subst (λ n. ArePlacesBelow (length lists) (taken ++ group ∷ []) n new) (sym long) placed);
       raised =
-          raised_from_so_far
-          (levels_more level ordered.legal (longer taken group) each placed
-          (old_levels (Calls lists) taken group levels ordered.legal each (levels_so_far are.raised))
-          (subst (λ g. IsLevelOf lists new levels g level) (sym (new_group taken group)) is));
+          levels_more level ordered.legal (longer taken group) each placed
+          (old_levels (Calls lists) taken group levels ordered.legal each are.raised)
+          (subst (λ g. IsLevelOf lists new levels g level) (sym (new_group taken group)) is);
     }
 
 -- without memory, the old ones still are
@@ -154,7 +147,7 @@ heights_low lists taken group places levels ordered are small =
     let long : length (taken ++ group ∷ []) ≡ length taken + 1 = length_push taken group in
     let each = are.each in
     heights_fit ordered.legal ordered.nodes small (omega (arith, long, each))
-    (old_levels (Calls lists) taken group levels ordered.legal each (levels_so_far are.raised))
+    (old_levels (Calls lists) taken group levels ordered.legal each are.raised)
 
 -- where a member's callee stands
 pub callee_within : (lists taken : List (List ℕ)) (group : List ℕ) (new : List ℕ) → AreOrdered lists (taken ++ group ∷ [])

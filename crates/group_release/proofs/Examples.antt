@@ -2,6 +2,7 @@
 use Rattle.std.proofs.Common.{◌≡◌, inl, inr, ℕ, zero, suc, true, false, List, [], ◌∷◌, length, refl, sym, subst, ap, arith}
 use Rattle.std.specs.Prelude.{Contains}
 use Rattle.std.specs.List.Sorted.{IsStrictlyIncreasing}
+use Rattle.list_laws.proofs.OneOrder.{in_first, nothing_in}
 use Rattle.graph_law.specs.Graph.{Calls}
 use Rattle.graph_law.specs.Classes.{group_at}
 use Rattle.group_release.specs.declared.level.Level.{Level}
@@ -18,16 +19,13 @@ only_member : (x p : ℕ) → Contains (x ∷ []) p → x ≡ p
 only_member x p (zero, lt, at) = at
 only_member x p (suc k, lt, at) = absurd (omega (arith, lt))
 
-first_member : (x : ℕ) → Contains (x ∷ []) x
-first_member x = (0, omega arith, refl)
-
 -- a node in two groups, one that is none, a group whose members descend, an empty one
 
 in_two_groups : AreReleased (of 3 (just 1 ∷ just 1 ∷ [])) → ⊥
-in_two_groups are = omega (arith, are.apart.once 0 1 1 (omega arith) (omega arith) (first_member 1) (first_member 1))
+in_two_groups are = omega (arith, are.apart.once 0 1 1 (omega arith) (omega arith) (in_first 1 []) (in_first 1 []))
 
 no_node : AreReleased (of 3 (just 3 ∷ [])) → ⊥
-no_node are = omega (arith, are.apart.below 0 3 (omega arith) (first_member 3))
+no_node are = omega (arith, are.apart.below 0 3 (omega arith) (in_first 3 []))
 
 descending : AreReleased (of 3 ((2 ∷ 0 ∷ []) ∷ [])) → ⊥
 descending are = omega (arith, are.ascending 0 [] (omega arith) 0 (omega arith))
@@ -38,7 +36,7 @@ empty_group are = omega (arith, are.inhabited 0 [] (omega arith))
 -- what is released already can't be released again, nor what is no node
 
 twice : IsNewGroup (of 3 (just 1 ∷ [])) (just 1) → ⊥
-twice group = group.fresh 1 (first_member 1) (record { place = 0; within = omega arith; member = first_member 1 })
+twice group = group.fresh 1 (in_first 1 []) (record { place = 0; within = omega arith; member = in_first 1 [] })
 
 past_the_last : IsNewGroup (of 3 []) (just 3) → ⊥
 past_the_last group = omega (arith, group.below 0 0 (omega arith))
@@ -79,14 +77,11 @@ as_high are = omega (
     caller_within = omega arith;
     callee_within = omega arith;
     other = λ is. omega (arith, is);
-    is_caller = first_member 0;
-    is_callee = first_member 1;
-    call = first_member 1;
+    is_caller = in_first 0 [];
+    is_callee = in_first 1 [];
+    call = in_first 1 [];
   }),
 )
 
-no_callee : (p : ℕ) → Contains [] p → ⊥
-no_callee p (k, lt, at) = omega (arith, lt)
-
 called_recursive : (second : Level) → AreLevels (Calls chain) groups (record { height = 0; recursive = true } ∷ second ∷ []) → ⊥
-called_recursive second are = elim ((are.marks 0 (omega arith)).0 refl) [ inl two ↦ omega (arith, two) | inr own ↦ no_callee 1 own.1 ]
+called_recursive second are = elim ((are.marks 0 (omega arith)).0 refl) [ inl two ↦ omega (arith, two) | inr own ↦ nothing_in 1 own.1 ]

@@ -9,10 +9,19 @@ use Rattle.list_laws.proofs.Counting.{counted, standing}
 use Rattle.list_laws.proofs.Standing.{total_at, total_less, times-flat-map}
 use Rattle.graph_law.specs.Classes.{HasMember}
 use Rattle.search_stack.specs.Search.{SearchValue}
-use Rattle.blocked_table.specs.Kept.{kept_at}
-use Rattle.blocked_table.proofs.Chain.{none_is_not}
-use Rattle.group_release.specs.Outline.{kept_nodes, listed, nodes_of, wanted_nodes, wants_of}
-use Rattle.group_release.proofs.Nodes.{from_flat, in_flat}
+use Rattle.blocked_table.specs.Kept.{kept_at, Holds}
+use Rattle.blocked_table.proofs.Chain.{none_is_not, place_within}
+use Rattle.group_release.specs.Outline.{kept_nodes, listed, nodes_of, nodes_on, wanted_nodes, wants_of}
+use Rattle.group_release.proofs.Nodes.{from_flat, in_flat, on_counted}
+use Rattle.group_release.proofs.OnceCounts.{one_of}
+
+-- what a search at a place holds
+pub held_counted : (kept : List (Option SearchValue)) (i v : ℕ) → Holds kept i v → 0 < times v (kept_nodes kept)
+held_counted kept i v holds =
+    let f : Option SearchValue → ℕ = λ o. times v (nodes_of o) in
+    let least : f (kept_at kept i) ≤ total f kept = one_of f None kept i (place_within kept i holds.search holds.at) in
+    let here : f (kept_at kept i) ≡ times v (nodes_on holds.search.stack) = ap f holds.at in
+    omega (arith, least, here, on_counted holds.search.stack v holds.on, times-flat-map v nodes_of kept)
 
 -- one place changes
 pub kept_change : (x : ℕ) (old new : List (Option SearchValue)) (place : ℕ) → ((i : ℕ) → (i ≡ place → ⊥) → kept_at new i ≡ kept_at old i)

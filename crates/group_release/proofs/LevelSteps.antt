@@ -10,7 +10,7 @@ use Rattle.graph_law.specs.Graph.{Calls}
 use Rattle.graph_law.specs.LegalOrder.{IsLegalOrder, StandsUpTo}
 use Rattle.group_release.specs.declared.level.Level.{Level}
 use Rattle.group_release.specs.Level.{AreLevels, level_at}
-use Rattle.group_release.specs.Levels.{IsLevelOf, IsRaised, MembersLeadDown}
+use Rattle.group_release.specs.Levels.{AreRaised, IsLevelOf, IsRaised, MembersLeadDown}
 use Rattle.graph_law.specs.Stamp.{IsStamped}
 use Rattle.group_release.proofs.FewGroups.{few_groups}
 use Rattle.group_release.proofs.RaisedSteps.{raised_same}
@@ -19,12 +19,6 @@ use Rattle.group_release.proofs.RaisedSteps.{raised_same}
 pub record ArePlacesBelow (count : ℕ) (groups : List (List ℕ)) (n : ℕ) (places : List ℕ) : Type 0 where
   pub each : length places ≡ count
   pub at : (i p : ℕ) → i < n → Contains (group_at groups i) p → get_or places p 0 ≡ i
-
--- the levels of the first groups
-pub record AreLevelsSoFar (calls : ℕ → ℕ → Type 0) (groups : List (List ℕ)) (levels : List Level) : Type 0 where
-  pub low : (i : ℕ) → i < length levels → (level_at levels i).height ≤ i
-  pub heights : (i : ℕ) → i < length levels → IsRaised (GroupCalls calls groups i) levels 0 (level_at levels i).height
-  pub marks : (i : ℕ) → i < length levels → IsTrue (level_at levels i).recursive ↔ IsRecursive calls (group_at groups i)
 
 -- one group more has its places
 pub places_more : {calls : ℕ → ℕ → Type 0} {count : ℕ} {groups : List (List ℕ)} {n : ℕ} {old new : List ℕ} → IsLegalOrder calls groups
@@ -108,55 +102,58 @@ raised_kept P levels level height within is =
       least = elim is.least [ inl none ↦ inl none | inr (j, led, at) ↦ inr (j, led, omega (arith, same j led, at)) ];
     }
 
--- one group more has its level
-pub levels_more : {lists : List (List ℕ)} {count : ℕ} {groups : List (List ℕ)} {n : ℕ} {places : List ℕ} {levels : List Level} (level : Level)
-    → IsLegalOrder (Calls lists) groups → n < length groups → length levels ≡ n → ArePlacesBelow count groups (n + 1) places
-    → AreLevelsSoFar (Calls lists) groups levels → IsLevelOf lists places levels (group_at groups n) level
-    → AreLevelsSoFar (Calls lists) groups (levels ++ level ∷ [])
-levels_more {lists} {count} {groups} {n} {places} {levels} level legal within each are so_far is =
-    let calls : ℕ → ℕ → Type 0 = Calls lists in
+-- one group more has its level, which is raised above those that it calls
+pub raised_more : {calls : ℕ → ℕ → Type 0} {groups : List (List ℕ)} {levels : List Level} (level : Level) → IsLegalOrder calls groups
+    → AreRaised calls groups levels → IsRaised (GroupCalls calls groups (length levels)) levels 0 level.height
+    → IsTrue level.recursive ↔ IsRecursive calls (group_at groups (length levels)) → AreRaised calls groups (levels ++ level ∷ [])
+raised_more {calls} {groups} {levels} level legal so_far found mark =
     let none : Level = record { height = 0; recursive = false } in
     let more : List Level = levels ++ level ∷ [] in
+    let n : ℕ = length levels in
     let long : length more ≡ length levels + 1 = length_push levels level in
-    let before : (i : ℕ) → i < length levels → level_at more i ≡ level_at levels i = λ i lt. get_or_append_left levels (level ∷ []) none i lt in
-    let last : (i : ℕ) → length levels ≤ i → i < length more → (i ≡ n) × (level_at more i ≡ level) =
-    λ i from lt. (omega (arith, from, lt, long, each), get_or_push levels level none i (omega (arith, from, lt, long))) in
-    let found : IsRaised (GroupCalls calls groups n) levels 0 level.height =
-    raised_by_calls legal within are (subst (λ k. IsRaised (MembersLeadDown lists places k (group_at groups n)) levels 0 level.height) each is.height) in
+    let before : (i : ℕ) → i < n → level_at more i ≡ level_at levels i = λ i lt. get_or_append_left levels (level ∷ []) none i lt in
+    let last : (i : ℕ) → n ≤ i → i < length more → (i ≡ n) × (level_at more i ≡ level) =
+    λ i from lt. (omega (arith, from, lt, long), get_or_push levels level none i (omega (arith, from, lt, long))) in
     let low : level.height ≤ n =
     elim found.least [
       | inl zero_height ↦ omega (arith, zero_height)
-      | inr (j, led, at) ↦
-          let earlier : j < n = calls_before legal led in
-          omega (arith, at, earlier, so_far.low j (omega (arith, earlier, each)))
+      | inr (j, led, at) ↦ (let earlier : j < n = calls_before legal led in omega (arith, at, earlier, so_far.low j earlier))
     ] in
     let kept : (i height : ℕ) → i ≤ n → IsRaised (GroupCalls calls groups i) levels 0 height → IsRaised (GroupCalls calls groups i) more 0 height =
     λ i height upto raised.
     raised_kept (GroupCalls calls groups i) levels level height
-    (λ j led. let earlier : j < i = calls_before legal led in omega (arith, earlier, upto, each)) raised in
+    (λ j led. let earlier : j < i = calls_before legal led in omega (arith, earlier, upto)) raised in
     record {
-      low = λ i lt.
-          elim (cases_lt i (length levels)) [
-            | inl first ↦ rw (before i first) (so_far.low i first)
-            | inr from ↦ let (is_n, is_level) = last i from lt in rw is_level (omega (arith, is_n, low))
-          ];
-      heights = λ i lt.
-          elim (cases_lt i (length levels)) [
-            | inl first ↦ rw (before i first) (kept i (level_at levels i).height (omega (arith, first, each)) (so_far.heights i first))
-            | inr from ↦
-                let here : IsRaised (GroupCalls calls groups n) more 0 level.height = kept n level.height (omega arith) found in
-                rw ((last i from lt).1, (last i from lt).0) here
-          ];
-      marks = λ i lt.
-          elim (cases_lt i (length levels)) [
-            | inl first ↦ rw (before i first) (so_far.marks i first)
-            | inr from ↦ rw ((last i from lt).1, (last i from lt).0) is.mark
-          ];
+      low = λ i lt. elim (cases_lt i n) [
+        | inl first ↦ rw (before i first) (so_far.low i first)
+        | inr from ↦ (let (is_n, is_level) = last i from lt in rw is_level (omega (arith, is_n, low)))
+      ];
+      heights = λ i lt. elim (cases_lt i n) [
+        | inl first ↦ rw (before i first) (kept i (level_at levels i).height (omega (arith, first)) (so_far.heights i first))
+        | inr from ↦
+            let here : IsRaised (GroupCalls calls groups n) more 0 level.height = kept n level.height (omega arith) found in
+            rw ((last i from lt).1, (last i from lt).0) here
+      ];
+      marks = λ i lt. elim (cases_lt i n) [
+        | inl first ↦ rw (before i first) (so_far.marks i first)
+        | inr from ↦ rw ((last i from lt).1, (last i from lt).0) mark
+      ];
     }
+
+-- and so where the level is found by the places of the groups
+pub levels_more : {lists : List (List ℕ)} {count : ℕ} {groups : List (List ℕ)} {n : ℕ} {places : List ℕ} {levels : List Level} (level : Level)
+    → IsLegalOrder (Calls lists) groups → n < length groups → length levels ≡ n → ArePlacesBelow count groups (n + 1) places
+    → AreRaised (Calls lists) groups levels → IsLevelOf lists places levels (group_at groups n) level
+    → AreRaised (Calls lists) groups (levels ++ level ∷ [])
+levels_more {lists} {count} {groups} {n} {places} {levels} level legal within each are so_far is =
+    let found : IsRaised (GroupCalls (Calls lists) groups n) levels 0 level.height =
+    raised_by_calls legal within are (subst (λ k. IsRaised (MembersLeadDown lists places k (group_at groups n)) levels 0 level.height) each is.height) in
+    raised_more level legal so_far (subst (λ k. IsRaised (GroupCalls (Calls lists) groups k) levels 0 level.height) (sym each) found)
+    (subst (λ k. IsTrue level.recursive ↔ IsRecursive (Calls lists) (group_at groups k)) (sym each) is.mark)
 
 -- all groups have their levels
 pub levels_done : {calls : ℕ → ℕ → Type 0} {groups : List (List ℕ)} {levels : List Level} → IsLegalOrder calls groups
-    → length levels ≡ length groups → AreLevelsSoFar calls groups levels → AreLevels calls groups levels
+    → length levels ≡ length groups → AreRaised calls groups levels → AreLevels calls groups levels
 levels_done {calls} {groups} {levels} legal each so_far =
     let height : Level → ℕ = λ level. level.height in
     let none : Level = record { height = 0; recursive = false } in
@@ -180,7 +177,7 @@ levels_done {calls} {groups} {levels} legal each so_far =
 
 -- the heights so far leave room for one more
 pub heights_fit : {calls : ℕ → ℕ → Type 0} {count : ℕ} {groups : List (List ℕ)} {levels : List Level} → IsLegalOrder calls groups
-    → ((p : ℕ) → HasMember groups p → p < count) → count < 4294967296 → length levels < length groups → AreLevelsSoFar calls groups levels
+    → ((p : ℕ) → HasMember groups p → p < count) → count < 4294967296 → length levels < length groups → AreRaised calls groups levels
     → All (λ (level : Level). level.height < 4294967295) levels
 heights_fit {calls} {count} {groups} {levels} legal nodes small within so_far =
     let none : Level = record { height = 0; recursive = false } in

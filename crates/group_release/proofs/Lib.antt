@@ -1,6 +1,7 @@
 pub mod Examples
 pub mod Coding
 pub mod Nodes
+pub mod OnceCounts
 pub mod KeptCounts
 pub mod Beside
 pub mod Gathering

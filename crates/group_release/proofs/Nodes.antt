@@ -8,7 +8,7 @@ use Rattle.list_laws.specs.Counts.{times, flat}
 use Rattle.list_laws.proofs.Counting.{times-append, counted}
 use Rattle.graph_law.specs.Classes.{HasMember}
 use Rattle.search_stack.specs.Stack.{Entry, Stack, size, node, position}
-use Rattle.search_stack.specs.Search.{IsOn, below_frame, joined, lowered}
+use Rattle.search_stack.specs.Search.{IsOn, below_frame, joined, lowered, nodes_from}
 use Rattle.group_release.specs.Outline.{nodes_on}
 
 -- a node is on a stack just where it is in the list of its nodes
@@ -55,6 +55,16 @@ pub below_nodes : (x : ℕ) (d : Stack) (frame : ℕ)
     → times x (nodes_on (below_frame d frame)) ≡ times x (map (λ entry. entry.node) (take (position d frame) d.entries))
 unfolding below_frame
 below_nodes x d frame = refl
+
+drop_nodes : (x p : ℕ) (es : List Entry) → times x (drop p (map (λ entry. entry.node) es)) ≡ times x (map (λ entry. entry.node) (drop p es))
+drop_nodes x zero es = refl
+drop_nodes x (suc p) [] = refl
+drop_nodes x (suc p) (e ∷ es) = drop_nodes x p es
+
+-- the nodes below a frame, and those from it on
+pub below_counted : (s : Stack) (frame x : ℕ) → times x (nodes_on (below_frame s frame)) + times x (nodes_from s frame) ≡ times x (nodes_on s)
+unfolding below_frame nodes_from
+below_counted s frame x = omega (arith, split_nodes x (position s frame) s.entries, drop_nodes x (position s frame) s.entries)
 
 -- a low that falls moves no node
 pub lowered_nodes : (s : Stack) (place : ℕ) → nodes_on (lowered s place) ≡ nodes_on s

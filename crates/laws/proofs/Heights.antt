@@ -8,7 +8,8 @@ use Rattle.graph_law.specs.Graph.{Calls}
 use Rattle.graph_law.specs.LegalOrder.{IsLegalOrder, StandsUpTo}
 use Rattle.group_release.specs.declared.level.Level.{Level}
 use Rattle.group_release.specs.Level.{AreLevels, level_at}
-use Rattle.group_release.specs.Levels.{IsRaised}
+use Rattle.group_release.specs.Levels.{AreRaised, IsRaised}
+use Rattle.group_release.proofs.LevelSteps.{calls_before, levels_done, raised_more}
 use Rattle.laws.proofs.Choices.{Decided, found_in_or, in_or_out}
 
 -- one group calls another or not
@@ -123,34 +124,7 @@ mark_of lists group height (inl is) = (record { height = height; recursive = tru
 mark_of lists group height (inr isnt) =
     (record { height = height; recursive = false }, refl, (λ told. (let both : true ≡ false = sym told in cc), λ recursive. absurd (isnt recursive)))
 
-raised_kept : (P : ℕ → Type 0) (levels : List Level) (level : Level) (height : ℕ) → ((j : ℕ) → P j → j < length levels)
-    → IsRaised P levels 0 height → IsRaised P (levels ++ level ∷ []) 0 height
-raised_kept P levels level height within is =
-    let same : (j : ℕ) → P j → (level_at (levels ++ level ∷ []) j).height ≡ (level_at levels j).height =
-    λ j led.
-    ap (λ (each : Level). each.height) (get_or_append_left levels (level ∷ []) (record { height = 0; recursive = false }) j (within j led)) in
-    record {
-      kept = is.kept;
-      above = λ j led. omega (arith, same j led, is.above j led);
-      least = elim is.least [ inl none ↦ inl none | inr (j, led, at) ↦ inr (j, led, omega (arith, same j led, at)) ];
-    }
-
--- the levels of the first groups
-record AreFirstLevels (lists : List (List ℕ)) (groups : List (List ℕ)) (levels : List Level) : Type 0 where
-  low : (i : ℕ) → i < length levels → (level_at levels i).height ≤ i
-  heights : (i : ℕ) → i < length levels → IsRaised (GroupCalls (Calls lists) groups i) levels 0 (level_at levels i).height
-  marks : (i : ℕ) → i < length levels → IsTrue (level_at levels i).recursive ↔ IsRecursive (Calls lists) (group_at groups i)
-
 module _ (lists : List (List ℕ)) (groups : List (List ℕ)) (legal : IsLegalOrder (Calls lists) groups) where
-  -- a group calls only groups before it
-  calls_before : {i j : ℕ} → GroupCalls (Calls lists) groups i j → j < i
-  calls_before {i} {j} led =
-      let stands : StandsUpTo groups i led.callee = legal.callees_first i led.caller led.callee led.caller_within led.is_caller led.call in
-      let within : i < length groups = led.caller_within in
-      let same : stands.place ≡ j =
-      legal.once stands.place j led.callee (omega (arith, stands.upto, within)) led.callee_within stands.member led.is_callee in
-      elim (cases_eq i j) [ inl is ↦ absurd (led.other is) | inr ne ↦ omega (arith, ne, same, stands.upto) ]
-
   abbrev Leads : ℕ → ℕ → Type 0
   Leads = GroupCalls (Calls lists) groups
 
@@ -158,49 +132,13 @@ module _ (lists : List (List ℕ)) (groups : List (List ℕ)) (legal : IsLegalOr
   next_height levels =
       let n : ℕ = length levels in
       let high : (height : ℕ) × IsHighBelow (Leads n) levels n height = high_below (Leads n) (leads_or lists groups n) levels n in
-      (high.0, record { kept = omega arith; above = λ j led. high.1.above j (calls_before led) led; least = high.1.least })
+      (high.0, record { kept = omega arith; above = λ j led. high.1.above j (calls_before legal led) led; least = high.1.least })
 
-  levels_more : (levels : List Level) (level : Level) → length levels < length groups → AreFirstLevels lists groups levels
-      → IsRaised (Leads (length levels)) levels 0 level.height → IsTrue level.recursive ↔ IsRecursive (Calls lists) (group_at groups (length levels))
-      → AreFirstLevels lists groups (levels ++ level ∷ [])
-  levels_more levels level within so_far found mark =
-      let none : Level = record { height = 0; recursive = false } in
-      let more : List Level = levels ++ level ∷ [] in
-      let n : ℕ = length levels in
-      let long : length more ≡ length levels + 1 = length_push levels level in
-      let before : (i : ℕ) → i < n → level_at more i ≡ level_at levels i = λ i lt. get_or_append_left levels (level ∷ []) none i lt in
-      let last : (i : ℕ) → n ≤ i → i < length more → (i ≡ n) × (level_at more i ≡ level) =
-      λ i from lt. (omega (arith, from, lt, long), get_or_push levels level none i (omega (arith, from, lt, long))) in
-      let low : level.height ≤ n =
-      elim found.least [
-        | inl zero_height ↦ omega (arith, zero_height)
-        | inr (j, led, at) ↦ (let earlier : j < n = calls_before led in omega (arith, at, earlier, so_far.low j earlier))
-      ] in
-      let kept : (i height : ℕ) → i ≤ n → IsRaised (Leads i) levels 0 height → IsRaised (Leads i) more 0 height =
-      λ i height upto raised.
-      raised_kept (Leads i) levels level height (λ j led. let earlier : j < i = calls_before led in omega (arith, earlier, upto)) raised in
-      record {
-        low = λ i lt. elim (cases_lt i n) [
-          | inl first ↦ rw (before i first) (so_far.low i first)
-          | inr from ↦ (let (is_n, is_level) = last i from lt in rw is_level (omega (arith, is_n, low)))
-        ];
-        heights = λ i lt. elim (cases_lt i n) [
-          | inl first ↦ rw (before i first) (kept i (level_at levels i).height (omega (arith, first)) (so_far.heights i first))
-          | inr from ↦
-              let here : IsRaised (Leads n) more 0 level.height = kept n level.height (omega arith) found in
-              rw ((last i from lt).1, (last i from lt).0) here
-        ];
-        marks = λ i lt. elim (cases_lt i n) [
-          | inl first ↦ rw (before i first) (so_far.marks i first)
-          | inr from ↦ rw ((last i from lt).1, (last i from lt).0) mark
-        ];
-      }
-
-  first_levels : (n : ℕ) → n ≤ length groups → (levels : List Level) × (length levels ≡ n) × AreFirstLevels lists groups levels
-  first_levels zero le =
+  first_levels : (n : ℕ) → (levels : List Level) × (length levels ≡ n) × AreRaised (Calls lists) groups levels
+  first_levels zero =
       ([], refl, record { low = λ i lt. absurd (omega (arith, lt)); heights = λ i lt. absurd (omega (arith, lt)); marks = λ i lt. absurd (omega (arith, lt)) })
-  first_levels (suc n) le =
-      let before : (levels : List Level) × (length levels ≡ n) × AreFirstLevels lists groups levels = first_levels n (omega (arith, le)) in
+  first_levels (suc n) =
+      let before : (levels : List Level) × (length levels ≡ n) × AreRaised (Calls lists) groups levels = first_levels n in
       let levels : List Level = before.0 in
       let high : (height : ℕ) × IsRaised (Leads (length levels)) levels 0 height = next_height levels in
       let group : List ℕ = group_at groups (length levels) in
@@ -209,33 +147,10 @@ module _ (lists : List (List ℕ)) (groups : List (List ℕ)) (legal : IsLegalOr
       let each : length levels ≡ n = before.1 in (
         levels ++ level.0 ∷ [],
         omega (arith, length_push levels level.0, each),
-        levels_more levels level.0 (omega (arith, each, le)) before.2 (subst (IsRaised (Leads (length levels)) levels 0) (sym level.1) high.1) level.2,
+        raised_more level.0 legal before.2 (subst (IsRaised (Leads (length levels)) levels 0) (sym level.1) high.1) level.2,
       )
-
-  levels_done : (levels : List Level) → length levels ≡ length groups → AreFirstLevels lists groups levels → AreLevels (Calls lists) groups levels
-  levels_done levels each so_far =
-      let height : Level → ℕ = λ level. level.height in
-      let none : Level = record { height = 0; recursive = false } in
-      let at : (i : ℕ) → i < length groups → get_or (map height levels) i 0 ≡ (level_at levels i).height =
-      λ i lt. get_or-map height levels i none 0 (omega (arith, lt, each)) in
-      record {
-        heights = record {
-          each = length-map levels height ∙ each;
-          above = λ i j led.
-              let within = led.caller_within in
-              let inside = led.callee_within in
-              omega (arith, at i within, at j inside, (so_far.heights i (omega (arith, within, each))).above j led);
-          least = λ i lt.
-              elim (so_far.heights i (omega (arith, lt, each))).least [
-                | inl zero_height ↦ inl (at i lt ∙ zero_height)
-                | inr (j, led, is) ↦ inr (j, led, (let inside = led.callee_within in omega (arith, at i lt, at j inside, is)))
-              ];
-        };
-        marks = λ i lt. so_far.marks i (omega (arith, lt, each));
-      }
 
   pub levels_of : (levels : List Level) × AreLevels (Calls lists) groups levels
   levels_of =
-      let all : (levels : List Level) × (length levels ≡ length groups) × AreFirstLevels lists groups levels =
-      first_levels (length groups) (omega arith) in
-      (all.0, levels_done all.0 all.1 all.2)
+      let all : (levels : List Level) × (length levels ≡ length groups) × AreRaised (Calls lists) groups levels = first_levels (length groups) in
+      (all.0, levels_done legal all.1 all.2)

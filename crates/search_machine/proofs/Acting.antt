@@ -202,9 +202,6 @@ fails fields book {t} place stops is = record {
   only = λ i. record { lists = (is i).lists; roots = (is i).roots; failed = (is i).failed; state = t };
 }
 
-pub put_long : (xs : List (Option SearchValue)) (place : ℕ) (gone after : Option SearchValue) → length (set (set xs place gone) place after) ≡ length xs
-put_long xs place gone after = length-set (set xs place gone) place after ∙ length-set xs place gone
-
 -- the place that has a search runs
 runs_by : (fields : Inside) (place : ℕ) (there : Option SearchValue) → kept_at fields.running.items place ≡ there → is_some there ≡ true
     → waiting_at (state_of fields) place ≡ None → (stack : Stack) × Runs (state_of fields) place stack

@@ -1,44 +1,20 @@
 -- How often a node is counted where it stands at one place, and at two.
-use Rattle.std.proofs.Common.{◌≡◌, inl, inr, ℕ, zero, suc, ◌<◌, ◌≤◌, ◌+◌, List, [], ◌∷◌, length, map, take, drop, get_or, ne_eqb, Option, None, Some, refl, ap, ◌∙◌, arith}
+use Rattle.std.proofs.Common.{◌≡◌, inl, inr, ℕ, suc, ◌≤◌, ◌+◌, List, [], ◌∷◌, length, map, get_or, Option, None, Some, refl, ap, ◌∙◌, arith}
 use Rattle.std.proofs.lemmas.Bool.{cases_eq, cases_lt}
 use Rattle.std.proofs.lemmas.List.{get_or_past, map-append}
-use Rattle.std.proofs.lemmas.Map.Keys.{IsDistinct-from_apart}
-use Rattle.std.specs.List.{IsDistinct as AreDistinct}
-use Rattle.std.specs.Prelude.{nat_eq}
 use Rattle.list_laws.specs.Counts.{times, flat, total}
 use Rattle.list_laws.proofs.Counting.{times-append, times_here}
 use Rattle.list_laws.proofs.Standing.{total_at, times-flat-map}
-use Rattle.search_stack.specs.Stack.{Entry, Stack, size, node, position}
-use Rattle.search_stack.specs.Search.{SearchValue, IsDistinct, below_frame, nodes_from, pushed}
+use Rattle.search_stack.specs.Stack.{Entry, Stack, size, node}
+use Rattle.search_stack.specs.Search.{SearchValue, IsDistinct, pushed}
 use Rattle.search_stack.proofs.UnderWay.{SameNodes}
 use Rattle.blocked_table.specs.Kept.{kept_at, Holds, IsApart}
 use Rattle.blocked_table.proofs.Chain.{place_within}
 use Rattle.group_release.specs.Outline.{kept_nodes, listed, nodes_of, nodes_on}
 use Rattle.group_release.proofs.Nodes.{on_counted}
+use Rattle.group_release.proofs.OnceCounts.{one_of, two_of}
 
--- two elements of a list add up to no more than all
-pub one_of : {A : Type 0} (f : A → ℕ) (d : A) (xs : List A) (i : ℕ) → i < length xs → f (get_or xs i d) ≤ total f xs
-one_of f d [] i lt = absurd (omega (arith, lt))
-one_of f d (x ∷ xs) zero lt = omega arith
-one_of f d (x ∷ xs) (suc i) lt = let rest = one_of f d xs i (omega (arith, lt)) in omega (arith, rest)
-
-pub two_of : {A : Type 0} (f : A → ℕ) (d : A) (xs : List A) (i j : ℕ) → i < length xs → j < length xs → (i ≡ j → ⊥)
-    → f (get_or xs i d) + f (get_or xs j d) ≤ total f xs
-two_of f d [] i j lt within other = absurd (omega (arith, lt))
-two_of f d (x ∷ xs) zero zero lt within other = absurd (other refl)
-two_of f d (x ∷ xs) zero (suc j) lt within other = let rest = one_of f d xs j (omega (arith, within)) in omega (arith, rest)
-two_of f d (x ∷ xs) (suc i) zero lt within other = let rest = one_of f d xs i (omega (arith, lt)) in omega (arith, rest)
-two_of f d (x ∷ xs) (suc i) (suc j) lt within other =
-    let rest = two_of f d xs i j (omega (arith, lt)) (omega (arith, within)) (λ is. other (ap suc is)) in omega (arith, rest)
-
--- what a search at a place holds
-pub held_counted : (kept : List (Option SearchValue)) (i v : ℕ) → Holds kept i v → 0 < times v (kept_nodes kept)
-held_counted kept i v holds =
-    let f : Option SearchValue → ℕ = λ o. times v (nodes_of o) in
-    let least : f (kept_at kept i) ≤ total f kept = one_of f None kept i (place_within kept i holds.search holds.at) in
-    let here : f (kept_at kept i) ≡ times v (nodes_on holds.search.stack) = ap f holds.at in
-    omega (arith, least, here, on_counted holds.search.stack v holds.on, times-flat-map v nodes_of kept)
-
+-- what searches at two places hold
 pub held_twice : (kept : List (Option SearchValue)) (i j v : ℕ) → Holds kept i v → Holds kept j v → (i ≡ j → ⊥) → 2 ≤ times v (kept_nodes kept)
 held_twice kept i j v first second other =
     let f : Option SearchValue → ℕ = λ o. times v (nodes_of o) in
@@ -98,24 +74,6 @@ distinct_counted s once i j lt within is =
           absurd (omega (arith, two, first, second, once v, times_total v s.entries))
     ]
 
-listed_total : (x : ℕ) (xs : List ℕ) → times x xs ≡ total (λ u. times x (u ∷ [])) xs
-listed_total x [] = refl
-listed_total x (y ∷ ys) = let rest = listed_total x ys in omega (arith, rest)
-
-pub distinct_listed : (xs : List ℕ) → ((v : ℕ) → times v xs ≤ 1) → AreDistinct nat_eq xs
-distinct_listed xs once =
-    IsDistinct-from_apart nat_eq xs
-    (λ i j d below lt.
-    ne_eqb (get_or xs i d) (get_or xs j d)
-    (λ is.
-    let v : ℕ = get_or xs j d in
-    let f : ℕ → ℕ = λ u. times v (u ∷ []) in
-    let two : f (get_or xs i d) + f (get_or xs j d) ≤ total f xs =
-    two_of f d xs i j (omega (arith, below, lt)) lt (λ same. omega (arith, same, below)) in
-    let first : f (get_or xs i d) ≡ 1 = ap (λ u. times v (u ∷ [])) is ∙ times_here v in
-    let second : f (get_or xs j d) ≡ 1 = times_here v in
-    omega (arith, two, first, second, once v, listed_total v xs)))
-
 -- stacks with the same nodes count them the same
 nodes_same : (olds news : List Entry) (d : Entry) → length news ≡ length olds → ((i : ℕ) → (get_or news i d).node ≡ (get_or olds i d).node) → (x : ℕ)
     → times x (map (λ entry. entry.node) news) ≡ times x (map (λ entry. entry.node) olds)
@@ -136,16 +94,6 @@ unfolding pushed
 pushed_counted s v list x =
     let entry : Entry = record { node = v; succs = list; begun = 0 } in
     ap (times x) (map-append (λ entry. entry.node) s.entries (entry ∷ [])) ∙ times-append x (nodes_on s) (v ∷ [])
-
-taken_counted : (x p : ℕ) (es : List Entry)
-    → times x (map (λ entry. entry.node) (take p es)) + times x (drop p (map (λ entry. entry.node) es)) ≡ times x (map (λ entry. entry.node) es)
-taken_counted x zero es = omega arith
-taken_counted x (suc p) [] = omega arith
-taken_counted x (suc p) (e ∷ es) = let rest = taken_counted x p es in omega (arith, rest)
-
-pub below_counted : (s : Stack) (frame x : ℕ) → times x (nodes_on (below_frame s frame)) + times x (nodes_from s frame) ≡ times x (nodes_on s)
-unfolding below_frame nodes_from
-below_counted s frame x = taken_counted x (position s frame) s.entries
 
 no_nodes : (es : List Entry) (x : ℕ) → length es ≡ 0 → times x (map (λ entry. entry.node) es) ≡ 0
 no_nodes [] x none = refl

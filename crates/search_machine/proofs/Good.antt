@@ -14,12 +14,12 @@ use Rattle.blocked_table.proofs.Chain.{none_is_not}
 use Rattle.group_release.specs.Book.{IsGoodBook}
 use Rattle.group_release.specs.Outline.{kept_nodes, listed, nodes_of}
 use Rattle.group_release.proofs.Beside.{on_within}
-use Rattle.group_release.proofs.KeptCounts.{kept_change}
+use Rattle.group_release.proofs.KeptCounts.{held_counted, kept_change}
 use Rattle.group_release.proofs.Nodes.{in_flat, on_counted}
 use Rattle.list_laws.proofs.Counting.{counted}
 use Rattle.search_machine.specs.Events.{SetsAt}
 use Rattle.search_machine.specs.State.{State, IsClaimed, IsGoodState, IsRunning, WaitsFor, standing, waiting_at}
-use Rattle.search_machine.proofs.Counts.{apart_counted, distinct_counted, held_counted, nodes_counted, waiting_change}
+use Rattle.search_machine.proofs.Counts.{apart_counted, distinct_counted, nodes_counted, waiting_change}
 
 module _ {lists : List (List ℕ)} {roots : List ℕ} {failed : Bool} {s : State} (good : IsGoodState lists roots failed s) where
   claimed_or_not : (v : ℕ) → IsClaimed s v ⊎ (IsClaimed s v → ⊥)

@@ -12,13 +12,14 @@ use Rattle.blocked_table.specs.Kept.{kept_at}
 use Rattle.group_release.specs.Book.{BookValue}
 use Rattle.group_release.specs.Outline.{listed}
 use Rattle.group_release.proofs.Nodes.{on_counted}
+use Rattle.group_release.proofs.OnceCounts.{one_of}
 use Rattle.search_machine.specs.declared.machine.Machine.TheInside.{Inside}
 use Rattle.search_machine.specs.Events.{Opens, stack_of}
 use Rattle.search_machine.specs.MachineFields.{IsMachine, state_of, value_of}
 use Rattle.search_machine.specs.State.{State, IsGoodState, waiting_at}
 use Rattle.search_machine.proofs.Acting.{goes, put_same, puts_back}
 use Rattle.search_machine.proofs.Claiming.{opens_keep, waits_within}
-use Rattle.search_machine.proofs.Counts.{nodes_counted, one_of}
+use Rattle.search_machine.proofs.Counts.{nodes_counted}
 use Rattle.search_machine.proofs.Good.{at_most_once}
 use Rattle.search_machine.proofs.Stopping.{failed_keeps}
 

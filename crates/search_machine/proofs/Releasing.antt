@@ -17,11 +17,13 @@ use Rattle.group_release.specs.Book.{IsGoodBook}
 use Rattle.group_release.specs.Outline.{kept_nodes, nodes_of, nodes_on}
 use Rattle.group_release.specs.Released.{IsNewGroup, ReleasedGroups}
 use Rattle.group_release.proofs.Beside.{reached_within}
-use Rattle.group_release.proofs.Nodes.{in_flat}
+use Rattle.group_release.proofs.KeptCounts.{held_counted}
+use Rattle.group_release.proofs.Nodes.{below_counted, in_flat}
+use Rattle.group_release.proofs.OnceCounts.{distinct_listed}
 use Rattle.group_release.proofs.Waking.{more_new, more_old, released_count, released_good, was_kept, woken_nodes}
 use Rattle.search_machine.specs.Events.{GoesOn, Releases, Runs, SetsAt}
 use Rattle.search_machine.specs.State.{State, IsGoodState}
-use Rattle.search_machine.proofs.Counts.{below_counted, distinct_listed, empty_counted, held_counted, place_counted}
+use Rattle.search_machine.proofs.Counts.{empty_counted, place_counted}
 use Rattle.search_machine.proofs.Good.{IsPlain, IsSettled, at_most_once, plain_good}
 use Rattle.search_machine.proofs.KeptEnds.{woken_ends}
 use Rattle.search_machine.proofs.Stacks.{leaves, left_good}

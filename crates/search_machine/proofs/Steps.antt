@@ -1,7 +1,7 @@
 -- What each exit of an act makes of the state is an event.
 use Rattle.std.proofs.Common.{◌≡◌, inl, inr, ℕ, zero, suc, ◌<◌, ◌+◌, Bool, true, false, List, ◌∷◌, length, get_or, set, drop, Option, None, Some, refl, ap, ◌∙◌, sym, subst, arith, true≢false}
 use Rattle.std.proofs.lemmas.Bool.{cases_lt}
-use Rattle.std.proofs.lemmas.List.{get_or_default, length-drop}
+use Rattle.std.proofs.lemmas.List.{length-drop}
 use Rattle.std.proofs.lemmas.List.Elements.{All-contains}
 use Rattle.std.specs.List.Sorted.{IsPermutation}
 use Rattle.list_laws.proofs.OneOrder.{in_first}
@@ -24,11 +24,7 @@ use Rattle.search_machine.specs.State.{State, IsClaimed, IsGoodState}
 use Rattle.search_machine.specs.Runs.{HasMore}
 use Rattle.search_machine.proofs.Acting.{IsOut, goes, out_runs, puts, puts_back}
 
--- what is read of a mark
-pub marked : (marks : List Bool) (v : ℕ) (mark value : Bool) → v < length marks → mark ≡ get_or marks v mark → mark ≡ value
-    → get_or marks v false ≡ value
-marked marks v mark value lt read is = get_or_default marks v false mark lt ∙ sym read ∙ is
-
+-- what isn't marked
 pub unmarked_not : (marks : List Bool) (v : ℕ) → get_or marks v false ≡ false → get_or marks v false ≡ true → ⊥
 unmarked_not marks v isnt is = true≢false (sym is ∙ isnt)
 

@@ -13,7 +13,8 @@ use Rattle.group_release.specs.Outline.{kept_nodes, nodes_of, nodes_on}
 use Rattle.group_release.proofs.Nodes.{in_flat, on_counted}
 use Rattle.search_machine.specs.Events.{Begins, GoesBack, GoesOn, Passes, Retreats, Runs}
 use Rattle.search_machine.specs.State.{State, IsGoodState, waiting_at}
-use Rattle.search_machine.proofs.Counts.{held_counted, nodes_counted}
+use Rattle.group_release.proofs.KeptCounts.{held_counted}
+use Rattle.search_machine.proofs.Counts.{nodes_counted}
 use Rattle.search_machine.proofs.Good.{IsPlain, IsSettled, at_most_once, plain_good, settled}
 use Rattle.search_machine.proofs.Stacks.{back_counted, back_good, back_some, begun_counted, begun_good, begun_last, begun_some, retreat_counted, retreat_good, retreat_some}
 

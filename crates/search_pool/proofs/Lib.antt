@@ -1,6 +1,5 @@
 mod TurnBeginning
 mod TurnClosing
-mod TurnCounts
 mod TurnGiving
 mod TurnIdling
 mod TurnLaws

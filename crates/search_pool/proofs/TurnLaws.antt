@@ -11,6 +11,7 @@ use Rattle.search_stack.proofs.Edges.{good_more}
 use Rattle.blocked_table.specs.Kept.{Holds}
 use Rattle.group_release.specs.Book.{BookValue}
 use Rattle.group_release.specs.Outline.{kept_nodes, nodes_on, wanted_nodes}
+use Rattle.group_release.proofs.KeptCounts.{held_counted}
 use Rattle.group_release.proofs.Nodes.{from_flat, on_counted}
 use Rattle.node_claims.specs.Claims.{ClaimsValue, PassValue, TurnValue, IsPassOf, nodes_with}
 use Rattle.node_claims.specs.Steps.{IsLent, MayGive}
@@ -20,7 +21,10 @@ use Rattle.node_claims.specs.declared.view.Taken.{Taken}
 use Rattle.node_claims.specs.declared.view.View.{View}
 use Rattle.search_pool.specs.Worker.{IsWorking}
 use Rattle.search_pool.specs.Working.{GoesOnWith, IsTurnOf}
-use Rattle.search_pool.proofs.TurnCounts.{held_counted, plain_counted}
+
+-- the nodes of a search with nothing unopened
+pub plain_counted : (search : SearchValue) (x : ℕ) → times x (nodes_with search None) ≡ times x (nodes_on search.stack)
+plain_counted search x = let sum = times-append x (nodes_on search.stack) [] in omega (arith, sum)
 
 -- what a pass knows of the turn that it took, and of the book that came with it
 pub record TookTurn (pass : PassValue) (turn : TurnValue) (book : BookValue) : Type 0 where

@@ -14,7 +14,9 @@ use Rattle.blocked_table.specs.Kept.{Holds}
 use Rattle.group_release.specs.Book.{BookValue, released_of}
 use Rattle.group_release.specs.Outline.{kept_nodes, nodes_on, wanted_nodes}
 use Rattle.group_release.specs.Released.{IsAppended, IsNewGroup}
-use Rattle.group_release.proofs.Nodes.{in_flat}
+use Rattle.group_release.proofs.KeptCounts.{held_counted}
+use Rattle.group_release.proofs.Nodes.{below_counted, in_flat}
+use Rattle.group_release.proofs.OnceCounts.{distinct_listed}
 use Rattle.node_claims.specs.Claims.{ClaimsValue, PassValue, TurnValue, nodes_with}
 use Rattle.node_claims.specs.Steps.{MayGive}
 use Rattle.node_claims.specs.Views.{outline_of}
@@ -22,8 +24,7 @@ use Rattle.node_claims.specs.declared.view.Taken.{Taken}
 use Rattle.node_claims.specs.declared.view.View.{View}
 use Rattle.search_pool.specs.Worker.{IsWorking}
 use Rattle.search_pool.specs.Working.{GoesOnWith, MayCloseAll, last_group, with_closed}
-use Rattle.search_pool.proofs.TurnCounts.{below_counted, distinct_listed, held_counted, plain_counted}
-use Rattle.search_pool.proofs.TurnLaws.{TookTurn, good_in, is_turn_of, lists_are, once, own_counted, roots_are, roots_seen}
+use Rattle.search_pool.proofs.TurnLaws.{TookTurn, good_in, is_turn_of, lists_are, once, own_counted, plain_counted, roots_are, roots_seen}
 
 -- what taking the top segment off promises
 pub record IsTakenOff (search : SearchValue) (group : List ℕ) (rest : SearchValue) : Type 0 where

@@ -4,12 +4,14 @@ use Rattle.search_stack.specs.GoodSearch.{IsGood}
 use Rattle.search_stack.specs.Stack.{size}
 use Rattle.search_stack.specs.Search.{IsDone, IsOn, SearchValue}
 use Rattle.group_release.specs.Book.{BookValue}
+use Rattle.search_stack.proofs.Driving.{mark_read}
+use Rattle.blocked_table.proofs.WakeSteps.{put_length}
 use Rattle.search_machine.specs.Events.{IsOther}
 use Rattle.group_release.proofs.Beside.{last_below}
 use Rattle.search_machine.specs.declared.step.Step.TheVariants.{Done, Open}
 use Rattle.search_machine.specs.MachineFields.{state_of}
-use Rattle.search_machine.proofs.Acting.{book_only, fails, fails_machine, next_acts, next_machine, out, out_begins, out_some, out_wants, put_long, put_state, same_book, same_machine, stays}
-use Rattle.search_machine.proofs.Steps.{back_step, begun_stops, claims_step, marked, pass_step, suspend_step, transfer_step, unmarked_not}
+use Rattle.search_machine.proofs.Acting.{book_only, fails, fails_machine, next_acts, next_machine, out, out_begins, out_some, out_wants, put_state, same_book, same_machine, stays}
+use Rattle.search_machine.proofs.Steps.{back_step, begun_stops, claims_step, pass_step, suspend_step, transfer_step, unmarked_not}
 use Rattle.search_machine.proofs.Turns.{has_begun}
 use Rattle.search_machine.proofs.machine.Machine.begin_edge.Goals as goal
 
@@ -73,10 +75,10 @@ invariant_of-self-then-not-index c =
     let counted = is.good.counted in
     let within : c.in-Some-begin.node < length c.self.inside.claimed.items = omega (arith, below, counted) in
     let unclaimed = unmarked_not c.self.inside.claimed.items c.in-Some-begin.node
-    (marked c.self.inside.claimed.items c.in-Some-begin.node c.index.result.now false within c.index.ensures c.if-not-index.true) in
+    (mark_read c.self.inside.claimed.items c.in-Some-begin.node c.index.result.now false within c.index.ensures c.if-not-index.true) in
     let step = claims_step c.self.inside c.args.place is c.take.new.self c.in-Some-begin.node c.begin.new.self begins c.begin.ensures.wants_nothing unclaimed in
     next_machine c.self.inside _ c.args.place (Open c.in-Some-begin.node) c.self.invariant (rw (← c.self.view_is) at c.requires.sound) step (same_book c.self.inside.book)
-    (put_long c.self.inside.running.items c.args.place c.take.new.self (Some c.begin.new.self))
+    (put_length c.self.inside.running.items c.args.place c.take.new.self (Some c.begin.new.self))
 
 pub returns-then-not-index : goal.returns-then-not-index
 returns-then-not-index c =
@@ -88,7 +90,7 @@ returns-then-not-index c =
     let counted = is.good.counted in
     let within : c.in-Some-begin.node < length c.self.inside.claimed.items = omega (arith, below, counted) in
     let unclaimed = unmarked_not c.self.inside.claimed.items c.in-Some-begin.node
-    (marked c.self.inside.claimed.items c.in-Some-begin.node c.index.result.now false within c.index.ensures c.if-not-index.true) in
+    (mark_read c.self.inside.claimed.items c.in-Some-begin.node c.index.result.now false within c.index.ensures c.if-not-index.true) in
     let step = claims_step c.self.inside c.args.place is c.take.new.self c.in-Some-begin.node c.begin.new.self begins c.begin.ensures.wants_nothing unclaimed in
     rw (← c.self.view_is) (next_acts c.self.inside c.self.inside.book c.args.place (Open c.in-Some-begin.node) step (same_book c.self.inside.book))
 
@@ -107,7 +109,7 @@ invariant_of-self-then-back c =
     let step = back_step c.self.inside c.args.place is c.take.new.self c.in-Some-begin.node c.begin.new.self c.back.new.self begins on
     (ap (λ (value : SearchValue). value.stack) (c.back.ensures.lowered c.if-back.true on.place on.within on.is)) c.back.ensures.wants_nothing in
     next_machine c.self.inside _ c.args.place Done c.self.invariant (rw (← c.self.view_is) at c.requires.sound) step (same_book c.self.inside.book)
-    (put_long c.self.inside.running.items c.args.place c.take.new.self (Some c.back.new.self))
+    (put_length c.self.inside.running.items c.args.place c.take.new.self (Some c.back.new.self))
 
 pub returns-then-back : goal.returns-then-back
 returns-then-back c =
@@ -128,7 +130,7 @@ invariant_of-self-then-holds c =
     let step = pass_step c.self.inside c.args.place is c.take.new.self c.in-Some-begin.node c.begin.new.self c.back.new.self begins has (rw c.if-back.false at c.back.ensures.unchanged)
     c.back.ensures.wants_nothing in
     next_machine c.self.inside _ c.args.place Done c.self.invariant (rw (← c.self.view_is) at c.requires.sound) step (same_book c.self.inside.book)
-    (put_long c.self.inside.running.items c.args.place c.take.new.self (Some c.back.new.self))
+    (put_length c.self.inside.running.items c.args.place c.take.new.self (Some c.back.new.self))
 
 pub returns-then-holds : goal.returns-then-holds
 returns-then-holds c =
@@ -178,7 +180,7 @@ invariant_of-self-in-Ok-Kept c =
     let within : c.in-Some-begin.node < length c.self.inside.claimed.items = omega (arith, below, counted) in
     let same = rw c.if-back.false at c.back.ensures.unchanged in
     let other : IsOther (state_of c.self.inside) c.begin.new.self.stack c.in-Some-begin.node = record {
-      claimed = marked c.self.inside.claimed.items c.in-Some-begin.node c.index.result.now true within c.index.ensures c.if-not-index.false;
+      claimed = mark_read c.self.inside.claimed.items c.in-Some-begin.node c.index.result.now true within c.index.ensures c.if-not-index.false;
       unreleased = λ has. true≢false (sym ((rw c.released.ensures at c.holds.ensures).1 has) ∙ c.if-holds.false);
       off = λ on. true≢false (sym (c.back.ensures.on.1 on) ∙ c.if-back.false);
     } in
@@ -198,7 +200,7 @@ returns-in-Ok-Kept c =
     let within : c.in-Some-begin.node < length c.self.inside.claimed.items = omega (arith, below, counted) in
     let same = rw c.if-back.false at c.back.ensures.unchanged in
     let other : IsOther (state_of c.self.inside) c.begin.new.self.stack c.in-Some-begin.node = record {
-      claimed = marked c.self.inside.claimed.items c.in-Some-begin.node c.index.result.now true within c.index.ensures c.if-not-index.false;
+      claimed = mark_read c.self.inside.claimed.items c.in-Some-begin.node c.index.result.now true within c.index.ensures c.if-not-index.false;
       unreleased = λ has. true≢false (sym ((rw c.released.ensures at c.holds.ensures).1 has) ∙ c.if-holds.false);
       off = λ on. true≢false (sym (c.back.ensures.on.1 on) ∙ c.if-back.false);
     } in
@@ -217,14 +219,14 @@ invariant_of-self-in-Ok-Moved c =
     let within : c.in-Some-begin.node < length c.self.inside.claimed.items = omega (arith, below, counted) in
     let same = rw c.if-back.false at c.back.ensures.unchanged in
     let other : IsOther (state_of c.self.inside) c.begin.new.self.stack c.in-Some-begin.node = record {
-      claimed = marked c.self.inside.claimed.items c.in-Some-begin.node c.index.result.now true within c.index.ensures c.if-not-index.false;
+      claimed = mark_read c.self.inside.claimed.items c.in-Some-begin.node c.index.result.now true within c.index.ensures c.if-not-index.false;
       unreleased = λ has. true≢false (sym ((rw c.released.ensures at c.holds.ensures).1 has) ∙ c.if-holds.false);
       off = λ on. true≢false (sym (c.back.ensures.on.1 on) ∙ c.if-back.false);
     } in
     let step = transfer_step c.self.inside c.args.place is c.take.new.self c.in-Some-begin.node c.begin.new.self c.back.new.self c.in-Ok-Moved.after c.suspend.new.self begins other same
     (rw c.in-Ok-Moved.field-0-is at c.in-Ok-Moved.ensures.done) c.in-Ok-Moved.ensures.only in
     next_machine c.self.inside _ c.args.place Done c.self.invariant (rw (← c.self.view_is) at c.requires.sound) step (book_only c.suspend.new.self.kept c.self.inside.book.groups c.in-Ok-Moved.ensures.only)
-    (put_long c.self.inside.running.items c.args.place c.take.new.self (Some c.in-Ok-Moved.after))
+    (put_length c.self.inside.running.items c.args.place c.take.new.self (Some c.in-Ok-Moved.after))
 
 pub returns-in-Ok-Moved : goal.returns-in-Ok-Moved
 returns-in-Ok-Moved c =
@@ -237,7 +239,7 @@ returns-in-Ok-Moved c =
     let within : c.in-Some-begin.node < length c.self.inside.claimed.items = omega (arith, below, counted) in
     let same = rw c.if-back.false at c.back.ensures.unchanged in
     let other : IsOther (state_of c.self.inside) c.begin.new.self.stack c.in-Some-begin.node = record {
-      claimed = marked c.self.inside.claimed.items c.in-Some-begin.node c.index.result.now true within c.index.ensures c.if-not-index.false;
+      claimed = mark_read c.self.inside.claimed.items c.in-Some-begin.node c.index.result.now true within c.index.ensures c.if-not-index.false;
       unreleased = λ has. true≢false (sym ((rw c.released.ensures at c.holds.ensures).1 has) ∙ c.if-holds.false);
       off = λ on. true≢false (sym (c.back.ensures.on.1 on) ∙ c.if-back.false);
     } in
@@ -255,7 +257,7 @@ invariant_of-self-in-Err c =
     let stops = begun_stops c.self.inside c.args.place is c.take.new.self c.in-Some-begin.node c.begin.new.self c.in-Err.back c.fail.new.self begins (c.in-Err.ensures.back ∙ same)
     c.in-Err.ensures.back_wants book in
     fails_machine c.self.inside _ c.args.place c.self.invariant (rw (← c.self.view_is) at c.requires.sound) stops book
-    (put_long c.self.inside.running.items c.args.place c.take.new.self (Some c.in-Err.back))
+    (put_length c.self.inside.running.items c.args.place c.take.new.self (Some c.in-Err.back))
 
 pub returns-in-Err : goal.returns-in-Err
 returns-in-Err c =

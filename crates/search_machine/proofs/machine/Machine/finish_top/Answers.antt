@@ -5,8 +5,9 @@ use Rattle.list_laws.specs.Counts.{flat}
 use Rattle.search_stack.specs.Search.{IsReleasable, SearchValue}
 use Rattle.group_release.specs.Book.{released_of}
 use Rattle.group_release.specs.Released.{IsNewGroup}
+use Rattle.blocked_table.proofs.WakeSteps.{put_length}
 use Rattle.search_machine.specs.declared.step.Step.TheVariants.{Done}
-use Rattle.search_machine.proofs.Acting.{book_only, fails, fails_machine, next_acts, next_machine, out, out_done, out_runs, out_wants, put_long, same_book}
+use Rattle.search_machine.proofs.Acting.{book_only, fails, fails_machine, next_acts, next_machine, out, out_done, out_runs, out_wants, same_book}
 use Rattle.search_machine.proofs.Releasing.{ripe_apart, ripe_new, ripe_releasable}
 use Rattle.search_machine.proofs.Steps.{below_of, release_none, release_some, retreat_step, same_stops}
 use Rattle.search_machine.proofs.machine.Machine.finish_top.Goals as goal
@@ -19,7 +20,7 @@ invariant_of-self-then-not-is_ripe c =
     let below = below_of c.is_ripe.ensures.shaped done (λ ripe. true≢false (sym (c.is_ripe.ensures.ripe.1 ripe) ∙ c.if-not-is_ripe.true)) in
     let step = retreat_step c.self.inside c.args.place is c.take.new.self c.retreat.new.self done below c.retreat.ensures.retreated (out_wants is) in
     next_machine c.self.inside _ c.args.place Done c.self.invariant (rw (← c.self.view_is) at c.requires.sound) step (same_book c.self.inside.book)
-    (put_long c.self.inside.running.items c.args.place c.take.new.self (Some c.retreat.new.self))
+    (put_length c.self.inside.running.items c.args.place c.take.new.self (Some c.retreat.new.self))
 
 pub returns-then-not-is_ripe : goal.returns-then-not-is_ripe
 returns-then-not-is_ripe c =
@@ -36,7 +37,7 @@ invariant_of-self-in-Err c =
     c.take.ensures.value c.in-Some.is in
     let stops = same_stops c.self.inside c.args.place is c.take.new.self c.take_ripe.new.self c.fail.new.self c.in-Err.ensures.err c.fail.ensures in
     fails_machine c.self.inside _ c.args.place c.self.invariant (rw (← c.self.view_is) at c.requires.sound) stops c.fail.ensures
-    (put_long c.self.inside.running.items c.args.place c.take.new.self (Some c.take_ripe.new.self))
+    (put_length c.self.inside.running.items c.args.place c.take.new.self (Some c.take_ripe.new.self))
 
 pub returns-in-Err : goal.returns-in-Err
 returns-in-Err c =
@@ -98,7 +99,7 @@ invariant_of-self-2 c =
     c.release.ensures.only c.take_ripe.new.self
     (λ none. true≢false (sym (c.is_empty.ensures.1 none) ∙ c.if-is_empty.false)) c.in-Ok.ensures.taken (out_wants is) in
     next_machine c.self.inside _ c.args.place Done c.self.invariant (rw (← c.self.view_is) at c.requires.sound) step (book_only c.release.new.self.kept c.release.new.self.groups c.release.ensures.only)
-    (put_long c.self.inside.running.items c.args.place c.take.new.self (Some c.take_ripe.new.self))
+    (put_length c.self.inside.running.items c.args.place c.take.new.self (Some c.take_ripe.new.self))
 
 pub returns : goal.returns
 returns c =

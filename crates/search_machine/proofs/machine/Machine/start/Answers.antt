@@ -1,7 +1,8 @@
 use Rattle.std.proofs.Common.{true, false, get_or, Some, refl, length-set}
+use Rattle.search_stack.proofs.Driving.{mark_read}
 use Rattle.search_machine.specs.declared.step.Step.TheVariants.{Done, Open}
 use Rattle.search_machine.proofs.Acting.{book_is, book_only, next_acts, next_machine, sound_good}
-use Rattle.search_machine.proofs.Steps.{marked, resume_step, root_step, root_within, skip_step, unmarked_not}
+use Rattle.search_machine.proofs.Steps.{resume_step, root_step, root_within, skip_step, unmarked_not}
 use Rattle.search_machine.proofs.machine.Machine.start.Goals as goal
 
 pub invariant_of-self : goal.invariant_of-self
@@ -33,7 +34,7 @@ invariant_of-self-then-index c =
     let root = get_or c.roots.result.now c.self.inside.given 0 in
     let within = root_within c.self.inside c.args.place good idle c.take_ready.new.self c.roots.result.now more none same c.roots.ensures in
     let step = skip_step c.self.inside c.args.place good idle c.take_ready.new.self c.roots.result.now more none same c.roots.ensures
-    (marked c.self.inside.claimed.items root c.index.result.now true within c.index.ensures c.if-index.true) in
+    (mark_read c.self.inside.claimed.items root c.index.result.now true within c.index.ensures c.if-index.true) in
     next_machine c.self.inside _ c.args.place Done c.self.invariant sound step (book_is same) refl
 
 pub returns-then-index : goal.returns-then-index
@@ -47,7 +48,7 @@ returns-then-index c =
     let root = get_or c.roots.result.now c.self.inside.given 0 in
     let within = root_within c.self.inside c.args.place good idle c.take_ready.new.self c.roots.result.now more none same c.roots.ensures in
     let step = skip_step c.self.inside c.args.place good idle c.take_ready.new.self c.roots.result.now more none same c.roots.ensures
-    (marked c.self.inside.claimed.items root c.index.result.now true within c.index.ensures c.if-index.true) in
+    (mark_read c.self.inside.claimed.items root c.index.result.now true within c.index.ensures c.if-index.true) in
     rw (← c.self.view_is) (next_acts c.self.inside c.take_ready.new.self c.args.place Done step (book_is same))
 
 pub invariant_of-self-2 : goal.invariant_of-self-2
@@ -61,7 +62,7 @@ invariant_of-self-2 c =
     let root = get_or c.roots.result.now c.self.inside.given 0 in
     let within = root_within c.self.inside c.args.place good idle c.take_ready.new.self c.roots.result.now more none same c.roots.ensures in
     let step = root_step c.self.inside c.args.place good idle c.take_ready.new.self c.roots.result.now more none same c.roots.ensures
-    (unmarked_not c.self.inside.claimed.items root (marked c.self.inside.claimed.items root c.index.result.now false within c.index.ensures c.if-index.false)) in
+    (unmarked_not c.self.inside.claimed.items root (mark_read c.self.inside.claimed.items root c.index.result.now false within c.index.ensures c.if-index.false)) in
     next_machine c.self.inside _ c.args.place (Open root) c.self.invariant sound step (book_is same) refl
 
 pub returns : goal.returns
@@ -75,5 +76,5 @@ returns c =
     let root = get_or c.roots.result.now c.self.inside.given 0 in
     let within = root_within c.self.inside c.args.place good idle c.take_ready.new.self c.roots.result.now more none same c.roots.ensures in
     let step = root_step c.self.inside c.args.place good idle c.take_ready.new.self c.roots.result.now more none same c.roots.ensures
-    (unmarked_not c.self.inside.claimed.items root (marked c.self.inside.claimed.items root c.index.result.now false within c.index.ensures c.if-index.false)) in
+    (unmarked_not c.self.inside.claimed.items root (mark_read c.self.inside.claimed.items root c.index.result.now false within c.index.ensures c.if-index.false)) in
     rw (← c.self.view_is) (next_acts c.self.inside c.take_ready.new.self c.args.place (Open root) step (book_is same))
