@@ -1,6 +1,5 @@
 -- Groups by their heights.
 use Rattle.std.proofs.Common.{◌≡◌, ℕ, ◌<◌, ◌≤◌, false, List, length, map, get_or, All, IsPermutation, refl, sym, subst, ◌∙◌, ap, [], ◌∷◌, arith}
-use Rattle.std.specs.Prelude.{Contains}
 use Rattle.std.specs.List.{range_with_len}
 use Rattle.std.specs.List.Sorted.{IsSorted}
 use Rattle.std.specs.Ordering.{nat_cmp, ordering_then, is_lt}
@@ -12,6 +11,7 @@ use Rattle.std.proofs.lemmas.List.{get_or-map, length-map}
 use Rattle.std.proofs.lemmas.List.Elements.{All-map}
 use Rattle.std.proofs.lemmas.List.FromFn.{length-range_with_len, get_or-range_with_len}
 use Rattle.std.proofs.lemmas.List.Sorted.{IsPermutation-map, All-permutation, Contains-permutation, sorted_far, ranks_by}
+use Rattle.list_laws.proofs.OneOrder.{range_has}
 use Rattle.group_release.specs.declared.level.Level.{Level}
 use Rattle.group_release.specs.Level.{level_at}
 use Rattle.effect_flow.specs.declared.height_order.Stand.{Stand}
@@ -37,9 +37,6 @@ not_higher a b not_above = grind (arith, nat_tests)
 made_of : (levels : List Level) (ns : List ℕ) → stand_places (map (stand_at levels) ns) ≡ ns
 made_of levels [] = refl
 made_of levels (n ∷ ns) = ap (λ xs. n ∷ xs) (made_of levels ns)
-
-range_has : (n i : ℕ) → i < n → Contains (range_with_len 0 n) i
-range_has n i lt = (i, omega (arith, lt, length-range_with_len 0 n), omega (arith, get_or-range_with_len 0 n i i lt))
 
 pub by_height : (levels : List Level) (stands sorted : List Stand) → stands ≡ map (stand_at levels) (range_with_len 0 (length levels))
     → IsPermutation stands sorted → IsSorted stand_cmp sorted → AreByHeight levels (stand_places sorted)

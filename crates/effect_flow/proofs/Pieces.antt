@@ -1,5 +1,5 @@
 -- The groups of one height, piece by piece.
-use Rattle.std.proofs.Common.{◌≡◌, ◌↔◌, inl, inr, ℕ, zero, suc, ◌<◌, ◌≤◌, ◌+◌, ◌-◌, ◌*◌, min, List, [], ◌∷◌, ◌++◌, length, get_or, set, take, drop, Option, Result, Ok, IfOk, Vec, refl, ap, subst, sym, ◌∙◌, arith}
+use Rattle.std.proofs.Common.{◌≡◌, ◌↔◌, inl, inr, ℕ, ◌<◌, ◌≤◌, ◌+◌, ◌-◌, ◌*◌, min, List, [], ◌∷◌, ◌++◌, length, get_or, set, take, drop, Option, Result, Ok, IfOk, Vec, refl, ap, subst, sym, ◌∙◌, arith}
 use Rattle.std.specs.Prelude.{Contains, slice_range}
 use Rattle.std.specs.List.{AllZip, range_with_len}
 use Rattle.std.specs.declared.alloc.AllocError.{AllocError}
@@ -11,6 +11,7 @@ use Rattle.std.proofs.Math.Seq.{take-add}
 use Rattle.list_laws.proofs.Zips.{zip_at, zip_count}
 use Rattle.graph_law.specs.Classes.{group_at}
 use Rattle.graph_law.specs.Graph.{Calls}
+use Rattle.effect_flow.specs.declared.heights.TheConstants.{SIZE}
 use Rattle.effect_flow.specs.declared.firsts.Flow.{Flow}
 use Rattle.effect_flow.specs.Carriers.{IsFlow, flow_at}
 use Rattle.effect_flow.specs.Flows.{AreAdded, AreFound, ArePieces, IsPut, piece_of}
@@ -18,20 +19,20 @@ use Rattle.effect_flow.specs.Seen.{see_flow, see_flows}
 use Rattle.effect_flow.proofs.Found.{found_append}
 
 -- a piece as it is sliced
-pub piece_same : (xs : List ℕ) (number m : ℕ) → m ≡ min (length xs - number * 512) 512 → slice_range xs (number * 512) (number * 512 + m) ≡ piece_of xs number
+pub piece_same : (xs : List ℕ) (number m : ℕ) → m ≡ min (length xs - number * SIZE) SIZE → slice_range xs (number * SIZE) (number * SIZE + m) ≡ piece_of xs number
 piece_same xs number m is =
-    let rest : List ℕ = drop (number * 512) xs in
-    let long : length rest ≡ length xs - number * 512 = length-drop (number * 512) xs in
-    let many : (number * 512 + m) - number * 512 ≡ m = omega arith in
+    let rest : List ℕ = drop (number * SIZE) xs in
+    let long : length rest ≡ length xs - number * SIZE = length-drop (number * SIZE) xs in
+    let many : (number * SIZE + m) - number * SIZE ≡ m = omega arith in
     ap (λ n. take n rest) many
-    ∙ elim (cases_lt 512 (length rest)) [
-      | inl lt ↦ let whole : m ≡ 512 = omega (arith, is, long, lt) in ap (λ n. take n rest) whole
-      | inr le ↦ take_all m rest (omega (arith, is, long, le)) ∙ sym (take_all 512 rest le)
+    ∙ elim (cases_lt SIZE (length rest)) [
+      | inl lt ↦ let whole : m ≡ SIZE = omega (arith, is, long, lt) in ap (λ n. take n rest) whole
+      | inr le ↦ take_all m rest (omega (arith, is, long, le)) ∙ sym (take_all SIZE rest le)
     ]
 
 -- each piece is there
 pub pieces_of : {A : Type 0} (lists : List (List ℕ)) (own : List ℕ) (groups : List (List ℕ)) (places : List ℕ) (each : List (Result (Vec Flow A) AllocError)) (count : ℕ)
-    → ((number : ℕ) → number < count ↔ number * 512 < length places)
+    → ((number : ℕ) → number < count ↔ number * SIZE < length places)
     → AllZip (λ number one. IfOk one (λ found. AreFound lists own groups (piece_of places number) (see_flows found.items))) (range_with_len 0 count) each
     → ArePieces lists own groups places each
 pieces_of {A} lists own groups places each count so_many zip =
@@ -45,8 +46,8 @@ pieces_of {A} lists own groups places each count so_many zip =
 -- one piece more
 pub pieces_more : {A : Type 0} (lists : List (List ℕ)) (own : List ℕ) (groups : List (List ℕ)) (places : List ℕ) (each : List (Result (Vec Flow A) AllocError)) (n : ℕ)
     (piece : Vec Flow A) (found new : List Flow) → ArePieces lists own groups places each → n < length each → Ok piece ≡ get_or each n (Ok piece)
-    → new ≡ found ++ piece.items → AreFound lists own groups (take (n * 512) places) (see_flows found)
-    → AreFound lists own groups (take ((n + 1) * 512) places) (see_flows new)
+    → new ≡ found ++ piece.items → AreFound lists own groups (take (n * SIZE) places) (see_flows found)
+    → AreFound lists own groups (take ((n + 1) * SIZE) places) (see_flows new)
 pieces_more {A} lists own groups places each n piece found new are lt read is so_far =
     let R : ℕ → Result (Vec Flow A) AllocError → Type 0 = λ number one. IfOk one (λ found. AreFound lists own groups (piece_of places number) (see_flows found.items)) in
     let here : get_or (range_with_len 0 (length each)) n 0 ≡ n = omega (arith, get_or-range_with_len 0 (length each) n 0 lt) in
@@ -54,22 +55,22 @@ pieces_more {A} lists own groups places each n piece found new are lt read is so
     subst (λ k. R k (get_or each n (Ok piece))) here
     (zip_at R (range_with_len 0 (length each)) each n 0 (Ok piece) are.pieces (omega (arith, lt, length-range_with_len 0 (length each)))) in
     let more : AreFound lists own groups (piece_of places n) (see_flows piece.items) = subst (R n) (sym read) one in
-    let longer : take ((n + 1) * 512) places ≡ take (n * 512) places ++ piece_of places n =
-    ap (λ k. take k places) (omega arith) ∙ take-add (n * 512) 512 places in
+    let longer : take ((n + 1) * SIZE) places ≡ take (n * SIZE) places ++ piece_of places n =
+    ap (λ k. take k places) (omega arith) ∙ take-add (n * SIZE) SIZE places in
     let both : see_flows new ≡ see_flows found ++ see_flows piece.items = ap see_flows is ∙ map-append see_flow found piece.items in
-    rw (longer, both) (found_append lists own groups (take (n * 512) places) (piece_of places n) (see_flows found) (see_flows piece.items) so_far more)
+    rw (longer, both) (found_append lists own groups (take (n * SIZE) places) (piece_of places n) (see_flows found) (see_flows piece.items) so_far more)
 
 -- all pieces are there
 pub pieces_done : {A : Type 0} (lists : List (List ℕ)) (own : List ℕ) (groups : List (List ℕ)) (places : List ℕ) (each : List (Result (Vec Flow A) AllocError)) (n : ℕ)
-    (found : List Flow) → ArePieces lists own groups places each → length each ≤ n → AreFound lists own groups (take (n * 512) places) (see_flows found)
+    (found : List Flow) → ArePieces lists own groups places each → length each ≤ n → AreFound lists own groups (take (n * SIZE) places) (see_flows found)
     → AreFound lists own groups places (see_flows found)
 pieces_done {A} lists own groups places each n found are passed so_far =
-    let long : length places ≤ n * 512 =
-    elim (cases_lt (n * 512) (length places)) [
+    let long : length places ≤ n * SIZE =
+    elim (cases_lt (n * SIZE) (length places)) [
       | inl lt ↦ absurd (omega (arith, are.as_many n lt, passed))
       | inr le ↦ le
     ] in
-    subst (λ xs. AreFound lists own groups xs (see_flows found)) (take_all (n * 512) places long) so_far
+    subst (λ xs. AreFound lists own groups xs (see_flows found)) (take_all (n * SIZE) places long) so_far
 
 -- flows are put, place by place
 

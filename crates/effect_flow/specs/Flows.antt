@@ -6,6 +6,7 @@ use Rattle.graph_law.specs.CallOrder.{AreGroupPlaces}
 use Rattle.graph_law.specs.Classes.{GroupCalls, HasMember, group_at}
 use Rattle.graph_law.specs.Graph.{Calls, IsClosed}
 use Rattle.graph_law.specs.LegalOrder.{IsLegalOrder}
+use Rattle.effect_flow.specs.declared.heights.TheConstants.{SIZE}
 use Rattle.effect_flow.specs.declared.firsts.Flow.{Flow}
 use Rattle.effect_flow.specs.Carriers.{IsFlow, first_at, flow_at}
 use Rattle.effect_flow.specs.Seen.{see_flows}
@@ -39,19 +40,19 @@ pub record AreFound (lists : List (List ℕ)) (own : List ℕ) (groups : List (L
 
 -- those of the places that are in the piece of that number
 abbrev pub piece_of : List ℕ → ℕ → List ℕ
-piece_of places number = take 512 (drop (number * 512) places)
+piece_of places number = take SIZE (drop (number * SIZE) places)
 
 -- what the flows of a piece are found by
 pub record IsAsked (lists : List (List ℕ)) (own : List ℕ) (groups : List (List ℕ)) (places : List ℕ) (flows : List (List (Option ℕ)))
     (stretch : List ℕ) (number : ℕ) : Type 0 where
   pub ready : AreReady lists own groups places
   pub next : All (IsNext lists own groups flows) stretch
-  pub within : number * 512 < length stretch
+  pub within : number * SIZE < length stretch
 
 -- the flows of each piece, in the order of their numbers: so many that no place is left out
 pub record ArePieces {A : Type 0} (lists : List (List ℕ)) (own : List ℕ) (groups : List (List ℕ)) (places : List ℕ)
     (each : List (Result (Vec Flow A) AllocError)) : Type 0 where
-  pub as_many : (number : ℕ) → number * 512 < length places → number < length each
+  pub as_many : (number : ℕ) → number * SIZE < length places → number < length each
   pub pieces : AllZip (λ number one. IfOk one (λ found. AreFound lists own groups (piece_of places number) (see_flows found.items)))
       (range_with_len 0 (length each)) each
 

@@ -8,6 +8,7 @@ ghost use Rattle.group_release.specs.Level.{AreLevels};
 ghost use Rattle.effect_flow.specs.Carriers.{AreFlows};
 ghost use Rattle.effect_flow.specs.Flows.{AreAdded, AreFound, ArePieces, AreReady, IsAsked, IsNext, IsPut, piece_of};
 ghost use Rattle.effect_flow.specs.Seen.{see_flows};
+ghost use Rattle.effect_flow.specs.declared.heights.TheConstants.{SIZE};
 
 use crate::carriers::{flow_there, flows_in_turn, push_flows};
 use crate::firsts::Flow;
@@ -27,7 +28,7 @@ const FEWEST: usize = 2;
 
 /// How many pieces so many groups make.
 fn piece_count(count: usize) -> usize
-    ensures { (number : ℕ) → number < result ↔ number * 512 < count }
+    ensures { (number : ℕ) → number < result ↔ number * SIZE < count }
 {
     if count % SIZE == 0 {
         return count / SIZE;
@@ -45,7 +46,7 @@ fn piece<O: Opener>(
 ) -> Result<Vec<Flow>, AllocError>
     requires ready { AreReady (O.lists grouped.now.opener.now) grouped.now.own.now (lists_of grouped.now.groups.now) grouped.now.places.now }
     requires next { All (IsNext (O.lists grouped.now.opener.now) grouped.now.own.now (lists_of grouped.now.groups.now) (see_flows flows.now)) stretch.now }
-    requires within { number * 512 < length stretch.now }
+    requires within { number * SIZE < length stretch.now }
     ensures { IfOk result (λ found.
         AreFound (O.lists grouped.now.opener.now) grouped.now.own.now (lists_of grouped.now.groups.now) (piece_of stretch.now number) (see_flows found.items)) }
 {
