@@ -8,7 +8,7 @@ use Rattle.group_tool.specs.Say.{TookAll, TookPart}
 use Rattle.group_tool.specs.Sink.{more_taken}
 use Rattle.group_tool.specs.Run.{Asking, EndsAsking, IsSettled, IsWritten, Taking}
 use Rattle.group_tool.proofs.EndLemmas.{reads_handed}
-use Rattle.group_tool.proofs.RunLemmas.{more_none}
+use Rattle.group_tool.proofs.Writing.{TookBoth, err_said, more_none, out_said, settled_all, settled_err}
 use Rattle.call_told.specs.Wanted.{Asked}
 use Rattle.calls_tool.specs.Answer.{LoadEndComesTo, IsLawfulAnswer, IsAnswer}
 use Rattle.calls_tool.specs.End.{End, usage, faults, missing, unread, limit, output, no_memory, status_of, out_of, err_of}
@@ -16,56 +16,32 @@ use Rattle.calls_tool.specs.Run.{IsLawfulEnd, EndIs, EndsBy, IsRun, SaysAnswer, 
 use Rattle.calls_tool.proofs.EndLemmas.{told_answer}
 
 -- what both sinks have taken where the run was not cut off
-pub record IsSaid (result : ℕ) (out err : Taking) (end : End) : Type 0 where
-  pub status : result ≡ status_of end
-  pub on_out : out.1.taken ≡ more_taken out.0.taken (out_of end)
-  pub on_err : err.1.taken ≡ more_taken err.0.taken (err_of end)
-
--- a sink took all bytes, or a part of them, and the other took nothing
-pub record TookWhole (bytes : List ℕ) (status result : ℕ) (sink other : Taking) : Type 0 where
-  pub is_status : result ≡ status
-  pub all : TookAll bytes sink.0 sink.1
-  pub nothing : other.1.taken ≡ more_taken other.0.taken []
-
-pub record TookSome (bytes : List ℕ) (result : ℕ) (sink : Taking) : Type 0 where
-  pub is_five : result ≡ 5
-  pub part : TookPart bytes sink.0 sink.1
-
-whole_or_some : (bytes : List ℕ) (status result : ℕ) (sink other : Taking) → IsWritten bytes status result sink other
-    → TookWhole bytes status result sink other ⊎ TookSome bytes result sink
-whole_or_some bytes status result sink other written = elim written.0 [
-  | inl all ↦ inl (record { is_status = all.0; all = all.1; nothing = written.1 ∙ sym (more_none other.0.taken) })
-  | inr part ↦ inr (record { is_five = part.0; part = part.1 })
-]
+abbrev pub IsSaid : ℕ → Taking → Taking → End → Type 0
+IsSaid result out err end = TookBoth (status_of end) (out_of end) (err_of end) result out err
 
 -- the run was cut off: a sink failed
 abbrev IsCut : ℕ → Taking → Taking → Type 0
 IsCut result out err = (result ≡ 5) × (Rose err.0.faults err.1.faults ⊎ Rose out.0.faults out.1.faults)
 
-lines_said : (result : ℕ) (out err : Taking) (end : End) → out_of end ≡ [] → IsWritten (err_of end) (status_of end) result err out
-    → IsSaid result out err end ⊎ IsCut result out err
-lines_said result out err end none written = elim (whole_or_some (err_of end) (status_of end) result err out written) [
-  | inl whole ↦
-      inl (record {
-        status = whole.is_status;
-        on_out = subst (λ bytes. out.1.taken ≡ more_taken out.0.taken bytes) (sym none) whole.nothing;
-        on_err = whole.all.is;
-      })
+lines_said : (bytes : List ℕ) (status result : ℕ) (out err : Taking) → IsWritten bytes status result err out
+    → TookBoth status [] bytes result out err ⊎ IsCut result out err
+lines_said bytes status result out err written = elim (err_said bytes status result out err written) [
+  | inl said ↦ inl said
   | inr part ↦ inr (part.is_five, inl part.part.rose)
 ]
 
 -- a run is said, or cut off
 said_or_cut : (result : ℕ) (out err : Taking) (end : End) → EndsBy result out err end → IsSaid result out err end ⊎ IsCut result out err
-said_or_cut result out err usage written = lines_said result out err usage refl written
-said_or_cut result out err (faults list) written = lines_said result out err (faults list) refl written
-said_or_cut result out err (missing root) written = lines_said result out err (missing root) refl written
-said_or_cut result out err (unread name) written = lines_said result out err (unread name) refl written
-said_or_cut result out err (limit passed) written = lines_said result out err (limit passed) refl written
-said_or_cut result out err (output bytes) written = elim (whole_or_some bytes 0 result out err written) [
-  | inl whole ↦ inl (record { status = whole.is_status; on_out = whole.all.is; on_err = whole.nothing })
+said_or_cut result out err usage written = lines_said (err_of usage) (status_of usage) result out err written
+said_or_cut result out err (faults list) written = lines_said (err_of (faults list)) (status_of (faults list)) result out err written
+said_or_cut result out err (missing root) written = lines_said (err_of (missing root)) (status_of (missing root)) result out err written
+said_or_cut result out err (unread name) written = lines_said (err_of (unread name)) (status_of (unread name)) result out err written
+said_or_cut result out err (limit passed) written = lines_said (err_of (limit passed)) (status_of (limit passed)) result out err written
+said_or_cut result out err (output bytes) written = elim (out_said bytes 0 result out err written) [
+  | inl said ↦ inl said
   | inr part ↦ inr (part.is_five, inr part.part.rose)
 ]
-said_or_cut result out err no_memory written = lines_said result out err no_memory refl written
+said_or_cut result out err no_memory written = lines_said (err_of no_memory) (status_of no_memory) result out err written
 
 pub is_said : (result : ℕ) (out err : Taking) (end : End) → EndsBy result out err end → result ≢ 5 → IsSaid result out err end
 is_said result out err end written whole = elim (said_or_cut result out err end written) [ inl said ↦ said | inr cut ↦ absurd (whole cut.0) ]
@@ -125,7 +101,7 @@ module _ (wanted : Asked → Type 0) (library : Asking) where
     answered files tells read_quiet out_quiet err_quiet = elim (said_or_cut result out err run.end run.written) [
       | inl said ↦
           elim (wanting_or run.end) [
-            | inl none ↦ inr (no_memory_of (subst (IsSaid result out err) none said))
+            | inl none ↦ inr (no_memory_of (subst (λ end. IsSaid result out err end) none said))
             | inr some ↦
                 inl (record {
                   answer = run.end;
@@ -206,23 +182,14 @@ module _ (wanted : Asked → Type 0) (library : Asking) where
 
     -- the sink of the bytes is settled
 
-    settled_all : (bytes : List ℕ) (status : ℕ) (sink other : Taking) → IsWritten bytes status result sink other → result ≢ 5 → (result ≡ status) × (sink.1.settled ≡ true)
-    settled_all bytes status sink other written whole = elim (whole_or_some bytes status result sink other written) [
-      | inl all ↦ (all.is_status, all.all.is_settled)
-      | inr part ↦ absurd (whole part.is_five)
-    ]
-
-    settled_err : (bytes : List ℕ) (status : ℕ) → (status ≡ 0 → ⊥) → IsWritten bytes status result err out → result ≢ 5 → IsSettled result out.1 err.1
-    settled_err bytes status some written whole = let all = settled_all bytes status err out written whole in inr ((λ zero. some (sym all.0 ∙ zero)), all.1)
-
     settled_by : (end : End) → EndsBy result out err end → result ≢ 5 → IsSettled result out.1 err.1
-    settled_by usage written whole = settled_err (err_of usage) 2 (λ e. omega (arith, e)) written whole
-    settled_by (faults found) written whole = settled_err (err_of (faults found)) 3 (λ e. omega (arith, e)) written whole
-    settled_by (missing root) written whole = settled_err (err_of (missing root)) 2 (λ e. omega (arith, e)) written whole
-    settled_by (unread name) written whole = settled_err (err_of (unread name)) 4 (λ e. omega (arith, e)) written whole
-    settled_by (limit passed) written whole = settled_err (err_of (limit passed)) 6 (λ e. omega (arith, e)) written whole
-    settled_by (output bytes) written whole = inl (settled_all bytes 0 out err written whole)
-    settled_by no_memory written whole = settled_err (err_of no_memory) 7 (λ e. omega (arith, e)) written whole
+    settled_by usage written whole = settled_err (err_of usage) 2 result out err (λ e. omega (arith, e)) written whole
+    settled_by (faults found) written whole = settled_err (err_of (faults found)) 3 result out err (λ e. omega (arith, e)) written whole
+    settled_by (missing root) written whole = settled_err (err_of (missing root)) 2 result out err (λ e. omega (arith, e)) written whole
+    settled_by (unread name) written whole = settled_err (err_of (unread name)) 4 result out err (λ e. omega (arith, e)) written whole
+    settled_by (limit passed) written whole = settled_err (err_of (limit passed)) 6 result out err (λ e. omega (arith, e)) written whole
+    settled_by (output bytes) written whole = inl (settled_all bytes 0 result out err written whole)
+    settled_by no_memory written whole = settled_err (err_of no_memory) 7 result out err (λ e. omega (arith, e)) written whole
 
     pub settled : result ≢ 5 → IsSettled result out.1 err.1
     settled whole = settled_by run.end run.written whole

@@ -2,7 +2,7 @@
 use Rattle.std.proofs.Common.{◌≡◌, ℕ, ◌⊎◌, List, [], ◌∷◌, ◌++◌, ap, sym, subst, ◌∙◌, inl, inr, append_assoc, arith}
 use Rattle.file_library.specs.Asking as of_load
 use Rattle.group_tool.specs.Run.{Asking, EndsAsking, IsCutShort, IsWritten, Taking, TookNone}
-use Rattle.group_tool.proofs.RunLemmas.{more_none}
+use Rattle.group_tool.proofs.Writing.{more_none}
 use Rattle.call_told.specs.Wanted.{Asked}
 use Rattle.calls_tool.specs.End.{End, usage, faults, missing, unread, limit, output, no_memory, err_of}
 use Rattle.calls_tool.specs.Run.{EndIs, EndsBy, IsLawfulEnd, IsRun, SaysNoMemory}

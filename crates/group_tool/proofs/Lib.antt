@@ -13,5 +13,6 @@ pub mod KindLemmas
 pub mod PartLemmas
 pub mod GroupLemmas
 mod SharedCalls
+pub mod Writing
 pub mod RunLemmas
 pub mod AskedNames

@@ -7,7 +7,7 @@ use Rattle.std.proofs.lemmas.Cmp.{nat_list_cmp_total, nat_cmp_total, on_total, t
 use Rattle.std.proofs.lemmas.List.{get_or_default, length-append}
 use Rattle.std.proofs.lemmas.List.Elements.{All-tail}
 use Rattle.std.proofs.Math.Seq.{get_or-append_seam}
-use Rattle.list_laws.proofs.OneOrder.{IsStrict, same_order, less_strict, holds_of}
+use Rattle.list_laws.proofs.OneOrder.{IsStrict, same_order, less_strict}
 use Rattle.call_edges.proofs.GoalFaultLemmas.{one_list}
 use Rattle.graph_law.proofs.Increasing.{increasing_far}
 use Rattle.file_library.specs.declared.fault.Fault.{Fault}
@@ -19,7 +19,7 @@ use Rattle.import_rules.specs.declared.resolve.TheConstants.{MOST_PREDICATES}
 use Rattle.import_rules.specs.Program.{Seen, IsProgram, HasPredicates}
 use Rattle.import_rules.proofs.OneFlaws.{one_list_of_flaws, one_list_of_import_faults}
 use Rattle.import_rules.proofs.OneProgram.{one_program, few_or_many}
-use Rattle.call_edges.specs.GoalFaults.{IsGoalFault, fault_cmp, AreGoalFaults}
+use Rattle.call_edges.specs.GoalFaults.{fault_cmp, AreGoalFaults}
 use Rattle.call_edges.specs.Calls.{NodeCalls}
 use Rattle.loop_report.specs.Reportable.{AreLeveled}
 use Rattle.group_words.specs.Settings.{Settings}

@@ -1,7 +1,6 @@
 -- A bare name is one token as it stands, but for the two pairs of brackets.
 use Rattle.std.proofs.Common.{◌≡◌, ◌≢◌, inl, inr, ℕ, ◌<◌, Bool, true, false, not, List, [], ◌∷◌, length, get_or, codes, refl, ap, sym, subst, ◌∙◌, arith, nat_eq}
 use Rattle.std.proofs.lemmas.Bool.{or_cases, eqb-false}
-use Rattle.std.proofs.lemmas.Slice.Eq.{bytes_eq-Decides}
 use Rattle.std.proofs.lemmas.List.Sums.{AllPass-from_list_all}
 use Rattle.std.proofs.lemmas.List.FromFn.{length-range_with_len, get_or-range_with_len}
 use Rattle.std.specs.Prelude.{◌&&◌, ◌||◌, ◌==◌}
@@ -15,6 +14,7 @@ use Rattle.prolog_tokens.specs.BareNames.{is_small, all_are, is_letter_name, is_
 use Rattle.prolog_tokens.specs.Layout.{IsOpener, IsHashBang}
 use Rattle.prolog_tokens.specs.Spelling.{IsRun, IsEnd, Spells}
 use Rattle.prolog_tokens.proofs.Classes.{byte_class, class_past, class_here, here}
+use Rattle.import_rules.proofs.FileNames.{same_name}
 use Rattle.loop_report.specs.ReadBack.{is_pair}
 
 both : (a b : Bool) → (a && b) ≡ true → (a ≡ true) × (b ≡ true)
@@ -25,9 +25,6 @@ both false b is = absurd cc
 denied : (b : Bool) → not b ≡ true → b ≡ false
 denied true is = absurd cc
 denied false is = refl
-
-same_bytes : (a b : List ℕ) → bytes_eq a b ≡ true → a ≡ b
-same_bytes a b is = (bytes_eq-Decides a b).0 is
 
 -- the test holds of the class at each place
 all_classes : (test : Class → Bool) (text : List ℕ) → all_are test text ≡ true → (k : ℕ) → k < length text → test (class_at text k) ≡ true
@@ -112,9 +109,9 @@ curly_pair name is = subst (λ n. is_pair n ≡ true) is refl
 
 no_pair : (name : List ℕ) → is_pair name ≡ false → (bytes_eq (codes "[]") name || (bytes_eq (codes "{}") name || false)) ≡ true → ⊥
 no_pair name single is = elim (or_cases (bytes_eq (codes "[]") name) (bytes_eq (codes "{}") name || false) is) [
-  | inl square ↦ let two : true ≡ false = sym (square_pair name (same_bytes (codes "[]") name square)) ∙ single in cc
+  | inl square ↦ let two : true ≡ false = sym (square_pair name (same_name (codes "[]") name square)) ∙ single in cc
   | inr rest ↦ elim (or_cases (bytes_eq (codes "{}") name) false rest) [
-    | inl curly ↦ let two : true ≡ false = sym (curly_pair name (same_bytes (codes "{}") name curly)) ∙ single in cc
+    | inl curly ↦ let two : true ≡ false = sym (curly_pair name (same_name (codes "{}") name curly)) ∙ single in cc
     | inr none ↦ let two : true ≡ false = sym none in cc
   ]
 ]
@@ -123,9 +120,9 @@ no_pair name single is = elim (or_cases (bytes_eq (codes "[]") name) (bytes_eq (
 sign_spells : (name : List ℕ) → list_any (λ sign. bytes_eq sign name) sign_names ≡ true → is_pair name ≡ false → Spells name 0 (length name) Name
 sign_spells name is single =
     elim (or_cases (bytes_eq (codes "!") name) (bytes_eq (codes ";") name || (bytes_eq (codes "[]") name || (bytes_eq (codes "{}") name || false))) is) [
-      | inl cut ↦ subst (λ n. Spells n 0 (length n) Name) (same_bytes (codes "!") name cut) (solo_spells (codes "!") refl refl)
+      | inl cut ↦ subst (λ n. Spells n 0 (length n) Name) (same_name (codes "!") name cut) (solo_spells (codes "!") refl refl)
       | inr rest ↦ elim (or_cases (bytes_eq (codes ";") name) (bytes_eq (codes "[]") name || (bytes_eq (codes "{}") name || false)) rest) [
-        | inl semicolon ↦ subst (λ n. Spells n 0 (length n) Name) (same_bytes (codes ";") name semicolon) (solo_spells (codes ";") refl refl)
+        | inl semicolon ↦ subst (λ n. Spells n 0 (length n) Name) (same_name (codes ";") name semicolon) (solo_spells (codes ";") refl refl)
         | inr pair ↦ absurd (no_pair name single pair)
       ]
     ]

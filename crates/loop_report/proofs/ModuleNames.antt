@@ -71,7 +71,8 @@ modules_made files lent sorted kept are moved up is =
       all = λ k d lt. all (get_or files k d) (Contains-get_or files k d lt);
     }
 
-same_text : (a b : List ℕ) → slice_cmp nat_cmp a b ≡ Equal → a ≡ b
+-- texts that compare alike are one
+pub same_text : (a b : List ℕ) → slice_cmp nat_cmp a b ≡ Equal → a ≡ b
 same_text a b e = (bytes_eq-Decides a b).0 (texts_ties a b ∙ ap is_eq e)
 
 pub found : (names : List (Bor (List ℕ))) (wanted : Bor (List ℕ)) (place : ℕ) → place < length names

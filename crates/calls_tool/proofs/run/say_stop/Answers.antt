@@ -3,16 +3,11 @@ use Rattle.std.specs.String.{string_bytes}
 use Rattle.calls_tool.specs.End.{memory_line}
 use Rattle.calls_tool.specs.Lines.{missing_line, unread_line}
 use Rattle.group_tool.specs.Run.{Taking, SaidWith}
+use Rattle.group_tool.proofs.Writing.{lines_or_wanting}
 use Rattle.calls_tool.proofs.run.say_stop.Goals as goal
 
 pub returns-in-Usage : goal.returns-in-Usage
 returns-in-Usage g c = rw c.in-Usage.is (inl (rw c.as_bytes.ensures.value at c.say_with.ensures))
-
--- the lines are said, or that there was no memory for them
-lines_or_wanting : {T E : Type 0} (r : Result T E) (bytes : T → List ℕ) (line : List ℕ) (Said : List ℕ → Type 0) (Wanting : Type 0) → IfOk r (λ text. bytes text ≡ line)
-    → MatchResult r (λ text. Said (bytes text)) (λ _. Wanting) → Said line ⊎ Wanting
-lines_or_wanting {T} {E} (Ok text) bytes line Said Wanting is said = inl (subst Said is said)
-lines_or_wanting {T} {E} (Err error) bytes line Said Wanting is said = inr said
 
 pub returns-in-NoPredicate : goal.returns-in-NoPredicate
 returns-in-NoPredicate g c =

@@ -1,7 +1,6 @@
-use Rattle.std.proofs.Common.{◌≡◌, Err, IfErr, IsErrAnd, Ok, Result, inl, refl, sym, subst}
+use Rattle.std.proofs.Common.{◌≡◌, Err, IfErr, IsErrAnd, Ok, Result, sym, subst}
 use Rattle.import_rules.specs.Program.{see_program}
 use Rattle.group_words.specs.Settings.{see_options}
-use Rattle.group_tool.specs.Answer.{IsLoadedEnd}
 use Rattle.group_tool.specs.Carrying.{ProgramComesTo}
 use Rattle.group_tool.specs.Stop.{end_of_stop, of_checking}
 use Rattle.group_tool.specs.declared.answer.Asked.{Asked}
