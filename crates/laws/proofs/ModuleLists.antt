@@ -1,13 +1,11 @@
 -- The modules of files in order, and for each module the list of those that it loads.
 use Rattle.std.proofs.Common.{◌≡◌, inl, inr, ℕ, ◌<◌, List, length, map, get_or, sym, ap, ◌∙◌, subst, arith}
-use Rattle.std.specs.Ordering.{nat_cmp, is_eq}
-use Rattle.std.specs.Cmp.Lexicographic.{slice_cmp, texts_ties}
-use Rattle.std.specs.declared.cmp.Ordering.TheVariants.{Equal}
+use Rattle.std.specs.Ordering.{nat_cmp}
+use Rattle.std.specs.Cmp.Lexicographic.{slice_cmp}
 use Rattle.std.proofs.lemmas.Bool.{cases_lt}
 use Rattle.std.proofs.lemmas.Cmp.{nat_list_cmp_total}
 use Rattle.std.proofs.lemmas.List.Elements.{Contains-get_or}
 use Rattle.std.proofs.lemmas.Option.{same_Some, slice_get_within}
-use Rattle.std.proofs.lemmas.Slice.Eq.{bytes_eq-Decides}
 use Rattle.list_laws.proofs.Members.{map_from, map_has}
 use Rattle.graph_law.specs.Graph.{IsClosed}
 use Rattle.laws.proofs.Choices.{Decided}
@@ -17,11 +15,8 @@ use Rattle.laws.proofs.Orders.{HasOnce, has_once}
 use Rattle.loop_report.specs.ImportLoops.{LoadsModule, AreModules, PlaceLoads}
 use Rattle.loop_report.specs.ModuleGraph.{AreLoadLists}
 use Rattle.loop_report.proofs.Lists.{element_at}
+use Rattle.loop_report.proofs.ModuleNames.{same_text}
 use Rattle.laws.proofs.Decisions.{HasOne, both_or, same_or, one_or_none, AreRows, rows_of}
-
--- lists of numbers that compare alike are one
-pub same_numbers : (a b : List ℕ) → slice_cmp nat_cmp a b ≡ Equal → a ≡ b
-same_numbers a b tie = (bytes_eq-Decides a b).0 (texts_ties a b ∙ ap is_eq tie)
 
 abbrev module_of : Facts → List ℕ
 module_of file = file.module_
@@ -29,7 +24,7 @@ module_of file = file.module_
 pub modules_of : (files : List Facts) → (modules : List (List ℕ)) × AreModules files modules
 modules_of files =
     let ordered : HasOnce (slice_cmp nat_cmp) nat_list_cmp_total (map module_of files) =
-    has_once (slice_cmp nat_cmp) nat_list_cmp_total same_numbers (map module_of files) in (
+    has_once (slice_cmp nat_cmp) nat_list_cmp_total same_text (map module_of files) in (
       ordered.once,
       record {
         in_order = ordered.rising;

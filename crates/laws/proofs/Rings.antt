@@ -24,7 +24,7 @@ use Rattle.loop_report.specs.ImportLoops.{names_at}
 use Rattle.loop_report.specs.ModuleGraph.{AreRings, IsRing}
 use Rattle.loop_report.proofs.RingLemmas.{IsLooping, members_nodes}
 use Rattle.laws.proofs.Decisions.{Chosen, alone_or, both_or, chosen_of, either_or, not_or, upto_or}
-use Rattle.laws.proofs.ModuleLists.{same_numbers}
+use Rattle.loop_report.proofs.ModuleNames.{same_text}
 
 -- a class is a ring or not
 
@@ -74,7 +74,7 @@ pub rings_of : (modules lists groups : List (List ℕ)) → length modules ≡ l
     → (classes : List (List ℕ)) × AreRings modules lists classes
 rings_of modules lists groups many legal complete nodes =
     let kept : Chosen (IsLooping modules lists) groups = chosen_of (IsLooping modules lists) (looping_or modules lists) groups in
-    let ordered : HasOnce (slice_cmp nat_cmp) nat_list_cmp_total kept.list = has_once (slice_cmp nat_cmp) nat_list_cmp_total same_numbers kept.list in
+    let ordered : HasOnce (slice_cmp nat_cmp) nat_list_cmp_total kept.list = has_once (slice_cmp nat_cmp) nat_list_cmp_total same_text kept.list in
     let from : (class : List ℕ) → Contains ordered.once class → Contains groups class × IsLooping modules lists class =
     λ class has. (kept.are class).0 ((ordered.each class).0 has) in
     let class_of : (class : List ℕ) → Contains ordered.once class → IsClass (Calls lists) class =
