@@ -31,3 +31,4 @@ pub mod UnresolvedLemmas
 pub mod PlacedCallLemmas
 pub mod CallOffsets
 pub mod SpreadLemmas
+pub mod HeldLemmas

@@ -21,18 +21,16 @@ use Rattle.import_rules.specs.Names.{is_same}
 use Rattle.import_rules.specs.Program.{Seen}
 use Rattle.import_rules.proofs.Lists.{all_pairs_map}
 use Rattle.import_rules.proofs.NameOrder.{pred_cmp_total, same_ties, same_parts}
-use Rattle.call_edges.specs.declared.body.Body.{Body as BodyKept}
 use Rattle.call_edges.specs.declared.role.Met.{Met as MetKept}
 use Rattle.call_edges.specs.declared.placed_calls.PlacedCall.{PlacedCall}
 use Rattle.call_edges.specs.Goals.{Met, call, fault, Rows, Adds, AddsMet}
-use Rattle.call_edges.specs.ProgramRows.{rows_of}
 use Rattle.call_edges.specs.Calls.{IsAmong}
-use Rattle.call_edges.specs.Bodies.{Body, see_body, bodies_in, IsMetInBody}
+use Rattle.call_edges.specs.Bodies.{Body, IsMetInBody}
 use Rattle.call_edges.specs.Seen.{see_met, see_mets}
 use Rattle.call_edges.specs.CallPlaces.{CallAt, call_cmp, IsCallBy, IsCalledIn, IsCallOf, AreCallsOf}
 use Rattle.call_edges.specs.PlacedSeen.{see_call, see_calls, call_met}
 use Rattle.call_edges.proofs.AddsLemmas.{adds_as}
-use Rattle.call_edges.proofs.AmongLemmas.{among_map, map_has}
+use Rattle.call_edges.proofs.AmongLemmas.{map_has}
 use Rattle.call_edges.proofs.CallLemmas.{adds_from_none}
 
 -- the calls of what is met
@@ -78,21 +76,6 @@ body_called T caller body met none old new empty walked adds =
     adds_as (IsCallBy body.file caller (Contains (see_mets met))) (IsCalledIn T caller body) old new
     (λ c. call_as body.file caller (Contains (see_mets met)) (IsMetInBody T body) c (λ m. (has m).0))
     (λ c. call_as body.file caller (IsMetInBody T body) (Contains (see_mets met)) c (λ m. (has m).1)) adds
-
-abbrev pub IsSeenCall : Rows → ℕ → BodyKept → CallAt → Type 0
-IsSeenCall T caller body c = IsCalledIn T caller (see_body body) c
-
-pub bodies_called : (T : Rows) (caller : ℕ) (bodies : List BodyKept) (old new : List CallAt) → Adds (IsAmong (IsSeenCall T caller) bodies) old new
-    → Adds (IsAmong (IsCalledIn T caller) (map see_body bodies)) old new
-bodies_called T caller bodies old new adds =
-    adds_as (IsAmong (IsSeenCall T caller) bodies) (IsAmong (IsCalledIn T caller) (map see_body bodies)) old new
-    (λ c. (among_map (IsCalledIn T caller) see_body bodies c).1) (λ c. (among_map (IsCalledIn T caller) see_body bodies c).0) adds
-
--- those of a predicate
-pub node_called : (seen : Seen) (caller : ℕ) (bodies : List Body) (old new : List CallAt) → bodies ≡ bodies_in seen caller
-    → Adds (IsAmong (IsCalledIn (rows_of seen) caller) bodies) old new → Adds (IsCallOf seen caller) old new
-node_called seen caller bodies old new are adds =
-    subst (λ (bs : List Body). Adds (IsAmong (IsCalledIn (rows_of seen) caller) bs) old new) are adds
 
 -- sorted, and each once
 

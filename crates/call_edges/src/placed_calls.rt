@@ -1,20 +1,15 @@
 //! All calls of predicates, each with the place of its goal.
 
-ghost use Rattle.std.specs.Prelude.{◌≡◌, ◌<◌, ◌↔◌, All, Contains, length, map, option_map, IfOk, OnOk};
-ghost use Rattle.call_edges.specs.Bodies.{see_body, IsLight};
+ghost use Rattle.std.specs.Prelude.{◌≡◌, ◌<◌, All, Contains, length, map, option_map, IfOk, OnOk};
 ghost use Rattle.file_library.specs.Spots.{StandsInText};
-ghost use Rattle.call_edges.specs.CallPlaces.{AreCallsOf, CallAt, IsCallBy, IsCalledIn, IsCallOf};
-ghost use Rattle.call_edges.specs.Calls.{IsAmong};
+ghost use Rattle.call_edges.specs.CallPlaces.{AreCallsOf, CallAt, IsCallBy};
 ghost use Rattle.call_edges.specs.Goals.{Adds};
 ghost use Rattle.call_edges.specs.PlacedSeen.{call_met, see_call, see_calls};
-ghost use Rattle.call_edges.specs.ProgramRows.{rows_of};
 ghost use Rattle.call_edges.specs.Seen.{see_met, see_mets};
 ghost use Rattle.import_rules.specs.Program.{see_program};
 
-use crate::body::{Body, push_bodies_of};
 use crate::role::Met;
 use crate::spread_calls::spread_calls;
-use crate::walking::walk;
 use import_rules::Program;
 use std::alloc::{AllocError, Global};
 use std::thread::Threads;
@@ -57,7 +52,7 @@ fn call_met<'a>(file: u32, node: u32, met: Met<'a>) -> Option<PlacedCall<'a>>
 }
 
 /// Adds the calls of what is met in a body of that file, of a clause of that predicate.
-fn push_calls<'a>(
+pub(crate) fn push_calls<'a>(
     file: u32,
     node: u32,
     met: &[Met<'a>],
@@ -72,49 +67,6 @@ fn push_calls<'a>(
         calls.push(call)?;
     }
     Ok(())
-}
-
-/// Adds the calls in bodies of clauses of a predicate. `met` is a list whose memory serves one body
-/// after another.
-fn push_calls_in<'a>(
-    alloc: Global,
-    program: &'a Program,
-    bodies: &[Body<'a>],
-    node: u32,
-    met: &mut Vec<Met<'a>>,
-    calls: &mut Vec<PlacedCall<'a>>,
-) -> Result<(), AllocError>
-    requires { All IsLight (map see_body bodies.now) }
-    ensures { OnOk result (Adds (IsAmong (IsCalledIn (rows_of (see_program program.now)) node) (map see_body bodies.now))
-        (see_calls calls.old.items) (see_calls calls.new.items)) }
-{
-    for body in bodies {
-        met.clear();
-        walk(alloc, program, &body.term, body.owner, body.role, met)?;
-        push_calls(body.file, node, met, calls)?;
-    }
-    Ok(())
-}
-
-/// The calls of these predicates, in no order.
-pub(crate) fn calls_from<'a>(
-    alloc: Global,
-    program: &'a Program,
-    callers: &[u32],
-) -> Result<Vec<PlacedCall<'a>>, AllocError>
-    requires { All (λ p. p < length (see_program program.now).predicates) callers.now }
-    ensures { IfOk result (λ calls. (c : CallAt) → Contains (see_calls calls.items) c ↔ IsAmong (IsCallOf (see_program program.now)) callers.now c) }
-{
-    program.is_known();
-    let mut bodies = Vec::new(alloc);
-    let mut met = Vec::new(alloc);
-    let mut calls = Vec::new(alloc);
-    for caller in callers {
-        bodies.clear();
-        push_bodies_of(program, *caller, &mut bodies)?;
-        push_calls_in(alloc, program, &bodies, *caller, &mut met, &mut calls)?;
-    }
-    Ok(calls)
 }
 
 /// All calls of these predicates, by file and offset and each once: where each goal starts, who calls,
@@ -133,6 +85,7 @@ pub fn calls_of<'a, R: Threads + Sync>(
 {
     program.is_known();
     let mut calls = spread_calls(rt, alloc, program, callers)?;
+    // Mostly they are in order already, which takes one look at each.
     calls.sort_unstable();
     calls.dedup();
     Ok(calls)
