@@ -1,6 +1,7 @@
 -- The table of a program's calls.
 use Rattle.std.specs.Prelude.{ℕ, List, length, map}
 use Rattle.std.specs.List.{AllZip}
+use Rattle.prolog_tokens.specs.declared.token.Place.{Place}
 use Rattle.import_rules.specs.Program.{Seen}
 use Rattle.call_edges.specs.CallPlaces.{CallAt, AreCallsOf}
 use Rattle.call_edges.specs.PlacedSeen.{see_calls}
@@ -22,6 +23,16 @@ call_spot c = (c.file, c.offset)
 -- the same of a call that is kept
 abbrev pub kept_spot : PlacedCall → ℕ × ℕ
 kept_spot c = (c.file, c.offset)
+
+-- all clauses of the predicates, with their lines and columns
+pub record ArePlacedClauses (seen : Seen) (nodes : List ℕ) (clauses : List ClauseAt) (places : List Place) : Type 0 where
+  pub are : AreClausesOf seen nodes clauses
+  pub placed : AllZip (IsSpotPlace seen.loaded.texts) (map clause_spot clauses) places
+
+-- all calls of the predicates, likewise
+pub record ArePlacedCalls (seen : Seen) (nodes : List ℕ) (calls : List PlacedCall) (places : List Place) : Type 0 where
+  pub are : AreCallsOf seen nodes (see_calls calls)
+  pub placed : AllZip (IsSpotPlace seen.loaded.texts) (map call_spot (see_calls calls)) places
 
 -- the table of these predicates and these groups: their clauses and their calls, each once and by file and offset, with lines and columns; and for each
 -- predicate of the program the group that it is in

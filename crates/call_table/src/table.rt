@@ -1,7 +1,7 @@
 //! The table of a program's calls.
 
 ghost use Rattle.std.specs.Prelude.{◌≡◌, ◌<◌, All, IfOk, length, map};
-ghost use Rattle.call_table.specs.Table.{IsTable, clause_spot, kept_spot};
+ghost use Rattle.call_table.specs.Table.{ArePlacedCalls, ArePlacedClauses, IsTable, clause_spot, kept_spot};
 ghost use Rattle.graph_law.specs.Graph.{lists_of};
 ghost use Rattle.import_rules.specs.Program.{see_program};
 
@@ -11,7 +11,7 @@ use call_edges::{PlacedCall, calls_of};
 use import_rules::Program;
 use prolog_tokens::Place;
 use std::alloc::{AllocError, Global};
-use std::thread::Threads;
+use std::thread::{Threads, join};
 
 /// The clauses and the calls of predicates with their places, and which group each predicate of the
 /// program is in.
@@ -48,8 +48,39 @@ fn call_spots(alloc: Global, calls: &[PlacedCall<'_>]) -> Result<Vec<(u32, u32)>
         .collect(alloc)
 }
 
-/// The table of these predicates of the program, and of these groups of its predicates. The predicates are
-/// walked side by side.
+/// The clauses of these predicates, and the line and the column of each.
+fn clauses_with_places(
+    alloc: Global,
+    program: &Program,
+    nodes: &[u32],
+) -> Result<(Vec<ClauseAt>, Vec<Place>), AllocError>
+    requires { All (λ p. p < length (see_program program.now).predicates) nodes.now }
+    ensures { IfOk result (λ found. ArePlacedClauses (see_program program.now) nodes.now found.0.items found.1.items) }
+{
+    let clauses = clauses_of(alloc, program, nodes)?;
+    let spots = clause_spots(alloc, &clauses)?;
+    let places = program.places_of_spots(alloc, &spots)?;
+    Ok((clauses, places))
+}
+
+/// The calls of these predicates, and the line and the column of each.
+fn calls_with_places<'a, R: Threads + Sync>(
+    rt: &R,
+    alloc: Global,
+    program: &'a Program,
+    nodes: &[u32],
+) -> Result<(Vec<PlacedCall<'a>>, Vec<Place>), AllocError>
+    requires { All (λ p. p < length (see_program program.now).predicates) nodes.now }
+    ensures { IfOk result (λ found. ArePlacedCalls (see_program program.now) nodes.now found.0.items found.1.items) }
+{
+    let calls = calls_of(rt, alloc, program, nodes)?;
+    let spots = call_spots(alloc, &calls)?;
+    let places = program.places_of_spots(alloc, &spots)?;
+    Ok((calls, places))
+}
+
+/// The table of these predicates of the program, and of these groups of its predicates. Clauses and calls
+/// are found side by side.
 pub fn call_table<'a, R: Threads + Sync>(
     rt: &R,
     alloc: Global,
@@ -61,12 +92,19 @@ pub fn call_table<'a, R: Threads + Sync>(
     requires members { All (All (λ member. member < length (see_program program.now).predicates)) (lists_of groups.now) }
     ensures { IfOk result (IsTable (see_program program.now) nodes.now (lists_of groups.now)) }
 {
-    let clauses = clauses_of(alloc, program, nodes)?;
-    let clause_spots = clause_spots(alloc, &clauses)?;
-    let clause_places = program.places_of_spots(alloc, &clause_spots)?;
-    let calls = calls_of(rt, alloc, program, nodes)?;
-    let call_spots = call_spots(alloc, &calls)?;
-    let call_places = program.places_of_spots(alloc, &call_spots)?;
+    let (clauses, calls) = join(
+        rt,
+        || -> Result<(Vec<ClauseAt>, Vec<Place>), AllocError>
+            requires { All (λ p. p < length (see_program program.now).predicates) nodes.now }
+            ensures { IfOk result (λ found. ArePlacedClauses (see_program program.entry.now) nodes.entry.now found.0.items found.1.items) }
+        { clauses_with_places(alloc, program, nodes) },
+        || -> Result<(Vec<PlacedCall<'_>>, Vec<Place>), AllocError>
+            requires { All (λ p. p < length (see_program program.now).predicates) nodes.now }
+            ensures { IfOk result (λ found. ArePlacedCalls (see_program program.entry.now) nodes.entry.now found.0.items found.1.items) }
+        { calls_with_places(rt, alloc, program, nodes) },
+    );
+    let (clauses, clause_places) = clauses?;
+    let (calls, call_places) = calls?;
     let groups = groups_of(alloc, program.count(), groups)?;
     Ok(CallTable {
         clauses,
