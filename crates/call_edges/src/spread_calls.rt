@@ -37,14 +37,7 @@ fn calls_in<'a>(
     for one in held {
         met.clear();
         let body = one.body;
-        walk(
-            alloc,
-            program,
-            &body.term,
-            body.owner,
-            body.role,
-            &mut met,
-        )?;
+        walk(alloc, program, &body.term, body.owner, body.role, &mut met)?;
         push_calls(body.file, one.caller, &met, &mut calls)?;
     }
     Ok(calls)
