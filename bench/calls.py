@@ -1,13 +1,16 @@
 #!/usr/bin/env python3
-"""Times `calls` beside `groups` on the families of whole.py: the best of five runs of each, and the factor.
+"""Times `calls` beside `groups` on the families of whole.py: the medians of eleven runs of each, in turns, and the factor.
 
 Both run over the same files; `calls` tells all predicates, clauses and calls. Needs the built programs, or `rt`.
 """
 
+import statistics
+
 from common import ROOT, folders
-from whole import FAMILIES, GROUPS, best, written
+from whole import FAMILIES, GROUPS, once, written
 
 CALLS = ROOT / "calls"
+RUNS = 11
 
 
 def main():
@@ -16,10 +19,12 @@ def main():
         for name, (count, shape, spread) in FAMILIES.items():
             made = shape(count)
             names = written(texts, made, spread)
-            least, groups_mb, _ = best([GROUPS, *names], texts)
-            took, calls_mb, told = best([CALLS, *names], texts)
+            runs = [(once([GROUPS, *names], texts), once([CALLS, *names], texts)) for _ in range(RUNS)]
+            least, took = (statistics.median(run[program][0] for run in runs) for program in (0, 1))
+            groups_mb, calls_mb = (max(run[program][1] for run in runs) for program in (0, 1))
+            size = len(runs[-1][1][2])
             print(
-                f"{name:<22}{sum(map(len, made)):>9}{least:>10.3f}{took:>10.3f}{took / least:>8.2f}{groups_mb:>11.1f}{calls_mb:>10.1f}{len(told) / 1e6:>12.1f}",
+                f"{name:<22}{sum(map(len, made)):>9}{least:>10.3f}{took:>10.3f}{took / least:>8.2f}{groups_mb:>11.1f}{calls_mb:>10.1f}{size / 1e6:>12.1f}",
                 flush=True,
             )
 
