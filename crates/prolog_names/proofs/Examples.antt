@@ -85,9 +85,9 @@ none_in_four = record {
 not_the_last : IsLast in_two 3 2 1 → ⊥
 not_the_last last = last.none_behind 2 (lit≤ tt) (lit< tt) refl
 
--- the opening names: those that the reader asks for, and behind them the operators'
+-- the opening names: those that the reader asks for, and behind them the operators' and that of a module
 
-many : length opening_names ≡ 51
+many : length opening_names ≡ 52
 many = refl
 
 minus : name_at opening_names 5 ≡ codes "-"
@@ -102,7 +102,10 @@ first_infix = refl
 last_infix : name_at opening_names 50 ≡ codes ":"
 last_infix = refl
 
-behind_the_last : name_at opening_names 51 ≡ []
+user : name_at opening_names 51 ≡ codes "user"
+user = refl
+
+behind_the_last : name_at opening_names 52 ≡ []
 behind_the_last = refl
 
 -- a table is opened where it begins with them

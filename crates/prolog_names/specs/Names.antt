@@ -27,9 +27,13 @@ infix_names =
     ∷ codes ">=" ∷ codes "/\\" ∷ codes "\\/" ∷ codes "*" ∷ codes "/" ∷ codes "//" ∷ codes "rem" ∷ codes "mod" ∷ codes "div" ∷ codes "<<"
     ∷ codes ">>" ∷ codes "**" ∷ codes "^" ∷ codes ":" ∷ []
 
+-- the names that aren't operators and that those who read terms ask for: that of the module that all others stand in
+abbrev pub module_names : List (List ℕ)
+module_names = codes "user" ∷ []
+
 -- the names that each table begins with
 abbrev pub opening_names : List (List ℕ)
-opening_names = asked_names ++ prefix_names ++ infix_names
+opening_names = asked_names ++ prefix_names ++ infix_names ++ module_names
 
 -- the table begins with them
 abbrev pub IsOpened : List (List ℕ) → Type 0

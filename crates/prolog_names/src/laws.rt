@@ -5,7 +5,7 @@ ghost use Rattle.prolog_tokens.specs.declared.token.Token.{Token as TokenOf};
 ghost use Rattle.prolog_names.specs.Names.{name_at, opening_names, AreDistinct, IsOpened};
 ghost use Rattle.prolog_names.specs.Numbers.{AreNumbered};
 
-use crate::names::{BAR, COMMA, CURLY, EMPTY, MINUS, Names, OPENING_COUNT, SQUARE};
+use crate::names::{BAR, COMMA, CURLY, EMPTY, MINUS, Names, OPENING_COUNT, SQUARE, USER};
 
 /// Each table begins with the opening names. No name stands twice in it, so a name that isn't empty is
 /// that of one number alone.
@@ -17,6 +17,7 @@ pub fn names_law(names: &Names)
     ensures square { name_at names.now SQUARE ≡ codes "[]" }
     ensures curly { name_at names.now CURLY ≡ codes "{}" }
     ensures minus { name_at names.now MINUS ≡ codes "-" }
+    ensures user { name_at names.now USER ≡ codes "user" }
     ensures distinct { AreDistinct names.now }
     ensures only { (a b : ℕ) → name_at names.now a ≡ name_at names.now b → name_at names.now b ≢ [] → a ≡ b }
 {

@@ -16,8 +16,10 @@ pub const SQUARE: u32 = 3;
 pub const CURLY: u32 = 4;
 /// The number of `-`.
 pub const MINUS: u32 = 5;
+/// The number of `user`.
+pub const USER: u32 = 51;
 /// How many names each table begins with. A number at or beyond it is that of no such name.
-pub const OPENING_COUNT: u32 = 51;
+pub const OPENING_COUNT: u32 = 52;
 
 /// The names of a text, each once. A name's number is its place; the constants are numbers in each
 /// table.

@@ -16,7 +16,7 @@ const BUCKET_TOKENS: usize = 4;
 
 /// The names that each table begins with, whose places are constants: first those that the reader asks
 /// for, then the names of the operators that a text begins with, in the order of what stands beside
-/// them.
+/// them, then the name of a module.
 const OPENING: [&str; OPENING_COUNT as usize] = [
     "",
     ",",
@@ -69,6 +69,7 @@ const OPENING: [&str; OPENING_COUNT as usize] = [
     "**",
     "^",
     ":",
+    "user",
 ];
 
 /// The numbers of a text's tokens, one for each, and the names that they mean.

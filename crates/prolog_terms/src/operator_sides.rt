@@ -161,7 +161,7 @@ static OPENING_PREFIXES: [Option<Sides>; OPENING_COUNT as usize] = [
     None, None, None, None, None, SIGN, DIRECTIVE, DECLARING, DECLARING, DECLARING, DECLARING,
     DECLARING, DECLARING, DECLARING, DECLARING, NEGATION, SIGN, DIRECTIVE, SIGN, None, None, None,
     None, None, None, None, None, None, None, None, None, None, None, None, None, None, None, None,
-    None, None, None, None, None, None, None, None, None, None, None, None, None,
+    None, None, None, None, None, None, None, None, None, None, None, None, None, None,
 ];
 
 /// What each opening name is between operands, where the table is the opening one.
@@ -170,7 +170,7 @@ static OPENING_INFIXES: [Option<Sides>; OPENING_COUNT as usize] = [
     None, RULE, SUM, RULE, CHOICE, CONDITION, COMPARISON, COMPARISON, COMPARISON, COMPARISON,
     COMPARISON, COMPARISON, COMPARISON, COMPARISON, COMPARISON, COMPARISON, COMPARISON, COMPARISON,
     COMPARISON, COMPARISON, COMPARISON, COMPARISON, SUM, SUM, PRODUCT, PRODUCT, PRODUCT, PRODUCT,
-    PRODUCT, PRODUCT, PRODUCT, PRODUCT, POWER, QUALIFIER, QUALIFIER,
+    PRODUCT, PRODUCT, PRODUCT, PRODUCT, POWER, QUALIFIER, QUALIFIER, None,
 ];
 
 /// The name as it is looked up in a table of operators: a name `,` or `|` isn't the Comma or Bar, and

@@ -8,5 +8,5 @@ abbrev pub invariant-loop-token : goal.invariant-loop-token
 invariant-loop-token l = record {
   numbered : AreNumbered l.text l.table (take l.token-index l.tokens) l.numbers.items;
   opened : IsOpened l.table;
-  few : length l.table ≤ l.token-index + 51;
+  few : length l.table ≤ l.token-index + 52;
 }
