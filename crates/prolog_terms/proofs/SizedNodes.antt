@@ -13,7 +13,7 @@ use Rattle.prolog_terms.specs.Forest.{last_of, before_last, parts_of, without, t
 use Rattle.prolog_terms.specs.Sized.{IsSized}
 use Rattle.prolog_terms.specs.declared.term.Term.{Term}
 use Rattle.prolog_terms.specs.Terms.{tree_of}
-use Rattle.prolog_terms.specs.Views.{binary_at, only_of, pair_of, triple_of, trees_in}
+use Rattle.prolog_terms.specs.Views.{binary_at, named_at, only_of, pair_of, triple_of, trees_in}
 use Rattle.std.specs.Prelude.{reverse}
 use mathlib.Core.List.{reverse-cons}
 use Rattle.std.proofs.lemmas.List.{map-append, append-nil}
@@ -77,6 +77,12 @@ module _ (nodes : List Node) (node : Node) (some : 1 ≤ node.size) (small : nod
 pub count_parts : (n : ℕ) (trees : List Tree) (behind : Trees) → count (parts_of n trees behind) ≡ n + count behind
 count_parts zero trees behind = omega arith
 count_parts (suc n) trees behind = count_parts n (before_last trees) (more (last_of trees) behind) ∙ omega arith
+
+-- a compound has as many arguments as are counted
+pub named_compound : (name : List ℕ) (n : ℕ) (form : Form) (span : Span) (trees : List Tree)
+    → named_at (compound name (parts_of n trees none) form span) ≡ Some (record { name = name; arity = n })
+named_compound name n form span trees =
+    let all : count (parts_of n trees none) ≡ n = omega (arith, count_parts n trees none) in ap (λ k. Some (record { name = name; arity = k })) all
 
 -- one part, two or three there are where so many are counted
 

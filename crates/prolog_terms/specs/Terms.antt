@@ -7,7 +7,7 @@ use Rattle.prolog_terms.specs.declared.term.Parts.{Parts}
 use Rattle.prolog_terms.specs.declared.term.TermKind.{TermKind}
 use Rattle.prolog_terms.specs.declared.term.TermKind.TheVariants.{Var, Const, Atom, Compound, List as Listed, Tailed, Curly, Paren}
 use Rattle.prolog_terms.specs.Tree.{Tree, Trees, variable, constant, atom, compound, listed, tailed, curly, paren, none}
-use Rattle.prolog_terms.specs.Forest.{last_of, parts_of, forest}
+use Rattle.prolog_terms.specs.Forest.{last_of, parts_of, node_tree, forest}
 
 -- the tree of the last of so many nodes
 abbrev pub tree_in : List (List ℕ) → List Node → ℕ → Tree
@@ -23,6 +23,10 @@ parts_in names nodes end count = parts_of count (forest names (take end nodes)) 
 
 abbrev pub tree_of : Term → Tree
 tree_of term = tree_in term.names.now term.nodes.now term.end
+
+-- the node is that of the term, behind so many nodes
+abbrev pub IsNodeOf : Term → Node → ℕ → Type 0
+IsNodeOf term node before = tree_of term ≡ node_tree term.names.now node.shape node.span (forest term.names.now (take before term.nodes.now))
 
 abbrev pub trees_of : Parts → Trees
 trees_of parts = parts_in parts.names.now parts.nodes.now parts.end parts.count

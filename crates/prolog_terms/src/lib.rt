@@ -34,5 +34,7 @@ pub use laws::{clause_depths, clause_weights, one_clause};
 pub use node_list::NodeList;
 pub use reader::{DEEPEST, ReadFault, read_clause};
 pub use term::{ConstKind, Form, Parts, Span, Term, TermKind};
-pub use views::{atom_name, binary, inside, name_and_arity, sides, start_of};
+pub use views::{
+    atom_name, atom_number, binary, inside, name_and_arity, number_and_arity, sides, start_of,
+};
 pub use waiting::Reader;

@@ -1,9 +1,9 @@
 ghost use Rattle.std.specs.Prelude.{◌≡◌, IfOk, IfSome, map, option_map};
 ghost use Rattle.prolog_terms.specs.Tree.{count, span_of};
 ghost use Rattle.prolog_terms.specs.Views.{trees_in, only_of, pair_of, triple_of};
-ghost use Rattle.prolog_terms.specs.Terms.{kind_tree, parts_in, root_tree, tree_in, tree_of, trees_of, IsOf, IsPartsOf, AreOf};
+ghost use Rattle.prolog_terms.specs.Terms.{kind_tree, parts_in, root_tree, tree_in, tree_of, trees_of, IsNodeOf, IsOf, IsPartsOf, AreOf};
 
-use crate::node::Shape;
+use crate::node::{Node, Shape};
 use crate::node_list::NodeList;
 use prolog_names::Names;
 use std::alloc::{AllocError, Global};
@@ -85,6 +85,13 @@ pub enum TermKind<'a> {
     },
 }
 
+/// The node of a term where there are none.
+const NO_NODE: Node = Node {
+    shape: Shape::Var,
+    span: Span { from: 0, to: 0 },
+    size: 0,
+};
+
 impl<'a> Term<'a> {
     /// The term of the last node.
     pub fn root(names: &'a Names, nodes: &'a NodeList) -> Term<'a>
@@ -108,8 +115,21 @@ impl<'a> Term<'a> {
         }
     }
 
+    /// The term's node, and how many nodes stand before it. Where there is no node, the term is a
+    /// variable.
+    #[inline(always)]
+    pub(crate) fn node(&self) -> (Node, usize)
+        ensures { IsNodeOf self.now result.0 result.1 }
+    {
+        match self.nodes.last(self.end) {
+            Some(last) => last,
+            None => (NO_NODE, 0),
+        }
+    }
+
     /// The parts of a term, as many as are counted, and so many nodes before its own.
-    fn parts(&self, end: usize, count: u32) -> Parts<'a>
+    #[inline(always)]
+    pub(crate) fn parts(&self, end: usize, count: u32) -> Parts<'a>
         ensures trees { trees_of result ≡ parts_in self.now.names.now self.now.nodes.now end count }
         ensures within { IsPartsOf self.now.names.now self.now.nodes.now result }
     {

@@ -1,10 +1,12 @@
 //! What terms are, with the brackets round them passed through.
 
 ghost use Rattle.std.specs.Prelude.{◌≡◌, option_map, IfSome};
+ghost use Rattle.prolog_names.specs.Names.{name_at};
 ghost use Rattle.prolog_terms.specs.Terms.{tree_of, IsOf};
 ghost use Rattle.prolog_terms.specs.Views.{inside as inner_tree, start_of, binary as binary_tree, sides_of, name_and_arity, atom_name};
 
 use crate::binary_term::Binary;
+use crate::node::Shape;
 use crate::term::{Term, TermKind};
 
 /// The term in all brackets round it.
@@ -50,13 +52,33 @@ pub fn sides<'a>(term: &Term<'a>, operator: &str) -> Option<(Term<'a>, Term<'a>)
     Some((pair.left, pair.right))
 }
 
+/// The number of the name and the number of arguments of an atom or a compound.
+pub fn number_and_arity(term: &Term) -> Option<(u32, usize)>
+    ensures { option_map (λ pair. record { name = name_at term.now.names.now pair.0; arity = pair.1 }) result ≡ name_and_arity (tree_of term.now) }
+{
+    let (node, _before) = inside(term).node();
+    match node.shape {
+        Shape::Atom { name } => Some((name, 0)),
+        Shape::Compound { name, count, .. } => Some((name, count as usize)),
+        _ => None,
+    }
+}
+
 /// The name and the number of arguments of an atom or a compound.
 pub fn name_and_arity<'a>(term: &Term<'a>) -> Option<(&'a str, usize)>
     ensures { option_map (λ pair. record { name = pair.0.now; arity = pair.1 }) result ≡ name_and_arity (tree_of term.now) }
 {
-    match inside(term).kind() {
-        TermKind::Atom { name } => Some((name, 0)),
-        TermKind::Compound { name, args, .. } => Some((name, args.len())),
+    let (number, arity) = number_and_arity(term)?;
+    Some((term.names.text(number), arity))
+}
+
+/// The number of the name of an atom.
+pub fn atom_number(term: &Term) -> Option<u32>
+    ensures { option_map (name_at term.now.names.now) result ≡ atom_name (tree_of term.now) }
+{
+    let (node, _before) = inside(term).node();
+    match node.shape {
+        Shape::Atom { name } => Some(name),
         _ => None,
     }
 }
@@ -65,8 +87,6 @@ pub fn name_and_arity<'a>(term: &Term<'a>) -> Option<(&'a str, usize)>
 pub fn atom_name<'a>(term: &Term<'a>) -> Option<&'a str>
     ensures { option_map (λ name. name.now) result ≡ atom_name (tree_of term.now) }
 {
-    match inside(term).kind() {
-        TermKind::Atom { name } => Some(name),
-        _ => None,
-    }
+    let number = atom_number(term)?;
+    Some(term.names.text(number))
 }
