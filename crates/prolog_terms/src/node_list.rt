@@ -1,7 +1,8 @@
 //! Terms as one list of nodes, each behind its parts.
 
 ghost use Rattle.std.specs.Prelude.{◌≡◌, ◌≤◌, ◌<◌, ◌∷◌, ◌++◌, [], ℕ, List, Some, IfOk, OnOk, length, take, slice_get, MatchOption};
-ghost use Rattle.prolog_terms.specs.Forest.{before_last, forest, node_tree, taken, without};
+ghost use Rattle.prolog_terms.specs.Forest.{before_last, forest, last_of, node_tree, taken, without};
+ghost use Rattle.prolog_terms.specs.Views.{inside};
 
 use crate::node::{Node, Shape, taken};
 use crate::term::Span;
@@ -27,6 +28,7 @@ impl Model for NodeList {
 }
 
 /// The node at a place.
+#[inline(always)]
 fn node_at(list: &[Node], at: usize) -> Node
     requires { at < length list.now }
     ensures { slice_get list.now at ≡ Some result }
@@ -57,6 +59,7 @@ impl NodeList {
     }
 
     /// The last of so many nodes, and how many stand before it.
+    #[inline(always)]
     pub(crate) fn last(&self, end: usize) -> Option<(Node, usize)>
         ensures { MatchOption result (take end self.now ≡ []) (λ last. take end self.now ≡ take last.1 self.now ++ last.0 ∷ []) }
     {
@@ -67,7 +70,23 @@ impl NodeList {
         Some((node_at(&self.list, end - 1), end - 1))
     }
 
+    /// Up to which of so many nodes the last term of them stands without the brackets round it.
+    #[inline(always)]
+    pub(crate) fn inside(&self, end: usize) -> usize
+        ensures { (names : List (List ℕ)) → last_of (forest names (take result self.now)) ≡ inside (last_of (forest names (take end self.now))) }
+    {
+        let mut inner = end;
+        while let Some((node, before)) = self.last(inner) {
+            match node.shape {
+                Shape::Paren => inner = before,
+                _ => return inner,
+            }
+        }
+        inner
+    }
+
     /// How many of so many nodes stand before the last term of them.
+    #[inline(always)]
     pub(crate) fn before(&self, end: usize) -> usize
         ensures rest { (names : List (List ℕ)) → forest names (take result self.now) ≡ before_last (forest names (take end self.now)) }
         ensures within { result ≤ end }

@@ -1,4 +1,6 @@
-ghost use Rattle.std.specs.Prelude.{◌≡◌, IfOk, IfSome, map, option_map};
+ghost use Rattle.std.specs.Prelude.{◌≡◌, IfOk, IfSome, map, option_map, take};
+ghost use Rattle.prolog_terms.specs.declared.term.Span.{Span as SpanOf};
+ghost use Rattle.prolog_terms.specs.Forest.{forest, node_tree};
 ghost use Rattle.prolog_terms.specs.Tree.{count, span_of};
 ghost use Rattle.prolog_terms.specs.Views.{trees_in, only_of, pair_of, triple_of};
 ghost use Rattle.prolog_terms.specs.Terms.{kind_tree, parts_in, root_tree, tree_in, tree_of, trees_of, IsNodeOf, IsOf, IsPartsOf, AreOf};
@@ -105,16 +107,6 @@ impl<'a> Term<'a> {
         }
     }
 
-    /// Where the term stands, its brackets included.
-    pub fn span(&self) -> Span
-        ensures { result ≡ span_of (tree_of self.now) }
-    {
-        match self.nodes.last(self.end) {
-            Some((node, _before)) => node.span,
-            None => Span { from: 0, to: 0 },
-        }
-    }
-
     /// The term's node, and how many nodes stand before it. Where there is no node, the term is a
     /// variable.
     #[inline(always)]
@@ -142,7 +134,8 @@ impl<'a> Term<'a> {
     }
 
     /// The term that is the last of so many nodes.
-    fn part(&self, end: usize) -> Term<'a>
+    #[inline(always)]
+    pub(crate) fn part(&self, end: usize) -> Term<'a>
         ensures tree { tree_of result ≡ tree_in self.now.names.now self.now.nodes.now end }
         ensures within { IsOf self.now.names.now self.now.nodes.now result }
     {
@@ -153,15 +146,14 @@ impl<'a> Term<'a> {
         }
     }
 
-    /// What the term is, with its parts, which are of the same nodes.
-    pub fn kind(&self) -> TermKind<'a>
-        ensures tree { kind_tree result (span_of (tree_of self.now)) ≡ tree_of self.now }
+    /// What a term of this shape is that stands behind so many nodes.
+    #[inline(always)]
+    fn kind_of(&self, shape: Shape, before: usize) -> TermKind<'a>
+        ensures tree { (span : SpanOf) → kind_tree result span
+            ≡ node_tree self.now.names.now shape span (forest self.now.names.now (take before self.now.nodes.now)) }
         ensures within { AreOf self.now.names.now self.now.nodes.now result }
     {
-        let Some((node, before)) = self.nodes.last(self.end) else {
-            return TermKind::Var;
-        };
-        match node.shape {
+        match shape {
             Shape::Var => TermKind::Var,
             Shape::Const { kind, minus, value } => TermKind::Const { kind, minus, value },
             Shape::Atom { name } => TermKind::Atom {
@@ -186,6 +178,36 @@ impl<'a> Term<'a> {
                 inner: self.part(before),
             },
         }
+    }
+
+    /// What the term is, with its parts, which are of the same nodes.
+    #[inline(always)]
+    pub fn kind(&self) -> TermKind<'a>
+        ensures tree { kind_tree result (span_of (tree_of self.now)) ≡ tree_of self.now }
+        ensures within { AreOf self.now.names.now self.now.nodes.now result }
+    {
+        let (node, before) = self.node();
+        self.kind_of(node.shape, before)
+    }
+
+    /// Where the term stands, its brackets included.
+    #[inline(always)]
+    pub fn span(&self) -> Span
+        ensures { result ≡ span_of (tree_of self.now) }
+    {
+        let (node, _before) = self.node();
+        node.span
+    }
+
+    /// What the term is, with its parts, which are of the same nodes, and where it stands.
+    #[inline(always)]
+    pub fn kind_at(&self) -> (TermKind<'a>, Span)
+        ensures tree { kind_tree result.0 result.1 ≡ tree_of self.now }
+        ensures span { result.1 ≡ span_of (tree_of self.now) }
+        ensures within { AreOf self.now.names.now self.now.nodes.now result.0 }
+    {
+        let (node, before) = self.node();
+        (self.kind_of(node.shape, before), node.span)
     }
 }
 
@@ -212,6 +234,7 @@ impl<'a> Parts<'a> {
     }
 
     /// The term that is the last of so many nodes.
+    #[inline(always)]
     fn part(&self, end: usize) -> Term<'a>
         ensures tree { tree_of result ≡ tree_in self.now.names.now self.now.nodes.now end }
         ensures within { IsOf self.now.names.now self.now.nodes.now result }
@@ -235,6 +258,7 @@ impl<'a> Parts<'a> {
     }
 
     /// The two terms, where there are two.
+    #[inline(always)]
     pub fn pair(&self) -> Option<(Term<'a>, Term<'a>)>
         ensures trees { option_map (λ pair. (tree_of pair.0, tree_of pair.1)) result ≡ pair_of (trees_of self.now) }
         ensures within { IfSome result (λ pair. IsOf self.now.names.now self.now.nodes.now pair.0 × IsOf self.now.names.now self.now.nodes.now pair.1) }

@@ -7,17 +7,15 @@ ghost use Rattle.prolog_terms.specs.Views.{inside as inner_tree, start_of, binar
 
 use crate::binary_term::Binary;
 use crate::node::Shape;
-use crate::term::{Term, TermKind};
+use crate::term::Term;
 
 /// The term in all brackets round it.
+#[inline(always)]
 pub fn inside<'a>(term: &Term<'a>) -> Term<'a>
     ensures tree { tree_of result ≡ inner_tree (tree_of term.now) }
     ensures within { IsOf term.now.names.now term.now.nodes.now result }
 {
-    match term.kind() {
-        TermKind::Paren { inner } => inside(&inner),
-        _ => *term,
-    }
+    term.part(term.nodes.inside(term.end))
 }
 
 /// Where the term starts, inside its brackets.
@@ -33,11 +31,17 @@ pub fn binary<'a>(term: &Term<'a>) -> Option<Binary<'a>>
         ≡ binary_tree (tree_of term.now) }
     ensures within { IfSome result (λ pair. IsOf term.now.names.now term.now.nodes.now pair.left × IsOf term.now.names.now term.now.nodes.now pair.right) }
 {
-    let TermKind::Compound { name, args, .. } = inside(term).kind() else {
+    let inner = inside(term);
+    let (node, before) = inner.node();
+    let Shape::Compound { name, count, .. } = node.shape else {
         return None;
     };
-    let (left, right) = args.pair()?;
-    Some(Binary { name, left, right })
+    let (left, right) = inner.parts(before, count).pair()?;
+    Some(Binary {
+        name: inner.names.text(name),
+        left,
+        right,
+    })
 }
 
 /// The two arguments of a compound of this name, in any notation and brackets.

@@ -1,7 +1,8 @@
-use Rattle.std.proofs.Common.{ap, sym, ◌∙◌}
+use Rattle.std.proofs.Common.{ap, sym, take, ◌∙◌}
 use Rattle.std.specs.Prelude.{option_map}
-use Rattle.prolog_terms.specs.Tree.{Tree, span_of}
-use Rattle.prolog_terms.specs.Terms.{tree_of, trees_of}
+use Rattle.prolog_terms.specs.Tree.{Tree, compound}
+use Rattle.prolog_terms.specs.Forest.{forest, node_tree}
+use Rattle.prolog_terms.specs.Terms.{trees_of}
 use Rattle.prolog_terms.specs.Views.{binary_at}
 use Rattle.prolog_terms.proofs.SizedNodes.{binary_by}
 use Rattle.prolog_terms.proofs.views.binary.Goals as goal
@@ -9,6 +10,12 @@ use Rattle.prolog_terms.proofs.views.binary.Goals as goal
 pub returns-clause-trees : goal.returns-clause-trees
 returns-clause-trees c =
     let v = c.in-Compound in
-    ap (option_map (λ (pair : Tree × Tree). record { name = v.name.now; left = pair.0; right = pair.1 })) c.in_ok-left.ensures.trees
-    ∙ (sym (binary_by v.name.now (trees_of v.args) v.form (span_of (tree_of c.inside.result)))
-    ∙ ap binary_at (v.ensures.tree ∙ c.inside.ensures.tree))
+    let inner = c.inside-inner.result in
+    let node = c.node-before.result.0 in
+    let trees = forest inner.names.now (take c.node-before.result.1 inner.nodes.now) in
+    let name = c.text.result.now in
+    ap (option_map (λ (pair : Tree × Tree). record { name = name; left = pair.0; right = pair.1 })) c.in_ok-left.ensures.trees
+    ∙ (sym (binary_by name (trees_of c.parts.result) v.form node.span)
+    ∙ ((λ i. binary_at (compound (c.text.ensures i) (c.parts.ensures.trees i) v.form node.span))
+    ∙ (sym (ap (λ shape. binary_at (node_tree inner.names.now shape node.span trees)) v.is)
+    ∙ (sym (ap binary_at c.node-before.ensures) ∙ ap binary_at c.inside-inner.ensures.tree))))
