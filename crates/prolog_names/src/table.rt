@@ -151,5 +151,5 @@ fn is_named(entry: &Entry, name: &str, hash: u32) -> bool
     if entry.hash != hash {
         return false;
     }
-    name == entry.text.as_str()
+    entry.text.is(name)
 }

@@ -1,12 +1,15 @@
 -- Texts with zeros behind them are in the order of the texts, but for lengths.
-use Rattle.std.proofs.Common.{◌≡◌, ◌<◌, ◌≤◌, ℕ, zero, suc, ◌-◌, List, [], ◌∷◌, ◌++◌, length, take, drop, replicate, Bool, true, false, cond, nat_lt, ◌==◌, arith, refl, sym, ap, subst, ◌∙◌}
+use Rattle.std.proofs.Common.{◌≡◌, ◌<◌, ◌≤◌, ℕ, zero, suc, ◌-◌, List, [], ◌∷◌, ◌++◌, length, get_or, take, drop, replicate, Bool, true, false, cond, nat_lt, ◌==◌, arith, refl, sym, ap, subst, ◌∙◌}
 use Rattle.std.specs.Ordering.{MatchOrdering, nat_cmp, ordering_then, ordering_reverse}
 use Rattle.std.specs.declared.cmp.Ordering.{Ordering}
 use Rattle.std.specs.declared.cmp.Ordering.TheVariants.{Less, Equal, Greater}
 use Rattle.std.specs.Cmp.{nat_cmp_is}
 use Rattle.std.specs.Cmp.Lexicographic.{slice_cmp}
 use Rattle.std.proofs.lemmas.Cmp.{nat_list_cmp_total}
-use Rattle.std.proofs.lemmas.List.{length-take, drop-replicate}
+use Rattle.std.proofs.lemmas.List.{length-take, drop-replicate, ext_get_or}
+use Rattle.std.proofs.lemmas.Bool.{false_from_ne_true}
+use Rattle.std.proofs.lemmas.Slice.Eq.{bytes_eq-Decides}
+use Rattle.std.specs.Str.{bytes_eq}
 use Rattle.std.proofs.Math.Seq.{take-append_seam}
 use Rattle.std.proofs.lemmas.Map.Lookups.{exact_bytes}
 use Rattle.prolog_tokens.specs.Padded.{padded}
@@ -133,3 +136,11 @@ module _ (n : ℕ) (us vs : List ℕ) (j k : ℕ) (wide_first : length us ≡ n)
       (λ i. nat_cmp (sym first_length i) (sym second_length i))
       ∙ lengths_tell n (take j us) (take k vs) (omega (arith, first_length, within_j)) (omega (arith, second_length, within_k))
       (sym (λ i. slice_cmp nat_cmp (firsts_are i) (seconds_are i)) ∙ same)
+
+-- a text beside another one, byte by byte
+
+pub other_byte : (one text : List ℕ) (at : ℕ) → (get_or one at 0 ≡ get_or text at 0 → ⊥) → bytes_eq one text ≡ false
+other_byte one text at other = false_from_ne_true (bytes_eq one text) (λ same. other (ap (λ bytes. get_or bytes at 0) ((bytes_eq-Decides one text).0 same)))
+
+pub same_bytes : (one text : List ℕ) → length text ≡ length one → ((at : ℕ) → at < length one → get_or one at 0 ≡ get_or text at 0) → bytes_eq one text ≡ true
+same_bytes one text size each = (bytes_eq-Decides one text).1 (ext_get_or 0 one text (sym size) each)

@@ -1,6 +1,7 @@
 //! Texts of few bytes.
 
 ghost use Rattle.std.specs.Prelude.{◌≡◌, ◌≤◌, length};
+ghost use Rattle.std.specs.Str.{bytes_eq};
 ghost use Rattle.std.specs.Ordering.{nat_cmp};
 ghost use Rattle.std.specs.Cmp.Lexicographic.{slice_cmp};
 
@@ -8,8 +9,12 @@ use std::cmp::Ordering;
 use std::marker::Model;
 use std::str;
 
-/// How many bytes a short text has at most. With its length it is as large as a `String`.
-pub const MOST: usize = 23;
+/// How many bytes a short text has at most: three words, and with its length no more room than a
+/// `String` beside its variant.
+pub const MOST: usize = 24;
+
+/// Texts of fewer bytes are compared byte by byte: to gather so few bytes to numbers takes longer.
+const FEW: usize = 8;
 
 /// A text of few bytes. They stand in the value itself, so it needs no piece of memory of its own,
 /// as most names of a program are so short. Zeros stand behind them, so that two are compared as a
@@ -28,13 +33,13 @@ impl Model for Short {
 
     ghost view = { λ s. take s.len s.bytes };
 
-    ghost invariant = { λ s. (s.len ≤ 23) × ((s.bytes ≡ padded 23 (take s.len s.bytes)) × ∥ IsUtf8 (take s.len s.bytes) ∥₁) };
+    ghost invariant = { λ s. (s.len ≤ 24) × ((s.bytes ≡ padded 24 (take s.len s.bytes)) × ∥ IsUtf8 (take s.len s.bytes) ∥₁) };
 }
 
 impl Short {
     /// The text with the bytes of `text`.
     pub fn new(text: &str) -> Short
-        requires { length text.now ≤ 23 }
+        requires { length text.now ≤ 24 }
         ensures { result ≡ text.now }
     {
         let found = text.as_bytes();
@@ -50,6 +55,46 @@ impl Short {
         ensures { result.now ≡ self.now }
     {
         unsafe { str::from_utf8_unchecked(&self.bytes[..self.len as usize]) }
+    }
+
+    /// Whether the bytes are those of the text, of as many and of few bytes.
+    #[inline(always)]
+    fn begins_with(&self, text: &str) -> bool
+        requires { length text.now ≡ length self.now }
+        ensures { result ≡ bytes_eq self.now text.now }
+    {
+        let bytes = text.as_bytes();
+        for at in 0..bytes.len() {
+            if self.bytes[at] != bytes[at] {
+                return false;
+            }
+        }
+        true
+    }
+
+    /// Whether the text is this one.
+    #[inline(always)]
+    pub fn is(&self, text: &str) -> bool
+        ensures { result ≡ bytes_eq self.now text.now }
+    {
+        if text.len() != self.len as usize {
+            return false;
+        }
+        if text.len() < FEW {
+            return self.begins_with(text);
+        }
+        self.as_str() == text
+    }
+
+    /// Whether the two texts are the same.
+    #[inline(always)]
+    pub fn is_same(&self, other: &Short) -> bool
+        ensures { result ≡ bytes_eq self.now other.now }
+    {
+        if self.len != other.len {
+            return false;
+        }
+        self.bytes == other.bytes
     }
 
     /// The order of the texts, byte by byte.

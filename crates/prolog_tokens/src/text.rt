@@ -1,4 +1,5 @@
 ghost use Rattle.std.specs.Prelude.{◌≡◌, IfOk};
+ghost use Rattle.std.specs.Str.{bytes_eq};
 ghost use Rattle.std.specs.String.{string_bytes};
 
 use crate::short::{MOST, Short};
@@ -67,6 +68,17 @@ impl Text {
             Room::Long(text) => text.as_str(),
         }
     }
+
+    /// Whether the text is this one.
+    #[inline(always)]
+    pub fn is(&self, text: &str) -> bool
+        ensures { result ≡ bytes_eq self.now text.now }
+    {
+        match &self.room {
+            Room::Short(own) => own.is(text),
+            Room::Long(own) => own.as_str() == text,
+        }
+    }
 }
 
 impl fmt::Debug for Text {
@@ -87,7 +99,10 @@ impl PartialEq for Text {
     ghost laws = { partial_equiv_from_equiv nat_list_eq_equiv };
 
     fn eq(&self, other: &Text) -> bool {
-        self.as_str() == other.as_str()
+        match (&self.room, &other.room) {
+            (Room::Short(one), Room::Short(another)) => one.is_same(another),
+            _ => self.as_str() == other.as_str(),
+        }
     }
 }
 
