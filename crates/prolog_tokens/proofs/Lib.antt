@@ -1,4 +1,5 @@
 mod Padded
+mod ClassTable
 pub mod Characters
 pub mod PlaceSteps
 pub mod Classes
