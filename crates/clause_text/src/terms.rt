@@ -1,6 +1,6 @@
 ghost use Rattle.std.specs.Prelude.{◌≡◌, ◌||◌, option_map, map, codes, IfOk, IfSome};
 ghost use Rattle.std.specs.Str.{bytes_eq};
-ghost use Rattle.prolog_terms.specs.Terms.{tree_of, trees_of, IsOf};
+ghost use Rattle.prolog_terms.specs.Terms.{tree_of, trees_of, IsOf, IsPartsOf};
 ghost use Rattle.prolog_terms.specs.Views.{trees_in};
 ghost use Rattle.clause_text.specs.Lists.{listed_items, written_items};
 ghost use Rattle.clause_text.specs.Items.{item_of, directive_of};
@@ -43,7 +43,8 @@ pub fn directive_of<'a>(clause: &Term<'a>) -> Option<Term<'a>>
 
 /// The terms of a list without a tail, which isn't the atom `[]`.
 pub fn written_items<'a>(term: &Term<'a>) -> Option<Parts<'a>>
-    ensures { option_map (λ items. trees_in (trees_of items)) result ≡ written_items (tree_of term.now) }
+    ensures trees { option_map (λ items. trees_in (trees_of items)) result ≡ written_items (tree_of term.now) }
+    ensures within { IfSome result (IsPartsOf term.now.names.now term.now.nodes.now) }
 {
     match inside(term).kind() {
         TermKind::List { items } => Some(items),

@@ -1,5 +1,5 @@
 -- Nodes with one node more, and the trees of so many of them.
-use Rattle.std.proofs.Common.{inl, inr, ◌≡◌, ◌≢◌, fold, ℕ, zero, suc, ◌+◌, ◌-◌, ◌<◌, ◌≤◌, List, [], ◌∷◌, ◌++◌, Some, None, length, take, slice_get, map, ap, sym, refl, ◌∙◌, arith, append_assoc}
+use Rattle.std.proofs.Common.{All, subst, inl, inr, ◌≡◌, ◌≢◌, fold, ℕ, zero, suc, ◌+◌, ◌-◌, ◌<◌, ◌≤◌, List, [], ◌∷◌, ◌++◌, Some, None, length, take, slice_get, map, ap, sym, refl, ◌∙◌, arith, append_assoc}
 use Rattle.std.proofs.lemmas.Bool.{cases_lt}
 use Rattle.std.proofs.lemmas.List.{take-append-le, take_more, length_push, get_or_append_left, get_or_push, take_all}
 use Rattle.std.proofs.lemmas.List.Sums.{fold-append}
@@ -17,6 +17,7 @@ use Rattle.prolog_terms.specs.Views.{binary_at, named_at, only_of, pair_of, trip
 use Rattle.std.specs.Prelude.{reverse}
 use mathlib.Core.List.{reverse-cons}
 use Rattle.std.proofs.lemmas.List.{map-append, append-nil}
+use Rattle.std.proofs.lemmas.List.Elements.{All-head, All-tail, All-push}
 
 -- so many nodes end with the node there
 pub take_node : (nodes : List Node) (at : ℕ) (node : Node) → slice_get nodes at ≡ Some node → take (at + 1) nodes ≡ take at nodes ++ node ∷ []
@@ -122,6 +123,12 @@ behind terms = fold with_part none terms
 
 pub behind_push : (terms : List Term) (term : Term) → behind (terms ++ term ∷ []) ≡ more (tree_of term) (behind terms)
 behind_push terms term = fold-append with_part none terms (term ∷ [])
+
+pub all_reversed : (P : Term → Type 0) (terms : List Term) → All P terms → All P (reverse terms)
+all_reversed P [] all = all
+all_reversed P (term ∷ terms) all =
+    subst (All P) (sym (reverse-cons term terms))
+    (All-push P (reverse terms) term (all_reversed P terms (All-tail P term terms all)) (All-head P term terms all))
 
 pub behind_all : (terms : List Term) → map tree_of (reverse terms) ≡ trees_in (behind terms)
 behind_all terms = sym (onto terms none ∙ append-nil (map tree_of (reverse terms)))

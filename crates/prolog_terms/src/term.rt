@@ -1,4 +1,4 @@
-ghost use Rattle.std.specs.Prelude.{◌≡◌, IfOk, IfSome, map, option_map, take};
+ghost use Rattle.std.specs.Prelude.{◌≡◌, All, IfOk, IfSome, map, option_map, take};
 ghost use Rattle.prolog_terms.specs.declared.term.Span.{Span as SpanOf};
 ghost use Rattle.prolog_terms.specs.Forest.{forest, node_tree};
 ghost use Rattle.prolog_terms.specs.Tree.{count, span_of};
@@ -221,7 +221,8 @@ impl<'a> Parts<'a> {
 
     /// The terms in their order.
     pub fn to_vec(&self, alloc: Global) -> Result<Vec<Term<'a>>, AllocError>
-        ensures { IfOk result (λ terms. map tree_of terms.items ≡ trees_in (trees_of self.now)) }
+        ensures trees { IfOk result (λ terms. map tree_of terms.items ≡ trees_in (trees_of self.now)) }
+        ensures within { IfOk result (λ terms. All (IsOf self.now.names.now self.now.nodes.now) terms.items) }
     {
         let mut terms = Vec::with_capacity(alloc, self.count as usize)?;
         let mut end = self.end;

@@ -9,10 +9,10 @@ pub returns-then-not-are_names : goal.returns-then-not-are_names
 returns-then-not-are_names c =
     names_listed c.in_ok-list.list.items false
     (ap (list_all (λ term. is_name (tree_of term))) (sym c.deref.ensures.value) ∙ (sym c.are_names.ensures ∙ c.if-not-are_names.true))
-    ∙ (ap all_names c.in_ok-list.ensures ∙ ap (option_and_then all_names) c.in-Some.ensures)
+    ∙ (ap all_names c.in_ok-list.ensures.trees ∙ ap (option_and_then all_names) c.in-Some.ensures.trees)
 
 pub returns : goal.returns
 returns c =
     names_listed c.in_ok-list.list.items true
     (ap (list_all (λ term. is_name (tree_of term))) (sym c.deref.ensures.value) ∙ (sym c.are_names.ensures ∙ c.if-not-are_names.false))
-    ∙ (ap all_names c.in_ok-list.ensures ∙ ap (option_and_then all_names) c.in-Some.ensures)
+    ∙ (ap all_names c.in_ok-list.ensures.trees ∙ ap (option_and_then all_names) c.in-Some.ensures.trees)
