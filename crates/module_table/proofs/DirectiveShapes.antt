@@ -1,12 +1,19 @@
 -- Directives by the number of their arguments.
-use Rattle.std.proofs.Common.{◌≡◌, ℕ, Bool, List, Some, None, refl, ap, sym, ◌∙◌}
+use Rattle.std.proofs.Common.{◌≡◌, ℕ, Bool, true, false, codes, List, Some, None, refl, ap, sym, ◌∙◌}
+use Rattle.std.specs.Str.{bytes_eq}
 use Rattle.prolog_terms.specs.declared.term.Span.{Span}
 use Rattle.prolog_terms.specs.declared.term.Form.{Form}
 use Rattle.prolog_terms.specs.Tree.{Tree, Trees, compound, none, more as with_more}
-use Rattle.prolog_terms.specs.Views.{only_of, pair_of, triple_of}
+use Rattle.prolog_terms.specs.Views.{start_of, only_of, pair_of, triple_of}
 use Rattle.module_table.specs.Said.{only, goal}
-use Rattle.module_table.specs.Directives.{Home, one_said, two_said, three_said, shallow_said}
+use Rattle.module_table.specs.Directives.{Home, module_said, one_said, two_said, three_said, shallow_said}
 use Rattle.module_table.proofs.Shapes.{only_seen, pair_seen}
+
+-- a module is declared by the first clause
+pub module_first : (user : Home) (first : Bool) (name : List ℕ) (left right tree : Tree) → bytes_eq name (codes "module") ≡ true → first ≡ true
+    → module_said left right (start_of tree) ≡ two_said user first name left right tree
+module_first user true name left right tree is first = rw is refl
+module_first user false name left right tree is first = let clash : false ≡ true = first in absurd (cc)
 
 module _ (user : Home) (first : Bool) (name : List ℕ) (form : Form) (span : Span) where
   abbrev whole : Trees → Tree

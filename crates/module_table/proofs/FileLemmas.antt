@@ -1,11 +1,17 @@
 -- What the clauses of a file say, one more.
-use Rattle.std.proofs.Common.{◌≡◌, Bool, true, false, List, [], ◌∷◌, ◌++◌, Ok, refl, ap, sym, ◌∙◌, subst}
+use Rattle.std.proofs.Common.{◌≡◌, Some, None, Bool, true, false, List, [], ◌∷◌, ◌++◌, Ok, refl, ap, sym, ◌∙◌, subst}
 use Rattle.prolog_terms.specs.Tree.{Tree}
+use Rattle.clause_text.specs.Items.{directive_of}
 use Rattle.module_table.specs.declared.said.FactFault.{FactFault}
 use Rattle.module_table.specs.Said.{Part, in_turn, each_said, IsWhy}
-use Rattle.module_table.specs.Directives.{Home}
-use Rattle.module_table.specs.Facts.{clause_said, trees_said}
+use Rattle.module_table.specs.Directives.{Home, directive_said}
+use Rattle.module_table.specs.Facts.{clause_head, headed, clause_said, trees_said}
 use Rattle.module_table.proofs.SaidLemmas.{more_none, in_turn_none, in_turn_assoc, each_append, stops_first, stops_second}
+
+-- what a directive says, its clause says
+pub directive_clause : (user : Home) (first : Bool) (tree term : Tree) → directive_of tree ≡ Some term → directive_said user first term ≡ clause_said user first tree
+directive_clause user first tree term is =
+    sym (ap (λ found. elim found [ Some own ↦ directive_said user first own | None ↦ headed (clause_head user.module_ tree) tree ]) is)
 
 -- first tells whether there is none yet
 abbrev pub IsFirst : Bool → List Tree → Type 0

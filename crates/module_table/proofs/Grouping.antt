@@ -7,6 +7,7 @@ use Rattle.std.proofs.lemmas.Bool.{false_from_ne_true}
 use Rattle.std.proofs.lemmas.Grind.{flat_map-append}
 use Rattle.std.proofs.lemmas.List.{append-nil, map-append}
 use Rattle.std.proofs.lemmas.List.Elements.{All-nil, All-contains, All-weaker, All-push, Contains-append_right, Contains-push, Contains-push_cases, Contains-append_left}
+use Rattle.prolog_names.specs.Names.{name_at}
 use Rattle.prolog_terms.specs.Tree.{Tree}
 use Rattle.clause_text.specs.Clauses.{clause_tree, clause_trees}
 use Rattle.module_table.specs.declared.defined.Defined.{Defined}
@@ -238,7 +239,7 @@ add_to_none names ds run old new empty is are =
     (run_added ds (see_defined names run) [] (subst (AreDefined ds) (ap (map (see_defined names)) empty) are) (All-nil (λ p. predicate_cmp p (see_defined names run) ≡ Less)))
 
 pub add_behind : (names : List (List ℕ)) (ds : List Defines) (run : Defined) (old kept held new : List Defined) (last : Defined) → old ≡ kept ++ last ∷ []
-    → held ≡ kept ++ last ∷ [] → new ≡ held ++ run ∷ [] → same last.module last.name last.arity run.module run.name run.arity ≡ false → NoneIsAfter (see_defined names run) ds
+    → held ≡ kept ++ last ∷ [] → new ≡ held ++ run ∷ [] → same (name_at names last.module) (name_at names last.name) last.arity (name_at names run.module) (name_at names run.name) run.arity ≡ false → NoneIsAfter (see_defined names run) ds
     → AreDefined ds (map (see_defined names) old) → AreDefined (ds ++ see_run names run) (map (see_defined names) new)
 add_behind names ds run old kept held new last was stays is other up are =
     let front = map (see_defined names) kept in
@@ -255,7 +256,7 @@ add_behind names ds run old kept held new last was stays is other up are =
 pub add_to_last : (names : List (List ℕ)) (ds : List Defines) (run : Defined) (old kept new : List Defined) (last longer : Defined) → old ≡ kept ++ last ∷ []
     → new ≡ kept ++ longer ∷ [] → longer.module ≡ last.module → longer.name ≡ last.name → longer.arity ≡ last.arity
     → longer.clauses.items ≡ last.clauses.items ++ run.clauses.items
-    → same last.module last.name last.arity run.module run.name run.arity ≡ true
+    → same (name_at names last.module) (name_at names last.name) last.arity (name_at names run.module) (name_at names run.name) run.arity ≡ true
     → AreDefined ds (map (see_defined names) old) → AreDefined (ds ++ see_run names run) (map (see_defined names) new)
 add_to_last names ds run old kept new last longer was is modules named arities clauses own are =
     let front = map (see_defined names) kept in
@@ -263,12 +264,12 @@ add_to_last names ds run old kept new last longer was is modules named arities c
     let trees : clause_trees names longer.clauses.items ≡ clause_trees names last.clauses.items ++ clause_trees names run.clauses.items =
     ap (clause_trees names) clauses ∙ map-append (clause_tree names) last.clauses.items run.clauses.items in
     let whole : Predicate = record {
-      module_ = last.module;
-      name = last.name;
+      module_ = name_at names last.module;
+      name = name_at names last.name;
       arity = last.arity;
       clauses = clause_trees names last.clauses.items ++ clause_trees names run.clauses.items;
     } in
-    let seen : see_defined names longer ≡ whole = λ i. record { module_ = modules i; name = named i; arity = arities i; clauses = trees i } in
+    let seen : see_defined names longer ≡ whole = λ i. record { module_ = name_at names (modules i); name = name_at names (named i); arity = arities i; clauses = trees i } in
     let after : front ++ whole ∷ [] ≡ map (see_defined names) new =
     sym (ap (map (see_defined names)) is ∙ map-append (see_defined names) kept (longer ∷ []) ∙ ap (λ p. front ++ p ∷ []) seen) in
     subst (AreDefined (ds ++ see_run names run)) after

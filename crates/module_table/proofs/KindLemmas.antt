@@ -139,18 +139,25 @@ added_parts old new (Err refusal) is = let both : Err refusal ≡ told new = is 
 
 -- what is added in turn
 
-pub adds_on : (old mid new : Kinds) (a b : Said) → IsAdded old a mid → IsAdded mid b new → IsAdded old (in_turn a b) new
-adds_on old mid new a b is also names nodes = kinds_go_on (see_kinds names nodes old) (see_kinds names nodes mid) (see_kinds names nodes new) a b (is names nodes) (also names nodes)
+pub adds_on : (names : List (List ℕ)) (old mid new : Kinds) (a b : Said) → IsAdded names old a mid → IsAdded names mid b new → IsAdded names old (in_turn a b) new
+adds_on names old mid new a b is also nodes = kinds_go_on (see_kinds names nodes old) (see_kinds names nodes mid) (see_kinds names nodes new) a b (is nodes) (also nodes)
 
-pub parts_of_added : (old new : Kinds) (said : Said) → IsAdded old said new → (parts : List Part) × (said ≡ Ok parts)
-parts_of_added old new said is = added_parts (see_kinds [] [] old) (see_kinds [] [] new) said (is [] [])
+pub parts_of_added : (names : List (List ℕ)) (old new : Kinds) (said : Said) → IsAdded names old said new → (parts : List Part) × (said ≡ Ok parts)
+parts_of_added names old new said is = added_parts (see_kinds names [] old) (see_kinds names [] new) said (is [])
+
+-- where no directive is under way, no nodes are asked for
+pub none_open : (names : List (List ℕ)) (nodes others : List Node) (kinds : Kinds) → kinds.ends.items ≡ [] → see_kinds names nodes kinds ≡ see_kinds names others kinds
+none_open names nodes others kinds closed =
+    let ends : map (tree_in names nodes) kinds.ends.items ≡ map (tree_in names others) kinds.ends.items =
+    ap (map (tree_in names nodes)) closed ∙ sym (ap (map (tree_in names others)) closed) in
+    λ i. record (see_kinds names nodes kinds) { goals = flat_map (goal_trees names) kinds.goals.items ++ ends i }
 
 -- what is added while a directive of these nodes is under way
 
 abbrev pub IsAddedAt : List (List ℕ) → List Node → Kinds → Said → Kinds → Type 0
 IsAddedAt names nodes old said new = with_said (see_kinds names nodes old) said ≡ Ok (see_kinds names nodes new)
 
-pub added_by : (names : List (List ℕ)) (nodes : List Node) (term : Term) (old new : Kinds) (said : Said) → IsOf names nodes term
-    → IsAddedAt term.names.now term.nodes.now old said new → IsAddedAt names nodes old said new
-added_by names nodes term old new said of is =
-    subst (λ n. IsAddedAt names n old said new) of.1 (subst (λ n. IsAddedAt n term.nodes.now old said new) of.0 is)
+pub added_by : (names : List (List ℕ)) (nodes : List Node) (term : Term) (old new : Kinds) (says : List (List ℕ) → Said) → IsOf names nodes term
+    → IsAddedAt term.names.now term.nodes.now old (says term.names.now) new → IsAddedAt names nodes old (says names) new
+added_by names nodes term old new says of is =
+    subst (λ n. IsAddedAt names n old (says names) new) of.1 (subst (λ n. IsAddedAt n term.nodes.now old (says n) new) of.0 is)

@@ -2,12 +2,11 @@
 use Rattle.std.proofs.Common.{◌≡◌, ◌≢◌, ◌==◌, ℕ, ◌<◌, ◌≤◌, ◌+◌, ◌-◌, Bool, true, false, ◌&&◌, nat_eq, List, [], ◌∷◌, ◌++◌, length, get_or, take, map, flat_map, ap, sym, subst, ◌∙◌, refl, arith, append_assoc, append-nil}
 use Rattle.std.specs.Prelude.{slice_set}
 use Rattle.std.specs.Bool.{OnTrue}
-use Rattle.std.specs.Str.{bytes_eq}
 use Rattle.std.proofs.lemmas.Bool.{and_parts}
 use Rattle.std.proofs.lemmas.Bool.Decides.{Decides-eqb}
-use Rattle.std.proofs.lemmas.Slice.Eq.{bytes_eq-Decides}
 use Rattle.std.proofs.lemmas.Grind.{flat_map-append}
 use Rattle.std.proofs.lemmas.List.{take_all, take_more, take_more_set, length-set, map-append}
+use Rattle.prolog_names.specs.Names.{name_at}
 use Rattle.clause_text.specs.declared.text_clauses.Clause.{Clause}
 use Rattle.clause_text.specs.Clauses.{clause_tree, clause_trees}
 use Rattle.module_table.specs.declared.defined.Defined.{Defined}
@@ -56,25 +55,25 @@ ends_once (a ∷ xs) (b ∷ ys) x y e =
     ((λ i. first i ∷ rest.0 i), rest.1)
 
 -- one more clause of the last run
-pub push_to_last : (names : List (List ℕ)) (owner name : List ℕ) (arity : ℕ) (old before new : List Defined) (last longer : Defined) (clause : Clause) → EndIn owner name arity old
+pub push_to_last : (names : List (List ℕ)) (owner name arity : ℕ) (old before new : List Defined) (last longer : Defined) (clause : Clause) → EndIn owner name arity old
     → old ≡ before ++ last ∷ [] → new ≡ before ++ longer ∷ [] → longer.module ≡ last.module → longer.name ≡ last.name → longer.arity ≡ last.arity
     → longer.clauses.items ≡ last.clauses.items ++ clause ∷ []
-    → flat_map (see_run names) new ≡ flat_map (see_run names) old ++ defined_by owner name arity (clause_tree names clause) ∷ []
+    → flat_map (see_run names) new ≡ flat_map (see_run names) old ++ defined_by (name_at names owner) (name_at names name) arity (clause_tree names clause) ∷ []
 push_to_last names owner name arity old before new last longer clause end was is modules named arities clauses =
     let it : last ≡ end.last = (ends_once before end.before last end.last (sym was ∙ end.are)).1 in
     let some : last.clauses.items ≢ [] = λ none. end.some (subst (λ (r : Defined). r.clauses.items ≡ []) it none) in
     let own_module : last.module ≡ owner = ap (λ (r : Defined). r.module) it ∙ end.modules in
     let own_name : last.name ≡ name = ap (λ (r : Defined). r.name) it ∙ end.names in
     let own_arity : last.arity ≡ arity = ap (λ (r : Defined). r.arity) it ∙ end.arities in
-    let seen : see_run names longer ≡ see_run names last ++ defined_by owner name arity (clause_tree names clause) ∷ [] =
-    (λ i. defined_by_all (modules i) (named i) (arities i) (clause_trees names (clauses i)))
-    ∙ one_more names last.module last.name last.arity last.clauses.items clause some
-    ∙ (λ i. see_run names last ++ defined_by (own_module i) (own_name i) (own_arity i) (clause_tree names clause) ∷ []) in
+    let seen : see_run names longer ≡ see_run names last ++ defined_by (name_at names owner) (name_at names name) arity (clause_tree names clause) ∷ [] =
+    (λ i. defined_by_all (name_at names (modules i)) (name_at names (named i)) (arities i) (clause_trees names (clauses i)))
+    ∙ one_more names (name_at names last.module) (name_at names last.name) last.arity last.clauses.items clause some
+    ∙ (λ i. see_run names last ++ defined_by (name_at names (own_module i)) (name_at names (own_name i)) (own_arity i) (clause_tree names clause) ∷ []) in
     ap (flat_map (see_run names)) is
     ∙ all_then names before longer
     ∙ ap (λ ds. flat_map (see_run names) before ++ ds) seen
-    ∙ sym (append_assoc (flat_map (see_run names) before) (see_run names last) (defined_by owner name arity (clause_tree names clause) ∷ []))
-    ∙ ap (λ ds. ds ++ defined_by owner name arity (clause_tree names clause) ∷ []) (sym (ap (flat_map (see_run names)) was ∙ all_then names before last))
+    ∙ sym (append_assoc (flat_map (see_run names) before) (see_run names last) (defined_by (name_at names owner) (name_at names name) arity (clause_tree names clause) ∷ []))
+    ∙ ap (λ ds. ds ++ defined_by (name_at names owner) (name_at names name) arity (clause_tree names clause) ∷ []) (sym (ap (flat_map (see_run names)) was ∙ all_then names before last))
 
 -- whether there are clauses, and the last run is of a predicate
 
@@ -84,17 +83,17 @@ some_there clauses count counted some none =
     let clash : true ≡ false = sym (ap (λ n. n == 0) zero) ∙ some in
     absurd (cc)
 
-pub ends_here : (test : Bool) (owner name : List ℕ) (arity : ℕ) (runs before : List Defined) (last : Defined) → runs ≡ before ++ last ∷ [] → last.clauses.items ≢ []
-    → test ≡ (nat_eq last.arity arity && (bytes_eq last.name name && bytes_eq last.module owner)) → OnTrue test (EndIn owner name arity runs)
+pub ends_here : (test : Bool) (owner name arity : ℕ) (runs before : List Defined) (last : Defined) → runs ≡ before ++ last ∷ [] → last.clauses.items ≢ []
+    → test ≡ (nat_eq last.arity arity && (nat_eq last.name name && nat_eq last.module owner)) → OnTrue test (EndIn owner name arity runs)
 ends_here true owner name arity runs before last are some is =
-    let both = and_parts (nat_eq last.arity arity) (bytes_eq last.name name && bytes_eq last.module owner) (sym is) in
-    let texts = and_parts (bytes_eq last.name name) (bytes_eq last.module owner) both.1 in
+    let both = and_parts (nat_eq last.arity arity) (nat_eq last.name name && nat_eq last.module owner) (sym is) in
+    let own = and_parts (nat_eq last.name name) (nat_eq last.module owner) both.1 in
     record {
       before = before;
       last = last;
       are = are;
-      modules = (bytes_eq-Decides last.module owner).0 texts.1;
-      names = (bytes_eq-Decides last.name name).0 texts.0;
+      modules = (Decides-eqb last.module owner).0 own.1;
+      names = (Decides-eqb last.name name).0 own.0;
       arities = (Decides-eqb last.arity arity).0 both.0;
       some = some;
     }

@@ -11,6 +11,7 @@ use Rattle.std.proofs.lemmas.List.Elements.{All-nil, All-cons, All-head, All-tai
 use Rattle.std.proofs.lemmas.List.Sorted.{Contains-permutation, IsPermutation-sym, ranks_by, sorted_far}
 use Rattle.std.proofs.lemmas.Map.Keys.{sorted_from_all_adjacent}
 use Rattle.std.proofs.Math.ListN.{get_or-map}
+use Rattle.prolog_names.specs.Names.{name_at}
 use Rattle.prolog_terms.specs.Tree.{Tree}
 use Rattle.module_table.specs.declared.defined.Defined.{Defined}
 use Rattle.module_table.specs.Defined.{Defines, Predicate, IsDefined, AreDefined, NoneIsAfter, key, key_of, predicate_cmp, clause_for, clauses_for, see_defined as defined_seen, defined_by, defined_by_all, see_run as run_seen}
@@ -18,14 +19,22 @@ use Rattle.module_table.proofs.PredicateOrder.{predicate_cmp_total, same, same_t
 use Rattle.module_table.proofs.RunLemmas.{all_then}
 use Rattle.module_table.proofs.Grouping.{by_test, clause_of_another, all_of, run_added, none_defined}
 
--- whether a run is of a predicate that comes before another's
-abbrev pub comes_before : Defined → Defined → Bool
-comes_before a b = is_lt (predicate_cmp (key_of a) (key_of b))
-
-pub comes_before_ranks : IsStrictWeakOrder comes_before
-comes_before_ranks = ranks_by predicate_cmp_total key_of
-
 module _ (names : List (List ℕ)) where
+  -- whether a run is of a predicate that comes before another's
+  abbrev pub comes_before : Defined → Defined → Bool
+  comes_before a b = is_lt (predicate_cmp (key_of names a) (key_of names b))
+
+  pub comes_before_ranks : IsStrictWeakOrder comes_before
+  comes_before_ranks = ranks_by predicate_cmp_total (key_of names)
+
+  -- the names of a run's predicate
+
+  abbrev own_module : Defined → List ℕ
+  own_module run = name_at names run.module
+
+  abbrev own_name : Defined → List ℕ
+  own_name run = name_at names run.name
+
   abbrev see_defined : Defined → Predicate
   see_defined run = defined_seen names run
 
@@ -37,11 +46,11 @@ module _ (names : List (List ℕ)) where
   tied_is_same Equal back e = rw e refl
   tied_is_same Greater back e = rw e refl
 
-  ties_same : (asked run : Defined) → ties comes_before asked run ≡ same asked.module asked.name asked.arity run.module run.name run.arity
+  ties_same : (asked run : Defined) → ties comes_before asked run ≡ same (own_module asked) (own_name asked) asked.arity (own_module run) (own_name run) run.arity
   ties_same asked run =
       tied_is_same (predicate_cmp (see_defined asked) (see_defined run)) (predicate_cmp (see_defined run) (see_defined asked))
       (predicate_cmp_total.antisymm (see_defined run) (see_defined asked))
-      ∙ sym (same_ties asked.module asked.name asked.arity run.module run.name run.arity)
+      ∙ sym (same_ties (own_module asked) (own_name asked) asked.arity (own_module run) (own_name run) run.arity)
 
   -- all that a run defines is of its predicate
 
@@ -70,20 +79,20 @@ module _ (names : List (List ℕ)) where
       ∙ none_of owner name arity ds (All-tail (λ (e : Defines). same owner name arity e.module_ e.name e.arity ≡ false) d ds all)
 
   -- the clauses of a predicate are those of its own runs
-  clauses_of_own : (asked : Defined) (runs : List Defined) → clauses_for asked.module asked.name asked.arity (flat_map see_run runs)
-      ≡ clauses_for asked.module asked.name asked.arity (flat_map see_run (filter (ties comes_before asked) runs))
+  clauses_of_own : (asked : Defined) (runs : List Defined) → clauses_for (own_module asked) (own_name asked) asked.arity (flat_map see_run runs)
+      ≡ clauses_for (own_module asked) (own_name asked) asked.arity (flat_map see_run (filter (ties comes_before asked) runs))
   clauses_of_own asked [] = refl
   clauses_of_own asked (run ∷ runs) =
-      let of_asked = clauses_for asked.module asked.name asked.arity in
-      let join = λ (others : List Defined). flat_map-append (clause_for asked.module asked.name asked.arity) (see_run run) (flat_map see_run others) in
+      let of_asked = clauses_for (own_module asked) (own_name asked) asked.arity in
+      let join = λ (others : List Defined). flat_map-append (clause_for (own_module asked) (own_name asked) asked.arity) (see_run run) (flat_map see_run others) in
       by_test (ties comes_before asked run)
       (λ is. rw is
       (join runs ∙ ap (λ x. of_asked (see_run run) ++ x) (clauses_of_own asked runs) ∙ sym (join (filter (ties comes_before asked) runs))))
       (λ other. rw other
       (join runs
       ∙ ap (λ x. x ++ of_asked (flat_map see_run runs))
-      (none_of asked.module asked.name asked.arity (see_run run)
-      (all_of_run (λ (d : Defines). same asked.module asked.name asked.arity d.module_ d.name d.arity ≡ false) (see_defined run) (λ clause. sym (ties_same asked run) ∙ other)))
+      (none_of (own_module asked) (own_name asked) asked.arity (see_run run)
+      (all_of_run (λ (d : Defines). same (own_module asked) (own_name asked) asked.arity d.module_ d.name d.arity ≡ false) (see_defined run) (λ clause. sym (ties_same asked run) ∙ other)))
       ∙ clauses_of_own asked runs))
 
   -- the run that defines a predicate
@@ -136,18 +145,18 @@ module _ (names : List (List ℕ)) where
           let d : Defines = record { module_ = owner; name = name; arity = arity; clause = has.clause } in
           let it = run_of ys d has.stands in
           let run = it.run in
-          let modules : run.module ≡ owner =
-          All-contains (λ (e : Defines). run.module ≡ e.module_) (see_run run) d (all_of_run (λ (e : Defines). run.module ≡ e.module_) (see_defined run) (λ clause. refl)) it.has in
-          let names : run.name ≡ name =
-          All-contains (λ (e : Defines). run.name ≡ e.name) (see_run run) d (all_of_run (λ (e : Defines). run.name ≡ e.name) (see_defined run) (λ clause. refl)) it.has in
+          let modules : own_module run ≡ owner =
+          All-contains (λ (e : Defines). own_module run ≡ e.module_) (see_run run) d (all_of_run (λ (e : Defines). own_module run ≡ e.module_) (see_defined run) (λ clause. refl)) it.has in
+          let named : own_name run ≡ name =
+          All-contains (λ (e : Defines). own_name run ≡ e.name) (see_run run) d (all_of_run (λ (e : Defines). own_name run ≡ e.name) (see_defined run) (λ clause. refl)) it.has in
           let arities : run.arity ≡ arity =
           All-contains (λ (e : Defines). run.arity ≡ e.arity) (see_run run) d (all_of_run (λ (e : Defines). run.arity ≡ e.arity) (see_defined run) (λ clause. refl)) it.has in
-          let own : clauses_for run.module run.name run.arity (flat_map see_run ys) ≡ clauses_for run.module run.name run.arity (flat_map see_run xs) =
+          let own : clauses_for (own_module run) (own_name run) run.arity (flat_map see_run ys) ≡ clauses_for (own_module run) (own_name run) run.arity (flat_map see_run xs) =
           clauses_of_own run ys
-          ∙ ap (λ runs. clauses_for run.module run.name run.arity (flat_map see_run runs)) (stable run)
+          ∙ ap (λ runs. clauses_for (own_module run) (own_name run) run.arity (flat_map see_run runs)) (stable run)
           ∙ sym (clauses_of_own run xs) in
           subst (λ (r : Predicate). clauses_for r.module_ r.name r.arity (flat_map see_run ys) ≡ clauses_for r.module_ r.name r.arity (flat_map see_run xs))
-          (λ i. key (modules i) (names i) (arities i)) own
+          (λ i. key (modules i) (named i) (arities i)) own
 
   -- in sorted runs none so far comes after the next one
   pub none_after_next : (runs done : List Defined) (run : Defined) → IsSortedBy comes_before runs → done ≡ take (length done) runs

@@ -5,6 +5,7 @@ use Rattle.std.specs.Ordering.{ordering_then, nat_cmp, is_lt}
 use Rattle.std.specs.Cmp.Lexicographic.{slice_cmp}
 use Rattle.std.specs.List.Sorted.{IsStrictlySortedBy}
 use Rattle.std.specs.Str.{bytes_eq}
+use Rattle.prolog_names.specs.Names.{name_at}
 use Rattle.prolog_terms.specs.Tree.{Tree}
 use Rattle.clause_text.specs.Clauses.{clause_trees}
 use Rattle.module_table.specs.declared.defined.Defined.{Defined}
@@ -23,9 +24,9 @@ pub record Predicate : Type 0 where
   pub arity : ℕ
   pub clauses : List Tree
 
--- a predicate that is kept; the names are those of its clauses
+-- a predicate that is kept; its own names and those of its clauses are numbers in these names
 abbrev pub see_defined : List (List ℕ) → Defined → Predicate
-see_defined names d = record { module_ = d.module; name = d.name; arity = d.arity; clauses = clause_trees names d.clauses.items }
+see_defined names d = record { module_ = name_at names d.module; name = name_at names d.name; arity = d.arity; clauses = clause_trees names d.clauses.items }
 
 -- the predicate is defined by the clause
 abbrev pub defined_by : List ℕ → List ℕ → ℕ → Tree → Defines
@@ -38,10 +39,10 @@ defined_by_all owner name arity (tree ∷ trees) = map (defined_by owner name ar
 
 -- what a run defines: its predicate, by each of its clauses or without one
 abbrev pub see_run : List (List ℕ) → Defined → List Defines
-see_run names run = defined_by_all run.module run.name run.arity (clause_trees names run.clauses.items)
+see_run names run = defined_by_all (name_at names run.module) (name_at names run.name) run.arity (clause_trees names run.clauses.items)
 
--- the last of the runs is of the predicate, and has clauses
-pub record EndIn (owner name : List ℕ) (arity : ℕ) (runs : List Defined) : Type 0 where
+-- the last of the runs is of the predicate with these numbers, and has clauses
+pub record EndIn (owner name arity : ℕ) (runs : List Defined) : Type 0 where
   pub before : List Defined
   pub last : Defined
   pub are : runs ≡ before ++ last ∷ []
@@ -81,8 +82,8 @@ pub record AreDefined (ds : List Defines) (defined : List Predicate) : Type 0 wh
 abbrev pub key : List ℕ → List ℕ → ℕ → Predicate
 key owner name arity = record { module_ = owner; name = name; arity = arity; clauses = [] }
 
-abbrev pub key_of : Defined → Predicate
-key_of d = key d.module d.name d.arity
+abbrev pub key_of : List (List ℕ) → Defined → Predicate
+key_of names d = key (name_at names d.module) (name_at names d.name) d.arity
 
 -- none of these is of a predicate that comes after p
 abbrev pub NoneIsAfter : Predicate → List Defines → Type 0

@@ -29,8 +29,8 @@ pub record AreKinds (names : List (List ℕ)) (parts : List Part) (kinds : Kinds
   pub goals : flat_map (goal_trees names) kinds.goals.items ≡ filter_map goal_part parts
 
 -- what is said is added, whatever the nodes of the directive are
-abbrev pub IsAdded : Kinds → Said → Kinds → Type 0
-IsAdded old said new = (names : List (List ℕ)) (nodes : List Node) → with_said (see_kinds names nodes old) said ≡ Ok (see_kinds names nodes new)
+abbrev pub IsAdded : List (List ℕ) → Kinds → Said → Kinds → Type 0
+IsAdded names old said new = (nodes : List Node) → with_said (see_kinds names nodes old) said ≡ Ok (see_kinds names nodes new)
 
 -- the kinds are of all that is said
 pub record AreSaid (names : List (List ℕ)) (said : Said) (kinds : Kinds) : Type 0 where

@@ -1,65 +1,81 @@
 ghost use Rattle.std.specs.Prelude.{◌≡◌, ◌++◌, ◌&&◌, ℕ, List, nat_eq, map, flat_map, IfOk, OnOk};
-ghost use Rattle.std.specs.Ordering.{is_lt};
+ghost use Rattle.std.specs.Cmp.Lexicographic.{slice_cmp};
+ghost use Rattle.std.specs.Ordering.{is_lt, nat_cmp};
 ghost use Rattle.std.specs.Str.{bytes_eq};
+ghost use Rattle.prolog_names.specs.Names.{name_at};
 ghost use Rattle.module_table.specs.Defined.{AreDefined, Defines, NoneIsAfter, key_of, predicate_cmp, see_defined, see_run};
 
 use clause_text::Clause;
-use prolog_tokens::Text;
+use prolog_names::Names;
 use std::alloc::{AllocError, Global};
 use std::cmp::Ordering;
 
 /// A predicate that a file defines, for its own module or for another one, with its clauses in the
-/// order of the text.
+/// order of the text. Its module and its name are numbers in the names of the file.
 #[derive(Drop)]
 pub struct Defined {
-    pub module: Text,
-    pub name: Text,
+    pub module: u32,
+    pub name: u32,
     pub arity: u32,
     pub clauses: Vec<Clause>,
 }
 
 /// The predicates of the runs, each once, in the order of modules, names and arities. Each has its
 /// clauses, in the order of the runs.
-pub fn group(alloc: Global, mut runs: Vec<Defined>) -> Result<Vec<Defined>, AllocError>
-    ensures { IfOk result (λ defined. (names : List (List ℕ)) → AreDefined (flat_map (see_run names) runs.items) (map (see_defined names) defined.items)) }
+pub fn group(
+    alloc: Global,
+    names: &Names,
+    mut runs: Vec<Defined>,
+) -> Result<Vec<Defined>, AllocError>
+    ensures { IfOk result (λ defined. AreDefined (flat_map (see_run names.now) runs.items) (map (see_defined names.now) defined.items)) }
 {
-    runs.sort_by(|a, b| compare(a, b))?;
+    runs.sort_by(|a, b| compare(names, a, b))?;
     // Mostly the clauses of each predicate stand together, and so each run is a predicate.
-    if runs.is_sorted_by(|a, b| comes_before(a, b)) {
+    if runs.is_sorted_by(|a, b| comes_before(names, a, b)) {
         return Ok(runs);
     }
     let mut defined = Vec::with_capacity(alloc, runs.len())?;
     for run in runs {
-        add(&mut defined, run)?;
+        add(names, &mut defined, run)?;
     }
     Ok(defined)
 }
 
-fn compare(a: &Defined, b: &Defined) -> Ordering
-    ensures { result ≡ predicate_cmp (key_of a.now) (key_of b.now) }
+/// The order of the names of two numbers.
+fn compare_names(names: &Names, a: u32, b: u32) -> Ordering
+    ensures { result ≡ slice_cmp nat_cmp (name_at names.now a) (name_at names.now b) }
 {
-    a.module
-        .cmp(&b.module)
-        .then(a.name.cmp(&b.name).then(a.arity.cmp(&b.arity)))
+    if a == b {
+        return Ordering::Equal;
+    }
+    names.text(a).cmp(names.text(b))
 }
 
-fn comes_before(a: &Defined, b: &Defined) -> bool
-    ensures { result ≡ is_lt (predicate_cmp (key_of a.now) (key_of b.now)) }
+fn compare(names: &Names, a: &Defined, b: &Defined) -> Ordering
+    ensures { result ≡ predicate_cmp (key_of names.now a.now) (key_of names.now b.now) }
 {
-    compare(a, b).is_lt()
+    compare_names(names, a.module, b.module).then(compare_names(names, a.name, b.name).then(
+        a.arity.cmp(&b.arity),
+    ))
+}
+
+fn comes_before(names: &Names, a: &Defined, b: &Defined) -> bool
+    ensures { result ≡ is_lt (predicate_cmp (key_of names.now a.now) (key_of names.now b.now)) }
+{
+    compare(names, a, b).is_lt()
 }
 
 /// Adds one more run, of the last predicate or of one after it.
-fn add(defined: &mut Vec<Defined>, mut run: Defined) -> Result<(), AllocError>
-    ensures { OnOk result ((names : List (List ℕ)) (ds : List Defines) → NoneIsAfter (see_defined names run) ds
-        → AreDefined ds (map (see_defined names) defined.old.items)
-        → AreDefined (ds ++ see_run names run) (map (see_defined names) defined.new.items)) }
+fn add(names: &Names, defined: &mut Vec<Defined>, mut run: Defined) -> Result<(), AllocError>
+    ensures { OnOk result ((ds : List Defines) → NoneIsAfter (see_defined names.now run) ds
+        → AreDefined ds (map (see_defined names.now) defined.old.items)
+        → AreDefined (ds ++ see_run names.now run) (map (see_defined names.now) defined.new.items)) }
 {
     let Some(last) = defined.last_mut() else {
         defined.push(run)?;
         return Ok(());
     };
-    if is_of(&run, last) {
+    if is_of(names, &run, last) {
         last.clauses.append(&mut run.clauses)?;
         return Ok(());
     }
@@ -67,9 +83,20 @@ fn add(defined: &mut Vec<Defined>, mut run: Defined) -> Result<(), AllocError>
     Ok(())
 }
 
-fn is_of(run: &Defined, predicate: &Defined) -> bool
-    ensures { result ≡ (bytes_eq predicate.now.module run.now.module
-        && (bytes_eq predicate.now.name run.now.name && nat_eq predicate.now.arity run.now.arity)) }
+/// Whether the names of two numbers are one name.
+fn is_one_name(names: &Names, a: u32, b: u32) -> bool
+    ensures { result ≡ bytes_eq (name_at names.now a) (name_at names.now b) }
 {
-    predicate.module == run.module && (predicate.name == run.name && predicate.arity == run.arity)
+    if a == b {
+        return true;
+    }
+    names.text(a) == names.text(b)
+}
+
+fn is_of(names: &Names, run: &Defined, predicate: &Defined) -> bool
+    ensures { result ≡ (bytes_eq (name_at names.now predicate.now.module) (name_at names.now run.now.module)
+        && (bytes_eq (name_at names.now predicate.now.name) (name_at names.now run.now.name) && nat_eq predicate.now.arity run.now.arity)) }
+{
+    is_one_name(names, predicate.module, run.module)
+        && (is_one_name(names, predicate.name, run.name) && predicate.arity == run.arity)
 }

@@ -1,6 +1,7 @@
 //! What directives say.
 
-ghost use Rattle.std.specs.Prelude.{◌≡◌, IfOk, IfErr, OnOk, Ok};
+ghost use Rattle.std.specs.Prelude.{◌≡◌, ℕ, List, IfOk, IfErr, OnOk, Ok};
+ghost use Rattle.prolog_names.specs.Names.{name_at};
 ghost use Rattle.prolog_terms.specs.Terms.{tree_of};
 ghost use Rattle.module_table.specs.Said.{IsWhy};
 ghost use Rattle.module_table.specs.declared.kinds.Kinds.{Kinds as KindsOf};
@@ -35,7 +36,7 @@ fn push_meta(
     declared: &Term,
     kinds: &mut Kinds,
 ) -> Result<(), FactFault>
-    ensures ok { OnOk result (IsAdded kinds.old (meta_said owner.now (tree_of declared.now)) kinds.new) }
+    ensures ok { OnOk result ((names : List (List ℕ)) → IsAdded names kinds.old (meta_said owner.now (tree_of declared.now)) kinds.new) }
     ensures refused { IfErr result (λ fault. IsWhy (meta_said owner.now (tree_of declared.now)) fault) }
 {
     push_takes(alloc, owner, declared, &mut kinds.takes)?;
@@ -50,7 +51,7 @@ fn push_use_some(
     list: &Term,
     kinds: &mut Kinds,
 ) -> Result<(), FactFault>
-    ensures ok { OnOk result (IsAdded kinds.old (use_some_said user.now (tree_of spec.now) (tree_of list.now)) kinds.new) }
+    ensures ok { OnOk result ((names : List (List ℕ)) → IsAdded names kinds.old (use_some_said user.now (tree_of spec.now) (tree_of list.now)) kinds.new) }
     ensures refused { IfErr result (λ fault. IsWhy (use_some_said user.now (tree_of spec.now) (tree_of list.now)) fault) }
 {
     match listed_indicators(alloc, list) {
@@ -67,15 +68,17 @@ fn push_use_some(
 fn one_told(
     alloc: Global,
     user: &str,
-    owner: &str,
+    owner: u32,
     name: &str,
     argument: &Term,
     directive: &Term,
     kinds: &mut Kinds,
 ) -> Result<Told, FactFault>
-    ensures ok { IfOk result (λ told. IsTold told kinds.old
-        (one_said (home user.now owner.now) name.now (tree_of argument.now) (tree_of directive.now)) (tree_of directive.now) kinds.new) }
-    ensures refused { IfErr result (λ fault. IsWhy (one_said (home user.now owner.now) name.now (tree_of argument.now) (tree_of directive.now)) fault) }
+    ensures ok { IfOk result (λ told. IsTold argument.now.names.now told kinds.old
+        (one_said (home user.now (name_at argument.now.names.now owner)) name.now (tree_of argument.now) (tree_of directive.now)) (tree_of directive.now)
+        kinds.new) }
+    ensures refused { IfErr result (λ fault. IsWhy
+        (one_said (home user.now (name_at argument.now.names.now owner)) name.now (tree_of argument.now) (tree_of directive.now)) fault) }
 {
     if name == "use_module" {
         push_use_all(alloc, user, argument, kinds)?;
@@ -97,7 +100,7 @@ fn one_told(
         return Ok(Told::Done);
     }
     if name == "meta_predicate" {
-        push_meta(alloc, owner, argument, kinds)?;
+        push_meta(alloc, argument.names.text(owner), argument, kinds)?;
         return Ok(Told::Done);
     }
     let silent = ["discontiguous", "mode", "public", "table"];
@@ -114,7 +117,6 @@ fn one_told(
 fn two_told(
     alloc: Global,
     user: &str,
-    owner: &str,
     first: bool,
     name: &str,
     left: &Term,
@@ -122,11 +124,11 @@ fn two_told(
     directive: &Term,
     kinds: &mut Kinds,
 ) -> Result<Told, FactFault>
-    ensures ok { IfOk result (λ told. IsTold told kinds.old
-        (two_said (home user.now owner.now) first name.now (tree_of left.now) (tree_of right.now) (tree_of directive.now)) (tree_of directive.now)
+    ensures ok { IfOk result (λ told. (names : List (List ℕ)) (owner : List ℕ) → IsTold names told kinds.old
+        (two_said (home user.now owner) first name.now (tree_of left.now) (tree_of right.now) (tree_of directive.now)) (tree_of directive.now)
         kinds.new) }
-    ensures refused { IfErr result (λ fault. IsWhy
-        (two_said (home user.now owner.now) first name.now (tree_of left.now) (tree_of right.now) (tree_of directive.now)) fault) }
+    ensures refused { IfErr result (λ fault. (owner : List ℕ) → IsWhy
+        (two_said (home user.now owner) first name.now (tree_of left.now) (tree_of right.now) (tree_of directive.now)) fault) }
 {
     if name == "module" {
         if !first {
@@ -151,7 +153,7 @@ fn two_told(
 
 /// A directive of three arguments.
 fn three_told(name: &str, directive: &Term) -> Result<Told, FactFault>
-    ensures ok { IfOk result (λ told. (kinds : KindsOf) → IsTold told kinds (three_said name.now (tree_of directive.now)) (tree_of directive.now) kinds) }
+    ensures ok { IfOk result (λ told. (names : List (List ℕ)) (kinds : KindsOf) → IsTold names told kinds (three_said name.now (tree_of directive.now)) (tree_of directive.now) kinds) }
     ensures refused { IfErr result (λ fault. IsWhy (three_said name.now (tree_of directive.now)) fault) }
 {
     if name == "op" {
@@ -167,14 +169,15 @@ fn three_told(name: &str, directive: &Term) -> Result<Told, FactFault>
 fn tell(
     alloc: Global,
     user: &str,
-    owner: &str,
+    owner: u32,
     first: bool,
     directive: &Term,
     kinds: &mut Kinds,
 ) -> Result<Told, FactFault>
-    ensures ok { IfOk result (λ told. IsTold told kinds.old
-        (shallow_said (home user.now owner.now) first (tree_of directive.now)) (tree_of directive.now) kinds.new) }
-    ensures refused { IfErr result (λ fault. IsWhy (shallow_said (home user.now owner.now) first (tree_of directive.now)) fault) }
+    ensures ok { IfOk result (λ told. IsTold directive.now.names.now told kinds.old
+        (shallow_said (home user.now (name_at directive.now.names.now owner)) first (tree_of directive.now)) (tree_of directive.now) kinds.new) }
+    ensures refused { IfErr result (λ fault. IsWhy
+        (shallow_said (home user.now (name_at directive.now.names.now owner)) first (tree_of directive.now)) fault) }
 {
     match directive.kind() {
         TermKind::Compound { name, args, .. } => {
@@ -182,9 +185,7 @@ fn tell(
                 return one_told(alloc, user, owner, name, &argument, directive, kinds);
             }
             if let Some((left, right)) = args.pair() {
-                return two_told(
-                    alloc, user, owner, first, name, &left, &right, directive, kinds,
-                );
+                return two_told(alloc, user, first, name, &left, &right, directive, kinds);
             }
             if args.triple().is_some() {
                 return three_told(name, directive);
@@ -211,15 +212,15 @@ fn tell(
 pub fn push_directive(
     alloc: Global,
     user: &str,
-    owner: &str,
+    owner: u32,
     first: bool,
     directive: &Term,
     kinds: &mut Kinds,
 ) -> Result<(), FactFault>
     ensures ok { OnOk result (with_said (see_kinds directive.now.names.now directive.now.nodes.now kinds.old)
-        (directive_said (home user.now owner.now) first (tree_of directive.now))
+        (directive_said (home user.now (name_at directive.now.names.now owner)) first (tree_of directive.now))
         ≡ Ok (see_kinds directive.now.names.now directive.now.nodes.now kinds.new)) }
-    ensures refused { IfErr result (λ fault. IsWhy (directive_said (home user.now owner.now) first (tree_of directive.now)) fault) }
+    ensures refused { IfErr result (λ fault. IsWhy (directive_said (home user.now (name_at directive.now.names.now owner)) first (tree_of directive.now)) fault) }
 {
     if let Some((left, right)) = sides(directive, ",") {
         push_directive(alloc, user, owner, false, &left, kinds)?;

@@ -1,7 +1,8 @@
 //! What `dynamic` and `multifile` define.
 
-ghost use Rattle.std.specs.Prelude.{◌≡◌, IfOk, IfErr, OnOk, option_map, map};
-ghost use Rattle.prolog_terms.specs.Terms.{tree_of};
+ghost use Rattle.std.specs.Prelude.{◌≡◌, IfOk, IfErr, IfSome, OnOk, All, option_map, map};
+ghost use Rattle.prolog_names.specs.Names.{name_at};
+ghost use Rattle.prolog_terms.specs.Terms.{tree_of, IsOf};
 ghost use Rattle.module_table.specs.Said.{IsWhy};
 ghost use Rattle.module_table.specs.Kept.{IsAdded};
 ghost use Rattle.module_table.specs.Dynamic.{name_in, owned, bare_said, joint_sides, whole_items, dynamic_at};
@@ -12,8 +13,7 @@ use crate::runs::push_bare;
 use crate::said::{FactFault, refusal};
 use crate::terms::list_items;
 use clause_text::Cause;
-use prolog_terms::{Term, atom_name, binary, sides};
-use prolog_tokens::Text;
+use prolog_terms::{Term, atom_number, binary, sides};
 use std::alloc::{AllocError, Global};
 
 /// How a term stands in the directive: as all that it or a module in it declares, as one of the terms
@@ -25,40 +25,43 @@ pub enum Standing {
     Item,
 }
 
-/// The module, the name and the number of arguments of a predicate.
+/// The module, the name and the number of arguments of a predicate. The names are numbers in those of
+/// the term.
 #[derive(Clone, Copy)]
-struct OwnedIndicator<'a> {
-    module: &'a str,
-    name: &'a str,
+struct OwnedIndicator {
+    module: u32,
+    name: u32,
     arity: u32,
 }
 
-/// A name in a module.
+/// A name in a module, as numbers in the names of the term.
 #[derive(Clone, Copy)]
-struct NameIn<'a> {
-    module: &'a str,
-    name: &'a str,
+struct NameIn {
+    module: u32,
+    name: u32,
 }
 
 /// `N`, a name in the module, or `M:N`.
-fn name_in<'a>(owner: &'a str, term: &Term<'a>) -> Option<NameIn<'a>>
-    ensures { option_map (λ own. record { module_ = own.module.now; name = own.name.now }) result ≡ name_in owner.now (tree_of term.now) }
+fn name_in(owner: u32, term: &Term) -> Option<NameIn>
+    ensures { option_map (λ own. record { module_ = name_at term.now.names.now own.module; name = name_at term.now.names.now own.name }) result
+        ≡ name_in (name_at term.now.names.now owner) (tree_of term.now) }
 {
     let Some((left, right)) = sides(term, ":") else {
-        let name = atom_name(term)?;
+        let name = atom_number(term)?;
         return Some(NameIn {
             module: owner,
             name,
         });
     };
-    let module = atom_name(&left)?;
-    let name = atom_name(&right)?;
+    let module = atom_number(&left)?;
+    let name = atom_number(&right)?;
     Some(NameIn { module, name })
 }
 
 /// `N/A`, `N//A`, `(M:N)/A` or `(M:N)//A`.
-fn owned<'a>(owner: &'a str, term: &Term<'a>) -> Option<OwnedIndicator<'a>>
-    ensures { option_map (λ own. record { module_ = own.module.now; name = own.name.now; arity = own.arity }) result ≡ owned owner.now (tree_of term.now) }
+fn owned(owner: u32, term: &Term) -> Option<OwnedIndicator>
+    ensures { option_map (λ own. record { module_ = name_at term.now.names.now own.module; name = name_at term.now.names.now own.name; arity = own.arity }) result
+        ≡ owned (name_at term.now.names.now owner) (tree_of term.now) }
 {
     let pair = binary(term)?;
     let added = arguments_added(pair.name)?;
@@ -72,22 +75,27 @@ fn owned<'a>(owner: &'a str, term: &Term<'a>) -> Option<OwnedIndicator<'a>>
 }
 
 /// Adds the predicate that the term names.
-fn push_one(alloc: Global, owner: &str, term: &Term, kinds: &mut Kinds) -> Result<(), FactFault>
-    ensures ok { OnOk result (IsAdded kinds.old (bare_said owner.now (tree_of term.now)) kinds.new) }
-    ensures refused { IfErr result (λ fault. IsWhy (bare_said owner.now (tree_of term.now)) fault) }
+fn push_one(alloc: Global, owner: u32, term: &Term, kinds: &mut Kinds) -> Result<(), FactFault>
+    ensures ok { OnOk result (IsAdded term.now.names.now kinds.old (bare_said (name_at term.now.names.now owner) (tree_of term.now)) kinds.new) }
+    ensures refused { IfErr result (λ fault. IsWhy (bare_said (name_at term.now.names.now owner) (tree_of term.now)) fault) }
 {
     let Some(own) = owned(owner, term) else {
         return Err(refusal(Cause::BadIndicator, term));
     };
-    let module = Text::new(alloc, own.module)?;
-    let name = Text::new(alloc, own.name)?;
-    push_bare(alloc, &mut kinds.definitions, module, name, own.arity)?;
+    push_bare(
+        alloc,
+        &mut kinds.definitions,
+        own.module,
+        own.name,
+        own.arity,
+    )?;
     Ok(())
 }
 
 /// The sides of a comma, where it may stand there.
 fn joint_sides<'a>(at: Standing, term: &Term<'a>) -> Option<(Term<'a>, Term<'a>)>
-    ensures { option_map (λ pair. (tree_of pair.0, tree_of pair.1)) result ≡ joint_sides at (tree_of term.now) }
+    ensures trees { option_map (λ pair. (tree_of pair.0, tree_of pair.1)) result ≡ joint_sides at (tree_of term.now) }
+    ensures within { IfSome result (λ pair. IsOf term.now.names.now term.now.nodes.now pair.0 × IsOf term.now.names.now term.now.nodes.now pair.1) }
 {
     match at {
         Standing::Whole => sides(term, ","),
@@ -102,7 +110,8 @@ fn whole_items<'a>(
     at: Standing,
     term: &Term<'a>,
 ) -> Result<Option<Vec<Term<'a>>>, AllocError>
-    ensures { IfOk result (λ found. option_map (λ items. map tree_of items.items) found ≡ whole_items at (tree_of term.now)) }
+    ensures trees { IfOk result (λ found. option_map (λ items. map tree_of items.items) found ≡ whole_items at (tree_of term.now)) }
+    ensures within { IfOk result (λ found. IfSome found (λ items. All (IsOf term.now.names.now term.now.nodes.now) items.items)) }
 {
     match at {
         Standing::Whole => list_items(alloc, term),
@@ -115,12 +124,12 @@ fn whole_items<'a>(
 pub fn push_dynamic(
     alloc: Global,
     at: Standing,
-    owner: &str,
+    owner: u32,
     term: &Term,
     kinds: &mut Kinds,
 ) -> Result<(), FactFault>
-    ensures ok { OnOk result (IsAdded kinds.old (dynamic_at at owner.now (tree_of term.now)) kinds.new) }
-    ensures refused { IfErr result (λ fault. IsWhy (dynamic_at at owner.now (tree_of term.now)) fault) }
+    ensures ok { OnOk result (IsAdded term.now.names.now kinds.old (dynamic_at at (name_at term.now.names.now owner) (tree_of term.now)) kinds.new) }
+    ensures refused { IfErr result (λ fault. IsWhy (dynamic_at at (name_at term.now.names.now owner) (tree_of term.now)) fault) }
 {
     match joint_sides(at, term) {
         Some((left, right)) => {
@@ -128,7 +137,7 @@ pub fn push_dynamic(
             push_dynamic(alloc, Standing::Joint, owner, &right, kinds)
         }
         None => match sides(term, ":") {
-            Some((module, inner)) => match atom_name(&module) {
+            Some((module, inner)) => match atom_number(&module) {
                 Some(own) => push_dynamic(alloc, Standing::Whole, own, &inner, kinds),
                 None => Err(refusal(Cause::BadIndicator, term)),
             },

@@ -2,6 +2,7 @@
 
 ghost use Rattle.std.specs.Prelude.{◌≡◌, ◌≤◌, ◌+◌, [], IfOk, IfErr, OnOk, Ok, All};
 ghost use Rattle.prolog_tokens.specs.declared.limits.TheConstants.{MOST_BYTES};
+ghost use Rattle.prolog_names.specs.Names.{name_at};
 ghost use Rattle.prolog_terms.specs.Terms.{tree_of};
 ghost use Rattle.prolog_terms.specs.Weight.{weight};
 ghost use Rattle.clause_text.specs.Clauses.{clause_tree, clause_trees, text_trees};
@@ -21,8 +22,8 @@ use crate::meta::Meta;
 use crate::runs::{end_in, push_last, push_run};
 use crate::said::FactFault;
 use clause_text::{Clause, TextClauses, directive_of};
-use prolog_names::Names;
-use prolog_terms::{NodeList, Term, atom_name, binary, sides};
+use prolog_names::{Names, USER, names_law};
+use prolog_terms::{NodeList, Term, atom_number, binary, sides};
 use prolog_tokens::Text;
 use std::alloc::Global;
 
@@ -56,11 +57,11 @@ pub struct FileFacts {
 }
 
 /// The predicate that a clause defines in a file of the module `owner`.
-fn clause_head<'a>(owner: &'a str, clause: &Term<'a>) -> Result<OwnedHead<'a>, FactFault>
+fn clause_head(owner: u32, clause: &Term) -> Result<OwnedHead, FactFault>
     requires { weight (tree_of clause.now) ≤ MOST_BYTES }
-    ensures ok { IfOk result (λ own. clause_head owner.now (tree_of clause.now)
-        ≡ Ok (record { module_ = own.module.now; name = own.name.now; arity = own.arity })) }
-    ensures refused { IfErr result (λ fault. IsWhy (clause_head owner.now (tree_of clause.now)) fault) }
+    ensures ok { IfOk result (λ own. clause_head (name_at clause.now.names.now owner) (tree_of clause.now)
+        ≡ Ok (record { module_ = name_at clause.now.names.now own.module; name = name_at clause.now.names.now own.name; arity = own.arity })) }
+    ensures refused { IfErr result (λ fault. IsWhy (clause_head (name_at clause.now.names.now owner) (tree_of clause.now)) fault) }
 {
     let Some(pair) = binary(clause) else {
         return head(owner, clause);
@@ -85,16 +86,16 @@ fn clause_head<'a>(owner: &'a str, clause: &Term<'a>) -> Result<OwnedHead<'a>, F
 /// predicate, and else as a run of its own.
 fn push_headed(
     alloc: Global,
-    owner: &str,
+    owner: u32,
     names: &Names,
     clause: Clause,
     kinds: &mut Kinds,
 ) -> Result<(), FactFault>
     requires { weight (clause_tree names.now clause) ≤ MOST_BYTES }
     ensures ok { OnOk result (with_said (see_kinds names.now [] kinds.old)
-        (headed (clause_head owner.now (clause_tree names.now clause)) (clause_tree names.now clause)) ≡ Ok (see_kinds names.now [] kinds.new)) }
+        (headed (clause_head (name_at names.now owner) (clause_tree names.now clause)) (clause_tree names.now clause)) ≡ Ok (see_kinds names.now [] kinds.new)) }
     ensures ends { OnOk result (kinds.new.ends ≡ kinds.old.ends) }
-    ensures refused { IfErr result (λ fault. IsWhy (headed (clause_head owner.now (clause_tree names.now clause)) (clause_tree names.now clause)) fault) }
+    ensures refused { IfErr result (λ fault. IsWhy (headed (clause_head (name_at names.now owner) (clause_tree names.now clause)) (clause_tree names.now clause)) fault) }
 {
     let own = match clause_head(owner, &clause.term(names)) {
         Ok(own) => own,
@@ -105,13 +106,11 @@ fn push_headed(
         push_last(&mut kinds.definitions, clause)?;
         return Ok(());
     }
-    let module = Text::new(alloc, own.module)?;
-    let name = Text::new(alloc, own.name)?;
     push_run(
         alloc,
         &mut kinds.definitions,
-        module,
-        name,
+        own.module,
+        own.name,
         arity as u32,
         clause,
     )?;
@@ -123,7 +122,7 @@ fn push_headed(
 fn push_clause(
     alloc: Global,
     file: &str,
-    owner: &str,
+    owner: u32,
     first: bool,
     names: &Names,
     clause: Clause,
@@ -131,10 +130,11 @@ fn push_clause(
 ) -> Result<(), FactFault>
     requires light { weight (clause_tree names.now clause) ≤ MOST_BYTES }
     requires closed { kinds.now.ends.items ≡ [] }
-    ensures ok { OnOk result (with_said (see_kinds names.now [] kinds.old) (clause_said (home file.now owner.now) first (clause_tree names.now clause))
+    ensures ok { OnOk result (with_said (see_kinds names.now [] kinds.old) (clause_said (home file.now (name_at names.now owner)) first
+        (clause_tree names.now clause))
         ≡ Ok (see_kinds names.now [] kinds.new)) }
     ensures ends { OnOk result (kinds.new.ends.items ≡ []) }
-    ensures refused { IfErr result (λ fault. IsWhy (clause_said (home file.now owner.now) first (clause_tree names.now clause)) fault) }
+    ensures refused { IfErr result (λ fault. IsWhy (clause_said (home file.now (name_at names.now owner)) first (clause_tree names.now clause)) fault) }
 {
     let term = clause.term(names);
     let Some(directive) = directive_of(&term) else {
@@ -145,22 +145,23 @@ fn push_clause(
     Ok(())
 }
 
-/// The module of a file with these clauses.
-fn module_of<'a>(names: &'a Names, clauses: &'a [Clause]) -> &'a str
-    ensures { result.now ≡ module_of (clause_trees names.now clauses.now) }
+/// The number of the module of a file with these clauses.
+fn module_of(names: &Names, clauses: &[Clause]) -> u32
+    ensures { name_at names.now result ≡ module_of (clause_trees names.now clauses.now) }
 {
+    names_law(names);
     let Some(first) = clauses.first() else {
-        return "user";
+        return USER;
     };
     let Some(directive) = directive_of(&first.term(names)) else {
-        return "user";
+        return USER;
     };
     let Some((name, _exports)) = sides(&directive, "module") else {
-        return "user";
+        return USER;
     };
-    match atom_name(&name) {
+    match atom_number(&name) {
         Some(own) => own,
-        None => "user",
+        None => USER,
     }
 }
 
@@ -168,13 +169,13 @@ fn module_of<'a>(names: &'a Names, clauses: &'a [Clause]) -> &'a str
 fn said(
     alloc: Global,
     file: &str,
-    owner: &str,
+    owner: u32,
     names: &Names,
     clauses: Vec<Clause>,
 ) -> Result<Kinds, FactFault>
     requires { All (λ tree. weight tree ≤ MOST_BYTES) (clause_trees names.now clauses.items) }
-    ensures ok { IfOk result (λ kinds. AreSaid names.now (trees_said (home file.now owner.now) (clause_trees names.now clauses.items)) kinds) }
-    ensures refused { IfErr result (λ fault. IsWhy (trees_said (home file.now owner.now) (clause_trees names.now clauses.items)) fault) }
+    ensures ok { IfOk result (λ kinds. AreSaid names.now (trees_said (home file.now (name_at names.now owner)) (clause_trees names.now clauses.items)) kinds) }
+    ensures refused { IfErr result (λ fault. IsWhy (trees_said (home file.now (name_at names.now owner)) (clause_trees names.now clauses.items)) fault) }
 {
     let mut kinds = none_said(alloc, clauses.len())?;
     let mut first = true;
@@ -194,9 +195,10 @@ pub fn facts(alloc: Global, file: &str, text: TextClauses) -> Result<FileFacts, 
 {
     let names = text.names;
     let clauses = text.clauses;
-    let owner = Text::new(alloc, module_of(&names, &clauses))?;
-    let kinds = said(alloc, file, owner.as_str(), &names, clauses)?;
+    let owner = module_of(&names, &clauses);
+    let kinds = said(alloc, file, owner, &names, clauses)?;
     let own = module_of_file(alloc, kinds.declared)?;
+    let defined = group(alloc, &names, kinds.definitions)?;
     Ok(FileFacts {
         names,
         file: Text::new(alloc, file)?,
@@ -205,7 +207,7 @@ pub fn facts(alloc: Global, file: &str, text: TextClauses) -> Result<FileFacts, 
         module_from: own.from,
         exports: own.exports,
         loads: kinds.loads,
-        defined: group(alloc, kinds.definitions)?,
+        defined,
         metas: kinds.takes,
         goals: kinds.goals,
     })

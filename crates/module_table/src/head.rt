@@ -1,14 +1,15 @@
 //! Heads of clauses.
 
 ghost use Rattle.std.specs.Prelude.{◌≡◌, IfOk, IfErr, Ok};
-ghost use Rattle.prolog_terms.specs.Terms.{tree_of};
+ghost use Rattle.prolog_names.specs.Names.{name_at};
+ghost use Rattle.prolog_terms.specs.Terms.{tree_of, IsOf};
 ghost use Rattle.module_table.specs.Said.{IsWhy};
 ghost use Rattle.module_table.specs.Heads.{is_among, control_names, headless_names, named_head, plain_head, behind_modules, head, is_pushback, grammar_head};
 
 use crate::said::{FactFault, refusal};
 use crate::terms::is_one_of;
 use clause_text::Cause;
-use prolog_terms::{ConstKind, Term, TermKind, atom_name, inside, name_and_arity, sides};
+use prolog_terms::{ConstKind, Term, TermKind, atom_number, inside, number_and_arity, sides};
 
 fn is_control(name: &str, arity: usize) -> bool
     ensures { result ≡ is_among (control_names arity) name.now }
@@ -31,30 +32,34 @@ fn is_headless(name: &str, arity: usize) -> bool
     }
 }
 
-/// What a head of this name defines.
-fn named_head<'a>(term: &Term, name: &'a str, arity: usize) -> Result<(&'a str, usize), FactFault>
-    ensures ok { IfOk result (λ named. named_head (tree_of term.now) name.now arity ≡ Ok (record { name = named.0.now; arity = named.1 })) }
-    ensures refused { IfErr result (λ fault. IsWhy (named_head (tree_of term.now) name.now arity) fault) }
+/// The number of the name and the number of arguments of what a head of this name defines.
+fn named_head(term: &Term, name: u32, arity: usize) -> Result<(u32, usize), FactFault>
+    ensures ok { IfOk result (λ named. named_head (tree_of term.now) (name_at term.now.names.now name) arity
+        ≡ Ok (record { name = name_at term.now.names.now named.0; arity = named.1 })) }
+    ensures refused { IfErr result (λ fault. IsWhy (named_head (tree_of term.now) (name_at term.now.names.now name) arity) fault) }
 {
-    if is_control(name, arity) {
+    let text = term.names.text(name);
+    if is_control(text, arity) {
         return Err(refusal(Cause::ControlHead, term));
     }
-    if is_headless(name, arity) {
+    if is_headless(text, arity) {
         return Err(refusal(Cause::BadHead, term));
     }
     Ok((name, arity))
 }
 
-/// A term in a module.
+/// A term in a module, whose name is a number in the names of the term.
 #[derive(Clone, Copy)]
 pub struct Within<'a> {
-    pub module: &'a str,
+    pub module: u32,
     pub term: Term<'a>,
 }
 
 /// The term behind the names of modules, in the innermost of these; in `owner` where none is named.
-fn behind_modules<'a>(owner: &'a str, term: &Term<'a>) -> Within<'a>
-    ensures { record { module_ = result.module.now; tree = tree_of result.term } ≡ behind_modules owner.now (tree_of term.now) }
+fn behind_modules<'a>(owner: u32, term: &Term<'a>) -> Within<'a>
+    ensures is { record { module_ = name_at term.now.names.now result.module; tree = tree_of result.term }
+        ≡ behind_modules (name_at term.now.names.now owner) (tree_of term.now) }
+    ensures within { IsOf term.now.names.now term.now.nodes.now result.term }
 {
     let Some((left, right)) = sides(term, ":") else {
         return Within {
@@ -62,7 +67,7 @@ fn behind_modules<'a>(owner: &'a str, term: &Term<'a>) -> Within<'a>
             term: inside(term),
         };
     };
-    match atom_name(&left) {
+    match atom_number(&left) {
         Some(own) => behind_modules(own, &right),
         None => Within {
             module: owner,
@@ -71,29 +76,31 @@ fn behind_modules<'a>(owner: &'a str, term: &Term<'a>) -> Within<'a>
     }
 }
 
-/// The name and the number of arguments of what a head without modules defines.
-fn plain_head<'a>(term: &Term<'a>) -> Result<(&'a str, usize), FactFault>
-    ensures ok { IfOk result (λ named. plain_head (tree_of term.now) ≡ Ok (record { name = named.0.now; arity = named.1 })) }
+/// The number of the name and the number of arguments of what a head without modules defines.
+fn plain_head(term: &Term) -> Result<(u32, usize), FactFault>
+    ensures ok { IfOk result (λ named. plain_head (tree_of term.now) ≡ Ok (record { name = name_at term.now.names.now named.0; arity = named.1 })) }
     ensures refused { IfErr result (λ fault. IsWhy (plain_head (tree_of term.now)) fault) }
 {
-    match name_and_arity(term) {
+    match number_and_arity(term) {
         Some((name, arity)) => named_head(term, name, arity),
         None => Err(refusal(Cause::BadHead, term)),
     }
 }
 
-/// The module, the name and the number of arguments of what a head defines.
+/// The module, the name and the number of arguments of what a head defines. The names are numbers in
+/// those of the head.
 #[derive(Clone, Copy)]
-pub struct OwnedHead<'a> {
-    pub module: &'a str,
-    pub name: &'a str,
+pub struct OwnedHead {
+    pub module: u32,
+    pub name: u32,
     pub arity: usize,
 }
 
 /// What a head defines in a file of the module `owner`.
-pub fn head<'a>(owner: &'a str, term: &Term<'a>) -> Result<OwnedHead<'a>, FactFault>
-    ensures ok { IfOk result (λ own. head owner.now (tree_of term.now) ≡ Ok (record { module_ = own.module.now; name = own.name.now; arity = own.arity })) }
-    ensures refused { IfErr result (λ fault. IsWhy (head owner.now (tree_of term.now)) fault) }
+pub fn head(owner: u32, term: &Term) -> Result<OwnedHead, FactFault>
+    ensures ok { IfOk result (λ own. head (name_at term.now.names.now owner) (tree_of term.now)
+        ≡ Ok (record { module_ = name_at term.now.names.now own.module; name = name_at term.now.names.now own.name; arity = own.arity })) }
+    ensures refused { IfErr result (λ fault. IsWhy (head (name_at term.now.names.now owner) (tree_of term.now)) fault) }
 {
     let within = behind_modules(owner, term);
     match plain_head(&within.term) {
@@ -121,7 +128,8 @@ fn is_pushback(term: &Term) -> bool
 
 /// The head of a grammar rule without its pushback.
 pub fn grammar_head<'a>(term: &Term<'a>) -> Term<'a>
-    ensures { tree_of result ≡ grammar_head (tree_of term.now) }
+    ensures tree { tree_of result ≡ grammar_head (tree_of term.now) }
+    ensures within { IsOf term.now.names.now term.now.nodes.now result }
 {
     let Some((left, right)) = sides(term, ",") else {
         return *term;

@@ -1,6 +1,6 @@
 //! File specifications, and the loads that they make.
 
-ghost use Rattle.std.specs.Prelude.{◌≡◌, IfOk, IfErr, OnOk, [], map, option_map};
+ghost use Rattle.std.specs.Prelude.{◌≡◌, ℕ, List, IfOk, IfErr, OnOk, [], map, option_map};
 ghost use Rattle.std.specs.String.{string_bytes};
 ghost use Rattle.prolog_terms.specs.Terms.{tree_of};
 ghost use Rattle.module_table.specs.Said.{IsWhy};
@@ -90,7 +90,7 @@ pub fn push_load(
     spec: &Term,
     kinds: &mut Kinds,
 ) -> Result<(), FactFault>
-    ensures ok { OnOk result (IsAdded kinds.old (load_said user.now kind items.items (tree_of spec.now)) kinds.new) }
+    ensures ok { OnOk result ((names : List (List ℕ)) → IsAdded names kinds.old (load_said user.now kind items.items (tree_of spec.now)) kinds.new) }
     ensures refused { IfErr result (λ fault. IsWhy (load_said user.now kind items.items (tree_of spec.now)) fault) }
 {
     if is_system(spec) {
@@ -116,7 +116,7 @@ pub fn push_loads(
     specs: &[Term],
     kinds: &mut Kinds,
 ) -> Result<(), FactFault>
-    ensures ok { OnOk result (IsAdded kinds.old (loads_said user.now kind (map tree_of specs.now)) kinds.new) }
+    ensures ok { OnOk result ((names : List (List ℕ)) → IsAdded names kinds.old (loads_said user.now kind (map tree_of specs.now)) kinds.new) }
     ensures refused { IfErr result (λ fault. IsWhy (loads_said user.now kind (map tree_of specs.now)) fault) }
 {
     for spec in specs {
@@ -132,7 +132,7 @@ pub fn push_use_all(
     spec: &Term,
     kinds: &mut Kinds,
 ) -> Result<(), FactFault>
-    ensures ok { OnOk result (IsAdded kinds.old (use_all_said user.now (tree_of spec.now)) kinds.new) }
+    ensures ok { OnOk result ((names : List (List ℕ)) → IsAdded names kinds.old (use_all_said user.now (tree_of spec.now)) kinds.new) }
     ensures refused { IfErr result (λ fault. IsWhy (use_all_said user.now (tree_of spec.now)) fault) }
 {
     match written_items(spec) {

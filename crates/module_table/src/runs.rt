@@ -3,24 +3,23 @@
 
 ghost use Rattle.std.specs.Prelude.{◌≡◌, ◌++◌, ◌∷◌, [], ◌&&◌, ℕ, List, None, nat_eq, flat_map, OnOk};
 ghost use Rattle.std.specs.Bool.{OnTrue};
-ghost use Rattle.std.specs.Str.{bytes_eq};
+ghost use Rattle.prolog_names.specs.Names.{name_at};
 ghost use Rattle.clause_text.specs.Clauses.{clause_tree};
 ghost use Rattle.module_table.specs.Defined.{EndIn, defined_by, see_run};
 
 use crate::defined::Defined;
 use clause_text::Clause;
-use prolog_tokens::Text;
 use std::alloc::{AllocError, Global};
 
-fn is_named(run: &Defined, owner: &str, name: &str, arity: usize) -> bool
-    ensures { result ≡ (nat_eq run.now.arity arity && (bytes_eq run.now.name name.now && bytes_eq run.now.module owner.now)) }
+fn is_named(run: &Defined, owner: u32, name: u32, arity: usize) -> bool
+    ensures { result ≡ (nat_eq run.now.arity arity && (nat_eq run.now.name name && nat_eq run.now.module owner)) }
 {
-    run.arity as usize == arity && (run.name.as_str() == name && run.module.as_str() == owner)
+    run.arity as usize == arity && (run.name == name && run.module == owner)
 }
 
-/// Whether the runs end in one with clauses of the predicate.
-pub fn end_in(runs: &[Defined], owner: &str, name: &str, arity: usize) -> bool
-    ensures { OnTrue result (EndIn owner.now name.now arity runs.now) }
+/// Whether the runs end in one with clauses of the predicate with these numbers.
+pub fn end_in(runs: &[Defined], owner: u32, name: u32, arity: usize) -> bool
+    ensures { OnTrue result (EndIn owner name arity runs.now) }
 {
     let Some(last) = runs.last() else {
         return false;
@@ -33,8 +32,9 @@ pub fn end_in(runs: &[Defined], owner: &str, name: &str, arity: usize) -> bool
 
 /// Adds a clause to the last run.
 pub fn push_last(runs: &mut Vec<Defined>, clause: Clause) -> Result<(), AllocError>
-    ensures { OnOk result ((names : List (List ℕ)) (owner name : List ℕ) (arity : ℕ) → EndIn owner name arity runs.old.items
-        → flat_map (see_run names) runs.new.items ≡ flat_map (see_run names) runs.old.items ++ defined_by owner name arity (clause_tree names clause) ∷ []) }
+    ensures { OnOk result ((names : List (List ℕ)) (owner name arity : ℕ) → EndIn owner name arity runs.old.items
+        → flat_map (see_run names) runs.new.items
+        ≡ flat_map (see_run names) runs.old.items ++ defined_by (name_at names owner) (name_at names name) arity (clause_tree names clause) ∷ []) }
 {
     let Some(last) = runs.last_mut() else {
         return Ok(());
@@ -47,13 +47,13 @@ pub fn push_last(runs: &mut Vec<Defined>, clause: Clause) -> Result<(), AllocErr
 pub fn push_run(
     alloc: Global,
     runs: &mut Vec<Defined>,
-    owner: Text,
-    name: Text,
+    owner: u32,
+    name: u32,
     arity: u32,
     clause: Clause,
 ) -> Result<(), AllocError>
     ensures { OnOk result ((names : List (List ℕ)) → flat_map (see_run names) runs.new.items
-        ≡ flat_map (see_run names) runs.old.items ++ defined_by owner name arity (clause_tree names clause) ∷ []) }
+        ≡ flat_map (see_run names) runs.old.items ++ defined_by (name_at names owner) (name_at names name) arity (clause_tree names clause) ∷ []) }
 {
     let clauses = vec![in alloc; clause]?;
     runs.push(Defined {
@@ -69,12 +69,12 @@ pub fn push_run(
 pub fn push_bare(
     alloc: Global,
     runs: &mut Vec<Defined>,
-    owner: Text,
-    name: Text,
+    owner: u32,
+    name: u32,
     arity: u32,
 ) -> Result<(), AllocError>
     ensures { OnOk result ((names : List (List ℕ)) → flat_map (see_run names) runs.new.items ≡ flat_map (see_run names) runs.old.items
-        ++ record { module_ = owner; name = name; arity = arity; clause = None } ∷ []) }
+        ++ record { module_ = name_at names owner; name = name_at names name; arity = arity; clause = None } ∷ []) }
 {
     runs.push(Defined {
         module: owner,

@@ -1,9 +1,9 @@
 //! What terms are, without the brackets round them.
 
-ghost use Rattle.std.specs.Prelude.{◌≡◌, IfOk, option_map, map};
+ghost use Rattle.std.specs.Prelude.{◌≡◌, IfOk, IfSome, All, option_map, map};
 ghost use Rattle.std.specs.List.{list_any};
 ghost use Rattle.std.specs.Str.{bytes_eq};
-ghost use Rattle.prolog_terms.specs.Terms.{tree_of};
+ghost use Rattle.prolog_terms.specs.Terms.{tree_of, IsOf};
 ghost use Rattle.module_table.specs.Indicators.{list_of};
 
 use clause_text::written_items;
@@ -19,7 +19,8 @@ pub fn is_one_of(words: &[&str], name: &str) -> bool
 
 /// The items of a list without a tail.
 pub fn list_items<'a>(alloc: Global, term: &Term<'a>) -> Result<Option<Vec<Term<'a>>>, AllocError>
-    ensures { IfOk result (λ found. option_map (λ items. map tree_of items.items) found ≡ list_of (tree_of term.now)) }
+    ensures trees { IfOk result (λ found. option_map (λ items. map tree_of items.items) found ≡ list_of (tree_of term.now)) }
+    ensures within { IfOk result (λ found. IfSome found (λ items. All (IsOf term.now.names.now term.now.nodes.now) items.items)) }
 {
     if let Some(name) = atom_name(term) {
         if name == "[]" {

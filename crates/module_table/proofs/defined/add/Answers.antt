@@ -6,12 +6,14 @@ use Rattle.module_table.proofs.Grouping.{add_to_none, add_behind, add_to_last}
 use Rattle.module_table.proofs.defined.add.Goals as goal
 
 pub returns-in_default : goal.returns-in_default
-returns-in_default c names ds up are =
+returns-in_default c ds up are =
+    let names = c.args.names.now in
     let old = c.args.defined.now.items in
     add_to_none names ds c.args.run old c.push.new.self.items (none_there old c.in_default.ensures.item.3) c.in_ok-push.ensures.items are
 
 pub returns-then-is_of : goal.returns-then-is_of
-returns-then-is_of c names ds up are =
+returns-then-is_of c ds up are =
+    let names = c.args.names.now in
     let old = c.args.defined.now in
     let last = c.in-Some.last.now in
     let longer : Defined = record { «module» = last.module; name = last.name; arity = last.arity; clauses = c.append.new.self } in
@@ -21,7 +23,8 @@ returns-then-is_of c names ds up are =
     refl refl refl c.in_ok-append.ensures.items (sym c.is_of.ensures ∙ c.if-is_of.true) are
 
 pub returns : goal.returns
-returns c names ds up are =
+returns c ds up are =
+    let names = c.args.names.now in
     let old = c.args.defined.now in
     let last = c.in-Some.last.now in
     let some = c.in-Some.ensures.item.3.0 in

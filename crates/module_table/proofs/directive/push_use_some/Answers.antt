@@ -18,5 +18,5 @@ returns-in_ok-push_load-in-Err-At-clause-refused c =
     let refusal : Refusal = record { cause = c.in-Err-At.cause; offset = c.in-Err-At.offset } in
     let why : listed_indicators (tree_of c.args.list.now) ≡ Err refusal = rw c.in-Err-At.field-0-is at c.in-Err-At.ensures.refused in
     let loaded = load_said user UseSome [] file in
-    let was_added = subst (λ items. IsAdded old (load_said user UseSome items file) new) c.new.ensures.items c.in_ok-push_load-in-Err-At.ensures.ok in
-    ap (some_said user file) why ∙ ap (λ said. in_turn said (Err refusal)) (parts_of_added old new loaded was_added).1
+    let was_added = subst (λ items. IsAdded [] old (load_said user UseSome items file) new) c.new.ensures.items (c.in_ok-push_load-in-Err-At.ensures.ok []) in
+    ap (some_said user file) why ∙ ap (λ said. in_turn said (Err refusal)) (parts_of_added [] old new loaded was_added).1

@@ -1,4 +1,5 @@
 use Rattle.std.proofs.Common.{map, take}
+use Rattle.prolog_names.specs.Names.{name_at}
 use Rattle.prolog_terms.specs.Tree.{depth}
 use Rattle.prolog_terms.specs.Terms.{tree_of}
 use Rattle.module_table.specs.declared.dynamic.Standing.TheVariants.{Item}
@@ -12,4 +13,5 @@ decreases-push_dynamic l = depth (tree_of l.term.now)
 
 -- the items so far are added
 abbrev pub invariant-loop-item : goal.invariant-loop-item
-invariant-loop-item l = IsAdded l.initial.kinds (each_said (dynamic_at Item l.owner) (map tree_of (take l.item-index l.item-items))) l.kinds
+invariant-loop-item l =
+    IsAdded l.term.names.now l.initial.kinds (each_said (dynamic_at Item (name_at l.term.names.now l.owner)) (map tree_of (take l.item-index l.item-items))) l.kinds

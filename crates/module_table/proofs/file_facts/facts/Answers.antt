@@ -1,4 +1,5 @@
 use Rattle.std.proofs.Common.{◌≡◌, ℕ, List, map, ap, sym, ◌∙◌, subst}
+use Rattle.prolog_names.specs.Names.{name_at}
 use Rattle.clause_text.specs.Clauses.{clause_trees, text_trees}
 use Rattle.module_table.specs.declared.file_facts.FileFacts.{FileFacts}
 use Rattle.module_table.specs.Defined.{AreDefined, see_defined}
@@ -15,8 +16,8 @@ returns-clause-only c = λ other are.
     let own = c.in_ok-own.own in
     let kinds = c.in_ok-kinds.kinds in
     let said = c.in_ok-kinds.ensures.ok in
-    let own_is : c.as_str.result.now ≡ module_of trees =
-    c.as_str.ensures ∙ (c.in_ok-owner.ensures ∙ (c.module_of.ensures ∙ ap (λ clauses. module_of (clause_trees names clauses)) c.deref.ensures.value)) in
+    let own_is : name_at names c.module_of-owner.result ≡ module_of trees =
+    c.module_of-owner.ensures ∙ ap (λ clauses. module_of (clause_trees names clauses)) c.deref.ensures.value in
     let found : List (List ℕ) → FileFacts = λ table. record {
       names = table;
       file = c.in_ok-new.field-0;
@@ -25,7 +26,7 @@ returns-clause-only c = λ other are.
       module_from = own.from;
       exports = own.exports;
       loads = kinds.loads;
-      defined = c.in_ok-group.field-0;
+      defined = c.in_ok-defined.defined;
       metas = kinds.takes;
       goals = kinds.goals;
     } in
@@ -36,7 +37,7 @@ returns-clause-only c = λ other are.
         file = c.in_ok-new.ensures;
         of_module = subst (λ m. IsModule m own.name own.is_declared own.from own.exports.items) said.are.declared c.in_ok-own.ensures;
         loads = said.are.loads;
-        defined = subst (λ ds. AreDefined ds (map (see_defined names) c.in_ok-group.field-0.items)) said.are.definitions (c.in_ok-group.ensures names);
+        defined = subst (λ ds. AreDefined ds (map (see_defined names) c.in_ok-defined.defined.items)) said.are.definitions c.in_ok-defined.ensures;
         metas = said.are.takes;
         goals = said.are.goals;
       };

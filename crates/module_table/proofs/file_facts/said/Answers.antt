@@ -10,6 +10,7 @@ use Rattle.std.proofs.lemmas.List.Elements.{All-get_or}
 use Rattle.std.proofs.Math.ListN.{get_or-map}
 use Rattle.std.proofs.Math.Seq.{drop-cons}
 use Rattle.prolog_tokens.specs.declared.limits.TheConstants.{MOST_BYTES}
+use Rattle.prolog_names.specs.Names.{name_at}
 use Rattle.prolog_terms.specs.Tree.{Tree}
 use Rattle.prolog_terms.specs.Weight.{weight}
 use Rattle.clause_text.specs.declared.text_clauses.Clause.{Clause}
@@ -59,11 +60,11 @@ returns-in_err-push_clause-clause-refused c =
     let whole : clause_trees names done ++ clause_tree names clause ∷ clause_trees names behind ≡ clause_trees names clauses =
     sym (map-append (clause_tree names) done (clause ∷ behind)) ∙ ap (clause_trees names) (split clauses done clause so_far turn.0 turn.1) in
     let exit = err_from_is_err_and c.from_residual-in_err-push_clause.result c.from_residual-in_err-push_clause.ensures.1 in
-    let added = added_parts none_said (see_kinds names [] c.loop-clause.kinds) (trees_said (home c.args.file.now c.args.owner.now) (clause_trees names done)) c.loop-clause.invariant.0 in
+    let added = added_parts none_said (see_kinds names [] c.loop-clause.kinds) (trees_said (home c.args.file.now (name_at c.args.names.now c.args.owner)) (clause_trees names done)) c.loop-clause.invariant.0 in
     let fault = c.in_err-push_clause.field-0.0 in
     rw (exit.1, exit.2)
-    (subst (λ trees. IsWhy (trees_said (home c.args.file.now c.args.owner.now) trees) fault) whole
-    (file_stops (home c.args.file.now c.args.owner.now) c.loop-clause.first (clause_trees names done) (clause_tree names clause) (clause_trees names behind) added.0 fault
+    (subst (λ trees. IsWhy (trees_said (home c.args.file.now (name_at c.args.names.now c.args.owner)) trees) fault) whole
+    (file_stops (home c.args.file.now (name_at c.args.names.now c.args.owner)) c.loop-clause.first (clause_trees names done) (clause_tree names clause) (clause_trees names behind) added.0 fault
     c.loop-clause.invariant.1 added.1 c.in_err-push_clause.ensures.refused))
 
 pub loop-clause-preserved : goal.loop-clause-preserved
@@ -71,7 +72,7 @@ loop-clause-preserved c =
     let names = c.args.names.now in
     let done = clause_trees names c.loop-clause.yielded in
     let tree = clause_tree names c.in-Some.clause in
-    let file = home c.args.file.now c.args.owner.now in
+    let file = home c.args.file.now (name_at c.args.names.now c.args.owner) in
     let all : clause_trees names (c.loop-clause.yielded ++ c.in-Some.clause ∷ []) ≡ done ++ tree ∷ [] = map-append (clause_tree names) c.loop-clause.yielded (c.in-Some.clause ∷ []) in (
       ap (with_said none_said) (ap (trees_said file) all ∙ file_one file c.loop-clause.first done tree c.loop-clause.invariant.1)
           ∙ kinds_go_on none_said (see_kinds names [] c.loop-clause.kinds) (see_kinds names [] c.push_clause.new.kinds) (trees_said file done) (clause_said file c.loop-clause.first tree)
@@ -88,5 +89,5 @@ returns-clause-ok c =
     let road = YieldsList-from_vec {s = c.into_iter-clause-iterator.result} c.args.clauses.items gives.0 (gives.1 ∙ c.args.clauses.ok.0) in
     let all : done ≡ c.args.clauses.items =
     sym (map-id done) ∙ (YieldsList-end road done c.loop-clause.clause-iterator c.loop-clause.yielded_by c.next.result c.next.new.self c.in-None.is c.next.ensures.steps).0 in
-    are_said names (trees_said (home c.args.file.now c.args.owner.now) (clause_trees names c.args.clauses.items)) c.loop-clause.kinds c.loop-clause.invariant.2
-    (subst (λ clauses. with_said none_said (trees_said (home c.args.file.now c.args.owner.now) (clause_trees names clauses)) ≡ Ok (see_kinds names [] c.loop-clause.kinds)) all c.loop-clause.invariant.0)
+    are_said names (trees_said (home c.args.file.now (name_at c.args.names.now c.args.owner)) (clause_trees names c.args.clauses.items)) c.loop-clause.kinds c.loop-clause.invariant.2
+    (subst (λ clauses. with_said none_said (trees_said (home c.args.file.now (name_at c.args.names.now c.args.owner)) (clause_trees names clauses)) ≡ Ok (see_kinds names [] c.loop-clause.kinds)) all c.loop-clause.invariant.0)

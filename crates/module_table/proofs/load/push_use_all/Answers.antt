@@ -12,6 +12,6 @@ returns-in_ok-to_vec-in-Some-clause-refused c =
     let tree = tree_of c.args.spec.now in
     let same : loads_said user UseAll (map tree_of c.deref.result.now) ≡ use_all_said user tree =
     ap (λ terms. loads_said user UseAll (map tree_of terms)) c.deref.ensures.value
-    ∙ (ap (loads_said user UseAll) c.in_ok-to_vec-in-Some.ensures
-    ∙ ap (λ found. elim found [ Some trees ↦ loads_said user UseAll trees | None ↦ load_said user UseAll [] tree ]) c.in-Some.ensures) in
+    ∙ (ap (loads_said user UseAll) c.in_ok-to_vec-in-Some.ensures.trees
+    ∙ ap (λ found. elim found [ Some trees ↦ loads_said user UseAll trees | None ↦ load_said user UseAll [] tree ]) c.in-Some.ensures.trees) in
     subst (λ said. IfErr c.push_loads.result (λ fault. IsWhy said fault)) same c.push_loads.ensures.refused

@@ -73,7 +73,7 @@ push_takes-requires-in-loop-item t c =
     let read = read_seen terms c.loop-item.item-index c.item-item.result c.loop-item-test.true c.item-item.is in
     let within = deepest_one (map tree_of terms) c.loop-item.item-index (tree_of c.item-item.result) read in
     let same : trees_from (map tree_of terms) ≡ trees_of v.items =
-    ap (λ ts. trees_from (map tree_of ts)) c.deref-item-items.ensures.value ∙ (ap trees_from c.in_ok-items-in-List.ensures ∙ trees_again (trees_of v.items)) in
+    ap (λ ts. trees_from (map tree_of ts)) c.deref-item-items.ensures.value ∙ (ap trees_from c.in_ok-items-in-List.ensures.trees ∙ trees_again (trees_of v.items)) in
     (omega (arith, within, ap deepest same, ap depth v.ensures.tree, ap depth c.inside-bare.ensures.tree, inside_depth tree), tt)
 
 pub loop-item-init : goal.loop-item-init
@@ -96,7 +96,7 @@ returns-after-loop-item t c =
     takes_alone owner tree (sym c.in_default.ensures.trees) (sym c.in_default-sides.ensures.trees)
     ∙ ap (shallow_takes owner) (sym (v.ensures.tree ∙ c.inside-bare.ensures.tree)) in
     let same : trees_from (map tree_of terms) ≡ trees_of v.items =
-    ap (λ ts. trees_from (map tree_of ts)) c.deref-item-items.ensures.value ∙ (ap trees_from c.in_ok-items-in-List.ensures ∙ trees_again (trees_of v.items)) in
+    ap (λ ts. trees_from (map tree_of ts)) c.deref-item-items.ensures.value ∙ (ap trees_from c.in_ok-items-in-List.ensures.trees ∙ trees_again (trees_of v.items)) in
     let all : take c.loop-item.item-index terms ≡ terms = take_all c.loop-item.item-index terms (omega (arith, c.loop-item-test.false)) in
     c.loop-item.invariant
     ∙ ap (λ ts. old ++ ts) (ap (λ xs. all_takes owner (trees_from (map tree_of xs))) all ∙ (ap (all_takes owner) same ∙ sym whole))
@@ -112,7 +112,7 @@ returns-in_ok-args-in-Compound t c =
     takes_alone owner tree (sym c.in_default.ensures.trees) (sym c.in_default-sides.ensures.trees)
     ∙ ap (shallow_takes owner) (sym (v.ensures.tree ∙ c.inside-bare.ensures.tree)) in
     let args : map goal_arg (map tree_of c.deref.result.now) ≡ map goal_arg (trees_in (trees_of v.args)) =
-    ap (λ xs. map goal_arg (map tree_of xs)) c.deref.ensures.value ∙ ap (map goal_arg) c.in_ok-args-in-Compound.ensures in
+    ap (λ xs. map goal_arg (map tree_of xs)) c.deref.ensures.value ∙ ap (map goal_arg) c.in_ok-args-in-Compound.ensures.trees in
     let made : List Declaration = record { module_ = owner; name = v.name.now; args = map goal_arg (map tree_of c.deref.result.now); from = c.span.result.from } ∷ [] in
     let same : made ≡ taking owner v.name.now (trees_of v.args) from =
     λ i. record { module_ = owner; name = v.name.now; args = args i; from = (c.span.ensures i).from } ∷ [] in

@@ -30,7 +30,7 @@ returns-in_err-push_indicator-clause-refused c =
     (subst (λ said. IsWhy said c.in_err-push_indicator.field-0.0) here c.in_err-push_indicator.ensures.refused) in
     let items = c.deref-item-items.result.now in
     let listed : list_of (tree_of c.args.list.now) ≡ Some (map tree_of items) =
-    items_found tree_of (list_of (tree_of c.args.list.now)) c.in_ok-items.field-0 c.in-Some.items items c.in_ok-items.ensures c.in-Some.is c.deref-item-items.ensures.value in
+    items_found tree_of (list_of (tree_of c.args.list.now)) c.in_ok-items.field-0 c.in-Some.items items c.in_ok-items.ensures.trees c.in-Some.is c.deref-item-items.ensures.value in
     rw (exit.1, exit.2) (subst (λ said. IsWhy said c.in_err-push_indicator.field-0.0) (sym (exports_listed (tree_of c.args.list.now) (map tree_of items) listed)) why)
 
 pub loop-item-preserved : goal.loop-item-preserved
@@ -44,6 +44,6 @@ pub returns-clause-ok : goal.returns-clause-ok
 returns-clause-ok c =
     let items = c.deref-item-items.result.now in
     let listed : list_of (tree_of c.args.list.now) ≡ Some (map tree_of items) =
-    items_found tree_of (list_of (tree_of c.args.list.now)) c.in_ok-items.field-0 c.in-Some.items items c.in_ok-items.ensures c.in-Some.is c.deref-item-items.ensures.value in
+    items_found tree_of (list_of (tree_of c.args.list.now)) c.in_ok-items.field-0 c.in-Some.items items c.in_ok-items.ensures.trees c.in-Some.is c.deref-item-items.ensures.value in
     exports_listed (tree_of c.args.list.now) (map tree_of items) listed
     ∙ (ap (λ terms. each_said item_exports (map tree_of terms)) (sym (take_all c.loop-item.item-index items (omega (arith, c.loop-item-test.false)))) ∙ c.loop-item.invariant)

@@ -6,6 +6,6 @@ pub returns : goal.returns
 returns c =
     let runs = c.args.runs.now in
     let last = c.in-Some.last.now in
-    ends_here c.is_named.result c.args.owner.now c.args.name.now c.args.arity runs (take (length runs - 1) runs) last
+    ends_here c.is_named.result c.args.owner c.args.name c.args.arity runs (take (length runs - 1) runs) last
     (last_there runs (length runs) last refl c.in-Some.ensures.item.3.0 c.in-Some.ensures.item.1)
     (some_there last.clauses.items last.clauses.len last.clauses.ok.0 (sym c.is_empty.ensures ∙ c.if-is_empty.false)) c.is_named.ensures
