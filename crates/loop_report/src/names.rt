@@ -28,12 +28,34 @@ pub(crate) fn push_number(text: &mut String, number: u64) -> Result<(), AllocErr
     text.push(digit(number % 10) as char)
 }
 
+/// A stroke and the arity, where that has one digit.
+fn short_arity(arity: u32) -> &'static str
+    requires { arity < 10 }
+    ensures { result.now ≡ codes "/" ++ decimal arity }
+{
+    match arity {
+        0 => "/0",
+        1 => "/1",
+        2 => "/2",
+        3 => "/3",
+        4 => "/4",
+        5 => "/5",
+        6 => "/6",
+        7 => "/7",
+        8 => "/8",
+        _ => "/9",
+    }
+}
+
 /// Adds the name without its module.
 fn push_own(text: &mut String, predicate: &PredName) -> Result<(), AllocError>
     ensures { OnOk result (string_bytes text.new
         ≡ string_bytes text.old ++ own_text predicate.now) }
 {
     push_atom(text, predicate.name.as_str())?;
+    if predicate.arity < 10 {
+        return text.push_str(short_arity(predicate.arity));
+    }
     text.push_str("/")?;
     push_number(text, u64::from(predicate.arity))
 }
