@@ -1,5 +1,6 @@
 mod BareSpells
 pub mod LineOrder
+pub mod LaidOut
 pub mod Lists
 pub mod LoopsMade
 pub mod Marks
