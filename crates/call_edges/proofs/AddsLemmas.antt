@@ -1,19 +1,17 @@
 -- Lists that get more elements.
-use Rattle.std.proofs.Common.{◌≡◌, ◌⊎◌, ◌↔◌, inl, inr, List, [], ◌∷◌, ◌++◌, Option, Some, None, ap, sym, subst, arith}
+use Rattle.std.proofs.Common.{◌≡◌, ◌⊎◌, ◌↔◌, inl, inr, List, [], ◌∷◌, ◌++◌, Option, Some, None, ap, sym, subst}
 use Rattle.std.specs.Prelude.{Contains}
 use Rattle.std.specs.Option.{option_to_list}
 use Rattle.std.proofs.lemmas.List.Elements.{Contains-append_left, Contains-append_right, Contains-append_cases, Contains-push, Contains-push_cases}
 use Rattle.std.proofs.lemmas.Option.{none-some, same_Some}
+use Rattle.list_laws.proofs.OneOrder.{nothing_in}
 use Rattle.call_edges.specs.Goals.{Adds}
-
-pub none_in : {M : Type 0} (m : M) → Contains [] m → ⊥
-none_in m has = omega (arith, has.1)
 
 -- what an option has
 pub option_has : {M : Type 0} (o : Option M) (m : M) → Contains (option_to_list o) m ↔ (o ≡ Some m)
-option_has None m = (λ has. absurd (none_in m has), λ is. absurd (none-some m is))
+option_has None m = (λ has. absurd (nothing_in m has), λ is. absurd (none-some m is))
 option_has (Some x) m = (
-  λ has. elim (Contains-push_cases [] x m has) [ inl before ↦ absurd (none_in m before) | inr same ↦ ap (λ y. Some y) same ],
+  λ has. elim (Contains-push_cases [] x m has) [ inl before ↦ absurd (nothing_in m before) | inr same ↦ ap (λ y. Some y) same ],
   λ is. subst (λ y. Contains (x ∷ []) y) (same_Some x m is) (Contains-push [] x),
 )
 

@@ -10,7 +10,8 @@ use Rattle.call_edges.specs.Seen.{see_met, see_mets}
 use Rattle.call_edges.specs.ProgramRows.{rows_of}
 use Rattle.call_edges.specs.Calls.{IsAmong, target, GoesTo, IsMetIn, NodeCalls}
 use Rattle.call_edges.specs.Bodies.{Body, see_body, bodies_in, IsMetInBody}
-use Rattle.call_edges.proofs.AddsLemmas.{none_in, adds_as, adds_option, adds_nothing}
+use Rattle.list_laws.proofs.OneOrder.{nothing_in}
+use Rattle.call_edges.proofs.AddsLemmas.{adds_as, adds_option, adds_nothing}
 use Rattle.call_edges.proofs.AmongLemmas.{among_map, map_has}
 use Rattle.call_edges.proofs.BodyLemmas.{node_met}
 
@@ -25,7 +26,7 @@ adds_not o old is = adds_nothing (λ y. o ≡ Some y) old (λ y same. none-some 
 -- from nothing
 pub adds_from_none : {M : Type 0} (P : M → Type 0) (old new : List M) → old ≡ [] → Adds P old new → (m : M) → Contains new m ↔ P m
 adds_from_none P old new none adds m = (
-  λ has. elim ((adds.each m).0 has) [ inl before ↦ absurd (none_in m (subst (λ xs. Contains xs m) none before)) | inr is ↦ is ],
+  λ has. elim ((adds.each m).0 has) [ inl before ↦ absurd (nothing_in m (subst (λ xs. Contains xs m) none before)) | inr is ↦ is ],
   λ is. (adds.each m).1 (inr is),
 )
 

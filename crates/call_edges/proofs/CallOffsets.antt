@@ -4,8 +4,8 @@ use Rattle.std.proofs.Common.{◌≡◌, ℕ, zero, suc, List, [], ◌∷◌, Op
 use Rattle.std.specs.Prelude.{Contains}
 use Rattle.std.specs.Option.{option_map}
 use Rattle.std.proofs.lemmas.List.Elements.{All-contains}
-use Rattle.std.proofs.lemmas.Option.{none-some, same_Some, slice_get_within, get_or_from_slice_get}
-use Rattle.list_laws.proofs.Members.{all_by}
+use Rattle.std.proofs.lemmas.Option.{none-some, same_Some}
+use Rattle.list_laws.proofs.Members.{all_by, stands_in}
 use Rattle.prolog_terms.specs.Tree.{Tree}
 use Rattle.prolog_terms.specs.Views.{sides_of}
 use Rattle.clause_text.specs.Offsets.{HasOffsets}
@@ -53,7 +53,7 @@ node_stands seen caller c known among =
     let place = (flat_has (bodies_at seen.loaded.files) (places_in seen caller) among.one).0 among.has in
     let there = places_there seen caller place.one place.has in
     let text = zip_text seen.loaded.texts seen.loaded.files place.one.0 there.file known.read there.at_place in
-    let in_part : Contains there.file.defined there.predicate = stands there.file.defined place.one.1 there.predicate there.at_part in
+    let in_part : Contains there.file.defined there.predicate = stands_in there.file.defined place.one.1 there.predicate there.at_part in
     let clauses : All (HasOffsets text.0.1) there.predicate.clauses =
     All-contains (λ (p : Predicate). All (HasOffsets text.0.1) p.clauses) there.file.defined there.predicate text.2.placed.of_clauses in_part in
     let body = body_stands text.0.1 place.one.0 there.file.module_ there.predicate.clauses among.one clauses
@@ -65,9 +65,6 @@ node_stands seen caller c known among =
       is = ap (slice_get seen.loaded.texts) (called.in_file ∙ body.1) ∙ text.1;
       stands = goal_stands text.0.1 (rows_of seen) among.one.at c_met body.0 called.met;
     }
-  where
-    stands : {X : Type 0} (xs : List X) (k : ℕ) (x : X) → slice_get xs k ≡ Some x → Contains xs x
-    stands xs k x at = (k, slice_get_within xs k x at, get_or_from_slice_get xs k x x at)
 
 -- each call of predicates stands in its text
 pub calls_stand : (seen : Seen) (callers : List ℕ) (calls : List CallAt) → IsKnown seen → AreCallsOf seen callers calls

@@ -5,7 +5,7 @@ use Rattle.std.specs.List.{enumerate_from}
 use Rattle.std.specs.Option.{option_map}
 use Rattle.std.proofs.lemmas.List.Elements.{All-contains}
 use Rattle.std.proofs.lemmas.Option.{none-some, same_Some, slice_get_within, get_or_from_slice_get}
-use Rattle.list_laws.proofs.Members.{all_by}
+use Rattle.list_laws.proofs.Members.{all_by, stands_in}
 use Rattle.prolog_terms.specs.Tree.{Tree}
 use Rattle.prolog_terms.specs.Views.{sides_of}
 use Rattle.prolog_terms.specs.Weight.{weight}
@@ -54,16 +54,13 @@ clauses_light file owner clauses body light has =
 pub place_light : (seen : Seen) (at : ℕ × ℕ) (body : Body) → IsKnown seen → IsThere seen.loaded.files at → Contains (bodies_at seen.loaded.files at) body → IsLight body
 place_light seen at body known is has =
     let files = seen.loaded.files in
-    let in_file : Contains files is.file = stands files at.0 is.file is.at_place in
-    let in_part : Contains is.file.defined is.predicate = stands is.file.defined at.1 is.predicate is.at_part in
+    let in_file : Contains files is.file = stands_in files at.0 is.file is.at_place in
+    let in_part : Contains is.file.defined is.predicate = stands_in is.file.defined at.1 is.predicate is.at_part in
     let P : Facts → Type 0 = λ file. All (λ (p : Predicate). All (λ tree. weight tree ≤ MOST_BYTES) p.clauses) file.defined in
     let light = read_has P seen.loaded.texts files known.read (λ text file read. read.light_clauses) is.file in_file in
     clauses_light at.0 is.file.module_ is.predicate.clauses body
     (All-contains (λ (p : Predicate). All (λ tree. weight tree ≤ MOST_BYTES) p.clauses) is.file.defined is.predicate light in_part)
     (subst (λ (bs : List Body). Contains bs body) (bodies_there files at is.file is.predicate is.at_place is.at_part) has)
-  where
-    stands : {X : Type 0} (xs : List X) (k : ℕ) (x : X) → slice_get xs k ≡ Some x → Contains xs x
-    stands xs k x there = (k, slice_get_within xs k x there, get_or_from_slice_get xs k x x there)
 
 pub bodies_light : (seen : Seen) (node : ℕ) → IsKnown seen → All IsLight (bodies_in seen node)
 bodies_light seen node known =

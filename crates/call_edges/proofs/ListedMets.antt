@@ -7,7 +7,7 @@ use Rattle.prolog_terms.specs.Views.{trees_in}
 use Rattle.module_table.specs.declared.goal_arg.GoalArg.{GoalArg}
 use Rattle.call_edges.specs.Goals.{Met, place, Rows, Taken, taken, met_at, role_at, curly_role, IsMet, AddsMet}
 use Rattle.call_edges.specs.Listed.{mets_in, mets_among}
-use Rattle.call_edges.proofs.AddsLemmas.{none_in}
+use Rattle.list_laws.proofs.OneOrder.{nothing_in}
 use Rattle.call_edges.proofs.MetLemmas.{adds_own, adds_part, AddsFirst, first_none, first_more, first_all}
 
 -- the trees are those of the list from a place on
@@ -65,6 +65,6 @@ module _ (T : Rows) where
   pub mets_are : (owner : List ℕ) (role : GoalArg) (tree : Tree) (m : Met) → Contains (mets_in T owner role tree) m ↔ IsMet T (place owner role tree) m
   mets_are owner role tree m =
       let adds = mets_add owner role tree [] in (
-        λ has. elim ((adds.each m).0 has) [ inl before ↦ absurd (none_in m before) | inr met ↦ met ],
+        λ has. elim ((adds.each m).0 has) [ inl before ↦ absurd (nothing_in m before) | inr met ↦ met ],
         λ met. (adds.each m).1 (inr met),
       )

@@ -1,9 +1,9 @@
 -- No predicate of a program declares that more than nine arguments are added to a goal.
-use Rattle.std.proofs.Common.{◌≡◌, ℕ, List, [], ◌∷◌, Option, Some, None, All, filter, subst}
+use Rattle.std.proofs.Common.{ℕ, List, [], ◌∷◌, Option, Some, None, All, filter, subst}
 use Rattle.std.specs.Prelude.{Contains, slice_get}
 use Rattle.std.specs.List.{enumerate_from}
 use Rattle.std.proofs.lemmas.List.Elements.{All-nil, All-contains}
-use Rattle.std.proofs.lemmas.Option.{slice_get_within, get_or_from_slice_get}
+use Rattle.list_laws.proofs.Members.{stands_in}
 use Rattle.list_laws.proofs.OneOrder.{in_first}
 use Rattle.module_table.specs.Metas.{Declaration, IsSmall}
 use Rattle.module_table.specs.Facts.{Facts}
@@ -15,9 +15,6 @@ use Rattle.call_edges.proofs.AmongLemmas.{map_has, flat_has, filter_has}
 use Rattle.call_edges.proofs.PlaceLemmas.{enumerated}
 use Rattle.call_edges.proofs.ReadLemmas.{read_has}
 
-stands : {X : Type 0} (xs : List X) (k : ℕ) (x : X) → slice_get xs k ≡ Some x → Contains xs x
-stands xs k x there = (k, slice_get_within xs k x there, get_or_from_slice_get xs k x x there)
-
 -- each declaration is one of a file
 meta_small : (seen : Seen) → IsKnown seen → (m : MetaAt) → Contains (metas_in seen.loaded.files) m → All IsSmall m.declaration.args
 meta_small seen known m has =
@@ -27,9 +24,9 @@ meta_small seen known m has =
     let of_meta = (map_has (meta_at of_file.one.0) (enumerate_from 0 file.metas) m).0 of_file.is in
     let small : All (λ (d : Declaration). All IsSmall d.args) file.metas =
     read_has (λ (f : Facts). All (λ (d : Declaration). All IsSmall d.args) f.metas) seen.loaded.texts files known.read (λ text f read. read.small_metas) file
-    (stands files of_file.one.0 file (enumerated files of_file.one of_file.has)) in
+    (stands_in files of_file.one.0 file (enumerated files of_file.one of_file.has)) in
     let own : All IsSmall of_meta.one.1.args =
-    All-contains (λ (d : Declaration). All IsSmall d.args) file.metas of_meta.one.1 small (stands file.metas of_meta.one.0 of_meta.one.1 (enumerated file.metas of_meta.one of_meta.has)) in
+    All-contains (λ (d : Declaration). All IsSmall d.args) file.metas of_meta.one.1 small (stands_in file.metas of_meta.one.0 of_meta.one.1 (enumerated file.metas of_meta.one of_meta.has)) in
     subst (λ (x : MetaAt). All IsSmall x.declaration.args) of_meta.is own
 
 first_small : (metas : List MetaAt) → ((m : MetaAt) → Contains metas m → All IsSmall m.declaration.args) → All IsSmall (args_of (first_of metas))

@@ -4,14 +4,14 @@ use Rattle.std.specs.Prelude.{Contains}
 use Rattle.std.specs.List.{enumerate_from}
 use Rattle.std.proofs.lemmas.List.FromFn.{length-enumerate_from, get_or-enumerate_from}
 use Rattle.std.proofs.lemmas.Option.{slice_get-get_or, slice_get_within, get_or_from_slice_get}
-use Rattle.module_table.specs.Defined.{Predicate}
 use Rattle.module_table.specs.Facts.{Facts}
 use Rattle.import_rules.specs.declared.names.PredName.{PredName}
 use Rattle.import_rules.specs.Names.{is_same}
-use Rattle.import_rules.specs.Files.{name_in, IsDefinedAt}
-use Rattle.import_rules.specs.Numbers.{DefinedAt, parts_of_file, parts_in, places_for}
+use Rattle.import_rules.specs.Files.{IsDefinedAt}
+use Rattle.import_rules.specs.Numbers.{DefinedAt, parts_in, places_for}
 use Rattle.import_rules.proofs.NameOrder.{same_parts, same_from}
-use Rattle.call_edges.proofs.AmongLemmas.{map_has, flat_has, filter_has}
+use Rattle.import_rules.proofs.PlacesTold.{part_from, part_has}
+use Rattle.call_edges.proofs.AmongLemmas.{map_has, filter_has}
 
 -- an element with its place
 pub enumerated : {X : Type 0} (xs : List X) (p : ℕ × X) → Contains (enumerate_from 0 xs) p → slice_get xs p.0 ≡ Some p.1
@@ -29,39 +29,7 @@ numbered xs k x is =
     let read : get_or xs k x ≡ x = get_or_from_slice_get xs k x x is in
     (k, omega (arith, within, length-enumerate_from 0 xs), get_or-enumerate_from 0 xs k (k, x) within ∙ (λ i. (count i, read i)))
 
--- the parts of files are just what is defined somewhere
-
-pub part_stands : (files : List Facts) (d : DefinedAt) → Contains (parts_in files) d → IsDefinedAt files d.name d.at.0 d.at.1
-part_stands files d has =
-    let of_file = (flat_has (λ (at : ℕ × Facts). parts_of_file at.0 at.1) (enumerate_from 0 files) d).0 has in
-    let file = of_file.one.1 in
-    let of_part =
-    (map_has (λ (part : ℕ × Predicate). record { name = name_in part.1; at = (of_file.one.0, part.0) }) (enumerate_from 0 file.defined) d).0 of_file.is in
-    let P : DefinedAt → Type 0 = λ x. IsDefinedAt files x.name x.at.0 x.at.1 in
-    subst P of_part.is
-    (record {
-      file = file;
-      predicate = of_part.one.1;
-      at_place = enumerated files of_file.one of_file.has;
-      at_part = enumerated file.defined of_part.one of_part.has;
-      is = refl;
-    })
-
-pub stands_part : (files : List Facts) (p : PredName) (place part : ℕ) → IsDefinedAt files p place part → Contains (parts_in files) (record { name = p; at = (place, part) })
-stands_part files p place part is =
-    let d : DefinedAt = record { name = p; at = (place, part) } in
-    (flat_has (λ (at : ℕ × Facts). parts_of_file at.0 at.1) (enumerate_from 0 files) d).1
-    (record {
-      one = (place, is.file);
-      has = numbered files place is.file is.at_place;
-      is =
-          (map_has (λ (x : ℕ × Predicate). record { name = name_in x.1; at = (place, x.0) }) (enumerate_from 0 is.file.defined) d).1
-          (record {
-            one = (part, is.predicate);
-            has = numbered is.file.defined part is.predicate is.at_part;
-            is = λ i. record { name = is.is i; at = (place, part) };
-          });
-    })
+-- the places of a predicate are just those at which it is defined
 
 pub place_stands : (files : List Facts) (p : PredName) (at : ℕ × ℕ) → Contains (places_for (parts_in files) p) at → IsDefinedAt files p at.0 at.1
 place_stands files p at has =
@@ -70,7 +38,7 @@ place_stands files p at has =
     let same : p ≡ among.one.name = same_parts p among.one.name kept.1 in
     let P : ℕ × ℕ → Type 0 = λ x. IsDefinedAt files p x.0 x.1 in
     let Q : PredName → Type 0 = λ q. IsDefinedAt files q among.one.at.0 among.one.at.1 in
-    subst P among.is (subst Q (sym same) (part_stands files among.one kept.0))
+    subst P among.is (subst Q (sym same) (part_from files among.one kept.0))
 
 pub stands_place : (files : List Facts) (p : PredName) (place part : ℕ) → IsDefinedAt files p place part → Contains (places_for (parts_in files) p) (place, part)
 stands_place files p place part is =
@@ -78,6 +46,6 @@ stands_place files p place part is =
     (map_has (λ (x : DefinedAt). x.at) (filter (λ (x : DefinedAt). is_same p x.name) (parts_in files)) (place, part)).1
     (record {
       one = d;
-      has = (filter_has (λ (x : DefinedAt). is_same p x.name) (parts_in files) d).1 (stands_part files p place part is, same_from p p refl);
+      has = (filter_has (λ (x : DefinedAt). is_same p x.name) (parts_in files) d).1 (part_has files p place part is, same_from p p refl);
       is = refl;
     })

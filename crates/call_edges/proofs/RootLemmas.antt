@@ -28,7 +28,8 @@ use Rattle.call_edges.proofs.AmongLemmas.{among_flat, among_map}
 use Rattle.call_edges.proofs.PlaceLemmas.{enumerated, numbered}
 use Rattle.call_edges.proofs.CheckLemmas.{place_in}
 use Rattle.call_edges.proofs.CallLemmas.{adds_from_none}
-use Rattle.call_edges.proofs.SuccessorLemmas.{found_below, goes_below}
+use Rattle.import_rules.proofs.FoundMeans.{below}
+use Rattle.call_edges.proofs.SuccessorLemmas.{goes_below}
 
 -- what the exports of a file give
 
@@ -38,8 +39,8 @@ IsExport seen owner i n = found seen owner i.name i.arity ≡ Some n
 -- roots are below the count
 
 pub given_below : (seen : Seen) (file : Facts) (is_module : Bool) (q : ℕ) → Gives seen file is_module q → q < length seen.predicates
-given_below seen file true q gives = let i : Indicator = gives.one in found_below seen file.module_ i.name i.arity q gives.is
-given_below seen file false q gives = let p : Predicate = gives.one in found_below seen p.module_ p.name p.arity q gives.is
+given_below seen file true q gives = let i : Indicator = gives.one in below seen file.module_ i.name i.arity q gives.is
+given_below seen file false q gives = let p : Predicate = gives.one in below seen p.module_ p.name p.arity q gives.is
 
 pub root_below : (seen : Seen) (q : ℕ) → IsRoot seen q → q < length seen.predicates
 root_below seen q root =

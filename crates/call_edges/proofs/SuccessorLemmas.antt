@@ -1,21 +1,19 @@
 -- The lists of successors are what the predicates call.
-use Rattle.std.proofs.Common.{◌≡◌, ◌↔◌, ℕ, ◌+◌, ◌<◌, true, false, nat_lt, inl, inr, List, [], Option, Some, None, length, filter, ap, sym, ◌∙◌, subst, refl, arith, ltb-true}
+use Rattle.std.proofs.Common.{◌≡◌, ◌↔◌, ℕ, ◌+◌, ◌<◌, true, false, inl, inr, List, [], Option, Some, None, length, filter, ap, sym, ◌∙◌, subst, arith}
 use Rattle.std.specs.Prelude.{Contains, slice_index_or}
-use Rattle.std.specs.List.{range_with_len, position_or_len}
+use Rattle.std.specs.List.{range_with_len}
 use Rattle.std.specs.List.Sorted.{IsStrictlyIncreasing}
 use Rattle.std.proofs.lemmas.Bool.{eqb-true, eq-eqb, cases_lt}
 use Rattle.std.proofs.lemmas.List.{get_or_past}
 use Rattle.std.proofs.lemmas.List.FromFn.{length-map-range_with_len, get_or-map-range_with_len, length-range_with_len, get_or-range_with_len}
 use Rattle.std.proofs.lemmas.List.Kept.{IsStrictlyIncreasing-filter}
-use Rattle.std.proofs.lemmas.Option.{same_Some, none-some, cond_some}
+use Rattle.std.proofs.lemmas.Option.{same_Some, none-some}
 use Rattle.list_laws.proofs.OneOrder.{range_has}
 use Rattle.list_laws.proofs.Members.{any_there, any_from}
 use Rattle.graph_law.specs.Graph.{Calls, IsClosed}
 use Rattle.graph_law.proofs.Unique.{increasing_unique}
-use Rattle.import_rules.specs.declared.names.PredName.{PredName}
-use Rattle.import_rules.specs.Names.{is_same, pred_name}
-use Rattle.import_rules.specs.Find.{number_of, first_source, or_found}
-use Rattle.import_rules.specs.Program.{Seen, found}
+use Rattle.import_rules.specs.Program.{Seen}
+use Rattle.import_rules.proofs.FoundMeans.{below}
 use Rattle.call_edges.specs.Goals.{Met, call, fault}
 use Rattle.call_edges.specs.ProgramRows.{rows_of}
 use Rattle.call_edges.specs.Calls.{IsMetIn, target, GoesTo, NodeCalls}
@@ -25,28 +23,10 @@ use Rattle.call_edges.proofs.AmongLemmas.{among_as, flat_has, filter_has}
 use Rattle.call_edges.proofs.ListedMets.{mets_are}
 use Rattle.call_edges.proofs.BodyLemmas.{node_met}
 
--- what is found is below the count
-
-number_below : (predicates : List PredName) (p : PredName) (n : ℕ) → number_of predicates p ≡ Some n → n < length predicates
-number_below predicates p n is =
-    let at = position_or_len (is_same p) predicates in
-    let both = cond_some (nat_lt at (length predicates)) at n is in
-    omega (arith, ltb-true at (length predicates) both.0, both.1)
-
-or_found_below : (predicates : List PredName) (p : PredName) (own : Option ℕ) (other : Option PredName) (n : ℕ) → number_of predicates p ≡ own → or_found predicates own other ≡ Some n
-    → n < length predicates
-or_found_below predicates p (Some m) other n here is = number_below predicates p n (here ∙ is)
-or_found_below predicates p None (Some q) n here is = number_below predicates q n is
-or_found_below predicates p None None n here is = absurd (none-some n is)
-
-pub found_below : (seen : Seen) (owner name : List ℕ) (arity n : ℕ) → found seen owner name arity ≡ Some n → n < length seen.predicates
-unfolding found
-found_below seen owner name arity n is =
-    let p = pred_name owner name arity in
-    or_found_below seen.predicates p (number_of seen.predicates p) (first_source seen.loaded.files p) n refl is
+-- what is called is below the count
 
 pub target_below : (seen : Seen) (m : Met) (q : ℕ) → target seen m ≡ Some q → q < length seen.predicates
-target_below seen (call at owner name arity) q is = found_below seen owner name arity q is
+target_below seen (call at owner name arity) q is = below seen owner name arity q is
 target_below seen (fault at) q is = absurd (none-some q is)
 
 pub goes_below : (seen : Seen) (P : Met → Type 0) (q : ℕ) → GoesTo seen P q → q < length seen.predicates

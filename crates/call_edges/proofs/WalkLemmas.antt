@@ -1,13 +1,11 @@
 -- What the walk adds at terms of each form.
-use Rattle.std.proofs.Common.{◌≡◌, ℕ, ◌+◌, ◌*◌, ◌<◌, ◌≤◌, List, [], ◌++◌, Option, Some, Result, Ok, Err, OnOk, Bool, length, get_or, map, slice_get, ap, sym, ◌∙◌, subst, refl, arith, append-nil}
-use Rattle.std.specs.Option.{option_to_list, option_map}
-use Rattle.std.proofs.lemmas.Option.{slice_get-map, slice_get_read, slice_get_within}
+use Rattle.std.proofs.Common.{◌≡◌, ℕ, ◌+◌, ◌*◌, ◌<◌, ◌≤◌, List, [], ◌++◌, Option, Some, Result, Ok, Err, OnOk, Bool, length, slice_get, ap, sym, ◌∙◌, subst, refl, arith, append-nil}
+use Rattle.std.specs.Option.{option_to_list}
+use Rattle.std.proofs.lemmas.Option.{slice_get_within}
 use Rattle.prolog_terms.specs.declared.term.Span.{Span}
 use Rattle.prolog_terms.specs.declared.term.Form.{Form}
 use Rattle.prolog_terms.specs.declared.term.ConstKind.{ConstKind}
-use Rattle.prolog_terms.specs.declared.term.Term.{Term}
 use Rattle.prolog_terms.specs.Tree.{Tree, Trees, variable, constant, atom, compound, listed, tailed, curly, paren}
-use Rattle.prolog_terms.specs.Terms.{tree_of}
 use Rattle.prolog_terms.specs.Views.{trees_in}
 use Rattle.prolog_terms.specs.Weight.{weight}
 use Rattle.module_table.specs.Metas.{added}
@@ -20,9 +18,6 @@ use Rattle.call_edges.proofs.MetLemmas.{adds_own, adds_part, AddsFirst, first_al
 pub on_ok : {X E : Type 0} {P Q : Type 0} (r : Result X E) → OnOk r P → (P → Q) → OnOk r Q
 on_ok (Ok x) p then = then p
 on_ok (Err e) p then = tt
-
-pub read_seen : (terms : List Term) (i : ℕ) (found : Term) → i < length terms → found ≡ get_or terms i found → slice_get (map tree_of terms) i ≡ Some (tree_of found)
-read_seen terms i found lt is = slice_get-map tree_of terms i ∙ ap (option_map tree_of) (slice_get_read terms (length terms) i found refl lt is)
 
 -- an argument weighs less than its compound, and with what is added to it as little as it has to
 module _ (T : Rows) (within : RowsWithin T) (owner : List ℕ) (role : GoalArg) (tree : Tree) (name : List ℕ) (args : Trees) (form : Form) (span : Span) (apart : Taken) where

@@ -14,8 +14,7 @@ use Rattle.std.proofs.lemmas.List.Filters.{dedup_is}
 use Rattle.std.proofs.lemmas.List.Kept.{Any-dedup, Contains-from_dedup, IsStrictlySortedBy-dedup}
 use Rattle.std.proofs.lemmas.List.Sorted.{Contains-permutation, IsPermutation-sym}
 use Rattle.std.proofs.lemmas.Map.Keys.{Less-from_sorted}
-use Rattle.std.proofs.lemmas.Option.{slice_get_within, get_or_from_slice_get}
-use Rattle.list_laws.proofs.Members.{all_by}
+use Rattle.list_laws.proofs.Members.{all_by, stands_in}
 use Rattle.clause_text.specs.Offsets.{HasOffsets}
 use Rattle.clause_text.proofs.TermOffsets.{start_stands}
 use Rattle.module_table.specs.Defined.{Predicate}
@@ -39,7 +38,7 @@ node_stands seen node c known has =
     let place = (flat_has (clauses_there files node) (places_in seen node) c).0 has in
     let there = places_there seen node place.one place.has in
     let text = zip_text seen.loaded.texts files place.one.0 there.file known.read there.at_place in
-    let in_part : Contains there.file.defined there.predicate = stands there.file.defined place.one.1 there.predicate there.at_part in
+    let in_part : Contains there.file.defined there.predicate = stands_in there.file.defined place.one.1 there.predicate there.at_part in
     let clauses : All (HasOffsets text.0.1) there.predicate.clauses =
     All-contains (λ (p : Predicate). All (HasOffsets text.0.1) p.clauses) there.file.defined there.predicate text.2.placed.of_clauses in_part in
     let one = (map_has (clause_at place.one.0 node) there.predicate.clauses c).0
@@ -47,9 +46,6 @@ node_stands seen node c known has =
     let P : ClauseAt → Type 0 = λ x. StandsInText seen.loaded.texts x.file x.offset in
     subst P one.is
     (record { text = text.0; is = text.1; stands = start_stands text.0.1 one.one (All-contains (HasOffsets text.0.1) there.predicate.clauses one.one clauses one.has) })
-  where
-    stands : {X : Type 0} (xs : List X) (k : ℕ) (x : X) → slice_get xs k ≡ Some x → Contains xs x
-    stands xs k x at = (k, slice_get_within xs k x at, get_or_from_slice_get xs k x x at)
 
 pub clauses_stand : (seen : Seen) (nodes : List ℕ) (clauses : List ClauseAt) → IsKnown seen → AreClausesOf seen nodes clauses
     → All (λ (c : ClauseAt). StandsInText seen.loaded.texts c.file c.offset) clauses

@@ -1,6 +1,6 @@
 use Rattle.std.proofs.Common.{sym, ap, ◌∙◌}
 use Rattle.import_rules.specs.Program.{see_program, meta_of_found}
-use Rattle.call_edges.proofs.SuccessorLemmas.{found_below}
+use Rattle.import_rules.proofs.FoundMeans.{below}
 use Rattle.call_edges.proofs.apart.meaning_of.Goals as goal
 
 pub returns-then-declares_nothing-clause-declared : goal.returns-then-declares_nothing-clause-declared
@@ -8,7 +8,7 @@ returns-then-declares_nothing-clause-declared c =
     sym (c.declares_nothing.ensures c.if-declares_nothing.true c.args.owner.now c.args.name.now c.args.arity)
 
 pub meta_of-requires : goal.meta_of-requires
-meta_of-requires c = found_below (see_program c.args.program.now) c.args.owner.now c.args.name.now c.args.arity c.in-Some.node (sym c.in-Some.ensures)
+meta_of-requires c = below (see_program c.args.program.now) c.args.owner.now c.args.name.now c.args.arity c.in-Some.node (sym c.in-Some.ensures)
 
 pub returns-in-Some-clause-meant : goal.returns-in-Some-clause-meant
 returns-in-Some-clause-meant c = sym c.in-Some.ensures

@@ -16,7 +16,8 @@ use Rattle.call_edges.proofs.AddedLemmas.{rows_within}
 use Rattle.call_edges.proofs.KeptMeanings.{meant_more}
 use Rattle.call_edges.proofs.MetLemmas.{first_none, first_more, first_rowless, first_one, first_two}
 use Rattle.call_edges.proofs.PartLemmas.{only_is, pair_is}
-use Rattle.call_edges.proofs.WalkLemmas.{on_ok, read_seen, part_falls, variable_walked, list_walked, tailed_walked, constant_walked, atom_walked, curly_walked, paren_walked, compound_walked}
+use Rattle.module_table.proofs.TakesLemmas.{read_seen}
+use Rattle.call_edges.proofs.WalkLemmas.{on_ok, part_falls, variable_walked, list_walked, tailed_walked, constant_walked, atom_walked, curly_walked, paren_walked, compound_walked}
 use Rattle.call_edges.proofs.walking.+walk.Goals as goal
 
 pub take_apart-taken-requires : goal.take_apart-taken-requires
