@@ -23,3 +23,9 @@ pub seven : (t u v w x a b c d e f : List ℕ) → u ≡ t ++ (a ++ (b ++ c)) �
 seven t u v w x a b c d e f p q r s =
     four t u v w x (a ++ (b ++ c)) d e f p q r s
     ∙ ap (λ bytes. t ++ bytes) (append_assoc a (b ++ c) (d ++ (e ++ f)) ∙ ap (λ bytes. a ++ bytes) (append_assoc b c (d ++ (e ++ f))))
+
+-- and two behind it
+pub three_parts : (t u v x a b c d e : List ℕ) → u ≡ t ++ (a ++ (b ++ c)) → v ≡ u ++ d → x ≡ v ++ e → x ≡ t ++ (a ++ (b ++ (c ++ (d ++ e))))
+three_parts t u v x a b c d e p q r =
+    three t u v x (a ++ (b ++ c)) d e p q r
+    ∙ ap (λ bytes. t ++ bytes) (append_assoc a (b ++ c) (d ++ e) ∙ ap (λ bytes. a ++ bytes) (append_assoc b c (d ++ e)))

@@ -1,11 +1,13 @@
 //! What was told last, with its spelling. Lines that stand side by side are mostly of one file, and
 //! their names of one module, so they are seldom spelled again.
 
-ghost use Rattle.std.specs.Prelude.{◌≡◌, IsTrue, OnOk};
+ghost use Rattle.std.specs.Prelude.{◌≡◌, IsTrue, OnOk, slice_get};
 ghost use Rattle.std.specs.String.{string_bytes};
-ghost use Rattle.call_writer.specs.Lines.{after_file, after_module};
+ghost use Rattle.call_writer.specs.Lines.{after_file, after_module, file_name};
+ghost use Rattle.import_rules.specs.Program.{see_program};
 
 use crate::json::push_json_string;
+use import_rules::Program;
 use std::alloc::{AllocError, Global};
 
 /// The module of the last name, with what stands in a line before a name of that module.
@@ -47,30 +49,47 @@ impl<'a> LastModule<'a> {
     }
 }
 
-/// The name of the last file, with what stands in a line before a place in that file.
+/// The name of the file at that place among the files, or nothing where there is none.
+fn file_name(program: &Program, file: u32) -> &str
+    ensures { result.now ≡ file_name (slice_get (see_program program.now).loaded.texts file) }
+{
+    match program.loaded().texts.get(file as usize) {
+        Some(text) => text.0.as_str(),
+        None => "",
+    }
+}
+
+/// The last file of a program, with what stands in a line before a place in that file.
 #[derive(Drop)]
 pub(crate) struct LastFile<'a> {
+    pub(crate) program: &'a Program,
     /// Whether a file was spelled.
     is_spelled: bool,
-    file: &'a str,
+    /// Its place among the files.
+    file: u32,
     /// `,"file":"f.pl","line":`
     pub(crate) text: String,
-    ghost spelled: { IsTrue is_spelled → string_bytes text ≡ after_file file.now },
+    ghost spelled: { IsTrue is_spelled → string_bytes text ≡ after_file (file_name (slice_get (see_program program.now).loaded.texts file)) },
 }
 
 impl<'a> LastFile<'a> {
     /// Before the first place. It takes no memory.
-    pub(crate) fn none(alloc: Global) -> LastFile<'a> {
+    pub(crate) fn none(alloc: Global, program: &'a Program) -> LastFile<'a>
+        ensures { see_program result.program.now ≡ see_program program.now }
+    {
         LastFile {
+            program,
             is_spelled: false,
-            file: "",
+            file: 0,
             text: String::new(alloc),
         }
     }
 
-    /// Makes this the last file, and spells its name where it wasn't that before.
-    pub(crate) fn take(&mut self, file: &'a str) -> Result<(), AllocError>
-        ensures { OnOk result (string_bytes self.new.text ≡ after_file file.now) }
+    /// Makes the file at that place among the files the last one, and spells its name where it wasn't
+    /// that before.
+    pub(crate) fn take(&mut self, file: u32) -> Result<(), AllocError>
+        ensures text { OnOk result (string_bytes self.new.text ≡ after_file (file_name (slice_get (see_program self.old.program.now).loaded.texts file))) }
+        ensures program { OnOk result (see_program self.new.program.now ≡ see_program self.old.program.now) }
     {
         if self.is_spelled && self.file == file {
             return Ok(());
@@ -78,7 +97,7 @@ impl<'a> LastFile<'a> {
         self.is_spelled = false;
         self.text.clear();
         self.text.push_str(",\"file\":")?;
-        push_json_string(&mut self.text, file)?;
+        push_json_string(&mut self.text, file_name(self.program, file))?;
         self.text.push_str(",\"line\":")?;
         self.file = file;
         self.is_spelled = true;

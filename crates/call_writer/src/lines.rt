@@ -1,12 +1,12 @@
 //! The lines of a table of calls, as JSON.
 
-ghost use Rattle.std.specs.Prelude.{◌≡◌, ◌<◌, ◌≤◌, ◌++◌, ◌&&◌, All, OnOk, codes, is_some, length, slice_get};
+ghost use Rattle.std.specs.Prelude.{◌≡◌, ◌<◌, ◌≤◌, ◌++◌, ◌&&◌, All, OnOk, codes, is_some, length};
 ghost use Rattle.std.specs.Fmt.{decimal};
 ghost use Rattle.std.specs.List.{flat_map, zip};
 ghost use Rattle.std.specs.String.{string_bytes};
 ghost use Rattle.call_edges.specs.PlacedSeen.{see_call, see_calls};
-ghost use Rattle.call_writer.specs.Lines.{call_head, call_line_if, call_line_to, clause_line, file_name, group_fields, level_fields};
-ghost use Rattle.call_writer.specs.Lines.{name_fields, number_or_null, place_fields, predicate_head, predicate_line, predicate_line_of};
+ghost use Rattle.call_writer.specs.Lines.{call_head, call_line_if, call_line_to, clause_line, group_fields, level_fields};
+ghost use Rattle.call_writer.specs.Lines.{name_fields, number_or_null, predicate_head, predicate_line, predicate_line_of};
 ghost use Rattle.call_writer.specs.Lines.{spot_fields, truth};
 ghost use Rattle.graph_law.specs.Classes.{group_at, least_member};
 ghost use Rattle.graph_law.specs.Graph.{lists_of};
@@ -22,24 +22,16 @@ use import_rules::{PredName, Program};
 use prolog_tokens::Place;
 use std::alloc::{AllocError, Global};
 
-/// The name of the file at that place among the files, or nothing where there is none.
-fn file_name(program: &Program, file: u32) -> &str
-    ensures { result.now ≡ file_name (slice_get (see_program program.now).loaded.texts file) }
-{
-    match program.loaded().texts.get(file as usize) {
-        Some(text) => text.0.as_str(),
-        None => "",
-    }
-}
-
-/// Adds a comma, a file, a line and a column. The file is the last one from then on.
-fn push_place<'a>(
+/// Adds a comma, and a line and a column of the file at that place among the files. The file is the last
+/// one from then on.
+fn push_spot(
     text: &mut String,
-    last: &mut LastFile<'a>,
-    file: &'a str,
+    last: &mut LastFile<'_>,
+    file: u32,
     place: Place,
 ) -> Result<(), AllocError>
-    ensures { OnOk result (string_bytes text.new ≡ string_bytes text.old ++ (codes "," ++ place_fields file.now place)) }
+    ensures text { OnOk result (string_bytes text.new ≡ string_bytes text.old ++ (codes "," ++ spot_fields (see_program last.old.program.now) file place)) }
+    ensures program { OnOk result (see_program last.new.program.now ≡ see_program last.old.program.now) }
 {
     last.take(file)?;
     text.push_str(last.text.as_str())?;
@@ -49,19 +41,34 @@ fn push_place<'a>(
     Ok(())
 }
 
-/// Adds a comma, and a line and a column of the file at that place among the files.
-fn push_spot<'a>(
-    text: &mut String,
-    last: &mut LastFile<'a>,
-    program: &'a Program,
-    file: u32,
-    place: Place,
-) -> Result<(), AllocError>
-    ensures { OnOk result (string_bytes text.new ≡ string_bytes text.old ++ (codes "," ++ spot_fields (see_program program.now) file place)) }
+/// What stands behind the characters of a name whose arity has one digit.
+fn short_arity(arity: u32) -> &'static str
+    requires { arity < 10 }
+    ensures { result.now ≡ codes "\",\"arity\":" ++ decimal arity }
 {
-    let name = file_name(program, file);
-    push_place(text, last, name, place)?;
-    Ok(())
+    match arity {
+        0 => "\",\"arity\":0",
+        1 => "\",\"arity\":1",
+        2 => "\",\"arity\":2",
+        3 => "\",\"arity\":3",
+        4 => "\",\"arity\":4",
+        5 => "\",\"arity\":5",
+        6 => "\",\"arity\":6",
+        7 => "\",\"arity\":7",
+        8 => "\",\"arity\":8",
+        _ => "\",\"arity\":9",
+    }
+}
+
+/// Adds what stands behind the characters of a name of that arity.
+fn push_arity(text: &mut String, arity: u32) -> Result<(), AllocError>
+    ensures { OnOk result (string_bytes text.new ≡ string_bytes text.old ++ (codes "\",\"arity\":" ++ decimal arity)) }
+{
+    if arity < 10 {
+        return text.push_str(short_arity(arity));
+    }
+    text.push_str("\",\"arity\":")?;
+    push_number(text, u64::from(arity))
 }
 
 /// Adds a name in a module.
@@ -89,8 +96,7 @@ fn push_name_after<'a>(
     last.take(owner)?;
     text.push_str(last.text.as_str())?;
     push_inner(text, name)?;
-    text.push_str("\",\"arity\":")?;
-    push_number(text, u64::from(arity))?;
+    push_arity(text, arity)?;
     Ok(())
 }
 
@@ -128,16 +134,17 @@ fn push_call_head(text: &mut String, caller: u32, callee: Option<u32>) -> Result
 fn push_call_to<'a, 'b>(
     text: &mut String,
     last: &mut Last<'a, 'b>,
-    program: &'a Program,
     call: &PlacedCall<'b>,
     callee: Option<u32>,
     place: Place,
 ) -> Result<(), AllocError>
-    ensures { OnOk result (string_bytes text.new ≡ string_bytes text.old ++ call_line_to callee (see_program program.now) (see_call call.now) place) }
+    ensures text { OnOk result (string_bytes text.new
+        ≡ string_bytes text.old ++ call_line_to callee (see_program last.old.file.program.now) (see_call call.now) place) }
+    ensures program { OnOk result (see_program last.new.file.program.now ≡ see_program last.old.file.program.now) }
 {
     push_call_head(text, call.caller, callee)?;
     push_name_after(text, &mut last.module, call.module, call.name, call.arity)?;
-    push_spot(text, &mut last.file, program, call.file, place)?;
+    push_spot(text, &mut last.file, call.file, place)?;
     text.push_str("}\n")?;
     Ok(())
 }
@@ -147,18 +154,19 @@ fn push_call_to<'a, 'b>(
 fn push_call<'a, 'b>(
     text: &mut String,
     last: &mut Last<'a, 'b>,
-    program: &'a Program,
     call: &PlacedCall<'b>,
     place: Place,
     undefined: bool,
 ) -> Result<(), AllocError>
-    ensures { OnOk result (string_bytes text.new ≡ string_bytes text.old ++ call_line_if undefined (see_program program.now) (see_call call.now) place) }
+    ensures text { OnOk result (string_bytes text.new
+        ≡ string_bytes text.old ++ call_line_if undefined (see_program last.old.file.program.now) (see_call call.now) place) }
+    ensures program { OnOk result (see_program last.new.file.program.now ≡ see_program last.old.file.program.now) }
 {
-    let callee = program.find(call.module, call.name, call.arity);
+    let callee = last.file.program.find(call.module, call.name, call.arity);
     if is_hidden(undefined, callee) {
         return Ok(());
     }
-    push_call_to(text, last, program, call, callee, place)
+    push_call_to(text, last, call, callee, place)
 }
 
 /// Adds the lines of calls with their lines and columns; where only undefined names are wanted, those
@@ -175,28 +183,28 @@ pub fn push_call_lines(
         ≡ string_bytes text.old ++ flat_map (λ pair. call_line_if undefined (see_program program.now) pair.0 pair.1) (zip (see_calls calls.now) places.now)) }
 {
     let mut last = Last {
-        file: LastFile::none(alloc),
+        file: LastFile::none(alloc, program),
         module: LastModule::none(alloc),
     };
     for (call, place) in calls.iter().zip(places) {
-        push_call(text, &mut last, program, call, *place, undefined)?;
+        push_call(text, &mut last, call, *place, undefined)?;
     }
     Ok(())
 }
 
 /// Adds the line of a clause.
-fn push_clause<'a>(
+fn push_clause(
     text: &mut String,
-    last: &mut LastFile<'a>,
-    program: &'a Program,
+    last: &mut LastFile<'_>,
     clause: ClauseAt,
     place: Place,
 ) -> Result<(), AllocError>
-    ensures { OnOk result (string_bytes text.new ≡ string_bytes text.old ++ clause_line (see_program program.now) clause place) }
+    ensures text { OnOk result (string_bytes text.new ≡ string_bytes text.old ++ clause_line (see_program last.old.program.now) clause place) }
+    ensures program { OnOk result (see_program last.new.program.now ≡ see_program last.old.program.now) }
 {
     text.push_str("{\"is\":\"clause\",\"predicate\":")?;
     push_number(text, u64::from(clause.node))?;
-    push_spot(text, last, program, clause.file, place)?;
+    push_spot(text, last, clause.file, place)?;
     text.push_str("}\n")?;
     Ok(())
 }
@@ -212,9 +220,9 @@ pub fn push_clause_lines(
     ensures { OnOk result (string_bytes text.new
         ≡ string_bytes text.old ++ flat_map (λ pair. clause_line (see_program program.now) pair.0 pair.1) (zip clauses.now places.now)) }
 {
-    let mut last = LastFile::none(alloc);
+    let mut last = LastFile::none(alloc, program);
     for (clause, place) in clauses.iter().zip(places) {
-        push_clause(text, &mut last, program, *clause, *place)?;
+        push_clause(text, &mut last, *clause, *place)?;
     }
     Ok(())
 }

@@ -9,6 +9,7 @@ use Rattle.call_writer.proofs.lines.push_call_lines.Given as goal
 -- the lines so far, with those to come
 abbrev pub invariant-loop-call : goal.invariant-loop-call
 invariant-loop-call l =
-    string_bytes l.text
+    (see_program l.last.file.program.now ≡ see_program l.program)
+    × (string_bytes l.text
     ++ lines_of (λ pair. call_line_if l.undefined (see_program l.program) pair.0 pair.1) (see_calls l.call-iterator.a.rest.now) l.call-iterator.b.rest.now
-    ≡ string_bytes l.initial.text ++ lines_of (λ pair. call_line_if l.undefined (see_program l.program) pair.0 pair.1) (see_calls l.calls) l.places
+    ≡ string_bytes l.initial.text ++ lines_of (λ pair. call_line_if l.undefined (see_program l.program) pair.0 pair.1) (see_calls l.calls) l.places)

@@ -6,10 +6,10 @@ use Rattle.call_writer.specs.Lines.{spot_fields}
 use Rattle.call_writer.proofs.Appended.{four}
 use Rattle.call_writer.proofs.lines.push_clause.Goals as goal
 
-pub returns : goal.returns
-returns c =
+pub returns-clause-text : goal.returns-clause-text
+returns-clause-text c =
     four (string_bytes c.args.text.now) (string_bytes c.push_str.new.self) (string_bytes c.push_number.new.text) (string_bytes c.push_spot.new.text)
     (string_bytes c.push_str-2.new.self) (codes "{\"is\":\"clause\",\"predicate\":") (decimal c.args.clause.node)
-    (codes "," ++ spot_fields (see_program c.args.program.now) c.args.clause.file c.args.place) (codes "}\n") c.in_ok-push_str.ensures.bytes
-    (c.in_ok-push_number.ensures ∙ ap (λ n. string_bytes c.push_str.new.self ++ decimal n) c.from.ensures) c.in_ok-push_spot.ensures
+    (codes "," ++ spot_fields (see_program c.args.last.now.program.now) c.args.clause.file c.args.place) (codes "}\n") c.in_ok-push_str.ensures.bytes
+    (c.in_ok-push_number.ensures ∙ ap (λ n. string_bytes c.push_str.new.self ++ decimal n) c.from.ensures) c.in_ok-push_spot.ensures.text
     c.in_ok-push_str-2.ensures.bytes

@@ -8,6 +8,7 @@ use Rattle.call_writer.proofs.lines.push_clause_lines.Given as goal
 -- the lines so far, with those to come
 abbrev pub invariant-loop-clause : goal.invariant-loop-clause
 invariant-loop-clause l =
-    string_bytes l.text
+    (see_program l.last.program.now ≡ see_program l.program)
+    × (string_bytes l.text
     ++ lines_of (λ pair. clause_line (see_program l.program) pair.0 pair.1) l.clause-iterator.a.rest.now l.clause-iterator.b.rest.now
-    ≡ string_bytes l.initial.text ++ lines_of (λ pair. clause_line (see_program l.program) pair.0 pair.1) l.clauses l.places
+    ≡ string_bytes l.initial.text ++ lines_of (λ pair. clause_line (see_program l.program) pair.0 pair.1) l.clauses l.places)
