@@ -9,6 +9,7 @@ ghost use Rattle.node_claims.specs.Steps.{IsLater, IsLent};
 ghost use Rattle.node_claims.specs.Taking.{IsTaken};
 ghost use Rattle.node_claims.specs.Views.{both, claimed, fresh, looked, outline_of};
 
+use crate::bound::BoundBook;
 use crate::pass::Pass;
 use crate::rule::{Claim, ClaimRule, Look, Part, Take, Whole};
 use crate::turn::Turn;
@@ -21,10 +22,13 @@ use std::marker::Model;
 use std::snapshot::Snapshot;
 use std::sync::Wait;
 use std::sync::atomic::{AtomicU64, Ordering};
-use std::thread;
+use std::{hint, thread};
 
 // How often a pass that waits for the turn lets other threads go on before it sleeps.
 const TRIES: u32 = 64;
+
+// How often it only lets some time go by before that.
+const SPINS: u32 = 256;
 
 /// What a claim found.
 #[derive(Clone, Copy, Debug, PartialEq, Eq)]
@@ -51,7 +55,7 @@ pub enum Looked {
 pub struct Claims {
     /// How many passes sleep, or are about to, until the turn is given back.
     pub(crate) sleepers: AtomicU64,
-    pub(crate) table: Table<Option<Book>, View, Snapshot<Book>, ClaimRule, Global>,
+    pub(crate) table: Table<Option<BoundBook>, View, Snapshot<Book>, ClaimRule, Global>,
 }
 
 impl Model for Claims {
@@ -81,8 +85,8 @@ impl Claims {
     {
         let words = vec![in alloc; 0u64; opener.count() as usize + 1]?;
         let mut slots = Vec::with_capacity(alloc, 1)?;
-        let book = Book::make(alloc, opener, roots)?;
-        let about = Snapshot::of(&book);
+        let book = BoundBook::make(alloc, opener, roots)?;
+        let about = Snapshot::of(book.pages());
         slots.push_reserved(Some(book));
         match Table::new(alloc, words.as_slice(), slots, &about) {
             Ok((table, seat)) => Ok((
@@ -186,11 +190,11 @@ impl Claims {
         ensures reached { (v : ℕ) → HasMember (lists_of result.items) v → IsReached (Calls self.lists) self.roots v }
     {
         let (_seat, book) = self.take(rt, pass);
-        book.into_groups()
+        book.into_pages().into_groups()
     }
 
     // Waits for the turn, and takes the book out of its slot.
-    fn take(&self, rt: &impl Wait, pass: Pass) -> (Seat<Option<Book>, View>, Book)
+    fn take(&self, rt: &impl Wait, pass: Pass) -> (Seat<Option<BoundBook>, View>, BoundBook)
         requires { pass.table ≡ self.now.table }
         ensures { IsTaken pass result.0 result.1 }
     {
@@ -215,7 +219,11 @@ impl Claims {
     // It counts as a sleeper before it looks at the word for the last time, so a pass that makes the word
     // 0 after that look finds it counted and wakes it.
     fn pause(&self, rt: &impl Wait, tries: u32) -> u32 {
-        if tries < TRIES {
+        if tries < SPINS {
+            hint::spin_loop();
+            return tries + 1;
+        }
+        if tries < SPINS + TRIES {
             thread::yield_now();
             return tries + 1;
         }

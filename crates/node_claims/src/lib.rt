@@ -6,6 +6,7 @@
 //! has at a time. No node is claimed twice, and no word falls.
 #![tactic(auto)]
 
+mod bound;
 mod claims;
 mod laws;
 mod pass;

@@ -1,13 +1,13 @@
+use crate::bound::BoundBook;
 use crate::view::View;
 use atomic_table::Seat;
-use group_release::Book;
 use std::marker::Model;
 
 /// One caller's token of the claims, of no bytes. It has the nodes that it claimed, and knows nodes
 /// that it saw finished. A pass that is dropped keeps its nodes for good.
 #[derive(Drop)]
 pub struct Pass {
-    pub(crate) seat: Seat<Option<Book>, View>,
+    pub(crate) seat: Seat<Option<BoundBook>, View>,
 }
 
 impl Model for Pass {

@@ -2,6 +2,7 @@
 
 ghost use Rattle.std.specs.Prelude.{ℕ, List, []};
 
+use crate::bound::BoundBook;
 use crate::view::View;
 use atomic_table::{Join, Play, Split, TableRule};
 use group_release::Book;
@@ -11,7 +12,7 @@ use std::snapshot::Snapshot;
 /// Word 0 tells whether the turn is taken, and node x has word x + 1. The one slot has the book.
 pub struct ClaimRule;
 
-impl TableRule<Option<Book>, View, Snapshot<Book>> for ClaimRule {
+impl TableRule<Option<BoundBook>, View, Snapshot<Book>> for ClaimRule {
     ghost use Rattle.node_claims.specs.Rule.{RuleHolds};
     ghost use Rattle.node_claims.specs.Views.{fresh};
 
@@ -23,7 +24,7 @@ impl TableRule<Option<Book>, View, Snapshot<Book>> for ClaimRule {
 /// A claim: one exchange of the word of a node, from 0 to 1.
 pub(crate) struct Claim;
 
-impl Play<Option<Book>, View> for Claim {
+impl Play<Option<BoundBook>, View> for Claim {
     ghost use Rattle.node_claims.specs.Steps.{claims};
 
     ghost then = { claims };
@@ -32,7 +33,7 @@ impl Play<Option<Book>, View> for Claim {
 /// A look: one load of the word of a node.
 pub(crate) struct Look;
 
-impl Play<Option<Book>, View> for Look {
+impl Play<Option<BoundBook>, View> for Look {
     ghost use Rattle.node_claims.specs.Steps.{looks_at};
 
     ghost then = { looks_at };
@@ -41,7 +42,7 @@ impl Play<Option<Book>, View> for Look {
 /// A try to take the turn: one exchange of its word, from 0 to 1.
 pub(crate) struct Take;
 
-impl Play<Option<Book>, View> for Take {
+impl Play<Option<BoundBook>, View> for Take {
     ghost use Rattle.node_claims.specs.Steps.{takes_turn};
 
     ghost then = { takes_turn };
@@ -50,7 +51,7 @@ impl Play<Option<Book>, View> for Take {
 /// A node is closed: one store of 2 in its word.
 pub(crate) struct Close;
 
-impl Play<Option<Book>, View> for Close {
+impl Play<Option<BoundBook>, View> for Close {
     ghost use Rattle.node_claims.specs.Steps.{closes};
 
     ghost then = { closes };
@@ -70,7 +71,7 @@ pub(crate) struct Give<N> {
     of: PhantomData<N>,
 }
 
-impl<N: Naming> Play<Option<Book>, View> for Give<N> {
+impl<N: Naming> Play<Option<BoundBook>, View> for Give<N> {
     ghost use Rattle.node_claims.specs.Steps.{gives_turn};
 
     ghost then = { gives_turn N.nodes };

@@ -6,6 +6,7 @@ ghost use Rattle.node_claims.specs.Claims.{nodes_with};
 ghost use Rattle.node_claims.specs.Steps.{MayClose, MayGive};
 ghost use Rattle.node_claims.specs.Views.{outline_of};
 
+use crate::bound::BoundBook;
 use crate::claims::Claims;
 use crate::pass::Pass;
 use crate::rule::{Close, Give, Naming};
@@ -20,8 +21,8 @@ use std::sync::atomic::Ordering;
 /// knew, the book as it was taken with the nodes closed since, and the book as it is.
 pub struct Turn<'a> {
     pub(crate) claims: &'a Claims,
-    pub(crate) seat: Seat<Option<Book>, View>,
-    pub(crate) book: Book,
+    pub(crate) seat: Seat<Option<BoundBook>, View>,
+    pub(crate) book: BoundBook,
 }
 
 impl<'a> Model for Turn<'a> {
@@ -44,7 +45,7 @@ impl<'a> Turn<'a> {
         ensures* lends { sem 𝓛 (LendsBook self.entry result) }
         ensures value { result.now ≡ self.old.book }
     {
-        &mut self.book
+        &mut self.book.pages
     }
 
     /// Marks a released node as finished, by one store on its word.

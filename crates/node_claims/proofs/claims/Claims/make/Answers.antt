@@ -15,5 +15,5 @@ new-requires g c =
     let slots : c.push_reserved.new.self.items ≡ one = pushed ∙ ap (λ (l : List Slot). l ++ one) no_slot in
     let zeros : c.in_ok-words.words.items ≡ replicate (suc (length c.in_ok-book.book.lists)) 0 = items ∙ ap (λ (n : ℕ). replicate n 0) count in
     begins_as c.as_slice.result.now c.push_reserved.new.self.items c.of-about.result.value c.in_ok-book.book (c.as_slice.ensures.value ∙ zeros) slots
-    c.of-about.ensures
+    (c.of-about.ensures ∙ c.pages.ensures)
     (ap (λ (b : BookValue). b.kept) c.in_ok-book.ensures) (ap (λ (b : BookValue). b.groups) c.in_ok-book.ensures)
