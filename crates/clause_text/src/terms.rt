@@ -35,10 +35,11 @@ pub fn directive_of<'a>(clause: &Term<'a>) -> Option<Term<'a>>
     let TermKind::Compound { name, args, .. } = inside(clause).kind() else {
         return None;
     };
+    let directive = args.only()?;
     if !begins_directive(name) {
         return None;
     }
-    args.only()
+    Some(directive)
 }
 
 /// The terms of a list without a tail, which isn't the atom `[]`.

@@ -116,7 +116,8 @@ set_no_rival : (op : Op) (rival zero : Bool) → (not zero && rival) ≡ false �
 set_no_rival op rival true h some = cc
 set_no_rival op rival false h some = h
 
-with_set_is : (table : Ops) → IsOps table → (name : List ℕ) (op : Op) → set_fault table name op.kind op.priority ≡ None
+-- a table in which an operator is set is one
+pub with_set_is : (table : Ops) → IsOps table → (name : List ℕ) (op : Op) → set_fault table name op.kind op.priority ≡ None
     → IsOps (with_pair table (place_of op.kind) name (set_op op))
 with_set_is table is name op h =
     let may : IsLawful table name op.kind op.priority = lawful table name op.kind op.priority h in

@@ -15,10 +15,6 @@ pub is_true : (test : Bool) → false ≡ not test → test ≡ true
 is_true true is = refl
 is_true false is = let both : false ≡ true = is in absurd (cc)
 
-pub is_false : (test : Bool) → true ≡ not test → test ≡ false
-is_false true is = let both : true ≡ false = is in absurd (cc)
-is_false false is = refl
-
 pub some_once : {X : Type 0} {x y : X} → Some x ≡ Some y → x ≡ y
 some_once is = cc
 
@@ -111,15 +107,6 @@ sides_weight operator (compound name (more left (more right none)) form span) l 
 sides_weight operator (paren inner span) l r is = omega (arith, sides_weight operator inner l r is)
 sides_weight operator tree l r is = absurd (some_none (l, r) (sym is))
 
--- the trees of a list, each with one more, weigh what the list does
-pub trees_weight : (trees : List Tree) → sum_by (λ tree. weight tree + 1) trees ≡ weights (trees_from trees)
-trees_weight [] = refl
-trees_weight (tree ∷ trees) = omega (arith, trees_weight trees, sum_by-cons (λ t. weight t + 1) tree trees)
-
-pub items_weight : (trees : Trees) → sum_by (λ tree. weight tree + 1) (trees_in trees) ≡ weights trees
-items_weight none = refl
-items_weight (more tree trees) = omega (arith, items_weight trees, sum_by-cons (λ t. weight t + 1) tree (trees_in trees))
-
 pub items_count : (trees : Trees) → length (trees_in trees) ≤ weights trees
 items_count none = omega arith
 items_count (more tree trees) = omega (arith, items_count trees)
@@ -143,27 +130,3 @@ arity_at_weight tree named is = absurd (some_none named (sym is))
 
 pub arity_weight : (tree : Tree) (named : Named) → name_and_arity tree ≡ Some named → named.arity ≤ weight tree
 arity_weight tree named is = omega (arith, arity_at_weight (inside tree) named is, inside_weight tree)
-
--- the terms that commas join, each with one more, weigh no more than the term and one more
-
-one_weight : (tree : Tree) → sum_by (λ t. weight t + 1) (tree ∷ []) ≤ weight tree + 1
-one_weight tree = omega (arith, sum_by-cons (λ t. weight t + 1) tree [])
-
-joined_if : (test : Bool) (tree left right : Tree) → weight left + weight right + 2 ≤ weight tree
-    → sum_by (λ t. weight t + 1) (joined left) ≤ weight left + 1 → sum_by (λ t. weight t + 1) (joined right) ≤ weight right + 1
-    → sum_by (λ t. weight t + 1) (if test then joined left ++ joined right else tree ∷ []) ≤ weight tree + 1
-joined_if true tree left right small first second = omega (arith, small, first, second, sum_by-append (λ t. weight t + 1) (joined left) (joined right))
-joined_if false tree left right small first second = one_weight tree
-
-pub joined_weight : (tree : Tree) → sum_by (λ t. weight t + 1) (joined tree) ≤ weight tree + 1
-joined_weight (compound name (more left (more right none)) form span) =
-    joined_if (bytes_eq name (codes ",")) (compound name (more left (more right none)) form span) left right (omega arith) (joined_weight left) (joined_weight right)
-joined_weight (paren inner span) = omega (arith, joined_weight inner)
-joined_weight tree = one_weight tree
-
-weighs_all : (trees : List Tree) → length trees ≤ sum_by (λ t. weight t + 1) trees
-weighs_all [] = omega arith
-weighs_all (tree ∷ trees) = omega (arith, weighs_all trees, sum_by-cons (λ t. weight t + 1) tree trees)
-
-pub joined_count : (tree : Tree) → length (joined tree) ≤ weight tree + 1
-joined_count tree = omega (arith, weighs_all (joined tree), joined_weight tree)

@@ -47,7 +47,7 @@ pub record IsUnquoted (text : List ℕ) (q start at : ℕ) (name : List ℕ) : T
   pub are : AreParts text q (start + 1) parts at
   pub is : name ≡ flat_map (part_bytes q) parts
 
-parts_append : (text : List ℕ) (q a : ℕ) (ps : List Part) (b : ℕ) (rs : List Part) (c : ℕ) → AreParts text q a ps b → AreParts text q b rs c → AreParts text q a (ps ++ rs) c
+pub parts_append : (text : List ℕ) (q a : ℕ) (ps : List Part) (b : ℕ) (rs : List Part) (c : ℕ) → AreParts text q a ps b → AreParts text q b rs c → AreParts text q a (ps ++ rs) c
 parts_append text q a [] b rs c is more = subst (λ n. AreParts text q n rs c) (sym is) more
 parts_append text q a (p ∷ ps) b rs c (m, here, rest) more = (m, here, parts_append text q m ps b rs c rest more)
 

@@ -151,6 +151,7 @@ fn number_value(text: &str, start: usize, end: usize) -> Option<u32>
 
 /// The value of an Integer token of the text (ISO/IEC 13211-1, 6.4.4). None where it is over
 /// 4,294,967,295, and for a token of another kind.
+#[inline(always)]
 pub fn integer_value(text: &str, token: Token) -> Option<u32>
     requires spelled { IsSpelled text.now token.kind token.start token.end }
     ensures value { IsIntegerValue text.now token result }
