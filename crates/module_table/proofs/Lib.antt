@@ -6,6 +6,7 @@ pub mod RunLemmas
 pub mod Items
 pub mod SortedRuns
 pub mod PredicateOrder
+pub mod FreeNames
 pub mod HeadLemmas
 pub mod Parts
 pub mod TakesLemmas

@@ -1,6 +1,7 @@
 //! Heads of clauses.
 
-ghost use Rattle.std.specs.Prelude.{◌≡◌, IfOk, IfErr, Ok};
+ghost use Rattle.std.specs.Prelude.{◌≡◌, IfOk, IfErr, Ok, false};
+ghost use Rattle.std.specs.Bool.{OnTrue};
 ghost use Rattle.prolog_names.specs.Names.{name_at};
 ghost use Rattle.prolog_terms.specs.Terms.{tree_of, IsOf};
 ghost use Rattle.module_table.specs.Said.{IsWhy};
@@ -9,6 +10,7 @@ ghost use Rattle.module_table.specs.Heads.{is_among, control_names, headless_nam
 use crate::said::{FactFault, refusal};
 use crate::terms::is_one_of;
 use clause_text::Cause;
+use prolog_names::{Names, OPENING_COUNT, opening_law};
 use prolog_terms::{ConstKind, Term, TermKind, atom_number, inside, number_and_arity, sides};
 
 fn is_control(name: &str, arity: usize) -> bool
@@ -32,12 +34,28 @@ fn is_headless(name: &str, arity: usize) -> bool
     }
 }
 
+/// Whether the numbers alone tell that a head of this name may be defined: names that no head with
+/// arguments has are among the opening ones.
+fn is_surely_free(names: &Names, name: u32, arity: usize) -> bool
+    ensures { OnTrue result ((is_among (control_names arity) (name_at names.now name) ≡ false)
+        × (is_among (headless_names arity) (name_at names.now name) ≡ false)) }
+{
+    opening_law(names);
+    if arity == 0 {
+        return false;
+    }
+    name >= OPENING_COUNT
+}
+
 /// The number of the name and the number of arguments of what a head of this name defines.
 fn named_head(term: &Term, name: u32, arity: usize) -> Result<(u32, usize), FactFault>
     ensures ok { IfOk result (λ named. named_head (tree_of term.now) (name_at term.now.names.now name) arity
         ≡ Ok (record { name = name_at term.now.names.now named.0; arity = named.1 })) }
     ensures refused { IfErr result (λ fault. IsWhy (named_head (tree_of term.now) (name_at term.now.names.now name) arity) fault) }
 {
+    if is_surely_free(term.names, name, arity) {
+        return Ok((name, arity));
+    }
     let text = term.names.text(name);
     if is_control(text, arity) {
         return Err(refusal(Cause::ControlHead, term));
