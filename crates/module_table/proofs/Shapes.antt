@@ -4,12 +4,10 @@ use Rattle.prolog_terms.specs.declared.term.Span.{Span}
 use Rattle.prolog_terms.specs.declared.term.Form.{Form}
 use Rattle.prolog_terms.specs.Tree.{Tree, Trees, compound, none, more}
 use Rattle.prolog_terms.specs.Views.{only_of, pair_of}
+use Rattle.prolog_terms.proofs.ViewLemmas.{some_once}
 use Rattle.module_table.specs.Loading.{is_functional, system_at}
 
 -- one argument, two or three
-
-some_once : {A : Type 0} {x y : A} → Some x ≡ Some y → x ≡ y
-some_once is = cc
 
 pub only_seen : (trees : Trees) (a : Tree) → only_of trees ≡ Some a → trees ≡ more a none
 only_seen none a is = let both : None ≡ Some a = is in absurd (cc)
