@@ -13,6 +13,7 @@ use Rattle.list_laws.proofs.OneOrder.{nothing_in, first_or_rest, in_rest, in_fir
 use Rattle.list_laws.proofs.Members.{kept_in, kept_there}
 use Rattle.prolog_tokens.specs.Places.{IsPlace}
 use Rattle.prolog_tokens.proofs.PlaceSteps.{place_once}
+use Rattle.prolog_terms.proofs.ViewLemmas.{some_once}
 use Rattle.clause_text.specs.declared.cause.Cause.TheVariants.{NoRoot}
 use Rattle.module_table.specs.FileText.{HasFault}
 use Rattle.module_table.specs.Said.{Refusal}
@@ -74,9 +75,6 @@ faults_rise (file ∷ files) (fault ∷ faults) zip up = (
 )
 
 -- what holds of a file with a load fault, and of its fault
-
-some_once : {X : Type 0} {x y : X} → Some x ≡ Some y → x ≡ y
-some_once is = cc
 
 module _ (files : Files) (roots : List (List ℕ)) (set : BTreeSet (List ℕ)) (in_set : AreRoots roots set) where
   -- the fault of an asked file is a load fault

@@ -15,6 +15,7 @@ use Rattle.list_laws.proofs.Members.{map_from, all_by}
 use Rattle.file_library.specs.declared.limits.TheConstants.{MOST_FILES, MOST_TEXT}
 use Rattle.prolog_tokens.specs.declared.limits.TheConstants.{MOST_BYTES}
 use Rattle.list_laws.proofs.OneOrder.{nothing_in, first_or_rest, in_rest, in_first, before_rest, rest_in_order, holds_of}
+pub use Rattle.prolog_terms.proofs.ViewLemmas.{some_once}
 use Rattle.module_table.specs.Facts.{Facts, see_facts}
 use Rattle.module_table.specs.FileText.{HasFacts}
 use Rattle.file_library.specs.Asked.{AreInOrder}
@@ -30,9 +31,6 @@ use Rattle.file_library.proofs.LoadsFound.{answer_in, named_file}
 use Rattle.file_library.proofs.NextWaveLemmas.{has_no_key}
 
 -- what is given of the items of a list
-
-pub some_once : {X : Type 0} {x y : X} → Some x ≡ Some y → x ≡ y
-some_once is = cc
 
 each_later : {X : Type 0} (P : X → Type 0) (x : X) (xs : List X) → ((y : X) → Contains (x ∷ xs) y → P y) → (y : X) → Contains xs y → P y
 each_later {X} P x xs each y has = each y (in_rest x y xs has)
@@ -88,7 +86,7 @@ given_rise {Y} h key named (file ∷ files) rising = at (given_rise h key named 
 
 -- no file has a fault where there is none
 
-none_paired : {X Y : Type 0} (R : X → Y → Type 0) (xs : List X) (ys : List Y) → ys ≡ [] → AllZip R xs ys → xs ≡ []
+pub none_paired : {X Y : Type 0} (R : X → Y → Type 0) (xs : List X) (ys : List Y) → ys ≡ [] → AllZip R xs ys → xs ≡ []
 none_paired {X} {Y} R [] ys none zip = refl
 none_paired {X} {Y} R (x ∷ xs) ys none zip = let never : ⊥ = subst (λ l. AllZip R (x ∷ xs) l) none zip in absurd never
 

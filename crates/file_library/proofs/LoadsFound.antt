@@ -3,6 +3,7 @@ use Rattle.std.proofs.Common.{◌≡◌, ℕ, List, [], ◌∷◌, Some, None, C
 use Rattle.std.proofs.lemmas.List.Concat.{flat_map-cons}
 use Rattle.std.proofs.lemmas.List.Elements.{Contains-append_left, Contains-append_right, Contains-append_cases}
 use Rattle.list_laws.proofs.OneOrder.{nothing_in, first_or_rest, in_rest, in_first}
+use Rattle.prolog_terms.proofs.ViewLemmas.{some_once}
 use Rattle.module_table.specs.Facts.{Facts}
 use Rattle.module_table.specs.FileText.{HasFacts}
 use Rattle.module_table.specs.Said.{Loads}
@@ -53,9 +54,6 @@ pub file_loads : (files : Files) (own : List ℕ) (found : Found) (name : List �
 file_loads files own absent name there told has = absurd (nothing_in name has)
 file_loads files own (sound text facts) name there told has = record { text = text; there = there; facts = facts; has = told; loads = has }
 file_loads files own (faulty text fault) name there told has = absurd (nothing_in name has)
-
-some_once : {X : Type 0} {x y : X} → Some x ≡ Some y → x ≡ y
-some_once is = cc
 
 pub loads_file : (files : Files) (own : List ℕ) (found : Found) (name : List ℕ) → files own ≡ text_of found → IsTold own found → FileLoads files own name → Contains (loads_of found) name
 loads_file files own absent name there told loads = let both : Some loads.text ≡ None = sym loads.there ∙ there in absurd (cc)
