@@ -110,6 +110,12 @@ texts_found {S = S} items f xs each (Ok v) made is =
     ap joined is.2 ∙ texts_joined f xs is.0 (subst (AllZip R xs) is.1 made)
 texts_found items f xs each (Err e) made is = tt
 
+-- what is made of parts of a list, one behind the other
+pub parts_lines : {X : Type 0} (f : X → List ℕ) (parts : List (List X)) → flat_map (flat_map f) parts ≡ flat_map f (flat_map (λ part. part) parts)
+parts_lines f [] = refl
+parts_lines f (part ∷ parts) =
+    ap (λ l. flat_map f part ++ l) (parts_lines f parts) ∙ sym (flat_map-append f part (flat_map (λ one. one) parts))
+
 -- one text behind another
 pub text_behind : (texts more : List (String Global)) → joined (texts ++ more) ≡ joined texts ++ joined more
 text_behind texts more = flat_map-append (λ (text : String Global). string_bytes text) texts more
@@ -117,12 +123,13 @@ text_behind texts more = flat_map-append (λ (text : String Global). string_byte
 pub one_text : (text : String Global) → joined (text ∷ []) ≡ string_bytes text
 one_text text = append-nil (string_bytes text)
 
--- a first text, and others behind it
-pub lines_joined : (first : String Global) (start pushed clauses calls more all : List (String Global)) → start ≡ [] → pushed ≡ start ++ first ∷ [] → more ≡ pushed ++ clauses
-    → all ≡ more ++ calls → joined all ≡ string_bytes first ++ (joined clauses ++ joined calls)
-lines_joined first start pushed clauses calls more all none push append also =
-    ap joined (also ∙ ap (λ l. l ++ calls) (append ∙ ap (λ l. l ++ clauses) (push ∙ ap (λ l. l ++ first ∷ []) none)))
-    ∙ (text_behind (first ∷ clauses) calls ∙ append_assoc (string_bytes first) (joined clauses) (joined calls))
+-- texts, and others behind them twice
+pub lines_joined : (first clauses calls more all : List (String Global)) → more ≡ first ++ clauses → all ≡ more ++ calls
+    → joined all ≡ joined first ++ (joined clauses ++ joined calls)
+lines_joined first clauses calls more all append also =
+    ap joined (also ∙ ap (λ l. l ++ calls) append)
+    ∙ (text_behind (first ++ clauses) calls
+    ∙ (ap (λ l. l ++ joined calls) (text_behind first clauses) ∙ append_assoc (joined first) (joined clauses) (joined calls)))
 
 -- a table has a place for each row
 

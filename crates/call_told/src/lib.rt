@@ -12,6 +12,7 @@
 //! It reads no file.
 #![tactic(auto)]
 
+mod predicate_texts;
 mod stretches;
 mod text;
 mod told;

@@ -1,68 +1,31 @@
 //! What is told, as bytes.
 
-ghost use Rattle.std.specs.Prelude.{◌≡◌, ◌<◌, ◌++◌, [], All, IfOk, OnOk, length, slice_index, slice_index_or};
+ghost use Rattle.std.specs.Prelude.{◌≡◌, ◌<◌, ◌++◌, [], All, IfOk, OnOk, length, slice_index_or};
 ghost use Rattle.std.specs.List.{flat_map};
 ghost use Rattle.std.specs.String.{string_bytes};
 ghost use Rattle.call_edges.specs.Opened.{see_call_lists};
 ghost use Rattle.call_edges.specs.Successors.{successor_lists};
 ghost use Rattle.call_table.specs.Table.{IsTable};
 ghost use Rattle.call_writer.specs.Dot.{cluster, edge_line};
-ghost use Rattle.call_writer.specs.Lines.{predicate_line_of};
-ghost use Rattle.call_told.specs.Told.{IsTold, TellsForm, TellsFrom, dot_graph, joined, predicate_lines, ungrouped_line};
+ghost use Rattle.call_told.specs.Told.{IsTold, TellsForm, TellsFrom, dot_graph, joined, ungrouped_line};
 ghost use Rattle.call_told.specs.Wanted.{see_wanted};
 ghost use Rattle.call_told.specs.declared.words.Form.TheVariants.{Lines, Undefined};
 ghost use Rattle.graph_law.specs.Classes.{group_at};
 ghost use Rattle.graph_law.specs.Graph.{lists_of};
 ghost use Rattle.import_rules.specs.Program.{see_program};
 
+use crate::predicate_texts::predicate_texts;
 use crate::stretches::{call_texts, clause_texts};
 use crate::told::{Told, make_told};
 use crate::words::{Form, Wanted};
 use call_edges::CallLists;
 use call_table::{CallTable, call_table};
-use call_writer::{push_cluster, push_edges, push_node, push_predicate_line};
+use call_writer::{push_cluster, push_edges, push_node};
 use graph_law::Opener;
 use import_rules::Program;
 use std::alloc::{AllocError, Global};
 use std::mem::forget;
 use std::thread::Threads;
-
-/// Adds the line of a predicate.
-fn push_told(text: &mut String, told: &Told<'_>, node: u32) -> Result<(), AllocError>
-    requires told { IsTold told.now }
-    requires below { node < length (see_program told.now.program.now).predicates }
-    ensures { OnOk result (string_bytes text.new ≡ string_bytes text.old
-        ++ predicate_line_of (see_program told.now.program.now).predicates (lists_of told.now.groups.items) told.now.levels.items node
-        (slice_index told.now.places.items node)) }
-{
-    let place = told.places[node as usize];
-    push_predicate_line(text, told.program, &told.groups, &told.levels, node, place)
-}
-
-/// Adds the lines of the predicates.
-fn push_predicates(text: &mut String, told: &Told<'_>) -> Result<(), AllocError>
-    requires { IsTold told.now }
-    ensures { OnOk result (string_bytes text.new ≡ string_bytes text.old
-        ++ predicate_lines (see_program told.now.program.now) (lists_of told.now.groups.items) told.now.levels.items told.now.places.items
-        told.now.nodes.items) }
-{
-    for node in &told.nodes {
-        push_told(text, told, *node)?;
-    }
-    Ok(())
-}
-
-/// The lines of the predicates.
-fn predicate_text(alloc: Global, told: &Told<'_>) -> Result<String, AllocError>
-    requires { IsTold told.now }
-    ensures { IfOk result (λ text. string_bytes text
-        ≡ predicate_lines (see_program told.now.program.now) (lists_of told.now.groups.items) told.now.levels.items told.now.places.items
-        told.now.nodes.items) }
-{
-    let mut text = String::new(alloc);
-    push_predicates(&mut text, told)?;
-    Ok(text)
-}
 
 /// The clauses and calls of what is told.
 fn table_of<'a, R: Threads + Sync>(
@@ -87,8 +50,7 @@ fn lines_texts<R: Threads + Sync>(
         told.now.places.items told.now.nodes.items (joined texts.items)) }
 {
     let table = table_of(rt, alloc, told)?;
-    let mut texts = Vec::new(alloc);
-    texts.push(predicate_text(alloc, told)?)?;
+    let mut texts = predicate_texts(rt, alloc, told, &told.nodes)?;
     let mut clauses = clause_texts(rt, alloc, told.program, &table)?;
     let mut calls = call_texts(rt, alloc, told.program, &table, false)?;
     texts.append(&mut clauses)?;

@@ -1,4 +1,4 @@
-use Rattle.std.proofs.Common.{◌++◌, ◌∙◌}
+use Rattle.std.proofs.Common.{◌++◌, ap, ◌∙◌}
 use Rattle.graph_law.specs.Graph.{lists_of}
 use Rattle.import_rules.specs.Program.{see_program}
 use Rattle.call_told.specs.Told.{predicate_lines}
@@ -20,11 +20,13 @@ returns g c =
     let told = c.args.told.now in
     let table = c.in_ok-table.table in
     let seen = see_program told.program.now in
-    let predicates = predicate_lines seen (lists_of told.groups.items) told.levels.items told.places.items told.nodes.items in
+    let lines = predicate_lines seen (lists_of told.groups.items) told.levels.items told.places.items in
+    let predicates = c.in_ok-texts.ensures ∙ ap lines c.deref.ensures.value in
     record {
       table = table;
       is_table = c.in_ok-table.ensures;
-      is = lines_joined c.in_ok-predicate_text.field-0 c.new-texts.result.items c.push.new.self.items c.in_ok-clauses.clauses.items c.in_ok-calls.calls.items
-          c.append.new.self.items c.append-2.new.self.items c.new-texts.ensures.items c.in_ok-push.ensures.items c.in_ok-append.ensures.items c.in_ok-append-2.ensures.items
-          ∙ (λ i. c.in_ok-predicate_text.ensures i ++ (c.in_ok-clauses.ensures i ++ c.in_ok-calls.ensures i));
+      is =
+          lines_joined c.in_ok-texts.texts.items c.in_ok-clauses.clauses.items c.in_ok-calls.calls.items c.append.new.self.items c.append-2.new.self.items
+          c.in_ok-append.ensures.items c.in_ok-append-2.ensures.items
+          ∙ (λ i. predicates i ++ (c.in_ok-clauses.ensures i ++ c.in_ok-calls.ensures i));
     }
