@@ -6,6 +6,7 @@ mod ended;
 mod gate;
 mod pausing;
 mod stopped;
+mod trial;
 mod worker;
 mod workers;
 

@@ -8,6 +8,7 @@ ghost use Rattle.search_pool.specs.Worker.{EndsWell};
 
 use crate::ended::Ended;
 use crate::gate::{Gate, Gated};
+use crate::trial::search_alone;
 use crate::worker::work;
 use graph_law::Opener;
 use node_claims::{Claims, Pass};
@@ -17,7 +18,11 @@ use std::sync::Wait;
 use std::thread;
 use std::thread::Threads;
 
-/// The groups of all that the roots reach, in a legal order, found by `jobs` workers. Where no thread
+// From how many nodes on one search is tried first, whose openings may cost next to nothing.
+const MANY_NODES: u32 = 32_768;
+
+/// The groups of all that the roots reach, in a legal order, found by `jobs` workers; or by one search,
+/// where the nodes are many and opening them costs little, since workers gain nothing then. Where no thread
 /// can be made, the workers run one after another. The promise holds if the call returns.
 pub fn drive_workers<R: Threads + Wait + Sync, O: Opener, G: Gate>(
     rt: &R,
@@ -38,6 +43,11 @@ pub fn drive_workers<R: Threads + Wait + Sync, O: Opener, G: Gate>(
     let jobs = useful(jobs, roots.len());
     if jobs <= 1 {
         return groups_plain(alloc, &Gated { opener, gate }, roots);
+    }
+    if opener.count() >= MANY_NODES {
+        if let Some(groups) = search_alone(rt, alloc, &Gated { opener, gate }, roots)? {
+            return Ok(groups);
+        }
     }
     let (claims, pass) = Claims::make(alloc, opener, roots)?;
     let passes = split_for(alloc, &claims, pass, jobs)?;
