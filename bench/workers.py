@@ -4,18 +4,20 @@
 Needs `rt`, and `strace` and `valgrind` for the counts. Prints three tables.
 
 The first has times, each the best of five runs, in milliseconds: of one plain search, and of 1, 2, 4 and 8
-workers. In the rows of cost 0 a node is opened by a copy of its list, so the columns are what claims, counts
-and the turn cost. In the other rows opening a node takes about two or twenty microseconds of arithmetic, as a
-node does whose calls must first be found, so the columns are what more workers gain; the plain search opens
-nodes at the same cost. `one`, `two` and `four` are the times of 1, 2 and 4 workers over that of the plain search.
+workers. In the rows of cost 0 a node is opened by a copy of its list: one search tries first, and goes on alone,
+so the columns are what it costs to look at it. In the other rows opening a node takes about two or twenty
+microseconds of arithmetic, as a node does whose calls must first be found, so that search gives way and the
+columns are what more workers gain; the plain search opens nodes at the same cost. `one`, `two` and `four` are the
+times of 1, 2 and 4 workers over that of the plain search.
 
-The second has counts, each of one run under `strace` on a tenth of the nodes, since `strace` slows what it counts:
+The second has counts, each of one run under `strace` on a fortieth of the nodes, since `strace` slows what it counts
+and over so few nodes workers search at once, without a try:
 for each number of workers how often a thread slept (until the turn was given back, or because it found nothing to
 do), how often one was woken, how often one let others go on, and all system calls. A turn that is given back while
 nobody sleeps makes none, so where nobody waits the counts stay the same however many groups there are.
 
 The third has how often the turn was taken, and the millions of instructions of all threads with the making of the
-graph, each of one run under `valgrind`, which lets one thread run at a time, on a twentieth of the nodes.
+graph, each of one run under `valgrind`, which lets one thread run at a time, on a fortieth of the nodes too.
 
 It stops where two numbers of groups differ. Once the program is built it takes five minutes or so, and at most ten: a
 run that is counted is cut off after twenty seconds, and its row then has dashes.
@@ -43,9 +45,8 @@ GRAPHS = [
     ("random", 20_000, TWENTY_MICROS),
 ]
 JOBS = [1, 2, 4, 8]
-# Under `strace` and under `valgrind` a graph has so many times fewer nodes.
-FEWER_TRACED = 10
-FEWER = 20
+# Under `strace` and under `valgrind` a graph has so many times fewer nodes, which is too few for one search to be tried first.
+FEWER = 40
 MOST_SECONDS = 20.0
 
 
@@ -111,7 +112,7 @@ def show_counts(program):
     print(f"{'graph':<8}{'nodes':>10}{'cost':>7}{'at once':>9}{'slept':>10}{'woken':>10}{'yielded':>10}{'system calls':>14}")
     for shape, count, cost in GRAPHS:
         for jobs in JOBS:
-            fewer = str(count // FEWER_TRACED)
+            fewer = str(count // FEWER)
             slept, woken, yielded, calls = counted(program, "workers", shape, fewer, str(jobs), str(cost))
             print(f"{shape:<8}{fewer:>10}{cost:>7}{jobs:>9}{slept:>10}{woken:>10}{yielded:>10}{calls:>14}", flush=True)
 

@@ -1,10 +1,10 @@
 -- What a worker keeps between two turns, which roots it has claimed, and what it owes for a group that it closes.
-use Rattle.std.specs.Prelude.{◌≡◌, ℕ, ◌-◌, ◌+◌, ◌<◌, ◌≤◌, Bool, false, List, [], ◌++◌, length, slice_index_or, take, None, All, Contains, ⊤}
+use Rattle.std.specs.Prelude.{◌≡◌, ℕ, ◌-◌, ◌+◌, ◌<◌, ◌≤◌, Bool, true, false, List, [], ◌++◌, length, slice_index, slice_index_or, take, None, Some, All, Contains, ⊤}
 use Rattle.list_laws.specs.Counts.{times, flat}
 use Rattle.search_stack.specs.GoodSearch.{IsGood}
 use Rattle.search_stack.specs.Search.{SearchValue}
 use Rattle.group_release.specs.Book.{BookValue}
-use Rattle.node_claims.specs.Claims.{ClaimsValue, TurnValue}
+use Rattle.node_claims.specs.Claims.{ClaimsValue, PassValue, TurnValue}
 use Rattle.node_claims.specs.Views.{Noted}
 use Rattle.search_pool.specs.Worker.{EndsWell, IsWorking}
 use Rattle.search_pool.specs.declared.worker.stretch.Stretch.{Stretch}
@@ -29,15 +29,30 @@ abbrev pub GoesWell : ClaimsValue → Went → Type 0
 GoesWell claims (On worker) = IsAtWork claims worker false
 GoesWell claims (ended_as ended) = EndsWell claims ended
 
--- it has claimed the node, or has ended
-abbrev pub HasClaimed : ℕ → Went → Type 0
-HasClaimed node (On worker) = (found : ℕ) × Noted node found worker.pass.view.looks
-HasClaimed node (ended_as ended) = ⊤
+-- the worker has won this root, which isn't pushed yet
+pub record HasWon (claims : ClaimsValue) (worker : Worker) (root : ℕ) : Type 0 where
+  pub working : IsWorking claims worker.pass worker.search (Some root) true
+  pub handed : AreRootsOf claims worker.stretch.roots.items
+  pub within : worker.seen_roots ≤ length claims.roots
+  pub seen : All (λ root. 0 < times root worker.pass.view.seen) (take worker.seen_roots claims.roots)
+  pub below : root < length claims.lists
+  pub is_root : Contains claims.roots root
 
--- it goes on with this stretch of roots, or has ended
-abbrev pub GoesOnIn : Stretch → Went → Type 0
-GoesOnIn stretch (On worker) = worker.stretch ≡ stretch
-GoesOnIn stretch (ended_as ended) = ⊤
+-- the roots of a stretch are the same, and the pass has claimed each of them that comes before the next one and didn't before
+pub record ClaimsOn (before after : Stretch) (pass : PassValue) : Type 0 where
+  pub roots : after.roots ≡ before.roots
+  pub onward : before.next ≤ after.next
+  pub claimed : (k : ℕ) → before.next ≤ k → k < after.next → (found : ℕ) × Noted (slice_index before.roots.items k) found pass.view.looks
+
+-- it has claimed one root more of the stretch, or several, in their order, or has ended
+abbrev pub HasClaimedOn : Stretch → Went → Type 0
+HasClaimedOn stretch (On worker) = ClaimsOn stretch worker.stretch worker.pass × (stretch.next < worker.stretch.next)
+HasClaimedOn stretch (ended_as ended) = ⊤
+
+-- it goes on with this pass and these roots, or has ended
+abbrev pub StaysWith : PassValue → Stretch → Went → Type 0
+StaysWith pass stretch (On worker) = (worker.pass ≡ pass) × (worker.stretch ≡ stretch)
+StaysWith pass stretch (ended_as ended) = ⊤
 
 -- the turn is of these claims
 abbrev pub IsTurnOf : ClaimsValue → TurnValue → Type 0

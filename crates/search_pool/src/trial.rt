@@ -57,7 +57,7 @@ impl Trial {
             }
         }
         if opening >= MOST_OPENING {
-            self.state.store(GIVES_WAY, Ordering::SeqCst);
+            self.comes_to(GIVES_WAY);
         }
     }
 
@@ -67,8 +67,15 @@ impl Trial {
 
     // The search is at its end, so nobody need look at it any longer.
     fn end(&self) {
-        self.state.store(ENDED, Ordering::SeqCst);
+        self.comes_to(ENDED);
         self.state.wake_one();
+    }
+
+    // It comes to this, where it has come to nothing else before.
+    fn comes_to(&self, state: u64) {
+        let _ = self
+            .state
+            .compare_exchange(GOES_ON, state, Ordering::SeqCst, Ordering::SeqCst);
     }
 }
 

@@ -1,8 +1,7 @@
-ghost use Rattle.std.specs.Prelude.{◌≡◌, ◌<◌, ◌+◌, slice_index, length, false};
-ghost use Rattle.graph_law.specs.Graph.{Calls};
-ghost use Rattle.graph_law.specs.Reach.{IsReached};
+ghost use Rattle.std.specs.Prelude.{◌≡◌, ◌<◌, ◌+◌, ℕ, slice_index, length, IfSome, IfNone, false};
+ghost use Rattle.node_claims.specs.Views.{Noted};
 ghost use Rattle.search_stack.specs.Stack.{size};
-ghost use Rattle.search_pool.specs.Working.{GoesOnIn, GoesWell, HasClaimed, IsAtWork};
+ghost use Rattle.search_pool.specs.Working.{GoesWell, HasClaimedOn, HasWon, IsAtWork, StaysWith};
 
 use super::stopping::give_up;
 use super::went::{Went, Worker};
@@ -13,8 +12,8 @@ use node_claims::{Claimed, Claims};
 use std::alloc::Global;
 use std::sync::Wait;
 
-/// Claims the next root that was handed out to the worker, without the turn, and begins a search at it
-/// where it is won.
+/// Claims the next of the roots that were handed out to the worker, without the turn, until one is won,
+/// and begins a search at that. Where others have all of these roots it is idle still.
 pub(crate) fn open_next<O: Opener, G: Gate>(
     rt: &impl Wait,
     alloc: Global,
@@ -28,16 +27,38 @@ pub(crate) fn open_next<O: Opener, G: Gate>(
     requires idle { size worker.search.stack ≡ 0 }
     requires some { worker.stretch.next < length worker.stretch.roots.items }
     ensures well { GoesWell claims.now result }
-    ensures claimed { HasClaimed (slice_index worker.stretch.roots.items worker.stretch.next) result }
-    ensures next { GoesOnIn (record worker.stretch { next = worker.stretch.next + 1 }) result }
+    ensures claimed { HasClaimedOn worker.stretch result }
+{
+    'roots: while worker.stretch.next < worker.stretch.roots.len() {
+        if let Some(root) = claim_next(claims, &mut worker) {
+            return open_root(rt, alloc, claims, worker, opener, gate, root);
+        }
+    }
+    Went::On(worker)
+}
+
+// Claims the next root that was handed out to the worker, and answers it where it is won. Where another
+// has it or it is finished, there is nothing to do.
+fn claim_next(claims: &Claims, worker: &mut Worker) -> Option<u32>
+    requires at_work { IsAtWork claims.now worker.old false }
+    requires some { worker.old.stretch.next < length worker.old.stretch.roots.items }
+    ensures search { worker.new.search ≡ worker.old.search }
+    ensures next { worker.new.stretch ≡ record worker.old.stretch { next = worker.old.stretch.next + 1 } }
+    ensures noted { (found : ℕ) × Noted (slice_index worker.old.stretch.roots.items worker.old.stretch.next) found worker.new.pass.view.looks }
+    ensures noted_before { (x n : ℕ) → Noted x n worker.old.pass.view.looks → Noted x n worker.new.pass.view.looks }
+    ensures others { IfNone result (IsAtWork claims.now worker.new false) }
+    ensures won { IfSome result (HasWon claims.now worker.new) }
 {
     let root = worker.stretch.roots[worker.stretch.next];
     worker.stretch.next += 1;
-    open_root(rt, alloc, claims, worker, opener, gate, root)
+    match claims.claim(&mut worker.pass, root) {
+        Claimed::Won => Some(root),
+        Claimed::Held => None,
+        Claimed::Done => None,
+    }
 }
 
-// Claims a root without the turn, and begins a search at it where it is won. Where another has it or
-// it is finished, there is nothing to do.
+// Begins a search at a root that the worker has won.
 fn open_root<O: Opener, G: Gate>(
     rt: &impl Wait,
     alloc: Global,
@@ -48,19 +69,11 @@ fn open_root<O: Opener, G: Gate>(
     root: u32,
 ) -> Went
     requires made { claims.now.lists ≡ O.lists opener.now }
-    requires at_work { IsAtWork claims.now worker false }
+    requires won { HasWon claims.now worker root }
     requires idle { size worker.search.stack ≡ 0 }
-    requires node { root < length claims.now.lists }
-    requires reached { IsReached (Calls claims.now.lists) claims.now.roots root }
     ensures well { GoesWell claims.now result }
-    ensures claimed { HasClaimed root result }
-    ensures stretch { GoesOnIn worker.stretch result }
+    ensures stays { StaysWith worker.pass worker.stretch result }
 {
-    match claims.claim(&mut worker.pass, root) {
-        Claimed::Won => {}
-        Claimed::Held => return Went::On(worker),
-        Claimed::Done => return Went::On(worker),
-    }
     if worker.search.reserve(1).is_err() {
         return Went::Ended(give_up(rt, claims, worker.pass, worker.search, Some(root)));
     }
