@@ -15,14 +15,16 @@ use Rattle.group_words.specs.declared.options.WordFault.{WordFault}
 use Rattle.group_words.specs.declared.options.WordFault.TheVariants as of_word
 use Rattle.group_tool.specs.Run.{Asking, EndsAsking, IsLeft, Taking}
 use Rattle.file_library.proofs.ToldEnd.{told_end}
+use Rattle.group_tool.specs.Roots.{IsRootStop}
+use Rattle.group_tool.specs.declared.roots.RootStop.{RootStop}
+use Rattle.group_tool.specs.declared.roots.RootStop.TheVariants as of_root
 use Rattle.calls_tool.specs.declared.stop.Stop.{Stop}
 use Rattle.calls_tool.specs.declared.stop.Stop.TheVariants as of_stop
-use Rattle.calls_tool.specs.Roots.{IsRootStop}
 use Rattle.call_told.specs.Wanted.{Asked, AreAsked, IsNothingAsked}
 use Rattle.calls_tool.specs.Answer.{LoadEndComesTo, IsLoadedEnd, IsLawfulAnswer}
 use Rattle.calls_tool.specs.End.{End, usage, faults, missing, unread, limit, output, no_memory}
 use Rattle.calls_tool.specs.Run.{IsJust, IsReadEnd, IsLawfulEnd, EndIs, SaidEnd, IsRun}
-use Rattle.calls_tool.specs.Stop.{of_words, of_loading, of_checking, end_of_stop, end_of}
+use Rattle.calls_tool.specs.Stop.{of_words, of_loading, of_checking, of_roots, end_of_stop, end_of}
 
 -- over the library's map this is the answer
 pub told_answer : (wanted : Asked → Type 0) (library : Asking) (end : End) (is : IsLawfulEnd wanted library end) (files : Files) → library.0.told ≡ Some files → IsDecided is.load
@@ -126,15 +128,11 @@ check_end asked found seen (of_check.Faults list) program is = inr (inr (record 
 check_end asked found seen of_check.NoMemory program is = inl refl
 
 -- where a root is missing
-pub root_end : (asked : Asked) (found : LoadedFiles) (seen : Seen) (stop : Stop) → IsProgram found seen → AreGoalFaults seen [] → IsRootStop asked.settings.roots seen stop
-    → IsLoadedEnd asked found (end_of_stop stop)
-root_end asked found seen of_stop.Usage program callable is = absurd is
-root_end asked found seen (of_stop.Faults list) program callable is = absurd is
-root_end asked found seen (of_stop.NoPredicate root) program callable is =
+pub root_end : (asked : Asked) (found : LoadedFiles) (seen : Seen) (stop : RootStop) → IsProgram found seen → AreGoalFaults seen [] → IsRootStop asked.settings.roots seen stop
+    → IsLoadedEnd asked found (end_of_stop (of_roots stop))
+root_end asked found seen (of_root.NoPredicate root) program callable is =
     inr (record { seen = seen; program = record { program = program; callable = callable }; lacks = is })
-root_end asked found seen (of_stop.ReadFault name) program callable is = absurd is
-root_end asked found seen (of_stop.Passed passed) program callable is = absurd is
-root_end asked found seen of_stop.NoMemory program callable is = inl refl
+root_end asked found seen of_root.NoMemory program callable is = inl refl
 
 -- what just this comes to is what words come to that ask for it
 

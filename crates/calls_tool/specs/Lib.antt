@@ -3,7 +3,6 @@ pub mod End
 pub mod Told
 pub mod Answer
 pub mod Carrying
-pub mod Roots
 pub mod Stop
 pub mod Run
 pub mod Statuses

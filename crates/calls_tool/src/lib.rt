@@ -15,7 +15,6 @@
 
 mod lines;
 mod loading;
-mod roots;
 mod run;
 mod say;
 mod stop;

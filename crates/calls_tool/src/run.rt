@@ -14,13 +14,12 @@ ghost use Rattle.import_rules.specs.Program.{see_program};
 
 use crate::lines::{fault_lines, limit_line, missing_line, unread_line};
 use crate::loading::load_files;
-use crate::roots::roots_by;
 use crate::say::{say, say_texts};
 use crate::stop::Stop;
 use call_edges::call_lists;
 use call_told::{Wanted, read_wanted, told_texts};
 use file_library::Library;
-use group_tool::Sink;
+use group_tool::{Sink, roots_by};
 use import_rules::Program;
 use prolog_tokens::Text;
 use std::alloc::{AllocError, Global};

@@ -1,5 +1,6 @@
 use call_edges::GoalStop;
 use file_library::{Fault, LoadStop};
+use group_tool::RootStop;
 use group_words::WordFault;
 use import_rules::{ImportStop, PredName};
 use prolog_tokens::Text;
@@ -101,6 +102,20 @@ impl From<GoalStop> for Stop {
         match stop {
             GoalStop::Faults(faults) => Stop::Faults(faults),
             GoalStop::NoMemory => Stop::NoMemory,
+        }
+    }
+}
+
+impl From<RootStop> for Stop {
+    ghost use Rattle.std.specs.Prelude.{◌≡◌};
+    ghost use Rattle.calls_tool.specs.Stop.{of_roots};
+
+    ghost from_gives = { λ stop found. found ≡ of_roots stop };
+
+    fn from(stop: RootStop) -> Stop {
+        match stop {
+            RootStop::NoPredicate(name) => Stop::NoPredicate(name),
+            RootStop::NoMemory => Stop::NoMemory,
         }
     }
 }

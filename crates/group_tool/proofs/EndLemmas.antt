@@ -18,6 +18,8 @@ use Rattle.group_words.specs.Settings.{Settings, AreLawful}
 use Rattle.group_words.specs.declared.options.WordFault.{WordFault}
 use Rattle.group_words.specs.declared.options.WordFault.TheVariants as of_word
 use Rattle.group_words.proofs.OneSettings.{one_settings}
+use Rattle.group_tool.specs.declared.roots.RootStop.{RootStop}
+use Rattle.group_tool.specs.declared.roots.RootStop.TheVariants as of_root
 use Rattle.group_tool.specs.declared.stop.Stop.{Stop}
 use Rattle.group_tool.specs.declared.stop.Stop.TheVariants as of_stop
 use Rattle.group_tool.specs.Wanted.{AreJust, AskForNone, HasNoOptions, one_file, made_name, files_read, names_read}
@@ -25,7 +27,7 @@ use Rattle.group_tool.specs.Roots.{IsRootStop, asked_names}
 use Rattle.group_tool.specs.Answer.{LoadEndComesTo, IsLoadedEnd, IsLawfulAnswer}
 use Rattle.group_tool.specs.End.{End, usage, faults, missing, unread, limit, report, no_memory}
 use Rattle.group_tool.specs.Run.{Asking, EndsAsking, IsReadEnd, IsDecidedEnd, IsLeft, EndsReading, IsLawfulEnd, IsAsked, EndIs, Taking, SaidEnd, IsRun}
-use Rattle.group_tool.specs.Stop.{of_words, of_loading, of_checking, end_of_stop, end_of}
+use Rattle.group_tool.specs.Stop.{of_words, of_loading, of_checking, of_roots, end_of_stop, end_of}
 use Rattle.file_library.proofs.ToldEnd.{told_end}
 
 -- over the library's map the reading ends so
@@ -280,15 +282,11 @@ check_end settings found seen (of_check.Faults list) program is = inr (inr (reco
 check_end settings found seen of_check.NoMemory program is = inl refl
 
 -- where a root is missing
-pub root_end : (settings : Settings) (found : LoadedFiles) (seen : Seen) (stop : Stop) → IsProgram found seen → AreGoalFaults seen [] → IsRootStop (asked_names settings.path settings.roots) seen stop
-    → IsLoadedEnd settings found (end_of_stop stop)
-root_end settings found seen of_stop.Usage program callable is = absurd is
-root_end settings found seen (of_stop.Faults list) program callable is = absurd is
-root_end settings found seen (of_stop.NoPredicate root) program callable is =
+pub root_end : (settings : Settings) (found : LoadedFiles) (seen : Seen) (stop : RootStop) → IsProgram found seen → AreGoalFaults seen [] → IsRootStop (asked_names settings.path settings.roots) seen stop
+    → IsLoadedEnd settings found (end_of_stop (of_roots stop))
+root_end settings found seen (of_root.NoPredicate root) program callable is =
     inr (record { seen = seen; program = record { program = program; callable = callable }; lacks = is })
-root_end settings found seen (of_stop.ReadFault name) program callable is = absurd is
-root_end settings found seen (of_stop.Passed passed) program callable is = absurd is
-root_end settings found seen of_stop.NoMemory program callable is = inl refl
+root_end settings found seen of_root.NoMemory program callable is = inl refl
 
 -- what is wanted in other words
 

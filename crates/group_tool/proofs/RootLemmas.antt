@@ -11,8 +11,8 @@ use Rattle.import_rules.specs.Names.{pred_cmp}
 use Rattle.import_rules.specs.Program.{Seen}
 use Rattle.import_rules.proofs.NumberLemmas.{number_at}
 use Rattle.call_edges.specs.Calls.{IsAmong}
-use Rattle.group_tool.specs.declared.stop.Stop.{Stop}
-use Rattle.group_tool.specs.declared.stop.Stop.TheVariants as of_stop
+use Rattle.group_tool.specs.declared.roots.RootStop.{RootStop}
+use Rattle.group_tool.specs.declared.roots.RootStop.TheVariants as of_stop
 use Rattle.group_tool.specs.Roots.{AreEnds, HasRoots, IsEndStop, IsFirstMissing, IsNamed, IsRootStop, LacksRoot, asked_names}
 
 abbrev pub AreRising : List PredName → Type 0
@@ -120,13 +120,9 @@ asked_lacks (Some both) (Some list) seen name lacks = record {
   missing = lacks.missing;
 }
 
-pub asked_stop : (path : Option (PredName × PredName)) (roots : Option (List PredName)) (seen : Seen) (stop : Stop) → IsRootStop roots seen stop
+pub asked_stop : (path : Option (PredName × PredName)) (roots : Option (List PredName)) (seen : Seen) (stop : RootStop) → IsRootStop roots seen stop
     → IsRootStop (asked_names path roots) seen stop
-asked_stop path roots seen of_stop.Usage is = is
-asked_stop path roots seen (of_stop.Faults list) is = is
 asked_stop path roots seen (of_stop.NoPredicate root) is = asked_lacks path roots seen root is
-asked_stop path roots seen (of_stop.ReadFault name) is = is
-asked_stop path roots seen (of_stop.Passed passed) is = is
 asked_stop path roots seen of_stop.NoMemory is = is
 
 -- the end that a path leaves is missing
@@ -165,29 +161,21 @@ asked_there both None seen has from to = two_there both seen.predicates from to
 asked_there both (Some list) seen has from to = All-append (Contains seen.predicates) list (both.0 ∷ both.1 ∷ []) has (two_there both seen.predicates from to)
 
 -- what a stop at either end is
-pub from_stop : (path : Option (PredName × PredName)) (both : PredName × PredName) (roots : Option (List PredName)) (seen : Seen) (stop : Stop) → path ≡ Some both → HasRoots roots seen
+pub from_stop : (path : Option (PredName × PredName)) (both : PredName × PredName) (roots : Option (List PredName)) (seen : Seen) (stop : RootStop) → path ≡ Some both → HasRoots roots seen
     → IsEndStop seen.predicates both.0 stop → IsRootStop (asked_names path roots) seen stop
 from_stop path both roots seen stop at has is = subst (λ p. IsRootStop (asked_names p roots) seen stop) (sym at) (go stop is)
   where
-    go : (stop : Stop) → IsEndStop seen.predicates both.0 stop → IsRootStop (asked_names (Some both) roots) seen stop
-    go of_stop.Usage is = is
-    go (of_stop.Faults list) is = is
+    go : (stop : RootStop) → IsEndStop seen.predicates both.0 stop → IsRootStop (asked_names (Some both) roots) seen stop
     go (of_stop.NoPredicate root) is = subst (LacksRoot (asked_names (Some both) roots) seen) (sym is.0) (lacks_from both roots seen has is.1)
-    go (of_stop.ReadFault name) is = is
-    go (of_stop.Passed passed) is = is
     go of_stop.NoMemory is = is
 
-pub to_stop : (path : Option (PredName × PredName)) (both : PredName × PredName) (roots : Option (List PredName)) (seen : Seen) (stop : Stop) (from : ℕ) → path ≡ Some both → HasRoots roots seen
+pub to_stop : (path : Option (PredName × PredName)) (both : PredName × PredName) (roots : Option (List PredName)) (seen : Seen) (stop : RootStop) (from : ℕ) → path ≡ Some both → HasRoots roots seen
     → IsNamed seen.predicates both.0 from → IsEndStop seen.predicates both.1 stop → IsRootStop (asked_names path roots) seen stop
 to_stop path both roots seen stop from at has named is = subst (λ p. IsRootStop (asked_names p roots) seen stop) (sym at) (go stop is)
   where
-    go : (stop : Stop) → IsEndStop seen.predicates both.1 stop → IsRootStop (asked_names (Some both) roots) seen stop
-    go of_stop.Usage is = is
-    go (of_stop.Faults list) is = is
+    go : (stop : RootStop) → IsEndStop seen.predicates both.1 stop → IsRootStop (asked_names (Some both) roots) seen stop
     go (of_stop.NoPredicate root) is =
         subst (LacksRoot (asked_names (Some both) roots) seen) (sym is.0) (lacks_to both roots seen has (named_there seen.predicates both.0 from named) is.1)
-    go (of_stop.ReadFault name) is = is
-    go (of_stop.Passed passed) is = is
     go of_stop.NoMemory is = is
 
 -- and what two ends that are there are

@@ -5,8 +5,8 @@ use Rattle.import_rules.specs.declared.names.PredName.{PredName}
 use Rattle.import_rules.specs.Program.{Seen}
 use Rattle.call_edges.specs.Calls.{IsAmong}
 use Rattle.call_edges.specs.Roots.{IsRoot}
-use Rattle.group_tool.specs.declared.stop.Stop.{Stop}
-use Rattle.group_tool.specs.declared.stop.Stop.TheVariants.{NoPredicate, NoMemory}
+use Rattle.group_tool.specs.declared.roots.RootStop.{RootStop}
+use Rattle.group_tool.specs.declared.roots.RootStop.TheVariants.{NoPredicate, NoMemory}
 
 -- the predicate of that number has the name
 abbrev pub IsNamed : List PredName → PredName → ℕ → Type 0
@@ -53,13 +53,11 @@ AreEnds (Some both) seen (Some ends) = IsNamed seen.predicates both.0 ends.0 × 
 AreEnds both seen ends = ⊥
 
 -- why a name has no number: none of the predicates has it, or memory was wanting
-abbrev pub IsEndStop : List PredName → PredName → Stop → Type 0
+abbrev pub IsEndStop : List PredName → PredName → RootStop → Type 0
 IsEndStop predicates name (NoPredicate root) = (root ≡ name) × (Contains predicates name → ⊥)
 IsEndStop predicates name NoMemory = Unit {0}
-IsEndStop predicates name stop = ⊥
 
 -- why there are no roots: one is missing, or memory was wanting
-abbrev pub IsRootStop : Option (List PredName) → Seen → Stop → Type 0
+abbrev pub IsRootStop : Option (List PredName) → Seen → RootStop → Type 0
 IsRootStop list seen (NoPredicate root) = LacksRoot list seen root
 IsRootStop list seen NoMemory = Unit {0}
-IsRootStop list seen stop = ⊥

@@ -9,6 +9,8 @@ use Rattle.call_edges.specs.declared.goal_stop.GoalStop.{GoalStop}
 use Rattle.call_edges.specs.declared.goal_stop.GoalStop.TheVariants as of_check
 use Rattle.group_words.specs.declared.options.WordFault.{WordFault}
 use Rattle.group_words.specs.declared.options.WordFault.TheVariants as of_word
+use Rattle.group_tool.specs.declared.roots.RootStop.{RootStop}
+use Rattle.group_tool.specs.declared.roots.RootStop.TheVariants as of_root
 use Rattle.group_tool.specs.declared.stop.Limit.TheVariants.{TooManyFiles, FileTooLarge, TooMuchText, TooManyPredicates}
 use Rattle.group_tool.specs.declared.stop.Stop.{Stop}
 use Rattle.group_tool.specs.declared.stop.Stop.TheVariants.{Usage, Faults, NoPredicate, ReadFault, Passed, NoMemory}
@@ -38,6 +40,11 @@ of_importing of_import.NoMemory = NoMemory
 abbrev pub of_checking : GoalStop → Stop
 of_checking (of_check.Faults list) = Faults list
 of_checking of_check.NoMemory = NoMemory
+
+-- why there are no roots, as why there is no report
+abbrev pub of_roots : RootStop → Stop
+of_roots (of_root.NoPredicate root) = NoPredicate root
+of_roots of_root.NoMemory = NoMemory
 
 -- how a run ends that stops
 abbrev pub end_of_stop : Stop → End

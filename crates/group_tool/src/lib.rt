@@ -38,6 +38,7 @@ pub use group_words::{Options, WordFault, parse_words};
 pub use laws::one_answer;
 pub use lines::fault_lines;
 pub use memory_sink::MemorySink;
+pub use roots::{RootStop, roots_by};
 pub use run::{run_alone, run_groups};
 pub use search_pool::{Gate, MeetGate, OpenGate};
 pub use sink::{Flushed, MOST_PUT, Put, Sink};

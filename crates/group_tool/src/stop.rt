@@ -1,3 +1,4 @@
+use crate::roots::RootStop;
 use call_edges::GoalStop;
 use file_library::{Fault, LoadStop};
 use group_words::WordFault;
@@ -101,6 +102,20 @@ impl From<GoalStop> for Stop {
         match stop {
             GoalStop::Faults(faults) => Stop::Faults(faults),
             GoalStop::NoMemory => Stop::NoMemory,
+        }
+    }
+}
+
+impl From<RootStop> for Stop {
+    ghost use Rattle.std.specs.Prelude.{◌≡◌};
+    ghost use Rattle.group_tool.specs.Stop.{of_roots};
+
+    ghost from_gives = { λ stop found. found ≡ of_roots stop };
+
+    fn from(stop: RootStop) -> Stop {
+        match stop {
+            RootStop::NoPredicate(name) => Stop::NoPredicate(name),
+            RootStop::NoMemory => Stop::NoMemory,
         }
     }
 }

@@ -2,7 +2,7 @@ use Rattle.std.proofs.Common.{inl, inr, refl}
 use Rattle.calls_tool.specs.declared.stop.Stop.TheVariants.{NoMemory}
 use Rattle.import_rules.specs.Program.{see_program}
 use Rattle.calls_tool.specs.Answer.{IsLoadedEnd}
-use Rattle.calls_tool.specs.Stop.{of_checking}
+use Rattle.calls_tool.specs.Stop.{of_checking, of_roots}
 use Rattle.call_told.specs.Wanted.{see_wanted}
 use Rattle.calls_tool.proofs.EndLemmas.{handed_on, check_end, root_end}
 use Rattle.calls_tool.proofs.run.tell_program.Goals as goal
@@ -14,7 +14,7 @@ returns-in_err-calls g c found program =
 
 pub returns-in_err-roots : goal.returns-in_err-roots
 returns-in_err-roots g c found program =
-    handed_on (IsLoadedEnd (see_wanted c.args.wanted.now) found) c.from_residual-in_err-roots.result c.in_err-roots.field-0.0 c.from_residual-in_err-roots.ensures.1
+    handed_on (IsLoadedEnd (see_wanted c.args.wanted.now) found) c.from_residual-in_err-roots.result (of_roots c.in_err-roots.field-0.0) c.from_residual-in_err-roots.ensures.1
     (root_end (see_wanted c.args.wanted.now) found (see_program c.args.program.now) c.in_err-roots.field-0.0 program c.in_ok-calls.ensures.callable c.in_err-roots.ensures.err)
 
 pub returns-in_err-texts : goal.returns-in_err-texts

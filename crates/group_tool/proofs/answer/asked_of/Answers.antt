@@ -2,7 +2,7 @@ use Rattle.std.proofs.Common.{◌≡◌, Err, IfErr, IsErrAnd, Ok, Result, sym, 
 use Rattle.import_rules.specs.Program.{see_program}
 use Rattle.group_words.specs.Settings.{see_options}
 use Rattle.group_tool.specs.Carrying.{ProgramComesTo}
-use Rattle.group_tool.specs.Stop.{end_of_stop, of_checking}
+use Rattle.group_tool.specs.Stop.{end_of_stop, of_checking, of_roots}
 use Rattle.group_tool.specs.declared.answer.Asked.{Asked}
 use Rattle.group_tool.specs.declared.stop.Stop.{Stop}
 use Rattle.group_tool.proofs.EndLemmas.{check_end, root_end}
@@ -23,13 +23,13 @@ returns-in_err-calls-clause-stops g c =
 pub returns-in_err-roots-clause-stops : goal.returns-in_err-roots-clause-stops
 returns-in_err-roots-clause-stops g c =
     stops (λ stop. ProgramComesTo (see_options c.args.options.now) (see_program c.args.program.now) (end_of_stop stop))
-    c.from_residual-in_err-roots.result c.in_err-roots.field-0.0 c.from_residual-in_err-roots.ensures.1
+    c.from_residual-in_err-roots.result (of_roots c.in_err-roots.field-0.0) c.from_residual-in_err-roots.ensures.1
     (λ found program. root_end (see_options c.args.options.now) found (see_program c.args.program.now) c.in_err-roots.field-0.0 program c.in_ok-calls.ensures.callable
     (asked_stop (see_options c.args.options.now).path (see_options c.args.options.now).roots (see_program c.args.program.now) c.in_err-roots.field-0.0 c.in_err-roots.ensures.err))
 
 pub returns-in_err-ends-clause-stops : goal.returns-in_err-ends-clause-stops
 returns-in_err-ends-clause-stops g c =
     stops (λ stop. ProgramComesTo (see_options c.args.options.now) (see_program c.args.program.now) (end_of_stop stop))
-    c.from_residual-in_err-ends.result c.in_err-ends.field-0.0 c.from_residual-in_err-ends.ensures.1
+    c.from_residual-in_err-ends.result (of_roots c.in_err-ends.field-0.0) c.from_residual-in_err-ends.ensures.1
     (λ found program. root_end (see_options c.args.options.now) found (see_program c.args.program.now) c.in_err-ends.field-0.0 program c.in_ok-calls.ensures.callable
     c.in_err-ends.ensures.err)
