@@ -15,3 +15,4 @@ mod table;
 pub use laws::{names_law, numbered_part, opening_law};
 pub use names::{BAR, COMMA, CURLY, EMPTY, MINUS, Names, OPENING_COUNT, SQUARE, USER};
 pub use numbers::{Numbered, number_names};
+pub use table::text_hash;

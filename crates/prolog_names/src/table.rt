@@ -39,7 +39,8 @@ impl Model for NameTable {
     ghost invariant = { λ table. IsTable table.entries.items table.heads.items };
 }
 
-fn text_hash(text: &str) -> u32
+/// The hash of a text. Texts that differ in their last byte alone have neighbouring hashes.
+pub fn text_hash(text: &str) -> u32
     ensures { result ≡ text_hash text.now }
 {
     let mut state = 0u32;
@@ -88,6 +89,16 @@ impl NameTable {
         match self.entries.get(place) {
             Some(entry) => entry.text.as_str(),
             None => "",
+        }
+    }
+
+    /// The hash of the name at a place, or that of no name behind the last one.
+    pub fn hash(&self, place: usize) -> u32
+        ensures { result ≡ text_hash (name_at self.now place) }
+    {
+        match self.entries.get(place) {
+            Some(entry) => entry.hash,
+            None => 0,
         }
     }
 
