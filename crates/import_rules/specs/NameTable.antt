@@ -1,14 +1,15 @@
 -- Names in chains, one for each bucket.
-use Rattle.std.specs.Prelude.{ℕ, ◌≡◌, ◌≢◌, ◌+◌, ◌-◌, ◌*◌, ◌%◌, ◌^◌, ◌<◌, ◌≤◌, List, length, map, fold, slice_index_or}
+use Rattle.std.specs.Prelude.{ℕ, ◌≡◌, ◌≢◌, ◌+◌, ◌-◌, ◌*◌, ◌%◌, ◌^◌, ◌<◌, ◌≤◌, List, length, map, slice_index_or}
+use Rattle.prolog_names.specs.Table.{text_hash}
 use Rattle.import_rules.specs.declared.name_table.Link.{Link}
 use Rattle.import_rules.specs.declared.names.PredName.{PredName}
 
--- the hash of a text, begun with another one
-abbrev pub text_hash : ℕ → List ℕ → ℕ
-text_hash state text = fold (λ s b. (s * 1099511628211 % 2 ^ 64 + b) % 2 ^ 64) state text
+-- the hash of a name by those of its module and of its own name
+abbrev pub joint_hash : ℕ → ℕ → ℕ → ℕ
+joint_hash owner name arity = ((owner * 16777619 % 2 ^ 32 + arity) % 2 ^ 32 * 16777619 % 2 ^ 32 + name) % 2 ^ 32
 
 abbrev pub name_hash : PredName → ℕ
-name_hash p = text_hash (text_hash p.arity p.module) p.name
+name_hash p = joint_hash (text_hash p.module) (text_hash p.name) p.arity
 
 -- the bucket of a hash, of so many
 abbrev pub bucket_in : ℕ → ℕ → ℕ

@@ -2,10 +2,12 @@
 
 ghost use Rattle.std.specs.Prelude.{◌≡◌, ◌<◌, ◌++◌, length, slice_get, Some, false, IfOk, IfSome, MatchOption};
 ghost use Rattle.std.specs.List.{list_any};
+ghost use Rattle.prolog_names.specs.Names.{name_at};
 ghost use Rattle.import_rules.specs.Names.{is_same, pred_name};
-ghost use Rattle.import_rules.specs.NameTable.{text_hash, name_hash, bucket_in};
+ghost use Rattle.import_rules.specs.NameTable.{bucket_in, joint_hash, name_hash};
 
 use crate::names::PredName;
+use prolog_names::{Names, text_hash};
 use std::alloc::{AllocError, Global};
 use std::marker::Model;
 
@@ -13,11 +15,11 @@ use std::marker::Model;
 /// bucket; 0 where there is none.
 #[derive(Clone, Copy)]
 struct Link {
-    hash: u64,
+    hash: u32,
     next: usize,
 }
 
-/// Names with their places. A name is found by the hash of its bytes and its arity. On the way the
+/// Names with their places. A name is found by the hashes of its two texts and its arity. On the way the
 /// names of other hashes are passed by their links, without a look at their texts.
 #[derive(Drop)]
 pub(crate) struct NameTable {
@@ -39,30 +41,27 @@ impl Model for NameTable {
     ghost invariant = { λ table. IsLinked table.names.items table.heads.items table.links.items };
 }
 
-/// The hash of a text, begun with another one.
-fn text_hash(state: u64, text: &str) -> u64
-    ensures { result ≡ text_hash state text.now }
+/// The hash of a name by those of its module and of its own name. The latter is added last, and so
+/// names of one module whose hashes are neighbouring stay so.
+fn joint_hash(owner: u32, name: u32, arity: u32) -> u32
+    ensures { result ≡ joint_hash owner name arity }
 {
-    let mut state = state;
-    for byte in text.as_bytes() {
-        state = state
-            .wrapping_mul(1_099_511_628_211)
-            .wrapping_add(u64::from(*byte));
-    }
-    state
+    owner
+        .wrapping_mul(16_777_619)
+        .wrapping_add(arity)
+        .wrapping_mul(16_777_619)
+        .wrapping_add(name)
 }
 
-/// The hash of a name. The bytes of the name itself come last, and so names that differ in their last
-/// byte alone have neighbouring hashes.
-fn name_hash(module: &str, name: &str, arity: u32) -> u64
+fn name_hash(module: &str, name: &str, arity: u32) -> u32
     ensures { result ≡ name_hash (pred_name module.now name.now arity) }
 {
-    text_hash(text_hash(u64::from(arity), module), name)
+    joint_hash(text_hash(module), text_hash(name), arity)
 }
 
 /// The bucket of a hash, of so many. Neighbouring hashes have neighbouring buckets, since names that
 /// stand side by side are put into a table and looked up one after another.
-fn bucket_of(hash: u64, size: usize) -> usize
+fn bucket_of(hash: u32, size: usize) -> usize
     requires { 0 < size }
     ensures is { result ≡ bucket_in size hash }
     ensures below { result < size }
@@ -72,7 +71,7 @@ fn bucket_of(hash: u64, size: usize) -> usize
 
 /// Whether it is the name of that hash. `kept` is its own hash: where it is another one, the texts
 /// aren't read.
-fn is_named(one: &PredName, kept: u64, module: &str, name: &str, arity: u32, hash: u64) -> bool
+fn is_named(one: &PredName, kept: u32, module: &str, name: &str, arity: u32, hash: u32) -> bool
     requires kept { kept ≡ name_hash one.now }
     requires wanted { hash ≡ name_hash (pred_name module.now name.now arity) }
     ensures { result ≡ is_same (pred_name module.now name.now arity) one.now }
@@ -146,6 +145,28 @@ impl NameTable {
         ensures below { IfSome result (λ n. n < length self.now) }
     {
         let hash = name_hash(module, name, arity);
+        self.find_hashed(module, name, arity, hash)
+    }
+
+    /// The last place of the name that these numbers mean in the names. No text is read for the hash.
+    pub(crate) fn find_in(&self, names: &Names, owner: u32, name: u32, arity: u32) -> Option<usize>
+        ensures is { MatchOption result
+            (list_any (is_same (pred_name (name_at names.now owner) (name_at names.now name) arity)) self.now ≡ false)
+            (λ n. slice_get self.now n ≡ Some (pred_name (name_at names.now owner) (name_at names.now name) arity)) }
+        ensures below { IfSome result (λ n. n < length self.now) }
+    {
+        let hash = joint_hash(names.hash(owner), names.hash(name), arity);
+        self.find_hashed(names.text(owner), names.text(name), arity, hash)
+    }
+
+    /// The last place of the name of that hash.
+    fn find_hashed(&self, module: &str, name: &str, arity: u32, hash: u32) -> Option<usize>
+        requires { hash ≡ name_hash (pred_name module.now name.now arity) }
+        ensures is { MatchOption result
+            (list_any (is_same (pred_name module.now name.now arity)) self.now ≡ false)
+            (λ n. slice_get self.now n ≡ Some (pred_name module.now name.now arity)) }
+        ensures below { IfSome result (λ n. n < length self.now) }
+    {
         let mut at = self.heads[bucket_of(hash, self.heads.len())];
         while at > 0 {
             let place = at - 1;
