@@ -1,6 +1,8 @@
 pub mod Examples
 pub mod Lists
+pub mod Ranges
 pub mod Runs
+pub mod Chunks
 pub mod NameOrder
 pub mod Chains
 pub mod FirstMetas

@@ -1,9 +1,9 @@
 -- The order of predicates' names, and whether two are the same.
 use Rattle.std.proofs.Common.{◌≡◌, true, false, not, ◌&&◌, nat_eq, refl, sym, ap, ◌∙◌}
-use Rattle.std.specs.Ordering.{is_eq, is_lt, ordering_reverse}
+use Rattle.std.specs.Ordering.{is_eq, is_lt, nat_cmp, ordering_reverse, ordering_then}
 use Rattle.std.specs.Str.{bytes_eq}
 use Rattle.std.specs.Cmp.{IsTotalOrder, both_tied, unsigned_ties}
-use Rattle.std.specs.Cmp.Lexicographic.{texts_ties}
+use Rattle.std.specs.Cmp.Lexicographic.{slice_cmp, texts_ties}
 use Rattle.std.specs.declared.cmp.Ordering.{Ordering}
 use Rattle.std.specs.declared.cmp.Ordering.TheVariants.{Less, Equal, Greater}
 use Rattle.std.proofs.lemmas.Cmp.{then_total, on_total, nat_list_cmp_total, nat_cmp_total, tied_itself}
@@ -38,6 +38,14 @@ same_from p q is = ap (is_same p) (sym is) ∙ same_itself p
 
 pub apart_from_Less : (p q : PredName) → pred_cmp p q ≡ Less → is_same p q ≡ false
 apart_from_Less p q less = same_ties p q ∙ ap is_eq less
+
+-- how names stand to each other by what is behind their modules
+abbrev pub behind_modules : PredName → PredName → Ordering
+behind_modules p q = ordering_then (slice_cmp nat_cmp p.name q.name) (nat_cmp p.arity q.arity)
+
+pub in_one_module : (p q : PredName) → p.module ≡ q.module → behind_modules p q ≡ pred_cmp p q
+in_one_module p q same =
+    ap (λ r. ordering_then r (behind_modules p q)) (sym (ap (slice_cmp nat_cmp p.module) (sym same) ∙ tied_itself nat_list_cmp_total p.module))
 
 -- what ties in an order is equal in it
 pub tied_is_same : {X : Type 0} (cmp : X → X → Ordering) → IsTotalOrder cmp → (x y : X) → (not (is_lt (cmp x y)) && not (is_lt (cmp y x))) ≡ is_eq (cmp x y)

@@ -9,6 +9,7 @@ use Rattle.std.proofs.lemmas.List.Sorted.{All-permutation, Contains-permutation,
 use Rattle.std.proofs.lemmas.List.{map-append}
 use Rattle.std.proofs.lemmas.Simd.{map-map}
 use Rattle.module_table.specs.Kinds.{first_of}
+use Rattle.module_table.specs.declared.file_facts.FileFacts.{FileFacts}
 use Rattle.import_rules.specs.declared.names.PredName.{PredName}
 use Rattle.import_rules.specs.declared.part.Part.{Part}
 use Rattle.import_rules.specs.Names.{pred_cmp, is_same}
@@ -19,40 +20,40 @@ use Rattle.import_rules.proofs.NameOrder.{pred_cmp_total, same_ties, same_parts,
 use Rattle.import_rules.proofs.Runs.{comes_before, same, AreRuns, IsCut, cut_more, heads_there}
 
 -- the predicate of each run, and its places
-abbrev pub names_in : List (List Part) → List PredName
-names_in runs = filter_map (λ run. option_map name_of_part (first_of run)) runs
+abbrev pub names_in : List FileFacts → List (List Part) → List PredName
+names_in files runs = filter_map (λ run. option_map (name_of_part files) (first_of run)) runs
 
 abbrev pub places_in_runs : List (List Part) → List (List (ℕ × ℕ))
 places_in_runs runs = filter_map (λ run. option_map (λ first. places_of_parts run) (first_of run)) runs
 
-module _ (parts sorted : List Part) (runs : List (List Part)) (moved : IsPermutation parts sorted) (are : AreRuns pred_cmp pred_cmp_total name_of_part sorted runs) where
-  has_head : All (λ (x : Part). (h : Part) × Contains are.heads h × (name_of_part h ≡ name_of_part x)) parts
+module _ (files : List FileFacts) (parts sorted : List Part) (runs : List (List Part)) (moved : IsPermutation parts sorted) (are : AreRuns pred_cmp pred_cmp_total (name_of_part files) sorted runs) where
+  has_head : All (λ (x : Part). (h : Part) × Contains are.heads h × (name_of_part files h ≡ name_of_part files x)) parts
   has_head =
-      All-permutation (λ (x : Part). (h : Part) × Contains are.heads h × (name_of_part h ≡ name_of_part x)) sorted parts (IsPermutation-sym parts sorted moved)
-      (All-weaker (λ (x : Part). (h : Part) × Contains are.heads h × (same pred_cmp pred_cmp_total name_of_part h x ≡ true)) (λ (x : Part). (h : Part) × Contains are.heads h × (name_of_part h ≡ name_of_part x))
-      (λ x at. (at.0, at.1, same_parts (name_of_part at.0) (name_of_part x) (same_ties (name_of_part at.0) (name_of_part x) ∙ at.2))) sorted are.all)
+      All-permutation (λ (x : Part). (h : Part) × Contains are.heads h × (name_of_part files h ≡ name_of_part files x)) sorted parts (IsPermutation-sym parts sorted moved)
+      (All-weaker (λ (x : Part). (h : Part) × Contains are.heads h × (same pred_cmp pred_cmp_total (name_of_part files) h x ≡ true)) (λ (x : Part). (h : Part) × Contains are.heads h × (name_of_part files h ≡ name_of_part files x))
+      (λ x at. (at.0, at.1, same_parts (name_of_part files at.0) (name_of_part files x) (same_ties (name_of_part files at.0) (name_of_part files x) ∙ at.2))) sorted are.all)
 
   heads_in : All (Contains parts) are.heads
   heads_in =
       All-weaker (Contains sorted) (Contains parts) (λ h has. Contains-permutation sorted parts h (IsPermutation-sym parts sorted moved) has) are.heads
-      (heads_there pred_cmp pred_cmp_total name_of_part sorted runs are)
+      (heads_there pred_cmp pred_cmp_total (name_of_part files) sorted runs are)
 
   -- the places for the name of a head are those of its run
-  places_run : IsStableBy (comes_before pred_cmp name_of_part) parts sorted → (h : Part)
-      → places_for (map see_part parts) (name_of_part h) ≡ places_of_parts (filter (same pred_cmp pred_cmp_total name_of_part h) sorted)
+  places_run : IsStableBy (comes_before pred_cmp (name_of_part files)) parts sorted → (h : Part)
+      → places_for (map (see_part files) parts) (name_of_part files h) ≡ places_of_parts (filter (same pred_cmp pred_cmp_total (name_of_part files) h) sorted)
   places_run stable h =
       ap (map (λ (d : DefinedAt). d.at))
-      (filter-map (λ (d : DefinedAt). is_same (name_of_part h) d.name) see_part parts
-      ∙ ap (map see_part)
-      (filter_agree (λ x. is_same (name_of_part h) (name_of_part x)) (ties (comes_before pred_cmp name_of_part) h)
-      (λ x. same_ties (name_of_part h) (name_of_part x) ∙ sym (tied x)) parts
-      ∙ (sym (stable h) ∙ filter_agree (ties (comes_before pred_cmp name_of_part) h) (same pred_cmp pred_cmp_total name_of_part h) tied sorted)))
-      ∙ map-map (λ (d : DefinedAt). d.at) see_part (filter (same pred_cmp pred_cmp_total name_of_part h) sorted)
+      (filter-map (λ (d : DefinedAt). is_same (name_of_part files h) d.name) (see_part files) parts
+      ∙ ap (map (see_part files))
+      (filter_agree (λ x. is_same (name_of_part files h) (name_of_part files x)) (ties (comes_before pred_cmp (name_of_part files)) h)
+      (λ x. same_ties (name_of_part files h) (name_of_part files x) ∙ sym (tied x)) parts
+      ∙ (sym (stable h) ∙ filter_agree (ties (comes_before pred_cmp (name_of_part files)) h) (same pred_cmp pred_cmp_total (name_of_part files) h) tied sorted)))
+      ∙ map-map (λ (d : DefinedAt). d.at) (see_part files) (filter (same pred_cmp pred_cmp_total (name_of_part files) h) sorted)
     where
-      tied : (x : Part) → ties (comes_before pred_cmp name_of_part) h x ≡ same pred_cmp pred_cmp_total name_of_part h x
-      tied x = tied_is_same pred_cmp pred_cmp_total (name_of_part h) (name_of_part x)
+      tied : (x : Part) → ties (comes_before pred_cmp (name_of_part files)) h x ≡ same pred_cmp pred_cmp_total (name_of_part files) h x
+      tied x = tied_is_same pred_cmp pred_cmp_total (name_of_part files h) (name_of_part files x)
 
-  names_of_heads : (rs : List (List Part)) (hs : List Part) → map first_of rs ≡ map (λ h. Some h) hs → names_in rs ≡ map name_of_part hs
+  names_of_heads : (rs : List (List Part)) (hs : List Part) → map first_of rs ≡ map (λ h. Some h) hs → names_in files rs ≡ map (name_of_part files) hs
   names_of_heads [] [] led = refl
   names_of_heads [] (h ∷ hs) led = cc
   names_of_heads (r ∷ rs) [] led = cc
@@ -60,7 +61,7 @@ module _ (parts sorted : List Part) (runs : List (List Part)) (moved : IsPermuta
   names_of_heads ((x ∷ r) ∷ rs) (h ∷ hs) led =
       let first : x ≡ h = cc in
       let rest : map first_of rs ≡ map (λ k. Some k) hs = cc in
-      λ i. name_of_part (first i) ∷ names_of_heads rs hs rest i
+      λ i. name_of_part files (first i) ∷ names_of_heads rs hs rest i
 
   places_of_runs : (rs : List (List Part)) (hs : List Part) → map first_of rs ≡ map (λ h. Some h) hs → places_in_runs rs ≡ map places_of_parts rs
   places_of_runs [] [] led = refl
@@ -71,26 +72,26 @@ module _ (parts sorted : List Part) (runs : List (List Part)) (moved : IsPermuta
       let rest : map first_of rs ≡ map (λ k. Some k) hs = cc in
       ap (λ ps. places_of_parts (x ∷ r) ∷ ps) (places_of_runs rs hs rest)
 
-  pub numbers_found : IsStableBy (comes_before pred_cmp name_of_part) parts sorted → (predicates : List PredName) (places : List (List (ℕ × ℕ)))
-      → predicates ≡ names_in runs → places ≡ places_in_runs runs → AreNumbers (map see_part parts) predicates places
+  pub numbers_found : IsStableBy (comes_before pred_cmp (name_of_part files)) parts sorted → (predicates : List PredName) (places : List (List (ℕ × ℕ)))
+      → predicates ≡ names_in files runs → places ≡ places_in_runs runs → AreNumbers (map (see_part files) parts) predicates places
   numbers_found stable predicates places names_are places_are =
-      let names : predicates ≡ map name_of_part are.heads = names_are ∙ names_of_heads runs are.heads are.led in
-      subst (λ ps. AreNumbers (map see_part parts) ps places) (sym names) (record {
-        in_order = all_pairs_map (λ p q. pred_cmp p q ≡ Less) name_of_part are.heads are.rising;
-        defined = All-map (Contains (map (λ (d : DefinedAt). d.name) (map see_part parts))) name_of_part are.heads
-            (All-weaker (Contains parts) (λ h. Contains (map (λ (d : DefinedAt). d.name) (map see_part parts)) (name_of_part h))
-            (λ h has. map_has (λ (d : DefinedAt). d.name) (map see_part parts) (see_part h) (map_has see_part parts h has)) are.heads heads_in);
-        all = All-map (λ (d : DefinedAt). Contains (map name_of_part are.heads) d.name) see_part parts
-            (All-weaker (λ (x : Part). (h : Part) × Contains are.heads h × (name_of_part h ≡ name_of_part x)) (λ x. Contains (map name_of_part are.heads) (name_of_part x))
-            (λ x at. subst (Contains (map name_of_part are.heads)) at.2 (map_has name_of_part are.heads at.0 at.1)) parts has_head);
+      let names : predicates ≡ map (name_of_part files) are.heads = names_are ∙ names_of_heads runs are.heads are.led in
+      subst (λ ps. AreNumbers (map (see_part files) parts) ps places) (sym names) (record {
+        in_order = all_pairs_map (λ p q. pred_cmp p q ≡ Less) (name_of_part files) are.heads are.rising;
+        defined = All-map (Contains (map (λ (d : DefinedAt). d.name) (map (see_part files) parts))) (name_of_part files) are.heads
+            (All-weaker (Contains parts) (λ h. Contains (map (λ (d : DefinedAt). d.name) (map (see_part files) parts)) (name_of_part files h))
+            (λ h has. map_has (λ (d : DefinedAt). d.name) (map (see_part files) parts) (see_part files h) (map_has (see_part files) parts h has)) are.heads heads_in);
+        all = All-map (λ (d : DefinedAt). Contains (map (name_of_part files) are.heads) d.name) (see_part files) parts
+            (All-weaker (λ (x : Part). (h : Part) × Contains are.heads h × (name_of_part files h ≡ name_of_part files x)) (λ x. Contains (map (name_of_part files) are.heads) (name_of_part files x))
+            (λ x at. subst (Contains (map (name_of_part files) are.heads)) at.2 (map_has (name_of_part files) are.heads at.0 at.1)) parts has_head);
         placed =
             places_are
             ∙ places_of_runs runs are.heads are.led
             ∙ ap (map places_of_parts) are.are
-            ∙ map-map places_of_parts (λ h. filter (same pred_cmp pred_cmp_total name_of_part h) sorted) are.heads
-            ∙ map_agrees (λ h. places_of_parts (filter (same pred_cmp pred_cmp_total name_of_part h) sorted)) (λ h. places_for (map see_part parts) (name_of_part h)) are.heads
+            ∙ map-map places_of_parts (λ h. filter (same pred_cmp pred_cmp_total (name_of_part files) h) sorted) are.heads
+            ∙ map_agrees (λ h. places_of_parts (filter (same pred_cmp pred_cmp_total (name_of_part files) h) sorted)) (λ h. places_for (map (see_part files) parts) (name_of_part files h)) are.heads
             (λ k d within. sym (places_run stable (get_or are.heads k d)))
-            ∙ sym (map-map (places_for (map see_part parts)) name_of_part are.heads);
+            ∙ sym (map-map (places_for (map (see_part files) parts)) (name_of_part files) are.heads);
       })
 
 -- the runs that were lent
@@ -98,28 +99,28 @@ abbrev pub now_of : List (Bor (List Part)) → List (List Part)
 now_of runs = map (λ run. run.now) runs
 
 -- whether two parts are of one predicate
-abbrev pub alike : Part → Part → Bool
-alike a b = is_same (name_of_part a) (name_of_part b)
+abbrev pub alike : List FileFacts → Part → Part → Bool
+alike files a b = is_same (name_of_part files a) (name_of_part files b)
 
 -- the next run of parts that were sorted, where the iterator lends it
-pub next_run : (whole before rest : List Part) (lent : List (Bor (List Part))) (run : Bor (List Part)) → IsSortedBy (comes_before pred_cmp name_of_part) whole
-    → before ≡ run.now ++ rest → 0 < length run.now → IsChunkByPrefix alike before (length run.now)
-    → IsCut pred_cmp pred_cmp_total name_of_part whole (now_of lent) before → IsCut pred_cmp pred_cmp_total name_of_part whole (now_of (lent ++ run ∷ [])) rest
-next_run whole before rest lent run sorted is some chunk cut =
-    subst (λ runs. IsCut pred_cmp pred_cmp_total name_of_part whole runs rest) (sym (map-append (λ (r : Bor (List Part)). r.now) lent (run ∷ [])))
-    (cut_more pred_cmp pred_cmp_total name_of_part whole (now_of lent) run.now rest sorted (subst (IsCut pred_cmp pred_cmp_total name_of_part whole (now_of lent)) is cut) some
-    (subst (λ parts. IsChunkByPrefix (same pred_cmp pred_cmp_total name_of_part) parts (length run.now)) is (
-      λ k d below. sym (same_ties (name_of_part (get_or before k d)) (name_of_part (get_or before (k + 1) d))) ∙ chunk.0 k d below,
-      λ below d. sym (same_ties (name_of_part (get_or before (length run.now - 1) d)) (name_of_part (get_or before (length run.now) d))) ∙ chunk.1 below d,
+pub next_run : (files : List FileFacts) (whole before rest : List Part) (lent : List (Bor (List Part))) (run : Bor (List Part)) → IsSortedBy (comes_before pred_cmp (name_of_part files)) whole
+    → before ≡ run.now ++ rest → 0 < length run.now → IsChunkByPrefix (alike files) before (length run.now)
+    → IsCut pred_cmp pred_cmp_total (name_of_part files) whole (now_of lent) before → IsCut pred_cmp pred_cmp_total (name_of_part files) whole (now_of (lent ++ run ∷ [])) rest
+next_run files whole before rest lent run sorted is some chunk cut =
+    subst (λ runs. IsCut pred_cmp pred_cmp_total (name_of_part files) whole runs rest) (sym (map-append (λ (r : Bor (List Part)). r.now) lent (run ∷ [])))
+    (cut_more pred_cmp pred_cmp_total (name_of_part files) whole (now_of lent) run.now rest sorted (subst (IsCut pred_cmp pred_cmp_total (name_of_part files) whole (now_of lent)) is cut) some
+    (subst (λ parts. IsChunkByPrefix (same pred_cmp pred_cmp_total (name_of_part files)) parts (length run.now)) is (
+      λ k d below. sym (same_ties (name_of_part files (get_or before k d)) (name_of_part files (get_or before (k + 1) d))) ∙ chunk.0 k d below,
+      λ below d. sym (same_ties (name_of_part files (get_or before (length run.now - 1) d)) (name_of_part files (get_or before (length run.now) d))) ∙ chunk.1 below d,
     )))
 
-pub next_name : (lent : List (Bor (List Part))) (run : Bor (List Part)) (old new : List PredName)
-    → new ≡ old ++ option_to_list (option_map name_of_part (first_of run.now)) → old ≡ names_in (now_of lent) → new ≡ names_in (now_of (lent ++ run ∷ []))
-next_name lent run old new more is =
+pub next_name : (files : List FileFacts) (lent : List (Bor (List Part))) (run : Bor (List Part)) (old new : List PredName)
+    → new ≡ old ++ option_to_list (option_map (name_of_part files) (first_of run.now)) → old ≡ names_in files (now_of lent) → new ≡ names_in files (now_of (lent ++ run ∷ []))
+next_name files lent run old new more is =
     more
-    ∙ ap (λ xs. xs ++ option_to_list (option_map name_of_part (first_of run.now))) is
-    ∙ sym (filter_map_push (λ r. option_map name_of_part (first_of r)) (now_of lent) run.now)
-    ∙ ap names_in (sym (map-append (λ (r : Bor (List Part)). r.now) lent (run ∷ [])))
+    ∙ ap (λ xs. xs ++ option_to_list (option_map (name_of_part files) (first_of run.now))) is
+    ∙ sym (filter_map_push (λ r. option_map (name_of_part files) (first_of r)) (now_of lent) run.now)
+    ∙ ap (names_in files) (sym (map-append (λ (r : Bor (List Part)). r.now) lent (run ∷ [])))
 
 pub next_places : (lent : List (Bor (List Part))) (run : Bor (List Part)) (old new : List (List (ℕ × ℕ)))
     → new ≡ old ++ option_to_list (option_map (λ first. places_of_parts run.now) (first_of run.now)) → old ≡ places_in_runs (now_of lent)

@@ -1,58 +1,108 @@
 //! The predicates of files by the places at which they are defined.
 
-ghost use Rattle.std.specs.Prelude.{◌≡◌, ◌++◌, ◌≤◌, All, IfOk, OnOk, length, map};
+ghost use Rattle.std.specs.Prelude.{◌≡◌, ◌++◌, ◌≤◌, [], All, IfOk, OnOk, length, map};
+ghost use Rattle.std.specs.Bool.{OnTrue};
 ghost use Rattle.module_table.specs.Facts.{Facts, see_facts};
-ghost use Rattle.import_rules.specs.Names.{pred_cmp, is_same};
-ghost use Rattle.import_rules.specs.Parts.{see_part};
-ghost use Rattle.import_rules.specs.Numbers.{parts_of_file, parts_in};
+ghost use Rattle.import_rules.specs.Names.{is_same, pred_cmp, pred_name};
+ghost use Rattle.import_rules.specs.Parts.{name_of_part, parts_to, see_name, see_part};
+ghost use Rattle.import_rules.specs.Numbers.{parts_in};
 
-use module_table::{Defined, FileFacts};
+use module_table::FileFacts;
 use std::alloc::{AllocError, Global};
 use std::cmp::Ordering;
 
-/// A predicate of a file, and the place at which it is defined: the place of the file, and that of the
-/// predicate in the file's `defined`. It is small, since a program has as many of them as predicates.
+/// The place at which a predicate is defined: the place of a file, and that of the predicate in the
+/// file's `defined`. It is small, since a program has as many of them as predicates.
 #[derive(Clone, Copy)]
-pub(crate) struct Part<'a> {
-    pub defined: &'a Defined,
+pub(crate) struct Part {
     pub file: u32,
     pub part: u32,
 }
 
-/// The order of predicates: by module, by name, by arity.
-pub(crate) fn compare(a: &Part<'_>, b: &Part<'_>) -> Ordering
-    ensures { result ≡ pred_cmp (see_part a.now).name (see_part b.now).name }
+/// The name of the predicate that is defined at a place.
+#[derive(Clone, Copy)]
+pub(crate) struct PartName<'a> {
+    pub module: &'a str,
+    pub name: &'a str,
+    pub arity: u32,
+}
+
+/// The name where nothing is defined.
+fn no_name<'a>() -> PartName<'a>
+    ensures { see_name result ≡ pred_name [] [] 0 }
 {
-    let (one, other) = (a.defined, b.defined);
-    one.module.cmp(&other.module).then(one.name.cmp(&other.name).then(one.arity.cmp(&other.arity)))
+    PartName {
+        module: "",
+        name: "",
+        arity: 0,
+    }
+}
+
+/// The name of the predicate that is defined at that place of the files.
+pub(crate) fn part_name<'a>(files: &'a [FileFacts], part: &Part) -> PartName<'a>
+    ensures { see_name result ≡ name_of_part files.now part.now }
+{
+    let Some(file) = files.get(part.file as usize) else {
+        return no_name();
+    };
+    let Some(defined) = file.defined.get(part.part as usize) else {
+        return no_name();
+    };
+    PartName {
+        module: file.names.text(defined.module),
+        name: file.names.text(defined.name),
+        arity: defined.arity,
+    }
+}
+
+/// Whether the predicates are of one module by its number in the names of one file. No text is read.
+fn are_of_one_module(files: &[FileFacts], a: &Part, b: &Part) -> bool
+    ensures { OnTrue result ((name_of_part files.now a.now).module ≡ (name_of_part files.now b.now).module) }
+{
+    if a.file != b.file {
+        return false;
+    }
+    let Some(file) = files.get(a.file as usize) else {
+        return false;
+    };
+    let Some(one) = file.defined.get(a.part as usize) else {
+        return false;
+    };
+    let Some(other) = file.defined.get(b.part as usize) else {
+        return false;
+    };
+    one.module == other.module
+}
+
+/// The order of predicates: by module, by name, by arity.
+pub(crate) fn compare(files: &[FileFacts], a: &Part, b: &Part) -> Ordering
+    ensures { result ≡ pred_cmp (name_of_part files.now a.now) (name_of_part files.now b.now) }
+{
+    let (one, other) = (part_name(files, a), part_name(files, b));
+    let in_module = one.name.cmp(other.name).then(one.arity.cmp(&other.arity));
+    if are_of_one_module(files, a, b) {
+        return in_module;
+    }
+    one.module.cmp(other.module).then(in_module)
 }
 
 /// Whether the parts are of one predicate.
-pub(crate) fn is_same(a: &Part<'_>, b: &Part<'_>) -> bool
-    ensures { result ≡ is_same (see_part a.now).name (see_part b.now).name }
+pub(crate) fn is_same(files: &[FileFacts], a: &Part, b: &Part) -> bool
+    ensures { result ≡ is_same (name_of_part files.now a.now) (name_of_part files.now b.now) }
 {
-    let (one, other) = (a.defined, b.defined);
+    let (one, other) = (part_name(files, a), part_name(files, b));
     if one.name != other.name {
         return false;
     }
     one.module == other.module && one.arity == other.arity
 }
 
-/// Adds what a file defines.
-fn push_parts<'a>(
-    place: u32,
-    file: &'a FileFacts,
-    parts: &mut Vec<Part<'a>>,
-) -> Result<(), AllocError>
-    requires { length file.now.defined.items ≤ 4294967295 }
-    ensures { OnOk result (map see_part parts.new.items ≡ map see_part parts.old.items ++ parts_of_file place (see_facts file.now)) }
+/// Adds the places of so many predicates of a file.
+fn push_parts(file: u32, count: u32, parts: &mut Vec<Part>) -> Result<(), AllocError>
+    ensures { OnOk result (parts.new.items ≡ parts.old.items ++ parts_to file count) }
 {
-    for (part, defined) in file.defined.iter().enumerate() {
-        parts.push(Part {
-            defined,
-            file: place,
-            part: part as u32,
-        })?;
+    for part in 0..count {
+        parts.push(Part { file, part })?;
     }
     Ok(())
 }
@@ -67,14 +117,14 @@ fn part_count(files: &[FileFacts]) -> usize {
 }
 
 /// What the files define, file by file.
-pub(crate) fn parts_of(alloc: Global, files: &[FileFacts]) -> Result<Vec<Part<'_>>, AllocError>
+pub(crate) fn parts_of(alloc: Global, files: &[FileFacts]) -> Result<Vec<Part>, AllocError>
     requires few { length files.now ≤ 4294967295 }
     requires small { All (λ (file : Facts). length file.defined ≤ 4294967295) (map see_facts files.now) }
-    ensures { IfOk result (λ parts. map see_part parts.items ≡ parts_in (map see_facts files.now)) }
+    ensures { IfOk result (λ parts. map (see_part files.now) parts.items ≡ parts_in (map see_facts files.now)) }
 {
     let mut parts = Vec::with_capacity(alloc, part_count(files))?;
     for (place, file) in files.iter().enumerate() {
-        push_parts(place as u32, file, &mut parts)?;
+        push_parts(place as u32, file.defined.len() as u32, &mut parts)?;
     }
     Ok(parts)
 }

@@ -27,7 +27,7 @@ impl Places {
 }
 
 /// The places of the parts.
-pub(crate) fn places_of(alloc: Global, parts: &[Part<'_>]) -> Result<Places, AllocError>
+pub(crate) fn places_of(alloc: Global, parts: &[Part]) -> Result<Places, AllocError>
     ensures { IfOk result (λ places. see_places places ≡ places_of_parts parts.now) }
 {
     if parts.len() == 1 {

@@ -30,7 +30,8 @@ fn numbered(alloc: Global, loaded: &Loaded) -> Result<Numbered, AllocError>
     requires { WasLoaded (see_loaded loaded.now) }
     ensures { IfOk result (λ made. AreNumbers (parts_in (see_loaded loaded.now).files) made.predicates.items (lists_of made.places.items)) }
 {
-    number(alloc, parts_of(alloc, &loaded.files)?)
+    let parts = parts_of(alloc, &loaded.files)?;
+    number(alloc, &loaded.files, parts)
 }
 
 /// What names mean, where no import is at fault.

@@ -1,5 +1,5 @@
 use Rattle.std.proofs.Common.{◌∷◌, ◌++◌, [], sym, ap, ◌∙◌}
-use Rattle.import_rules.proofs.SourceLemmas.{range_more}
+use Rattle.import_rules.proofs.Ranges.{range_more}
 use Rattle.import_rules.proofs.meanings.numbers_below.Goals as goal
 
 pub loop-number-preserved : goal.loop-number-preserved

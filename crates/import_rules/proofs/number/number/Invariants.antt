@@ -10,5 +10,5 @@ use Rattle.import_rules.proofs.number.number.Given as goal
 -- the parts so far are cut into runs, of which each is done
 abbrev pub invariant-loop-run : goal.invariant-loop-run
 invariant-loop-run l =
-    IsCut pred_cmp pred_cmp_total name_of_part l.initial.run-iterator.rest.now (now_of l.yielded) l.run-iterator.rest.now
-    × (l.made.predicates.items ≡ names_in (now_of l.yielded)) × (lists_of l.made.places.items ≡ places_in_runs (now_of l.yielded))
+    IsCut pred_cmp pred_cmp_total (name_of_part l.files) l.initial.run-iterator.rest.now (now_of l.yielded) l.run-iterator.rest.now
+    × (l.made.predicates.items ≡ names_in l.files (now_of l.yielded)) × (lists_of l.made.places.items ≡ places_in_runs (now_of l.yielded))

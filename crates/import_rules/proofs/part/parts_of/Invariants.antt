@@ -5,4 +5,4 @@ use Rattle.import_rules.proofs.PartsSoFar.{files_below}
 use Rattle.import_rules.proofs.part.parts_of.Given as goal
 
 abbrev pub invariant-loop-place : goal.invariant-loop-place
-invariant-loop-place l = map see_part l.parts.items ≡ files_below (map see_facts l.files) l.place
+invariant-loop-place l = map (see_part l.files) l.parts.items ≡ files_below (map see_facts l.files) l.place
