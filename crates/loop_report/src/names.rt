@@ -92,7 +92,7 @@ pub(crate) fn push_member<'a>(
         ≡ string_bytes text.old ++ member_name (see_program program.now).predicates member) }
 {
     let predicate = program.name_of(member);
-    last.take(predicate.module.as_str())?;
+    last.take(&predicate.module)?;
     text.push_str(last.text.as_str())?;
     push_own(text, predicate)
 }
