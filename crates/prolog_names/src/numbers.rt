@@ -110,6 +110,7 @@ fn plain_name(text: &str, token: Token) -> Option<&str>
 }
 
 /// The number of the token's name, which is put into the table where it isn't there yet.
+#[inline(always)]
 fn number_of(
     alloc: Global,
     table: &mut NameTable,

@@ -40,6 +40,7 @@ impl Model for NameTable {
 }
 
 /// The hash of a text. Texts that differ in their last byte alone have neighbouring hashes.
+#[inline(always)]
 pub fn text_hash(text: &str) -> u32
     ensures { result ≡ text_hash text.now }
 {
@@ -54,6 +55,7 @@ pub fn text_hash(text: &str) -> u32
 
 /// The bucket of a hash, of so many. Neighbouring hashes have neighbouring buckets, since names that
 /// stand side by side in a text mostly differ in their last byte alone.
+#[inline(always)]
 fn bucket_of(hash: u32, size: usize) -> usize
     requires { 0 < size }
     ensures is { result ≡ bucket_in size hash }
@@ -103,6 +105,7 @@ impl NameTable {
     }
 
     /// The place of the name of that hash.
+    #[inline(always)]
     fn find(&self, name: &str, hash: u32) -> Option<u32>
         requires { hash ≡ text_hash name.now }
         ensures { MatchOption result (list_any (bytes_eq name.now) self.now ≡ false) (λ n. (n < length self.now) × (name_at self.now n ≡ name.now)) }
@@ -154,6 +157,7 @@ impl NameTable {
 
 /// Whether the entry is that of the name of the hash. Where its own hash is another one, its text isn't
 /// read.
+#[inline(always)]
 fn is_named(entry: &Entry, name: &str, hash: u32) -> bool
     requires own { entry.now.hash ≡ text_hash entry.now.text }
     requires wanted { hash ≡ text_hash name.now }

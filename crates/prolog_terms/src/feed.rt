@@ -141,6 +141,7 @@ fn call(reader: &mut Reader, first: Word, prefix: Sides, second: Word) -> Result
 }
 
 /// A name by the word behind it, and then this word.
+#[inline(always)]
 fn enter_named(
     table: &OpTable,
     names: &Names,
@@ -167,6 +168,7 @@ fn enter_named(
 }
 
 /// A word behind a name that waited for it.
+#[inline(always)]
 fn feed_named(
     table: &OpTable,
     names: &Names,
@@ -230,6 +232,7 @@ fn feed_doubt(
 }
 
 /// One word more. False where no clause goes on with it.
+#[inline(always)]
 pub fn feed(
     table: &OpTable,
     names: &Names,

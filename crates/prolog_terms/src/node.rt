@@ -41,6 +41,7 @@ pub struct Node {
 }
 
 /// How many of the terms before it are parts of a node.
+#[inline(always)]
 pub fn taken(shape: Shape) -> usize
     ensures { result ≡ taken shape }
 {

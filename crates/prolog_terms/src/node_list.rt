@@ -99,6 +99,7 @@ impl NodeList {
     }
 
     /// How many of so many nodes stand before the last terms of them, as many as are counted.
+    #[inline(always)]
     fn before_many(&self, end: usize, count: usize) -> usize
         ensures rest { (names : List (List ℕ)) → forest names (take result self.now) ≡ without count (forest names (take end self.now)) }
         ensures within { result ≤ end }

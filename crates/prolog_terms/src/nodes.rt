@@ -22,6 +22,7 @@ use prolog_tokens::Kind;
 use std::alloc::AllocError;
 
 /// From the beginning of one span to the end of another.
+#[inline(always)]
 fn joined(first: Span, last: Span) -> Span
     ensures { result ≡ joined_span first last }
 {
@@ -32,6 +33,7 @@ fn joined(first: Span, last: Span) -> Span
 }
 
 /// Adds a node of this shape.
+#[inline(always)]
 fn lay(
     nodes: &mut NodeList,
     shape: Shape,
@@ -118,6 +120,7 @@ pub fn negative(nodes: &mut NodeList, minus: Word, number: Word) -> Result<Opera
 }
 
 /// A name that stands for itself, an atom (ISO/IEC 13211-1, 6.3.1.3).
+#[inline(always)]
 pub fn atom(nodes: &mut NodeList, word: Word) -> Result<Operand, AllocError>
     ensures { IfOk result (λ operand. (names : NamesSeen) → see_made (forest names nodes.new) operand
         ≡ made (forest names nodes.old) (atom_operand (see_word names word))) }

@@ -17,6 +17,7 @@ use prolog_ops::OpTable;
 use std::alloc::AllocError;
 
 /// Closes the open operators whose right bound is below the priority.
+#[inline(always)]
 pub fn reduce(
     names: &Names,
     state: &mut State,
@@ -46,6 +47,7 @@ pub fn close(names: &Names, state: &mut State, operand: Operand) -> Result<Opera
 }
 
 /// An infix operator (ISO/IEC 13211-1, 6.3.4.2), once the operators before it are closed.
+#[inline(always)]
 pub fn infix_behind(
     state: &mut State,
     left: Operand,
@@ -90,6 +92,7 @@ fn postfix_behind(
 }
 
 /// An infix operator with its sides, behind the operators that it closes.
+#[inline(always)]
 pub fn infix_step(
     names: &Names,
     state: &mut State,

@@ -59,6 +59,7 @@ pub enum Pending {
 }
 
 /// The depth of the deepest part that stands in it.
+#[inline(always)]
 pub fn inner_depth(pending: Pending) -> usize
     ensures { (names : Names) (trees : List Tree) → result ≡ inner_depth (see_pending names pending trees) }
 {
@@ -73,6 +74,7 @@ pub fn inner_depth(pending: Pending) -> usize
 }
 
 /// Whether the innermost bracket has parts, with this one on those below.
+#[inline(always)]
 pub fn has_parts(pending: Pending, below: bool) -> bool
     ensures { (names : Names) (trees : List Tree) → result ≡ pending_has_parts (see_pending names pending trees) below }
 {
@@ -86,6 +88,7 @@ pub fn has_parts(pending: Pending, below: bool) -> bool
 }
 
 /// The greatest priority of the right side of the operator.
+#[inline(always)]
 pub fn right_bound(operator: Operator) -> u32
     ensures { (names : Names) (trees : List Tree) → result ≡ right_of (see_operator names operator trees) }
 {
@@ -96,6 +99,7 @@ pub fn right_bound(operator: Operator) -> u32
 }
 
 /// The priority of the operator's term.
+#[inline(always)]
 pub fn priority_of(operator: Operator) -> u32
     ensures { (names : Names) (trees : List Tree) → result ≡ priority_of (see_operator names operator trees) }
 {
@@ -106,6 +110,7 @@ pub fn priority_of(operator: Operator) -> u32
 }
 
 /// The greatest priority of what stands right of it.
+#[inline(always)]
 pub fn pending_bound(pending: Pending) -> u32
     ensures { (names : Names) (trees : List Tree) → result ≡ pending_bound (see_pending names pending trees) }
 {

@@ -33,6 +33,7 @@ pub struct Stack {
 }
 
 /// The innermost of the lowest entries up to a place.
+#[inline(always)]
 fn entry_at(entries: &[Entry], at: usize) -> Entry
     requires { at < length entries.now }
     ensures { reverse (take (at + 1) entries.now) ≡ result ∷ reverse (take at entries.now) }
@@ -73,12 +74,14 @@ impl Stack {
         }
     }
 
+    #[inline(always)]
     fn top(&self) -> Option<&Entry>
         ensures { MatchOption result (innermost self.now ≡ []) (λ top. (below : List EntryKept) × (innermost self.now ≡ top.now ∷ below)) }
     {
         self.entries.last()
     }
 
+    #[inline(always)]
     pub fn height(&self) -> usize
         ensures { (names : Names) (trees : List Tree) → result ≡ length (see_entries names (innermost self.now) trees) }
     {
@@ -86,6 +89,7 @@ impl Stack {
     }
 
     /// The greatest priority of what stands on the stack.
+    #[inline(always)]
     pub fn bound(&self) -> u32
         ensures { (names : Names) (trees : List Tree) → result ≡ bound_seen (see_entries names (innermost self.now) trees) }
     {
@@ -95,6 +99,7 @@ impl Stack {
         }
     }
 
+    #[inline(always)]
     pub fn reach(&self) -> usize
         ensures { (names : Names) (trees : List Tree) → result ≡ reach_seen (see_entries names (innermost self.now) trees) }
     {
@@ -115,6 +120,7 @@ impl Stack {
     }
 
     /// The least depth of the clause where an operand of this depth stands on the stack.
+    #[inline(always)]
     pub fn floor(&self, depth: usize) -> usize
         ensures { (names : Names) (trees : List Tree) → result ≡ floor_seen (see_entries names (innermost self.now) trees) depth }
     {
@@ -167,6 +173,7 @@ impl Stack {
         Ok(())
     }
 
+    #[inline(always)]
     fn pop(&mut self) -> Option<Pending>
         ensures { MatchOption result ((innermost self.old ≡ []) × (innermost self.new ≡ [])) (λ pending. (reach : ℕ) × (separates : Bool)
             × (innermost self.old ≡ record { pending = pending; reach = reach; separates = separates } ∷ innermost self.new)) }
@@ -176,6 +183,7 @@ impl Stack {
     }
 
     /// The innermost operator or bracket goes.
+    #[inline(always)]
     fn shorten(&mut self)
         ensures { (top : EntryKept) (below : List EntryKept) → innermost self.old ≡ top ∷ below → innermost self.new ≡ below }
     {
@@ -183,6 +191,7 @@ impl Stack {
     }
 
     /// The innermost operator, where no bracket is open inside it.
+    #[inline(always)]
     pub fn pop_operator(&mut self) -> Option<Operator>
         ensures { MatchOption result ((self.new ≡ self.old) × ((names : Names) (trees : List Tree)
             → is_operator_top (see_entries names (innermost self.old) trees) ≡ false)) (λ found. (reach : ℕ) × (separates : Bool) × (innermost self.old
@@ -200,6 +209,7 @@ impl Stack {
 
     /// The innermost operator, where no bracket is open inside it and its right bound is below the
     /// priority.
+    #[inline(always)]
     pub fn pop_operator_below(&mut self, priority: u32) -> Option<Operator>
         ensures { MatchOption result ((self.new ≡ self.old) × ((names : Names) (trees : List Tree)
             → is_operator_below priority (see_entries names (innermost self.old) trees) ≡ false)) (λ found. (reach : ℕ) × (separates : Bool)

@@ -82,6 +82,7 @@ fn have_negative(state: &mut State, minus: Word, word: Word) -> Result<bool, All
 }
 
 /// An atom.
+#[inline(always)]
 fn have_atom(state: &mut State, word: Word) -> Result<bool, AllocError>
     ensures { IfOk result (λ goes. (names : NamesSeen) → see_step names state.new goes
         ≡ goes_seen (see_stack names state.old) (has (atom_operand (see_word names word)))) }
@@ -205,6 +206,7 @@ pub struct Behind {
 
 /// A name where an operand is wanted: a functor (ISO/IEC 13211-1, 6.3.3), the minus of a number
 /// (6.3.1.2), a prefix operator (6.3.4.2) or an atom (6.3.1.3).
+#[inline(always)]
 pub fn want_name(
     names: &Names,
     state: &mut State,

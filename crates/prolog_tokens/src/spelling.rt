@@ -21,6 +21,7 @@ pub struct Spelling {
 }
 
 /// The end of the characters from `from` on that go on a word.
+#[inline(always)]
 fn word_end(text: &str, from: usize) -> usize
     requires { from ≤ length text.now }
     ensures from { from ≤ result }
@@ -129,6 +130,7 @@ fn spell_number(bytes: &[u8], start: usize) -> Result<Spelling, TokenFault>
 }
 
 /// The ASCII character at `start` as a token of the kind.
+#[inline(always)]
 fn spell_one(start: usize, kind: Kind) -> Spelling
     requires { start < MOST_BYTES }
     ensures { result ≡ record { kind = kind; end = start + 1 } }

@@ -130,6 +130,7 @@ fn code_value(text: &str, at: usize) -> Option<u32>
 }
 
 /// The value of the integer that is written from `start` to `end`.
+#[inline(never)]
 fn number_value(text: &str, start: usize, end: usize) -> Option<u32>
     requires some { start < end }
     requires within { end ≤ length text.now }
