@@ -1,4 +1,5 @@
 ghost use Rattle.std.specs.Prelude.{◌≡◌};
+ghost use Rattle.std.specs.Str.{bytes_eq};
 ghost use Rattle.prolog_names.specs.Names.{name_at};
 ghost use Rattle.prolog_names.specs.Table.{text_hash};
 
@@ -53,5 +54,13 @@ impl Names {
         ensures { result ≡ text_hash (name_at self.now number) }
     {
         self.table.hash(number as usize)
+    }
+
+    /// Whether the name of the number is this one.
+    #[inline(always)]
+    pub fn is(&self, number: u32, name: &str) -> bool
+        ensures { result ≡ bytes_eq (name_at self.now number) name.now }
+    {
+        self.table.is(number as usize, name)
     }
 }

@@ -104,6 +104,17 @@ impl NameTable {
         }
     }
 
+    /// Whether the name at a place, or none behind the last one, is this one.
+    #[inline(always)]
+    pub fn is(&self, place: usize, name: &str) -> bool
+        ensures { result ≡ bytes_eq (name_at self.now place) name.now }
+    {
+        match self.entries.get(place) {
+            Some(named) => named.text.is(name),
+            None => "" == name,
+        }
+    }
+
     /// The place of the name of that hash.
     #[inline(always)]
     fn find(&self, name: &str, hash: u32) -> Option<u32>

@@ -25,11 +25,12 @@ pub fn start_of(term: &Term) -> u32
     inside(term).span().from
 }
 
-/// The name and the arguments of a compound of two arguments, in any notation and brackets.
-pub fn binary<'a>(term: &Term<'a>) -> Option<Binary<'a>>
-    ensures trees { option_map (λ pair. record { name = pair.name.now; left = tree_of pair.left; right = tree_of pair.right }) result
+/// The number of the name and the arguments of a compound of two arguments, in any notation and brackets.
+#[inline(always)]
+fn numbered_binary<'a>(term: &Term<'a>) -> Option<(u32, Term<'a>, Term<'a>)>
+    ensures trees { option_map (λ pair. record { name = name_at term.now.names.now pair.0; left = tree_of pair.1; right = tree_of pair.2 }) result
         ≡ binary_tree (tree_of term.now) }
-    ensures within { IfSome result (λ pair. IsOf term.now.names.now term.now.nodes.now pair.left × IsOf term.now.names.now term.now.nodes.now pair.right) }
+    ensures within { IfSome result (λ pair. IsOf term.now.names.now term.now.nodes.now pair.1 × IsOf term.now.names.now term.now.nodes.now pair.2) }
 {
     let inner = inside(term);
     let (node, before) = inner.node();
@@ -37,11 +38,18 @@ pub fn binary<'a>(term: &Term<'a>) -> Option<Binary<'a>>
         return None;
     };
     let (left, right) = inner.parts(before, count).pair()?;
-    Some(Binary {
-        name: inner.names.text(name),
-        left,
-        right,
-    })
+    Some((name, left, right))
+}
+
+/// The name and the arguments of a compound of two arguments, in any notation and brackets.
+pub fn binary<'a>(term: &Term<'a>) -> Option<Binary<'a>>
+    ensures trees { option_map (λ pair. record { name = pair.name.now; left = tree_of pair.left; right = tree_of pair.right }) result
+        ≡ binary_tree (tree_of term.now) }
+    ensures within { IfSome result (λ pair. IsOf term.now.names.now term.now.nodes.now pair.left × IsOf term.now.names.now term.now.nodes.now pair.right) }
+{
+    let (number, left, right) = numbered_binary(term)?;
+    let name = term.names.text(number);
+    Some(Binary { name, left, right })
 }
 
 /// The two arguments of a compound of this name, in any notation and brackets.
@@ -49,11 +57,11 @@ pub fn sides<'a>(term: &Term<'a>, operator: &str) -> Option<(Term<'a>, Term<'a>)
     ensures trees { option_map (λ pair. (tree_of pair.0, tree_of pair.1)) result ≡ sides_of operator.now (tree_of term.now) }
     ensures within { IfSome result (λ pair. IsOf term.now.names.now term.now.nodes.now pair.0 × IsOf term.now.names.now term.now.nodes.now pair.1) }
 {
-    let pair = binary(term)?;
-    if pair.name != operator {
+    let (number, left, right) = numbered_binary(term)?;
+    if !term.names.is(number, operator) {
         return None;
     }
-    Some((pair.left, pair.right))
+    Some((left, right))
 }
 
 /// The number of the name and the number of arguments of an atom or a compound.

@@ -21,7 +21,6 @@ pub struct Spelling {
 }
 
 /// The end of the characters from `from` on that go on a word.
-#[inline(always)]
 fn word_end(text: &str, from: usize) -> usize
     requires { from ≤ length text.now }
     ensures from { from ≤ result }
