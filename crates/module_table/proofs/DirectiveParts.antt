@@ -24,10 +24,7 @@ use Rattle.module_table.specs.declared.dynamic.Standing.TheVariants.{Whole, Join
 use Rattle.module_table.specs.Dynamic.{owned, bare_said, is_joint, is_whole, dynamic_at, each_dynamic}
 use Rattle.module_table.specs.Loading.{path_text, resolved_in, is_system, file_of, load_said, loads_said, use_all_said}
 use Rattle.module_table.specs.Directives.{Home, some_said, exports, declared_said, module_name, module_said, silent_names, outside_names, one_said, two_said, three_said, shallow_said, directive_said}
-
-pub each_join : {A : Type 0} (P : A → Type 0) (xs ys : List A) → AllByRecursion P xs → AllByRecursion P ys → AllByRecursion P (xs ++ ys)
-each_join P [] ys all also = also
-each_join P (x ∷ xs) ys all also = (all.0, each_join P xs ys all.1 also)
+use Rattle.module_table.proofs.Segments.{join}
 
 -- what is said in turn is of parts that each fit, where each that is said does
 
@@ -36,7 +33,7 @@ AllFit P (Ok parts) = AllByRecursion P parts
 AllFit P (Err refusal) = Unit {0}
 
 pub fit_in_turn : (P : Part → Type 0) (a b : Said) → AllFit P a → AllFit P b → AllFit P (in_turn a b)
-fit_in_turn P (Ok xs) (Ok ys) first second = each_join P xs ys first second
+fit_in_turn P (Ok xs) (Ok ys) first second = join P xs ys first second
 fit_in_turn P (Ok xs) (Err refusal) first second = tt
 fit_in_turn P (Err refusal) b first second = tt
 
@@ -94,7 +91,7 @@ mutual
   takes_small owner (compound name (with_more a none) form span) = (args_small (a ∷ []), tt)
   takes_small owner (compound name (with_more left (with_more right none)) form span) =
       small_if (bytes_eq name (codes ",")) (takes_of owner left ++ takes_of owner right) _
-      (each_join AreSmall (takes_of owner left) (takes_of owner right) (takes_small owner left) (takes_small owner right))
+      (join AreSmall (takes_of owner left) (takes_of owner right) (takes_small owner left) (takes_small owner right))
       (small_if (bytes_eq name (codes ":")) _ _ (named_small (atom_name left) right (λ own. takes_small own right)) (args_small (left ∷ right ∷ []), tt))
   takes_small owner (compound name (with_more a (with_more b (with_more c rest))) form span) = (args_small (trees_in (with_more a (with_more b (with_more c rest)))), tt)
   takes_small owner (listed items span) = items_small owner items
@@ -107,7 +104,7 @@ mutual
 
   items_small : (owner : List ℕ) (trees : Trees) → AllByRecursion AreSmall (all_takes owner trees)
   items_small owner none = tt
-  items_small owner (with_more tree trees) = each_join AreSmall (takes_of owner tree) (all_takes owner trees) (takes_small owner tree) (items_small owner trees)
+  items_small owner (with_more tree trees) = join AreSmall (takes_of owner tree) (all_takes owner trees) (takes_small owner tree) (items_small owner trees)
 
 module _ (user : Home) where
   -- a part that a directive says

@@ -3,7 +3,7 @@ use Rattle.std.proofs.Common.{◌≡◌, ℕ, zero, suc, ◌<◌, ◌≤◌, Boo
 use Rattle.std.specs.Str.{bytes_eq}
 use Rattle.prolog_terms.specs.Tree.{Tree, Trees, variable, constant, atom, compound, listed, tailed, curly, paren, more as with_more, none, depth, deepest}
 use Rattle.prolog_terms.specs.Views.{trees_in, sides_of, atom_name}
-use Rattle.prolog_terms.proofs.ViewLemmas.{pair_if, of_sides, of_none}
+use Rattle.prolog_terms.proofs.ViewLemmas.{some_once, pair_if, of_sides, of_none}
 use Rattle.clause_text.specs.declared.cause.Cause.TheVariants.{BadIndicator}
 use Rattle.module_table.specs.declared.dynamic.Standing.{Standing}
 use Rattle.module_table.specs.declared.dynamic.Standing.TheVariants.{Whole, Joint, Item}
@@ -62,19 +62,16 @@ each_as_list : (owner : List ℕ) (trees : Trees) → each_dynamic owner trees �
 each_as_list owner none = refl
 each_as_list owner (with_more tree trees) = ap (in_turn (dynamic_at Item owner tree)) (each_as_list owner trees)
 
-same_items : (a b : List Tree) → Some a ≡ Some b → a ≡ b
-same_items a b same = cc
-
 empty_said : (owner : List ℕ) (test : Bool) (items : List Tree) (other : Said) → (if test then Some [] else None) ≡ Some items
     → (if test then each_dynamic owner none else other) ≡ each_said (dynamic_at Item owner) items
-empty_said owner true items other is = ap (each_said (dynamic_at Item owner)) (same_items [] items is)
+empty_said owner true items other is = ap (each_said (dynamic_at Item owner)) (some_once is)
 empty_said owner false items other is = let both : None ≡ Some items = is in absurd (cc)
 
 pub dynamic_list : (at : Standing) (owner : List ℕ) (tree : Tree) (items : List Tree) → whole_items at tree ≡ Some items
     → dynamic_at at owner tree ≡ each_said (dynamic_at Item owner) items
 dynamic_list Joint owner tree items is = let both : None ≡ Some items = is in absurd (cc)
 dynamic_list Item owner tree items is = let both : None ≡ Some items = is in absurd (cc)
-dynamic_list Whole owner (listed own span) items is = each_as_list owner own ∙ ap (each_said (dynamic_at Item owner)) (same_items (trees_in own) items is)
+dynamic_list Whole owner (listed own span) items is = each_as_list owner own ∙ ap (each_said (dynamic_at Item owner)) (some_once is)
 dynamic_list Whole owner (atom name span) items is = empty_said owner (bytes_eq name (codes "[]")) items (refused BadIndicator (atom name span)) is
 dynamic_list Whole owner (paren inner span) items is = dynamic_list Whole owner inner items is
 dynamic_list Whole owner tree items is = let both : None ≡ Some items = is in absurd (cc)
@@ -118,12 +115,12 @@ in_deepest (with_more tree trees) (suc i) d below = omega (arith, in_deepest tre
 
 pub items_below : (tree : Tree) (items : List Tree) → list_of tree ≡ Some items → (i : ℕ) (d : Tree) → i < length items → depth (get_or items i d) < depth tree
 items_below (listed own span) items is i d below =
-    let same = same_items (trees_in own) items is in
+    let same : trees_in own ≡ items = some_once is in
     subst (λ its. i < length its → depth (get_or its i d) < depth (listed own span)) same (λ within. omega (arith, in_deepest own i d within)) below
 items_below (atom name span) items is i d below = no_items (bytes_eq name (codes "[]")) is
   where
     no_items : (test : Bool) → (if test then Some [] else None) ≡ Some items → depth (get_or items i d) < depth (atom name span)
-    no_items true same = absurd (omega (arith, ap length (same_items [] items same), below))
+    no_items true same = absurd (omega (arith, ap length (some_once {x = []} {y = items} same), below))
     no_items false same = let both : None ≡ Some items = same in absurd (cc)
 items_below (paren inner span) items is i d below = omega (arith, items_below inner items is i d below)
 items_below tree items is i d below = let both : None ≡ Some items = is in absurd (cc)

@@ -7,6 +7,7 @@ use Rattle.prolog_terms.specs.declared.term.Span.{Span}
 use Rattle.prolog_terms.specs.declared.term.Form.{Form}
 use Rattle.prolog_terms.specs.Tree.{Tree, Trees, compound, listed, paren, more as with_more, none, span_of}
 use Rattle.prolog_terms.specs.Views.{inside, start_of, trees_in, Binary, binary_at, binary, sides_named, joined, atom_name}
+use Rattle.prolog_terms.proofs.ViewLemmas.{some_once}
 use Rattle.clause_text.specs.Lists.{written_at, written_items}
 use Rattle.module_table.specs.Heads.{is_pushback, before_pushback, grammar_head}
 use Rattle.module_table.specs.Indicators.{list_of}
@@ -72,11 +73,8 @@ module _ (k : HandsDown) where
 
   -- items
 
-  same_items : (a b : List Tree) → Some a ≡ Some b → a ≡ b
-  same_items a b same = cc
-
   written_at_good : (tree : Tree) (items : List Tree) → written_at tree ≡ Some items → k.Good tree → All k.Good items
-  written_at_good (listed own span) items is good = subst (All k.Good) (same_items (trees_in own) items is) (k.items own span good)
+  written_at_good (listed own span) items is good = subst (All k.Good) (some_once is) (k.items own span good)
   written_at_good tree items is good = let both : None ≡ Some items = is in absurd (cc)
 
   pub written_good : (tree : Tree) (items : List Tree) → written_items tree ≡ Some items → k.Good tree → All k.Good items
@@ -86,7 +84,7 @@ module _ (k : HandsDown) where
   list_good tree items is good = by_name (atom_name tree) refl is
     where
       of_test : (test : Bool) → (if test then Some [] else None) ≡ Some items → All k.Good items
-      of_test true same = subst (All k.Good) (same_items [] items same) (All-nil k.Good)
+      of_test true same = subst (All k.Good) (some_once same) (All-nil k.Good)
       of_test false same = let both : None ≡ Some items = same in absurd (cc)
 
       by_name : (found : Option (List ℕ)) → atom_name tree ≡ found → list_of tree ≡ Some items → All k.Good items

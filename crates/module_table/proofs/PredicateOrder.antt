@@ -44,15 +44,16 @@ same_itself owner name arity = same_ties owner name arity owner name arity ∙ a
 pub apart_from_Less : (p q : Predicate) → predicate_cmp p q ≡ Less → same p.module_ p.name p.arity q.module_ q.name q.arity ≡ false
 apart_from_Less p q e = same_ties p.module_ p.name p.arity q.module_ q.name q.arity ∙ ap is_eq e
 
+-- what isn't equal and isn't behind comes before
+pub less_if_apart : (back r : Ordering) → r ≡ ordering_reverse back → is_lt back ≡ false → is_eq r ≡ false → r ≡ Less
+less_if_apart Less r e up other = cc
+less_if_apart Equal r e up other = let flat : is_eq r ≡ true = ap is_eq e in cc
+less_if_apart Greater r e up other = e
+
 -- of two predicates, the first of which isn't after the second
 pub Less-from_apart : (p q : Predicate) → is_lt (predicate_cmp q p) ≡ false → same p.module_ p.name p.arity q.module_ q.name q.arity ≡ false → predicate_cmp p q ≡ Less
 Less-from_apart p q up other =
-    rank (predicate_cmp q p) (predicate_cmp p q) (predicate_cmp_total.antisymm p q) up (sym (same_ties p.module_ p.name p.arity q.module_ q.name q.arity) ∙ other)
-  where
-    rank : (back r : Ordering) → r ≡ ordering_reverse back → is_lt back ≡ false → is_eq r ≡ false → r ≡ Less
-    rank Less r e up other = cc
-    rank Equal r e up other = let flat : is_eq r ≡ true = ap is_eq e in cc
-    rank Greater r e up other = e
+    less_if_apart (predicate_cmp q p) (predicate_cmp p q) (predicate_cmp_total.antisymm p q) up (sym (same_ties p.module_ p.name p.arity q.module_ q.name q.arity) ∙ other)
 
 pub sorted_push : (ps : List Predicate) (q : Predicate) → IsStrictlySortedBy predicate_cmp ps → All (λ p. predicate_cmp p q ≡ Less) ps → IsStrictlySortedBy predicate_cmp (ps ++ q ∷ [])
 unfolding IsStrictlySortedBy

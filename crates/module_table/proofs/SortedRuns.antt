@@ -19,6 +19,12 @@ use Rattle.module_table.proofs.PredicateOrder.{predicate_cmp_total, same, same_t
 use Rattle.module_table.proofs.RunLemmas.{all_then}
 use Rattle.module_table.proofs.Grouping.{by_test, clause_of_another, all_of, run_added, none_defined}
 
+-- two that tie are equal
+pub tied_is_same : (r back : Ordering) → back ≡ ordering_reverse r → (not (is_lt r) && not (is_lt back)) ≡ is_eq r
+tied_is_same Less back e = refl
+tied_is_same Equal back e = rw e refl
+tied_is_same Greater back e = rw e refl
+
 module _ (names : List (List ℕ)) where
   -- whether a run is of a predicate that comes before another's
   abbrev pub comes_before : Defined → Defined → Bool
@@ -40,11 +46,6 @@ module _ (names : List (List ℕ)) where
 
   abbrev see_run : Defined → List Defines
   see_run run = run_seen names run
-
-  tied_is_same : (r back : Ordering) → back ≡ ordering_reverse r → (not (is_lt r) && not (is_lt back)) ≡ is_eq r
-  tied_is_same Less back e = refl
-  tied_is_same Equal back e = rw e refl
-  tied_is_same Greater back e = rw e refl
 
   ties_same : (asked run : Defined) → ties comes_before asked run ≡ same (own_module asked) (own_name asked) asked.arity (own_module run) (own_name run) run.arity
   ties_same asked run =
