@@ -26,38 +26,52 @@ const NAP: u64 = 50;
 // In how many of the looks it was opening a node where it gives way.
 const MOST_OPENING: u32 = 12;
 
+// What the search is doing.
+const BEGINS: u64 = 0;
+
+const OPENS: u64 = 1;
+
+const SETTLES: u64 = 2;
+
 /// One search that is looked at from beside it, to see how much of its time goes into openings.
 #[derive(Drop)]
 struct Trial {
-    /// 1 while a node is being opened, else 0.
-    opening: AtomicU64,
+    /// What it is doing: it has opened no node yet, it opens one, or it does something else.
+    doing: AtomicU64,
     state: AtomicU64,
 }
 
 impl Trial {
     fn new() -> Trial {
         Trial {
-            opening: AtomicU64::new(0),
+            doing: AtomicU64::new(BEGINS),
             state: AtomicU64::new(GOES_ON),
         }
     }
 
-    // Looks at the search a few times, and lets it give way where it was opening a node nearly always. It
-    // ends where the search ends.
+    // Looks at the search a few times once it has begun, and lets it give way where it was opening a node
+    // nearly always. It ends where the search ends.
     fn watch(&self, rt: &impl Wait) {
-        let mut opening: u32 = 0;
-        for _look in 0..LOOKS {
+        let mut opens: u32 = 0;
+        let mut settles: u32 = 0;
+        for _ in rt.forever() {
             self.state
                 .park_timeout(rt, GOES_ON as u32, Duration::from_micros(NAP));
             if self.state.load(Ordering::SeqCst) != GOES_ON {
                 return;
             }
-            if self.opening.load(Ordering::Relaxed) == 1 {
-                opening = opening.saturating_add(1);
+            match self.doing.load(Ordering::Relaxed) {
+                OPENS => opens = opens.saturating_add(1),
+                SETTLES => settles = settles.saturating_add(1),
+                _ => {}
             }
-        }
-        if opening >= MOST_OPENING {
-            self.comes_to(GIVES_WAY);
+            if opens >= MOST_OPENING {
+                self.comes_to(GIVES_WAY);
+                return;
+            }
+            if settles > LOOKS - MOST_OPENING {
+                return;
+            }
         }
     }
 
@@ -97,9 +111,9 @@ impl<'a, O: Opener> Opener for Tried<'a, O> {
         if self.trial.has_given_way() {
             return Err(AllocError);
         }
-        self.trial.opening.store(1, Ordering::Relaxed);
+        self.trial.doing.store(OPENS, Ordering::Relaxed);
         let expanded = self.opener.expand(node, out);
-        self.trial.opening.store(0, Ordering::Relaxed);
+        self.trial.doing.store(SETTLES, Ordering::Relaxed);
         expanded
     }
 }
