@@ -1,5 +1,6 @@
 -- What a worker keeps between two turns, which roots it has claimed, and what it owes for a group that it closes.
-use Rattle.std.specs.Prelude.{◌≡◌, ℕ, ◌-◌, ◌+◌, ◌<◌, ◌≤◌, Bool, true, false, List, [], ◌++◌, length, slice_index, slice_index_or, take, None, Some, All, Contains, ⊤}
+use Rattle.std.specs.Prelude.{◌≡◌, ℕ, ◌-◌, ◌+◌, ◌<◌, ◌≤◌, Bool, true, false, List, [], ◌++◌, length, slice_index, slice_index_or, take}
+use Rattle.std.specs.Prelude.{None, Some, All, Contains, ⊤}
 use Rattle.list_laws.specs.Counts.{times, flat}
 use Rattle.search_stack.specs.GoodSearch.{IsGood}
 use Rattle.search_stack.specs.Search.{SearchValue}

@@ -18,20 +18,21 @@ const GIVES_WAY: u64 = 1;
 
 const ENDED: u64 = 2;
 
-// How often the search is looked at, and how many microseconds pass before each look.
-const LOOKS: u32 = 16;
-
+// How many microseconds pass before each look.
 const NAP: u64 = 50;
 
-// In how many of the looks it was opening a node where it gives way.
-const MOST_OPENING: u32 = 12;
+// How often a search is seen to open a node before it gives way, and how often to do something else before
+// it is left alone: more than three quarters of its time have to go into openings.
+const MANY_OPENINGS: u32 = 12;
+
+const MANY_OTHERS: u32 = 5;
 
 // What the search is doing.
 const BEGINS: u64 = 0;
 
 const OPENS: u64 = 1;
 
-const SETTLES: u64 = 2;
+const SEARCHES: u64 = 2;
 
 /// One search that is looked at from beside it, to see how much of its time goes into openings.
 #[derive(Drop)]
@@ -49,11 +50,11 @@ impl Trial {
         }
     }
 
-    // Looks at the search a few times once it has begun, and lets it give way where it was opening a node
-    // nearly always. It ends where the search ends.
+    // Looks at the search a few times, once it has opened a node, and lets it give way where it was opening
+    // one nearly always. It ends where the search ends.
     fn watch(&self, rt: &impl Wait) {
         let mut opens: u32 = 0;
-        let mut settles: u32 = 0;
+        let mut others: u32 = 0;
         for _ in rt.forever() {
             self.state
                 .park_timeout(rt, GOES_ON as u32, Duration::from_micros(NAP));
@@ -62,14 +63,14 @@ impl Trial {
             }
             match self.doing.load(Ordering::Relaxed) {
                 OPENS => opens = opens.saturating_add(1),
-                SETTLES => settles = settles.saturating_add(1),
+                SEARCHES => others = others.saturating_add(1),
                 _ => {}
             }
-            if opens >= MOST_OPENING {
+            if opens >= MANY_OPENINGS {
                 self.comes_to(GIVES_WAY);
                 return;
             }
-            if settles > LOOKS - MOST_OPENING {
+            if others >= MANY_OTHERS {
                 return;
             }
         }
@@ -113,7 +114,7 @@ impl<'a, O: Opener> Opener for Tried<'a, O> {
         }
         self.trial.doing.store(OPENS, Ordering::Relaxed);
         let expanded = self.opener.expand(node, out);
-        self.trial.doing.store(SETTLES, Ordering::Relaxed);
+        self.trial.doing.store(SEARCHES, Ordering::Relaxed);
         expanded
     }
 }
