@@ -9,14 +9,14 @@ use Rattle.std.proofs.lemmas.List.Folds.{list_any_none}
 use Rattle.import_rules.specs.declared.name_table.Link.{Link}
 use Rattle.import_rules.specs.declared.names.PredName.{PredName}
 use Rattle.import_rules.specs.Names.{is_same}
-use Rattle.import_rules.specs.NameTable.{name_hash, bucket_of, buckets_of, bucket_at, next_of, hashes_of, IsLast, AreChains, IsChained, IsLinked}
+use Rattle.prolog_names.specs.Table.{bucket_at, IsLast, AreChains}
+use Rattle.prolog_names.proofs.ChainSteps.{ArePassed, head_passed, next_passed}
+use Rattle.import_rules.specs.NameTable.{name_hash, bucket_of, buckets_of, next_of, hashes_of, IsChained, IsLinked}
 use Rattle.import_rules.proofs.NameOrder.{same_parts}
 
 -- the name doesn't stand at the place or behind it, and the place before is in its bucket
-pub record IsPassed (names : List PredName) (size : ℕ) (wanted : PredName) (at : ℕ) : Type 0 where
-  pub within : at ≤ length names
-  pub none : (m : ℕ) → at ≤ m → m < length names → is_same wanted (get_or names m wanted) ≡ false
-  pub before : 0 < at → bucket_at (buckets_of size names) (at - 1) ≡ bucket_of size wanted
+abbrev pub IsPassed : List PredName → ℕ → PredName → ℕ → Type 0
+IsPassed names size wanted at = ArePassed (buckets_of size names) (λ m. is_same wanted (get_or names m wanted)) (length names) (bucket_of size wanted) at
 
 -- a name of another bucket is another one
 other_bucket : (names : List PredName) (size : ℕ) (wanted : PredName) (m : ℕ) → m < length names
@@ -29,36 +29,16 @@ other_bucket names size wanted m within apart =
 pub from_head : (names : List PredName) (heads next : List ℕ) (wanted : PredName) → IsChained names heads next
     → bucket_of (length heads) wanted < length heads → IsPassed names (length heads) wanted (get_or heads (bucket_of (length heads) wanted) 0)
 from_head names heads next wanted chained below =
-    let last = chained.chains.last (bucket_of (length heads) wanted) below in record {
-      within = last.within;
-      none = λ m from within. other_bucket names (length heads) wanted m within (last.none_behind m from within);
-      before = last.is;
-    }
+    head_passed (buckets_of (length heads) names) (λ m. is_same wanted (get_or names m wanted)) (length names) (bucket_of (length heads) wanted) heads next
+    chained.chains (other_bucket names (length heads) wanted) below
 
 -- the place before is not that of the name
 pub from_next : (names : List PredName) (heads next : List ℕ) (wanted : PredName) (at : ℕ) → IsChained names heads next
     → IsPassed names (length heads) wanted at → 0 < at → is_same wanted (get_or names (at - 1) wanted) ≡ false
     → IsPassed names (length heads) wanted (get_or next (at - 1) 0)
 from_next names heads next wanted at chained passed some other =
-    let below : at - 1 < length names = omega (arith, passed.within, some) in
-    let last = chained.chains.earlier (at - 1) below in record {
-      within = omega (arith, last.within, below);
-      none = λ m from within.
-          elim (cases_order m (at - 1)) [
-            | inl is ↦ subst (λ k. is_same wanted (get_or names k wanted) ≡ false) (sym is) other
-            | inr (inl before) ↦
-                other_bucket names (length heads) wanted m within
-                (subst (λ b. bucket_at (buckets_of (length heads) names) m ≢ b) (passed.before some) (last.none_behind m from before))
-            | inr (inr behind) ↦ passed.none m (omega (arith, behind, some)) within
-          ];
-      before = λ more. last.is more ∙ passed.before some;
-    }
-
--- the next place is an earlier one
-pub next_falls : (names : List PredName) (heads next : List ℕ) (at : ℕ) → IsChained names heads next → 0 < at → at ≤ length names
-    → get_or next (at - 1) 0 < at
-next_falls names heads next at chained some within =
-    omega (arith, (chained.chains.earlier (at - 1) (omega (arith, some, within))).within, some)
+    next_passed (buckets_of (length heads) names) (λ m. is_same wanted (get_or names m wanted)) (length names) (bucket_of (length heads) wanted) heads next
+    chained.chains (other_bucket names (length heads) wanted) at passed some other
 
 pub none_named : (names : List PredName) (size : ℕ) (wanted : PredName) (at : ℕ) → at ≡ 0 → IsPassed names size wanted at
     → list_any (is_same wanted) names ≡ false
@@ -93,52 +73,6 @@ no_chains buckets size = record {
       within = omega arith;
       none_behind = λ m from below. absurd (omega (arith, below));
       is = λ some. absurd (omega (arith, some));
-    }
-
--- the next place is put in front of its chain
-pub add_place : (buckets heads next : List ℕ) (n b : ℕ) → b ≡ bucket_at buckets n → b < length heads → AreChains buckets n heads next
-    → AreChains buckets (n + 1) (set heads b (n + 1)) (next ++ get_or heads b 0 ∷ [])
-add_place buckets heads next n b is below chains = record {
-  as_many = length_push next (get_or heads b 0) ∙ ap (λ k. k + 1) chains.as_many;
-  last = λ c within.
-      elim (cases_eq c b) [
-        | inl same ↦ subst (λ d. IsLast buckets (n + 1) d (get_or (set heads b (n + 1)) d 0)) (sym same)
-            (subst (IsLast buckets (n + 1) b) (sym (get_or-set_same heads b (n + 1) 0 below)) newest)
-        | inr other ↦
-            subst (IsLast buckets (n + 1) c) (sym (get_or-set_other heads b c (n + 1) 0 other))
-            (kept c other (chains.last c (omega (arith, within, length-set heads b (n + 1)))))
-      ];
-  earlier = λ k within.
-      elim (cases_lt k n) [
-        | inl before ↦
-            subst (IsLast buckets k (bucket_at buckets k))
-            (sym (get_or_append_left next (get_or heads b 0 ∷ []) 0 k (omega (arith, before, chains.as_many)))) (chains.earlier k before)
-        | inr from ↦
-            let here : n ≡ k = omega (arith, within, from) in
-            subst (λ j. IsLast buckets j (bucket_at buckets j) (get_or (next ++ get_or heads b 0 ∷ []) j 0)) here
-            (subst (IsLast buckets n (bucket_at buckets n)) (sym (get_or_push next (get_or heads b 0) 0 n chains.as_many))
-            (subst (λ c. IsLast buckets n c (get_or heads b 0)) is (chains.last b below)))
-      ];
-}
-  where
-    newest : IsLast buckets (n + 1) b (n + 1)
-    newest = record {
-      within = omega arith;
-      none_behind = λ m from under. absurd (omega (arith, from, under));
-      is = λ some. let back : (n + 1) - 1 ≡ n = omega arith in ap (bucket_at buckets) back ∙ sym is;
-    }
-
-    kept : (c : ℕ) → c ≢ b → {x : ℕ} → IsLast buckets n c x → IsLast buckets (n + 1) c x
-    kept c other {x} last = record {
-      within = omega (arith, last.within);
-      none_behind = λ m from under.
-          elim (cases_lt m n) [
-            | inl before ↦ last.none_behind m from before
-            | inr at ↦
-                let here : m ≡ n = omega (arith, under, at) in
-                λ e. other (sym e ∙ ap (bucket_at buckets) here ∙ sym is)
-          ];
-      is = last.is;
     }
 
 -- the hashes beside the names

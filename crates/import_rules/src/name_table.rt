@@ -3,8 +3,9 @@
 ghost use Rattle.std.specs.Prelude.{◌≡◌, ◌<◌, ◌++◌, length, slice_get, Some, false, IfOk, IfSome, MatchOption};
 ghost use Rattle.std.specs.List.{list_any};
 ghost use Rattle.prolog_names.specs.Names.{name_at};
+ghost use Rattle.prolog_names.specs.Table.{bucket_in};
 ghost use Rattle.import_rules.specs.Names.{is_same, pred_name};
-ghost use Rattle.import_rules.specs.NameTable.{bucket_in, joint_hash, name_hash};
+ghost use Rattle.import_rules.specs.NameTable.{joint_hash, name_hash};
 
 use crate::names::PredName;
 use prolog_names::{Names, text_hash};

@@ -5,7 +5,8 @@ use Rattle.std.proofs.lemmas.List.{get_or_read, get_or-map, length-map}
 use Rattle.std.proofs.lemmas.Option.{slice_get_read}
 use Rattle.import_rules.specs.declared.name_table.Link.{Link}
 use Rattle.import_rules.specs.Names.{is_same, pred_name}
-use Rattle.import_rules.specs.NameTable.{bucket_in, bucket_of, next_of}
+use Rattle.prolog_names.specs.Table.{bucket_in}
+use Rattle.import_rules.specs.NameTable.{bucket_of, next_of}
 use Rattle.import_rules.proofs.NameOrder.{same_parts}
 use Rattle.import_rules.proofs.Chains.{IsPassed, from_head, from_next, none_named, hash_at}
 use Rattle.import_rules.proofs.name_table.NameTable.find_hashed.Goals as goal

@@ -3,8 +3,10 @@ use Rattle.std.proofs.Math.ListN.{length-set}
 use Rattle.std.proofs.lemmas.List.{get_or_read, get_or-map, length_push, length-map, map-append}
 use Rattle.import_rules.specs.declared.name_table.Link.{Link}
 use Rattle.import_rules.specs.Names.{pred_name}
-use Rattle.import_rules.specs.NameTable.{name_hash, bucket_in, bucket_of, buckets_of, bucket_at, next_of, hashes_of, AreChains, IsLinked}
-use Rattle.import_rules.proofs.Chains.{add_place, hash_more, all_linked}
+use Rattle.prolog_names.specs.Table.{bucket_in, bucket_at, AreChains}
+use Rattle.prolog_names.proofs.ChainSteps.{add_place}
+use Rattle.import_rules.specs.NameTable.{name_hash, bucket_of, buckets_of, next_of, hashes_of, IsLinked}
+use Rattle.import_rules.proofs.Chains.{hash_more, all_linked}
 use Rattle.import_rules.proofs.name_table.NameTable.make.Goals as goal
 
 pub loop-one-preserved : goal.loop-one-preserved

@@ -1,5 +1,6 @@
 use Rattle.std.proofs.Common.{◌≡◌, ◌<◌, length, map, take}
-use Rattle.import_rules.specs.NameTable.{name_hash, buckets_of, next_of, hashes_of, AreChains}
+use Rattle.prolog_names.specs.Table.{AreChains}
+use Rattle.import_rules.specs.NameTable.{name_hash, buckets_of, next_of, hashes_of}
 use Rattle.import_rules.proofs.name_table.NameTable.make.Given as goal
 
 -- the names so far stand in chains, with their hashes
