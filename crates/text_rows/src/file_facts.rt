@@ -55,11 +55,12 @@ fn push_loads(alloc: Global, out: &mut String, loads: &[Load]) -> Result<(), All
 /// file's.
 fn push_defined(alloc: Global, out: &mut String, facts: &FileFacts) -> Result<(), AllocError> {
     for predicate in &facts.defined {
-        if predicate.module != facts.module {
-            out.push_str(predicate.module.as_str())?;
+        let owner = facts.names.text(predicate.module);
+        if owner != facts.module.as_str() {
+            out.push_str(owner)?;
             out.push_str(":")?;
         }
-        let name = predicate.name.as_str();
+        let name = facts.names.text(predicate.name);
         let (arity, clauses) = (predicate.arity, predicate.clauses.len());
         let text = format!(in alloc; "{name}/{arity}:{clauses};")?;
         out.push_str(&text)?;
@@ -141,7 +142,7 @@ fn written(alloc: Global, facts: &FileFacts) -> Result<String, AllocError> {
 fn starts(alloc: Global, facts: &FileFacts) -> Result<String, AllocError> {
     let mut out = String::new(alloc);
     for predicate in &facts.defined {
-        let name = predicate.name.as_str();
+        let name = facts.names.text(predicate.name);
         let arity = predicate.arity;
         let text = format!(in alloc; "{name}/{arity}")?;
         out.push_str(&text)?;
