@@ -153,7 +153,8 @@ fn two_told(
 
 /// A directive of three arguments.
 fn three_told(name: &str, directive: &Term) -> Result<Told, FactFault>
-    ensures ok { IfOk result (λ told. (names : List (List ℕ)) (kinds : KindsOf) → IsTold names told kinds (three_said name.now (tree_of directive.now)) (tree_of directive.now) kinds) }
+    ensures ok { IfOk result (λ told. (names : List (List ℕ)) (kinds : KindsOf)
+        → IsTold names told kinds (three_said name.now (tree_of directive.now)) (tree_of directive.now) kinds) }
     ensures refused { IfErr result (λ fault. IsWhy (three_said name.now (tree_of directive.now)) fault) }
 {
     if name == "op" {
@@ -220,7 +221,8 @@ pub fn push_directive(
     ensures ok { OnOk result (with_said (see_kinds directive.now.names.now directive.now.nodes.now kinds.old)
         (directive_said (home user.now (name_at directive.now.names.now owner)) first (tree_of directive.now))
         ≡ Ok (see_kinds directive.now.names.now directive.now.nodes.now kinds.new)) }
-    ensures refused { IfErr result (λ fault. IsWhy (directive_said (home user.now (name_at directive.now.names.now owner)) first (tree_of directive.now)) fault) }
+    ensures refused { IfErr result (λ fault.
+        IsWhy (directive_said (home user.now (name_at directive.now.names.now owner)) first (tree_of directive.now)) fault) }
 {
     if let Some((left, right)) = sides(directive, ",") {
         push_directive(alloc, user, owner, false, &left, kinds)?;

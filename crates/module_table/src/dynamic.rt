@@ -60,7 +60,8 @@ fn name_in(owner: u32, term: &Term) -> Option<NameIn>
 
 /// `N/A`, `N//A`, `(M:N)/A` or `(M:N)//A`.
 fn owned(owner: u32, term: &Term) -> Option<OwnedIndicator>
-    ensures { option_map (λ own. record { module_ = name_at term.now.names.now own.module; name = name_at term.now.names.now own.name; arity = own.arity }) result
+    ensures { option_map (λ own.
+        record { module_ = name_at term.now.names.now own.module; name = name_at term.now.names.now own.name; arity = own.arity }) result
         ≡ owned (name_at term.now.names.now owner) (tree_of term.now) }
 {
     let pair = binary(term)?;

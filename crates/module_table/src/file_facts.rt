@@ -93,9 +93,11 @@ fn push_headed(
 ) -> Result<(), FactFault>
     requires { weight (clause_tree names.now clause) ≤ MOST_BYTES }
     ensures ok { OnOk result (with_said (see_kinds names.now [] kinds.old)
-        (headed (clause_head (name_at names.now owner) (clause_tree names.now clause)) (clause_tree names.now clause)) ≡ Ok (see_kinds names.now [] kinds.new)) }
+        (headed (clause_head (name_at names.now owner) (clause_tree names.now clause)) (clause_tree names.now clause))
+        ≡ Ok (see_kinds names.now [] kinds.new)) }
     ensures ends { OnOk result (kinds.new.ends ≡ kinds.old.ends) }
-    ensures refused { IfErr result (λ fault. IsWhy (headed (clause_head (name_at names.now owner) (clause_tree names.now clause)) (clause_tree names.now clause)) fault) }
+    ensures refused { IfErr result (λ fault.
+        IsWhy (headed (clause_head (name_at names.now owner) (clause_tree names.now clause)) (clause_tree names.now clause)) fault) }
 {
     let own = match clause_head(owner, &clause.term(names)) {
         Ok(own) => own,
