@@ -2,13 +2,12 @@
 
 ghost use Rattle.std.specs.Prelude.{◌≡◌, ◌<◌, ◌++◌, length, slice_get, Some, false, IfOk, IfSome, MatchOption};
 ghost use Rattle.std.specs.List.{list_any};
-ghost use Rattle.prolog_names.specs.Names.{name_at};
 ghost use Rattle.prolog_names.specs.Table.{bucket_in};
 ghost use Rattle.import_rules.specs.Names.{is_same, pred_name};
 ghost use Rattle.import_rules.specs.NameTable.{joint_hash, name_hash};
 
 use crate::names::PredName;
-use prolog_names::{Names, text_hash};
+use prolog_names::text_hash;
 use std::alloc::{AllocError, Global};
 use std::marker::Model;
 
@@ -80,7 +79,7 @@ fn is_named(one: &PredName, kept: u32, module: &str, name: &str, arity: u32, has
     if kept != hash {
         return false;
     }
-    module == one.module.as_str() && (name == one.name.as_str() && arity == one.arity)
+    one.module.is(module) && (one.name.is(name) && arity == one.arity)
 }
 
 impl NameTable {
@@ -146,28 +145,6 @@ impl NameTable {
         ensures below { IfSome result (λ n. n < length self.now) }
     {
         let hash = name_hash(module, name, arity);
-        self.find_hashed(module, name, arity, hash)
-    }
-
-    /// The last place of the name that these numbers mean in the names. No text is read for the hash.
-    pub(crate) fn find_in(&self, names: &Names, owner: u32, name: u32, arity: u32) -> Option<usize>
-        ensures is { MatchOption result
-            (list_any (is_same (pred_name (name_at names.now owner) (name_at names.now name) arity)) self.now ≡ false)
-            (λ n. slice_get self.now n ≡ Some (pred_name (name_at names.now owner) (name_at names.now name) arity)) }
-        ensures below { IfSome result (λ n. n < length self.now) }
-    {
-        let hash = joint_hash(names.hash(owner), names.hash(name), arity);
-        self.find_hashed(names.text(owner), names.text(name), arity, hash)
-    }
-
-    /// The last place of the name of that hash.
-    fn find_hashed(&self, module: &str, name: &str, arity: u32, hash: u32) -> Option<usize>
-        requires { hash ≡ name_hash (pred_name module.now name.now arity) }
-        ensures is { MatchOption result
-            (list_any (is_same (pred_name module.now name.now arity)) self.now ≡ false)
-            (λ n. slice_get self.now n ≡ Some (pred_name module.now name.now arity)) }
-        ensures below { IfSome result (λ n. n < length self.now) }
-    {
         let mut at = self.heads[bucket_of(hash, self.heads.len())];
         while at > 0 {
             let place = at - 1;

@@ -1,6 +1,5 @@
 ghost use Rattle.std.specs.Prelude.{◌≡◌, ◌<◌, ◌≤◌, ℕ, List, [], true, Some, length, map, take, slice_get};
 ghost use Rattle.std.proofs.Props.{props};
-ghost use Rattle.prolog_names.specs.Names.{name_at};
 ghost use Rattle.file_library.specs.SortedOut.{see_loaded};
 ghost use Rattle.import_rules.specs.declared.resolve.TheConstants.{MOST_PREDICATES};
 ghost use Rattle.import_rules.specs.Files.{AreNumbered};
@@ -15,7 +14,6 @@ use crate::names::PredName;
 use crate::places::Places;
 use file_library::Loaded;
 use module_table::GoalArg;
-use prolog_names::Names;
 
 /// The predicates of all files that were loaded, numbered from 0 in order of module, name and
 /// arity, and what each name means in each module.
@@ -126,17 +124,6 @@ impl Program {
         ensures { result ≡ found (see_program self.now) module.now name.now arity }
     {
         let Some(at) = self.names.find(module, name, arity) else {
-            return None;
-        };
-        Some(self.targets[at])
-    }
-
-    /// The number of the predicate that a name means in a module, by the numbers of both in these names.
-    /// Their texts are read only where a name of the same hash stands in the program.
-    pub fn find_in(&self, names: &Names, owner: u32, name: u32, arity: u32) -> Option<u32>
-        ensures { result ≡ found (see_program self.now) (name_at names.now owner) (name_at names.now name) arity }
-    {
-        let Some(at) = self.names.find_in(names, owner, name, arity) else {
             return None;
         };
         Some(self.targets[at])

@@ -1,7 +1,6 @@
 ghost use Rattle.std.specs.Prelude.{◌≡◌};
 ghost use Rattle.std.specs.Str.{bytes_eq};
 ghost use Rattle.prolog_names.specs.Names.{name_at};
-ghost use Rattle.prolog_names.specs.Table.{text_hash};
 
 use crate::table::NameTable;
 use std::marker::Model;
@@ -47,13 +46,6 @@ impl Names {
         ensures { result.now ≡ name_at self.now number }
     {
         self.table.text(number as usize)
-    }
-
-    /// The hash of the name of the number, which was computed when the name was numbered.
-    pub fn hash(&self, number: u32) -> u32
-        ensures { result ≡ text_hash (name_at self.now number) }
-    {
-        self.table.hash(number as usize)
     }
 
     /// Whether the name of the number is this one.

@@ -94,16 +94,6 @@ impl NameTable {
         }
     }
 
-    /// The hash of the name at a place, or that of no name behind the last one.
-    pub fn hash(&self, place: usize) -> u32
-        ensures { result ≡ text_hash (name_at self.now place) }
-    {
-        match self.entries.get(place) {
-            Some(entry) => entry.hash,
-            None => 0,
-        }
-    }
-
     /// Whether the name at a place, or none behind the last one, is this one.
     #[inline(always)]
     pub fn is(&self, place: usize, name: &str) -> bool

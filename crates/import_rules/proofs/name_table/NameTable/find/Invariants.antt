@@ -1,7 +1,7 @@
 use Rattle.std.proofs.Common.{length}
 use Rattle.import_rules.specs.Names.{pred_name}
 use Rattle.import_rules.proofs.Chains.{IsPassed}
-use Rattle.import_rules.proofs.name_table.NameTable.find_hashed.Given as goal
+use Rattle.import_rules.proofs.name_table.NameTable.find.Given as goal
 
 -- the name stands at no place from here on
 abbrev pub invariant-loop-at : goal.invariant-loop-at
