@@ -40,7 +40,7 @@ right_partner {X} {Y} R (p ∷ xs) (q ∷ ys) x zip has = elim (first_or_rest p 
   | inr later ↦ let from = right_partner R xs ys x zip.1 later in (from.0, in_rest q from.0 ys from.1, from.2)
 ]
 
-left_partner : {X Y : Type 0} (R : X → Y → Type 0) (xs : List X) (ys : List Y) (y : Y) → AllZip R xs ys → Contains ys y → (x : X) × Contains xs x × R x y
+pub left_partner : {X Y : Type 0} (R : X → Y → Type 0) (xs : List X) (ys : List Y) (y : Y) → AllZip R xs ys → Contains ys y → (x : X) × Contains xs x × R x y
 left_partner {X} {Y} R xs [] y zip has = absurd (nothing_in y has)
 left_partner {X} {Y} R [] (q ∷ ys) y zip has = absurd zip
 left_partner {X} {Y} R (p ∷ xs) (q ∷ ys) y zip has = elim (first_or_rest q y ys has) [
@@ -144,7 +144,7 @@ module _ (files : Files) (roots : List (List ℕ)) (set : BTreeSet (List ℕ)) (
       (subst (λ o. IsPlace text o fault.place) (sym back) (subst (λ t. IsPlace t fault.offset fault.place) one of.stands)) in
       λ i. record { file = file i; offset = offset i; place = place i; cause = cause i }
 
-  fault_asked : (fault : Fault) → IsLoadFault files roots fault → IsAskedIn files roots fault.file
+  pub fault_asked : (fault : Fault) → IsLoadFault files roots fault → IsAskedIn files roots fault.file
   fault_asked fault (inl no_root) = (0, no_root.root)
   fault_asked fault (inr of) = of.asked
 

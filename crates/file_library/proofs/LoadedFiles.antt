@@ -27,6 +27,7 @@ use Rattle.file_library.specs.AskAll.{answers_of, Agrees}
 use Rattle.file_library.specs.SortedOut.{AreRising, facts_at, text_at, absent_at, fault_at, sound_facts, sound_text, absent_name, has_fault, IsFaultFor, AreSortedOut, AreOrdered, AreRoots, AreJustAsked}
 use Rattle.file_library.specs.declared.sorted_out.SortedOut.{SortedOut}
 use Rattle.file_library.proofs.Lookups.{name_in}
+use Rattle.file_library.proofs.OrderedFiles.{each_holds}
 use Rattle.file_library.proofs.LoadsFound.{answer_in, named_file}
 use Rattle.file_library.proofs.NextWaveLemmas.{has_no_key}
 
@@ -61,10 +62,6 @@ given_from {X} {Y} h (first ∷ xs) y has = at (λ there. given_from h xs y ther
       | inr rest ↦ later (on rest)
     ]
 
-all_of : {X : Type 0} (P : X → Type 0) (xs : List X) → ((x : X) → Contains xs x → P x) → AllByRecursion P xs
-all_of {X} P [] each = tt
-all_of {X} P (x ∷ xs) each = (each x (in_first x xs), all_of P xs (each_later P x xs each))
-
 -- what is given with the names of the files is in their order
 given_rise : {Y : Type 0} (h : FileFound → Option Y) (key : Y → List ℕ) → ((file : FileFound) (y : Y) → h file ≡ Some y → key y ≡ file.name) → (files : List FileFound) → AreRising files
     → AreInOrder (map key (filter_map h files))
@@ -75,7 +72,7 @@ given_rise {Y} h key named (file ∷ files) rising = at (given_rise h key named 
     at : AreInOrder (map key (filter_map h files)) → (o : Option Y) → h file ≡ o → AreInOrder (map key (cons_option o (filter_map h files)))
     at rest None is = rest
     at rest (Some y) is = (
-      all_of (λ n. slice_cmp nat_cmp (key y) n ≡ Less) (map key (filter_map h files)) (λ n has.
+      each_holds (λ n. slice_cmp nat_cmp (key y) n ≡ Less) (map key (filter_map h files)) (λ n has.
           let on = map_from key (filter_map h files) n has in
           let from = given_from h files on.0 on.1 in
           let same : from.0.name ≡ n = sym (named from.0 on.0 from.2) ∙ on.2 in
@@ -235,7 +232,7 @@ module _ (files : Files) (roots : List (List ℕ)) (found sorted : List FileFoun
       given_in sound_text sorted from.0 (name, bytes) from.1
       (subst (λ n. text_at from.0.name from.0.found ≡ Some (n, bytes)) from.2 (text_given set from.0.name bytes from.0.found full (is_faultless from.0 from.1)))
 
-  roots_there : (name : List ℕ) → Contains roots name → files name ≡ None → ⊥
+  pub roots_there : (name : List ℕ) → Contains roots name → files name ≡ None → ⊥
   roots_there name has empty =
       let from = file_asked name (0, has) in
       let nothing : text_of from.0.found ≡ None = sym (is_there from.0 from.1) ∙ (ap files from.2 ∙ empty) in

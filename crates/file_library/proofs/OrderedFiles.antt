@@ -33,9 +33,9 @@ use Rattle.file_library.proofs.Lookups.{names_apart}
 
 -- lists of different names
 
-all_by : {X : Type 0} (P : X → Type 0) (xs : List X) → ((x : X) → Contains xs x → P x) → AllByRecursion P xs
-all_by {X} P [] each = tt
-all_by {X} P (x ∷ xs) each = (each x (in_first x xs), all_by P xs (λ y has. each y (in_rest x y xs has)))
+pub each_holds : {X : Type 0} (P : X → Type 0) (xs : List X) → ((x : X) → Contains xs x → P x) → AllByRecursion P xs
+each_holds {X} P [] each = tt
+each_holds {X} P (x ∷ xs) each = (each x (in_first x xs), each_holds P xs (λ y has. each y (in_rest x y xs has)))
 
 each_by : {X : Type 0} (P : X → Type 0) (xs : List X) (x : X) → AllByRecursion P xs → Contains xs x → P x
 each_by {X} P [] x all has = absurd (nothing_in x has)
@@ -55,7 +55,7 @@ pub distinct_names : (names : List (List ℕ)) → AllPairs (λ a b. a ≡ b →
 unfolding IsDistinct
 distinct_names [] apart = tt
 distinct_names (name ∷ names) apart = (
-  all_by (λ n. bytes_eq name n ≡ false) names (λ n has. differ_test name n (before_rest (λ a b. a ≡ b → ⊥) name n names apart has)),
+  each_holds (λ n. bytes_eq name n ≡ false) names (λ n has. differ_test name n (before_rest (λ a b. a ≡ b → ⊥) name n names apart has)),
   distinct_names names (rest_in_order (λ a b. a ≡ b → ⊥) name names apart),
 )
 
