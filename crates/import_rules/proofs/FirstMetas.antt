@@ -5,6 +5,7 @@ use Rattle.std.specs.List.{list_any}
 use Rattle.std.specs.declared.cmp.Ordering.TheVariants.{Less}
 use Rattle.std.proofs.lemmas.Bool.{cases_eq, false_from_ne_true}
 use Rattle.std.proofs.lemmas.Option.{slice_get_within, get_or_from_slice_get}
+use Rattle.prolog_terms.proofs.ViewLemmas.{some_once}
 use Rattle.module_table.specs.Kinds.{first_of}
 use Rattle.import_rules.specs.declared.names.PredName.{PredName}
 use Rattle.import_rules.specs.Names.{is_same, pred_cmp}
@@ -76,7 +77,7 @@ one_declared done m predicates old new node up own long here others are = record
   each = λ k p is.
       elim (cases_eq k node) [
         | inl same ↦
-            let named : p ≡ name_for m.declaration = some_once p (name_for m.declaration) (sym is ∙ (ap (slice_get predicates) same ∙ own)) in
+            let named : p ≡ name_for m.declaration = some_once (sym is ∙ (ap (slice_get predicates) same ∙ own)) in
             let passes : is_for p m ≡ true = same_from p (name_for m.declaration) named in
             ap (λ n. slice_index_or new n (0, 0)) same
             ∙ (here
@@ -89,17 +90,11 @@ one_declared done m predicates old new node up own long here others are = record
             (λ same.
             let name : p ≡ name_for m.declaration = same_parts p (name_for m.declaration) same in
             let there : slice_get predicates k ≡ Some (name_for m.declaration) = is ∙ ap (λ q. Some q) name in
-            let twice : k ≡ node = some_number k node (sym (number_at predicates (name_for m.declaration) k up there) ∙ number_at predicates (name_for m.declaration) node up own) in
+            let twice : k ≡ node = some_once (sym (number_at predicates (name_for m.declaration) k up there) ∙ number_at predicates (name_for m.declaration) node up own) in
             other twice) in
             others k other ∙ (are.each k p is ∙ ap kept_as (sym (first_more p done m ∙ or_other p m (first_for done p) apart)))
       ];
 }
-  where
-    some_once : (p q : PredName) → Some p ≡ Some q → p ≡ q
-    some_once p q is = cc
-
-    some_number : (j k : ℕ) → Some j ≡ Some k → j ≡ k
-    some_number j k is = cc
 
 pub none_yet : (predicates : List PredName) → AreDeclared [] predicates []
 none_yet predicates = record { as_many = λ some. absurd (some refl); each = λ node p is. refl }

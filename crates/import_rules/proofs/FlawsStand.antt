@@ -5,7 +5,7 @@ use Rattle.std.specs.Str.{bytes_eq}
 use Rattle.std.proofs.lemmas.Bool.{and_parts}
 use Rattle.std.proofs.lemmas.List.Concat.{flat_map-cons}
 use Rattle.std.proofs.lemmas.List.Elements.{All-nil, All-cons, All-append, All-map, All-filter, All-weaker, All-contains}
-use Rattle.list_laws.proofs.OneOrder.{nothing_in, first_or_rest, in_rest, in_first}
+use Rattle.list_laws.proofs.OneOrder.{in_rest, in_first}
 use Rattle.prolog_tokens.specs.Places.{IsOffset}
 use Rattle.clause_text.specs.declared.cause.Cause.{Cause}
 use Rattle.clause_text.specs.declared.cause.Cause.TheVariants.{TwoModules, NoFile, NotModule, NotExported, NotDefined, TwoImports}
@@ -17,6 +17,7 @@ use Rattle.module_table.specs.Kinds.{first_of}
 use Rattle.module_table.specs.Placed.{ArePlacedIn}
 use Rattle.module_table.specs.Said.{Loads}
 use Rattle.file_library.specs.Loaded.{NamedText}
+use Rattle.file_library.proofs.LoadFaults.{left_partner}
 use Rattle.import_rules.specs.Clashes.{Imports, AreClashes, clash, first_other, items_for}
 use Rattle.import_rules.specs.Files.{file_named, has_export, is_first, is_local}
 use Rattle.import_rules.specs.Flaws.{clash_flaw, export_flaws, exported, file_flaws, flaw, load_flaws, module_flaws, only_if, unlisted_flaws, use_flaws}
@@ -31,17 +32,6 @@ all_flat_map {X} {Y} P f [] each = All-nil P
 all_flat_map {X} {Y} P f (x ∷ xs) each =
     subst (All P) (sym (flat_map-cons f x xs))
     (All-append P (f x) (flat_map f xs) (each x (in_first x xs)) (all_flat_map P f xs (λ y has. each y (in_rest x y xs has))))
-
--- what stands beside a member of the second list
-pub zip_beside : {A B : Type 0} (R : A → B → Type 0) (xs : List A) (ys : List B) (y : B) → AllZip R xs ys → Contains ys y → (x : A) × Contains xs x × R x y
-zip_beside {A} {B} R [] [] y zip has = absurd (nothing_in y has)
-zip_beside {A} {B} R [] (z ∷ ys) y zip has = absurd zip
-zip_beside {A} {B} R (x ∷ xs) [] y zip has = absurd zip
-zip_beside {A} {B} R (x ∷ xs) (z ∷ ys) y zip has =
-    elim (first_or_rest z y ys has) [
-      | inl is ↦ (x, in_first x xs, subst (R x) is zip.0)
-      | inr later ↦ let from = zip_beside R xs ys y zip.1 later in (from.0, in_rest x from.0 xs from.1, from.2)
-    ]
 
 module _ (texts : List NamedText) (files : List Facts) (absent : List (List ℕ)) (user : Facts) (text : List ℕ) (there : Contains texts (user.file, text)) (placed : ArePlacedIn text user) where
   stand_at : (cause : Cause) (offset : ℕ) → IsOffset text offset → StandsIn texts (flaw cause user offset)
@@ -158,7 +148,7 @@ all_stand texts files absent clashes read are =
   where
     beside : (user : Facts) → Contains files user → (text : List ℕ) × Contains texts (user.file, text) × ArePlacedIn text user
     beside user has =
-        let from = zip_beside IsReadFrom texts files user read has in
+        let from = left_partner IsReadFrom texts files user read has in
         (from.0.1, subst (λ name. Contains texts (name, from.0.1)) (sym from.2.named) from.1, from.2.placed)
 
     all_items : All (λ (i : Imports). StandsIn texts (clash_flaw i)) (items files)

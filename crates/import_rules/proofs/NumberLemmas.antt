@@ -9,6 +9,7 @@ use Rattle.std.proofs.lemmas.Iterator.Adapters.{position_from-zero}
 use Rattle.std.proofs.lemmas.List.{map-append}
 use Rattle.std.proofs.lemmas.List.Elements.{All-map}
 use Rattle.std.proofs.lemmas.Option.{slice_get_within, get_or_from_slice_get}
+use Rattle.prolog_terms.proofs.ViewLemmas.{some_once}
 use Rattle.module_table.specs.Defined.{Predicate}
 use Rattle.module_table.specs.Facts.{Facts}
 use Rattle.list_laws.proofs.OneOrder.{before_rest, rest_in_order}
@@ -74,9 +75,6 @@ not_before p q less =
     let both : Equal ≡ Less = sym tie ∙ below in
     cc)
 
-some_is : {A : Type 0} {a b : A} → Some a ≡ Some b → a ≡ b
-some_is is = cc
-
 stands_at : (p : PredName) (ps : List PredName) (n : ℕ) → slice_get ps n ≡ Some p → Contains ps p
 stands_at p ps n is = (n, slice_get_within ps n p is, get_or_from_slice_get ps n p p is)
 
@@ -84,7 +82,7 @@ from_at : (p : PredName) (i : ℕ) (ps : List PredName) (n : ℕ) → AllPairs (
     → position_from (is_same p) i ps ≡ Some (i + n)
 from_at p i [] n up is = cc
 from_at p i (q ∷ ps) zero up is =
-    let same : is_same p q ≡ true = same_from p q (sym (some_is is)) in
+    let same : is_same p q ≡ true = same_from p q (sym (some_once is)) in
     let here : i ≡ i + 0 = omega arith in
     ap (λ b. cond b (Some i) (position_from (is_same p) (i + 1) ps)) same ∙ ap (λ k. Some k) here
 from_at p i (q ∷ ps) (suc n) up is =
@@ -117,7 +115,7 @@ from_some p i (q ∷ ps) n is =
   where
     at : (position_from (is_same p) (i + 1) ps ≡ Some n → IsAt p i (q ∷ ps) n) → (b : Bool) → is_same p q ≡ b → cond b (Some i) (position_from (is_same p) (i + 1) ps) ≡ Some n → IsAt p i (q ∷ ps) n
     at later true same found =
-        let here : i ≡ n = some_is found in
+        let here : i ≡ n = some_once found in
         let at_it : n ≡ i + 0 = omega (arith, here) in
         (0, at_it, ap (λ x. Some x) (sym (same_parts p q same)))
     at later false other found = later found

@@ -11,6 +11,7 @@ use Rattle.std.proofs.lemmas.List.{map-append, get_or_append_left, get_or-append
 use Rattle.std.proofs.lemmas.List.Elements.{All-append, All-weaker, All-contains, All-nil, All-push, Contains-append_left, Contains-append_right, Contains-push, filter-append}
 use Rattle.std.proofs.lemmas.List.Quantifiers.{all_pairs_push}
 use Rattle.std.proofs.lemmas.List.Sorted.{ranks_by, sorted_far}
+use Rattle.prolog_terms.proofs.ViewLemmas.{some_once}
 use Rattle.module_table.specs.Kinds.{first_of}
 use Rattle.std.proofs.lemmas.Simd.{map-map}
 use Rattle.list_laws.proofs.OneOrder.{in_first}
@@ -92,9 +93,6 @@ module _ {X K : Type 0} (cmp : K → K → Ordering) (o : IsTotalOrder cmp) (key
           ∙ (λ i.
           filter_none (same head) xs (All-weaker (λ x. (h : X) × Contains are.heads h × (same h x ≡ true)) (λ x. same head x ≡ false) none_yet xs are.all) i
           ++ filter_all (same head) run own i)
-
-  some_once : {A : Type 0} {a b : A} → Some a ≡ Some b → a ≡ b
-  some_once is = cc
 
   -- the runs begin with elements of the list
   pub heads_there : (xs : List X) (runs : List (List X)) (are : AreRuns xs runs) → All (Contains xs) are.heads

@@ -15,6 +15,7 @@ use Rattle.prolog_tokens.specs.Digits.{Writes}
 use Rattle.prolog_tokens.specs.Escapes.{mark_of, IsCoded, EscapeBy}
 use Rattle.prolog_tokens.specs.Quoted.{Part, plain, escape, AreParts, IsQuoted}
 use Rattle.prolog_tokens.specs.Values.{part_bytes, IsQuotedText}
+use Rattle.prolog_tokens.proofs.Names.{parts_append}
 use Rattle.loop_report.specs.Spelled.{hex_digit, quoted_char, quoted_name}
 
 -- a piece of a text stands behind what comes before it, and is the parts that mean the bytes
@@ -22,10 +23,6 @@ pub record Spells (piece : List ℕ) (bytes : List ℕ) : Type 0 where
   pub parts : List Part
   pub are : (before after : List ℕ) → AreParts (before ++ (piece ++ after)) 39 (length before) parts (length before + length piece)
   pub is : bytes ≡ flat_map (part_bytes 39) parts
-
-parts_append : (text : List ℕ) (q a : ℕ) (ps : List Part) (b : ℕ) (rs : List Part) (c : ℕ) → AreParts text q a ps b → AreParts text q b rs c → AreParts text q a (ps ++ rs) c
-parts_append text q a [] b rs c is are = subst (λ n. AreParts text q n rs c) (sym is) are
-parts_append text q a (p ∷ ps) b rs c (m, first, rest) are = (m, first, parts_append text q m ps b rs c rest are)
 
 -- two pieces, one after the other
 spells_both : (p q bytes more : List ℕ) → Spells p bytes → Spells q more → Spells (p ++ q) (bytes ++ more)
