@@ -2,7 +2,7 @@
 use Rattle.std.proofs.Common.{◌≡◌, ℕ, ◌<◌, inl, inr, List, [], ◌∷◌, ◌++◌, Option, Some, None, Bool, true, false, not, ◌&&◌, nat_eq, Contains, length, map, flat_map, filter, refl, sym, ap, subst, ◌∙◌}
 use Rattle.std.specs.Prelude.{slice_get, option_map, if◌then◌else◌}
 use Rattle.std.specs.Str.{bytes_eq}
-use Rattle.std.proofs.lemmas.Bool.{and_parts, false_from_ne_true}
+use Rattle.std.proofs.lemmas.Bool.{and_parts, false_from_ne_true, not-false}
 use Rattle.std.proofs.lemmas.Bool.Decides.{Decides-eqb}
 use Rattle.std.proofs.lemmas.Option.{slice_get_within, get_or_from_slice_get, slice_get-get_or}
 use Rattle.std.proofs.lemmas.Slice.Eq.{bytes_eq-Decides}
@@ -107,10 +107,6 @@ map_empty : {X Y : Type 0} (f : X → Y) (xs : List X) → map f xs ≡ [] → x
 map_empty {X} {Y} f [] none = refl
 map_empty {X} {Y} f (x ∷ xs) none = cc
 
-not_false : (b : Bool) → not b ≡ false → b ≡ true
-not_false true is = refl
-not_false false is = cc
-
 export_local : (files : List Facts) (absent : List (List ℕ)) (q : PredName) → AreFlaws files absent [] → IsExport files q → is_local files q ≡ true
 export_local files absent q sound by =
     let file = by.file in
@@ -121,7 +117,7 @@ export_local files absent q sound by =
     map_empty _ (filter (λ (e : Indicator). not (is_local files (exported file e))) file.exports)
     (rest_empty (module_flaws files file) (export_flaws files file) before) in
     ap (is_local files) by.is
-    ∙ not_false (is_local files (exported file by.export_))
+    ∙ not-false (is_local files (exported file by.export_))
     (false_from_ne_true (not (is_local files (exported file by.export_)))
     (λ is. nothing_in by.export_ (subst (λ es. Contains es by.export_) empty (kept (λ (e : Indicator). not (is_local files (exported file e))) file.exports by.export_ by.has is))))
 

@@ -3,7 +3,7 @@ use Rattle.std.proofs.Common.{◌≡◌, ℕ, ◌+◌, ◌-◌, ◌<◌, inl, in
 use Rattle.std.specs.Prelude.{option_map}
 use Rattle.std.specs.List.{list_any, filter_map, range_with_len}
 use Rattle.std.specs.Str.{bytes_eq}
-use Rattle.std.proofs.lemmas.Bool.{cases_lt, false_from_ne_true}
+use Rattle.std.proofs.lemmas.Bool.{cases_lt, false_from_ne_true, not-false}
 use Rattle.std.proofs.lemmas.List.{get_or_append_left, get_or-append_right, length-append}
 use Rattle.std.proofs.lemmas.List.Elements.{All-contains}
 use Rattle.std.proofs.lemmas.List.Folds.{list_any-append}
@@ -48,10 +48,6 @@ no_first {X} p xs x none has =
     in_none [] empty there = nothing_in x there
     in_none (y ∷ ys) empty there = cc
 
-not_not : (b : Bool) → not b ≡ false → b ≡ true
-not_not true is = refl
-not_not false is = cc
-
 of_first : (first : Imports) (others : List Imports) (i : Imports) → first_other (first ∷ others) ≡ None → Contains (first ∷ others) i
     → i.from_module ≡ first.from_module
 of_first first others i none has =
@@ -59,7 +55,7 @@ of_first first others i none has =
       | inl is ↦ ap (λ (k : Imports). k.from_module) (sym is)
       | inr later ↦
           (bytes_eq-Decides i.from_module first.from_module).0
-          (not_not (bytes_eq i.from_module first.from_module)
+          (not-false (bytes_eq i.from_module first.from_module)
           (no_first (λ (k : Imports). not (bytes_eq k.from_module first.from_module)) others i none later))
     ]
 

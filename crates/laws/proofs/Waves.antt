@@ -1,7 +1,7 @@
 -- Wave by wave until one is empty, or a limit is passed.
 use Rattle.std.proofs.Common.{◌≡◌, ℕ, zero, suc, ◌+◌, ◌<◌, ◌≤◌, List, [], ◌∷◌, ◌++◌, Contains, length, sum_by, refl, sym, subst, ap, ◌∙◌, inl, inr, arith}
 use Rattle.std.proofs.lemmas.Bool.{cases_lt}
-use Rattle.std.proofs.lemmas.List.{append_assoc, flat_map_more, length-append}
+use Rattle.std.proofs.lemmas.List.{append_assoc, length-append}
 use Rattle.std.proofs.lemmas.List.Elements.{All-append, All-nil}
 use Rattle.std.proofs.lemmas.List.Sums.{sum_by-append, sum_by-cons}
 use Rattle.std.proofs.Math.Seq.{get_or-append_seam}
@@ -13,6 +13,7 @@ use Rattle.file_library.specs.declared.limits.TheConstants.{MOST_FILES}
 use Rattle.prolog_tokens.specs.declared.limits.TheConstants.{MOST_BYTES}
 use Rattle.file_library.specs.Loaded.{AreWithin, size_of}
 use Rattle.file_library.specs.Asking.{AreAll, LeadTo, LoadEnd, too_many, too_large, too_much, LoadEndIs, IsDecided}
+use Rattle.file_library.proofs.ToldWaves.{names_with_last}
 use Rattle.file_library.proofs.WaveLaws.{Names, first_wave, next_sound, next_all, more_waves, all_waves}
 use Rattle.laws.proofs.FoundAt.{IsAt, loads_at, loaded_from, loaded_into}
 use Rattle.laws.proofs.NextNames.{IsNextOf, next_of, ordered_of}
@@ -31,9 +32,6 @@ record HasAsked (files : Files) (roots : Names) (waves : List Names) (wave : Nam
   next : IsWave (FileLoads files) roots (length waves) wave
   few : length (names_in waves) ≤ MOST_FILES
   within : AreWithin files (names_in waves)
-
-joined : (waves : List Names) (wave : Names) → names_in (waves ++ wave ∷ []) ≡ names_in waves ++ wave
-joined waves wave = sym (flat_map_more (λ (w : Names). w) [] waves wave)
 
 within_more : (files : Files) (names more : Names) → AreWithin files names → AreUnder (size_of files) (sum_by (size_of files) names) more → AreWithin files (names ++ more)
 within_more files names more within under = record {
@@ -63,8 +61,8 @@ module _ (files : Files) (find : (name : List ℕ) → IsAt files name) (roots :
               | inr there ↦ there
             ];
       });
-      few = omega (arith, fits, ap (λ (names : Names). length names) (joined waves wave), length-append (names_in waves) wave);
-      within = subst (AreWithin files) (sym (joined waves wave)) (within_more files (names_in waves) wave asked.within under);
+      few = omega (arith, fits, ap (λ (names : Names). length names) (names_with_last waves wave), length-append (names_in waves) wave);
+      within = subst (AreWithin files) (sym (names_with_last waves wave)) (within_more files (names_in waves) wave asked.within under);
     },
   )
     where
@@ -105,7 +103,7 @@ module _ (files : Files) (find : (name : List ℕ) → IsAt files name) (roots :
 
       whole : names_in (waves ++ wave ∷ []) ≡ names ++ over.rest
       whole =
-          joined waves wave
+          names_with_last waves wave
           ∙ (ap (λ w. names_in waves ++ w) over.is
           ∙ (sym (append_assoc (names_in waves) over.before (over.next ∷ over.rest))
           ∙ sym (append_assoc before (over.next ∷ []) over.rest)))
@@ -119,7 +117,7 @@ module _ (files : Files) (find : (name : List ℕ) → IsAt files name) (roots :
           are = more_waves (FileLoads files) roots waves wave asked.are asked.next;
           rest = over.rest;
           is = whole;
-          few = omega (arith, fits, ap (λ (all : Names). length all) (joined waves wave), length-append (names_in waves) wave);
+          few = omega (arith, fits, ap (λ (all : Names). length all) (names_with_last waves wave), length-append (names_in waves) wave);
         };
         within = within_more files (names_in waves) over.before asked.within over.under;
       }
@@ -150,7 +148,7 @@ module _ (files : Files) (find : (name : List ℕ) → IsAt files name) (roots :
         | inl under ↦
             let next = next_wave waves (name ∷ rest) asked fits under in
             walk left (waves ++ (name ∷ rest) ∷ []) next.0 next.1
-            (omega (arith, full, ap (λ (names : Names). length names) (joined waves (name ∷ rest)), length-append (names_in waves) (name ∷ rest)))
+            (omega (arith, full, ap (λ (names : Names). length names) (names_with_last waves (name ∷ rest)), length-append (names_in waves) (name ∷ rest)))
         | inr over ↦ cut_off waves (name ∷ rest) asked fits over
       ]
     ]

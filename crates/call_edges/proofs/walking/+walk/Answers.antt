@@ -96,7 +96,7 @@ walk-requires-in-loop-at t c =
     c.take_apart-taken.ensures.taken ∙ ap (λ (s : Span). taken T s.from owner role v.name.now (trees_in args)) c.span-in-Compound.ensures in
     let within = rows_within (see_program c.args.program.now) c.is_known.ensures in
     let items = c.deref-arg-items.result.now in
-    let are : map tree_of items ≡ trees_in args = ap (map tree_of) c.deref-arg-items.ensures.value ∙ c.in_ok-terms-in-Compound.ensures in
+    let are : map tree_of items ≡ trees_in args = ap (map tree_of) c.deref-arg-items.ensures.value ∙ c.in_ok-terms-in-Compound.ensures.trees in
     let k = c.loop-at.at in
     let own = tree_of c.arg-item.result in
     let read : slice_get (trees_in args) k ≡ Some own =
@@ -216,7 +216,7 @@ returns-after-loop-at-clause-met t c =
     let apart : here ≡ taken T span.from owner role v.name.now (trees_in args) =
     c.take_apart-taken.ensures.taken ∙ ap (λ (s : Span). taken T s.from owner role v.name.now (trees_in args)) c.span-in-Compound.ensures in
     let items = c.deref-arg-items.result.now in
-    let are : map tree_of items ≡ trees_in args = ap (map tree_of) c.deref-arg-items.ensures.value ∙ c.in_ok-terms-in-Compound.ensures in
+    let are : map tree_of items ≡ trees_in args = ap (map tree_of) c.deref-arg-items.ensures.value ∙ c.in_ok-terms-in-Compound.ensures.trees in
     let old = see_mets c.args.met.now.items in
     let new = see_mets c.loop-at.met.items in
     compound_walked T owner role tree old new v.name.now args v.form span here (map tree_of items) c.loop-at.at v.ensures.tree are apart
