@@ -20,6 +20,8 @@ mod starved;
 #[cfg(test)]
 mod starved_tests;
 #[cfg(test)]
+mod trial_tests;
+#[cfg(test)]
 mod turn_tests;
 #[cfg(test)]
 mod waiting;
