@@ -6,7 +6,7 @@ use Rattle.import_rules.specs.Program.{Seen}
 use Rattle.call_edges.specs.Successors.{successor_lists}
 use Rattle.call_edges.proofs.SuccessorLemmas.{lists_count}
 use Rattle.call_table.specs.Memberships.{AreGroupsOf, IsGroupOf}
-use Rattle.import_rules.proofs.SourceLemmas.{range_more}
+use Rattle.import_rules.proofs.Ranges.{range_more}
 use Rattle.call_told.specs.Told.{told_nodes}
 
 within_groups : (groups : List (List ℕ)) (p place : ℕ) → IsGroupOf groups p place → place ≤ length groups

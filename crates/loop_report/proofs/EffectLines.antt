@@ -2,7 +2,7 @@
 use Rattle.std.proofs.Common.{◌≡◌, ℕ, ◌+◌, List, [], ◌++◌, sym, ◌∙◌, ap}
 use Rattle.std.specs.List.{range_with_len, flat_map}
 use Rattle.std.proofs.lemmas.List.{append-nil, flat_map_more}
-use Rattle.import_rules.proofs.SourceLemmas.{range_more}
+use Rattle.import_rules.proofs.Ranges.{range_more}
 
 -- a kind with a line
 pub kind_more : (line : ℕ → List ℕ) (head before after : List ℕ) (n : ℕ) → before ≡ head ++ flat_map line (range_with_len 0 n) → after ≡ before ++ line n

@@ -8,7 +8,7 @@ use Rattle.std.proofs.lemmas.List.Folds.{list_any_more}
 use Rattle.std.proofs.lemmas.List.Elements.{filter-append}
 use Rattle.std.proofs.lemmas.List.FromFn.{length-map-range_with_len, get_or-map-range_with_len}
 use Rattle.std.proofs.lemmas.Map.Views.{list_any-from_Contains, Contains-from_any}
-use Rattle.import_rules.proofs.SourceLemmas.{range_more}
+use Rattle.import_rules.proofs.Ranges.{range_more}
 use Rattle.graph_law.specs.Stamp.{IsStamped}
 use Rattle.loop_report.specs.Report.{is_grouped, ungrouped}
 

@@ -2,7 +2,7 @@ use Rattle.std.proofs.Common.{◌≡◌, ◌++◌, ◌+◌, [], ◌∷◌, zero,
 use Rattle.std.specs.List.{flat_map, range_with_len}
 use Rattle.std.proofs.lemmas.Grind.{flat_map-append}
 use Rattle.std.proofs.lemmas.List.{append-nil}
-use Rattle.import_rules.proofs.SourceLemmas.{range_more}
+use Rattle.import_rules.proofs.Ranges.{range_more}
 use Rattle.group_words.specs.Made.{line}
 use Rattle.group_words.proofs.made.make_text.Goals as goal
 

@@ -1,5 +1,5 @@
 use Rattle.std.proofs.Common.{[], ◌∷◌, ◌++◌, sym, ap, ◌∙◌}
-use Rattle.import_rules.proofs.SourceLemmas.{range_more}
+use Rattle.import_rules.proofs.Ranges.{range_more}
 use Rattle.loop_report.proofs.module_graph.all_nodes.Goals as goal
 
 pub loop-node-preserved : goal.loop-node-preserved
