@@ -25,6 +25,7 @@ use Rattle.import_rules.specs.declared.names.PredName.{PredName}
 use Rattle.import_rules.specs.Files.{pair_cmp, name_in, defined_in, all_defined, IsDefinedAt}
 use Rattle.import_rules.specs.Numbers.{places_for, parts_in}
 use Rattle.import_rules.specs.Program.{Seen, places_in, places_at, IsKnown}
+use Rattle.import_rules.proofs.PartsSoFar.{element_at}
 use Rattle.call_edges.specs.declared.piece.Piece.{Piece}
 use Rattle.module_table.specs.declared.goal_arg.GoalArg.TheVariants.{Goal}
 use Rattle.call_edges.specs.Goals.{fault, place, Rows, IsMet, Adds}
@@ -55,13 +56,6 @@ place_adds piece old new same =
 
 pub place_in : {X : Type 0} (xs : List X) (x : X) → Contains xs x → (k : ℕ) × (slice_get xs k ≡ Some x)
 place_in xs x (k, lt, is) = (k, slice_get-get_or xs k x lt ∙ ap (λ y. Some y) is)
-
-pub some_in : {X : Type 0} (xs : List X) (k : ℕ) → k < length xs → (x : X) × (slice_get xs k ≡ Some x)
-some_in xs k lt =
-    elim (slice_get_cases xs k).1 [
-      | inl there ↦ (there.0, there.2)
-      | inr past ↦ absurd (omega (arith, lt, past.0))
-    ]
 
 -- the pieces, where memory was wanting for none
 
@@ -112,7 +106,7 @@ each_faults seen pieces p are = (
       record { node = fault.node; below = fault.below; is = fault.is },
   λ fault.
       let number = fault.node / 512 in
-      let at = some_in pieces number (are.as_many number (omega (arith, fault.below))) in
+      let at = element_at pieces number (are.as_many number (omega (arith, fault.below))) in
       record {
         one = at.0;
         has = stands_in pieces number at.0 at.1;

@@ -11,7 +11,7 @@ use Rattle.module_table.specs.declared.goal_arg.GoalArg.{GoalArg}
 use Rattle.module_table.specs.declared.goal_arg.GoalArg.TheVariants.{Plain}
 use Rattle.call_edges.specs.Goals.{Met, Place, place, Rows, no_goals, Taken, taken, met_at, role_at, IsArgument, IsPart, Leads, IsMet, Adds, AddsMet}
 use Rattle.call_edges.proofs.AddsLemmas.{adds_as, adds_option, adds_then}
-use Rattle.call_edges.proofs.PartLemmas.{only_is, pair_is}
+use Rattle.module_table.proofs.Shapes.{only_seen, pair_seen}
 
 place_same : (q : Place) (owner : List ℕ) (role : GoalArg) (tree : Tree) → q.module_ ≡ owner → q.role ≡ role → q.tree ≡ tree → q ≡ place owner role tree
 place_same q owner role tree in_module stands is = λ i. place (in_module i) (stands i) (is i)
@@ -202,14 +202,14 @@ module _ (T : Rows) where
   pub first_one : (apart : Taken) (args : Trees) (tree : Tree) (old mid new : List Met) → only_of args ≡ Some tree → mid ≡ old ++ option_to_list apart.met
       → AddsMet T (argument_at apart 0 tree) mid new → AddsFirst apart (trees_in args) 1 old new
   first_one apart args tree old mid new one is adds =
-      first_more apart (trees_in args) 0 tree old mid new (ap (λ ts. slice_get (trees_in ts) 0) (only_is args tree one))
+      first_more apart (trees_in args) 0 tree old mid new (ap (λ ts. slice_get (trees_in ts) 0) (only_seen args tree one))
       (first_none apart (trees_in args) old mid is) adds
 
   pub first_two : (apart : Taken) (args : Trees) (left right : Tree) (old mid between new : List Met) → pair_of args ≡ Some (left, right)
       → mid ≡ old ++ option_to_list apart.met → AddsMet T (argument_at apart 0 left) mid between → AddsMet T (argument_at apart 1 right) between new
       → AddsFirst apart (trees_in args) 2 old new
   first_two apart args left right old mid between new two is first second =
-      let are : trees_in args ≡ left ∷ right ∷ [] = ap trees_in (pair_is args left right two) in
+      let are : trees_in args ≡ left ∷ right ∷ [] = ap trees_in (pair_seen args left right two) in
       first_more apart (trees_in args) 1 right old between new (ap (λ ts. slice_get ts 1) are)
       (first_more apart (trees_in args) 0 left old mid between (ap (λ ts. slice_get ts 0) are) (first_none apart (trees_in args) old mid is) first)
       second

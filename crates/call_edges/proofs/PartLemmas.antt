@@ -1,7 +1,7 @@
 -- The arguments of a compound, where there is one of them or two, and what they weigh.
 use Rattle.std.proofs.Common.{◌≡◌, ℕ, zero, suc, ◌+◌, ◌≤◌, ◌==◌, Bool, true, false, ◌&&◌, List, Some, None, length, slice_get, if◌then◌else◌, codes, ap, refl, arith}
 use Rattle.std.specs.Str.{bytes_eq}
-use Rattle.std.proofs.lemmas.Bool.{eqb-true}
+use Rattle.std.proofs.lemmas.Bool.{eqb-true, and_parts}
 use Rattle.std.proofs.lemmas.Option.{same_Some}
 use Rattle.prolog_terms.specs.Tree.{Tree, Trees, more, none, count}
 use Rattle.prolog_terms.specs.Views.{trees_in, only_of, pair_of}
@@ -10,18 +10,6 @@ use Rattle.module_table.specs.declared.goal_arg.GoalArg.{GoalArg}
 use Rattle.module_table.specs.declared.goal_arg.GoalArg.TheVariants.{Plain, Goal, Caret, Grammar}
 use Rattle.call_edges.specs.declared.role.Way.TheVariants.{Silent, Behind, Control, Qualified, Calling}
 use Rattle.call_edges.specs.Goals.{is_control, goal_way, way}
-
-pub only_is : (args : Trees) (tree : Tree) → only_of args ≡ Some tree → args ≡ more tree none
-only_is none tree is = let both : None ≡ Some tree = is in absurd (cc)
-only_is (more first none) tree is = ap (λ t. more t none) (same_Some first tree is)
-only_is (more first (more second rest)) tree is = let both : None ≡ Some tree = is in absurd (cc)
-
-pub pair_is : (args : Trees) (left right : Tree) → pair_of args ≡ Some (left, right) → args ≡ more left (more right none)
-pair_is none left right is = let both : None ≡ Some (left, right) = is in absurd (cc)
-pair_is (more first none) left right is = let both : None ≡ Some (left, right) = is in absurd (cc)
-pair_is (more first (more second none)) left right is =
-    ap (λ (pair : Tree × Tree). more pair.0 (more pair.1 none)) (same_Some (first, second) (left, right) is)
-pair_is (more first (more second (more third rest))) left right is = let both : None ≡ Some (left, right) = is in absurd (cc)
 
 pub length_count : (args : Trees) → length (trees_in args) ≡ count args
 length_count none = refl
@@ -39,16 +27,12 @@ part_count (more first args) (suc i) tree is = omega (arith, part_count args i t
 
 -- a qualified goal has two arguments
 
-and_first : (x y : Bool) → (x && y) ≡ true → x ≡ true
-and_first true y is = refl
-and_first false y is = is
-
 chosen : (test : Bool) (name : List ℕ) (n : ℕ) → (if test then Control else if n == 2 && bytes_eq name (codes ":") then Qualified else Calling) ≡ Qualified → n ≡ 2
 chosen true name n is = let both : Control ≡ Qualified = is in absurd (cc)
 chosen false name n is = by_test (n == 2 && bytes_eq name (codes ":")) refl is
   where
     by_test : (test : Bool) → (n == 2 && bytes_eq name (codes ":")) ≡ test → (if test then Qualified else Calling) ≡ Qualified → n ≡ 2
-    by_test true here same = eqb-true n 2 (and_first (n == 2) (bytes_eq name (codes ":")) here)
+    by_test true here same = eqb-true n 2 (and_parts (n == 2) (bytes_eq name (codes ":")) here).0
     by_test false here same = let both : Calling ≡ Qualified = same in absurd (cc)
 
 goal_two : (controls : Bool) (name : List ℕ) (n : ℕ) → goal_way controls name n ≡ Qualified → n ≡ 2

@@ -18,6 +18,7 @@ use Rattle.module_table.specs.Facts.{Facts}
 use Rattle.file_library.specs.Asked.{AreInOrder}
 use Rattle.import_rules.specs.Program.{Seen, found}
 use Rattle.module_table.specs.declared.goal_arg.GoalArg.TheVariants.{Goal}
+use Rattle.import_rules.proofs.NameOrder.{same_text}
 use Rattle.call_edges.specs.Goals.{Met, place, Rows, Adds}
 use Rattle.call_edges.specs.ProgramRows.{rows_of}
 use Rattle.call_edges.specs.Calls.{IsAmong, IsMetInGoals, GoesTo}
@@ -51,9 +52,6 @@ root_below seen q root =
 
 -- names in order
 
-same_name : (x y : List ℕ) → slice_cmp nat_cmp x y ≡ Equal → x ≡ y
-same_name x y tie = (bytes_eq-Decides x y).0 (texts_ties x y ∙ ap is_eq tie)
-
 sorted_from_order : (xs : List (List ℕ)) → AreInOrder xs → IsSortedBy (λ a b. is_lt (slice_cmp nat_cmp a b)) xs
 sorted_from_order xs up k d low within =
     ap is_lt
@@ -75,7 +73,7 @@ absent xs wanted place up split has =
 pub searched : (xs : List (List ℕ)) (wanted : List ℕ) (r : Result ℕ ℕ) → AreInOrder xs → IsSearchInRange r (length xs)
     → IsBinarySearchResult (λ y. slice_cmp nat_cmp y wanted) xs r → (is_ok r ≡ true) ↔ Contains xs wanted
 searched xs wanted (Ok place) up bound is = (
-  λ ok. (place, bound, same_name (get_or xs place wanted) wanted (is wanted)),
+  λ ok. (place, bound, same_text (get_or xs place wanted) wanted (is wanted)),
   λ has. refl,
 )
 searched xs wanted (Err place) up bound is = (

@@ -1,4 +1,3 @@
-pub mod Said
 pub mod LimitLine
 pub mod CarryingLemmas
 pub mod EndLemmas

@@ -1,5 +1,6 @@
 -- Words set one list of options.
 use Rattle.std.proofs.Common.{◌≡◌, ℕ, List, [], ◌∷◌, Option, Some, None, refl, ap, sym, ◌∙◌, subst}
+use Rattle.prolog_terms.proofs.ViewLemmas.{some_once}
 use Rattle.group_words.specs.declared.limits.TheConstants.{MOST_MADE}
 use Rattle.import_rules.specs.declared.names.PredName.{PredName}
 use Rattle.group_words.specs.Words.{Key, Jobs, Searches, Seed, Roots, Path, Make, IsReading}
@@ -63,20 +64,17 @@ make_once (Some text) None n x y = absurd x
 make_once (Some text) (Some m) None x y = absurd y
 make_once (Some text) (Some m) (Some n) x y = ap Some (one_number 1 MOST_MADE text m n x y)
 
-some_same : {A : Type 0} (x y : A) → Some x ≡ Some y → x ≡ y
-some_same x y e = cc
-
 -- a list that hasn't just two names no ends of a path
 pub not_two : (text : List ℕ) (roots : List PredName) → IsRootList text roots → ((both : PredName × PredName) → roots ≡ both.0 ∷ both.1 ∷ [] → ⊥) → (given : Option (List ℕ))
     → given ≡ Some text → (path : Option (PredName × PredName)) → PathIs given path → ⊥
 not_two text roots are never None is path holds = let both : None ≡ Some text = is in cc
 not_two text roots are never (Some other) is None holds = holds
 not_two text roots are never (Some other) is (Some both) holds =
-    let same : other ≡ text = some_same other text is in
+    let same : other ≡ text = some_once is in
     never both (one_root_list text roots (both.0 ∷ both.1 ∷ []) are (subst (λ t. IsRootList t (both.0 ∷ both.1 ∷ [])) same holds))
 
 files_once : (words named others : List (List ℕ)) → FilesAre words named → FilesAre words others → named ≡ others
-files_once words named others x y = x.each ∙ (ap each_once (some_same x.names y.names (sym x.resolve ∙ y.resolve)) ∙ sym y.each)
+files_once words named others x y = x.each ∙ (ap each_once (some_once (sym x.resolve ∙ y.resolve)) ∙ sym y.each)
 
 settings_once : (given : Key → Option (List ℕ)) (files : List (List ℕ)) (s t : Settings) → AreSettings given files s → AreSettings given files t → s ≡ t
 settings_once given files s t x y =

@@ -7,6 +7,7 @@ use Rattle.std.proofs.lemmas.List.Elements.{All-cons, All-head, All-nil, All-tai
 use Rattle.clap.specs.Walk.{Row, Text, all_of, first_of}
 use Rattle.clap.specs.Simple.{matches_of}
 use Rattle.clap.specs.Faults.{fault_of}
+use Rattle.std.proofs.lemmas.Bool.{and_parts}
 use Rattle.group_words.specs.declared.given.Given.{Given}
 use Rattle.group_words.specs.Words.{Key, Jobs, Searches, Seed, Roots, Path, Order, Unreached, Effects, Loops, Stream, Make, Part, file, flag, apart, joined, IsPart, IsReading, as_list, is_file, is_plain, key_name, part_files, rest_files, same_key, takes_value, values}
 use Rattle.group_words.specs.ClapCommand.{IsGiven, file_words, given_of, has_plain_values, is_plain_value, is_set, set_flag, words_app}
@@ -250,13 +251,9 @@ pub files_both : (xs ys : List Text) → AreFiles xs → AreFiles ys → AreFile
 files_both [] ys front all = all
 files_both (x ∷ xs) ys front all = (front.0, files_both xs ys front.1 all)
 
-pub and_both : (a b : Bool) → (a && b) ≡ true → (a ≡ true) × (b ≡ true)
-and_both true b e = (refl, e)
-and_both false b e = let both : false ≡ true = e in cc
-
 files_tested : (xs : List Text) → list_all is_file xs ≡ true → AreFiles xs
 files_tested [] e = tt
-files_tested (x ∷ xs) e = let parts = and_both (is_file x) (list_all is_file xs) e in (parts.0, files_tested xs parts.1)
+files_tested (x ∷ xs) e = let parts = and_parts (is_file x) (list_all is_file xs) e in (parts.0, files_tested xs parts.1)
 
 files_test : (xs : List Text) → AreFiles xs → list_all is_file xs ≡ true
 files_test [] all = refl
@@ -304,11 +301,11 @@ list_plain (Some v) all = all.0
 
 six : (a b c d e f : Bool) → (a && b && c && d && e && f) ≡ true → (a ≡ true) × (b ≡ true) × (c ≡ true) × (d ≡ true) × (e ≡ true) × (f ≡ true)
 six a b c d e f all =
-    let one = and_both (a && b && c && d && e) f all in
-    let two = and_both (a && b && c && d) e one.0 in
-    let three = and_both (a && b && c) d two.0 in
-    let four = and_both (a && b) c three.0 in
-    let five = and_both a b four.0 in
+    let one = and_parts (a && b && c && d && e) f all in
+    let two = and_parts (a && b && c && d) e one.0 in
+    let three = and_parts (a && b && c) d two.0 in
+    let four = and_parts (a && b) c three.0 in
+    let five = and_parts a b four.0 in
     (five.0, five.1, four.1, three.1, two.1, one.1)
 
 module _ (words : List Text) (g : Given) (is : IsGiven (matches_of words_app words) g) where

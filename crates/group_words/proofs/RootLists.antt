@@ -13,6 +13,7 @@ use Rattle.prolog_terms.proofs.TokenWords.{cut_spelled}
 use Rattle.clause_text.specs.Clauses.{opening_ops}
 use Rattle.clause_text.proofs.OneReading.{opening_ops_are}
 use Rattle.import_rules.specs.declared.names.PredName.{PredName}
+use Rattle.prolog_terms.proofs.ViewLemmas.{some_once}
 use Rattle.group_words.specs.declared.root_list.ListTerm.{ListTerm}
 use Rattle.group_words.specs.RootList.{IsList, list_tree, IsRootList, list_text, named_predicate, all_there}
 
@@ -23,13 +24,10 @@ one_list text a b x y =
     one_tree (table_of opening_ops) (table_is opening_ops opening_ops_are) (list_text text) y.tokens a b (cut_spelled (list_text text) y.tokens y.cut)
     (subst (λ ts. IsClauseOf (table_of opening_ops) (list_text text) ts a) same x.clause) y.clause
 
-some_same : {A : Type 0} (x y : A) → Some x ≡ Some y → x ≡ y
-some_same x y e = cc
-
 -- it names one list of predicates
 pub one_root_list : (text : List ℕ) (roots others : List PredName) → IsRootList text roots → IsRootList text others → roots ≡ others
 one_root_list text roots others x y =
-    some_same roots others (sym x.are ∙ (ap (λ t. all_there (map named_predicate (joined t))) (one_list text x.tree y.tree x.list y.list) ∙ y.are))
+    some_once (sym x.are ∙ (ap (λ t. all_there (map named_predicate (joined t))) (one_list text x.tree y.tree x.list y.list) ∙ y.are))
 
 -- none is named where one of its predicates isn't there
 pub not_all_there : (text : List ℕ) (tree : Tree) → IsList text tree → all_there (map named_predicate (joined tree)) ≡ None → (roots : List PredName) → IsRootList text roots → ⊥

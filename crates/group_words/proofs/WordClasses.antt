@@ -6,6 +6,7 @@ use Rattle.std.specs.Cmp.Lexicographic.{same_text}
 use Rattle.std.proofs.lemmas.Bool.Decides.{nat_tests}
 use Rattle.clap.specs.Lexer.{long_of, long_of_rest, name_and_value, short_of, short_of_rest, strip_byte}
 use Rattle.clap.specs.Walk.{Text}
+use Rattle.prolog_terms.proofs.ViewLemmas.{some_once}
 use Rattle.group_words.specs.Words.{Key, Jobs, Searches, Seed, Roots, Path, Order, Unreached, Effects, Loops, Stream, Make, key_name, option_word, is_plain}
 use Rattle.group_words.proofs.WordRules.{all_keys, called}
 use Rattle.group_words.proofs.WalkSteps.{IsBare, IsLong, IsShort}
@@ -38,9 +39,6 @@ split_back (x ∷ xs) = go (x == 61) refl (split_back xs)
 pub no_option : {A : Type 0} (x : A) → None ≡ Some x → ⊥
 no_option x e = let none : None ≡ Some x = e in cc
 
-some_same : {A : Type 0} (x y : A) → Some x ≡ Some y → x ≡ y
-some_same x y e = cc
-
 pair_back : (text name : Text) (value : Option Text) → name_and_value text ≡ (name, value) → text ≡ spelled name value
 pair_back text name value e = split_back text ∙ ap₂ spelled (ap (λ p. p.0) e) (ap (λ p. p.1) e)
 
@@ -52,7 +50,7 @@ long_back (a ∷ more) name value e = first (a == 45) refl more e
     third : (more : Text) → a ≡ 45 → (b : ℕ) → b ≡ 45 → long_of_rest more ≡ Some (name, value) → a ∷ b ∷ more ≡ codes "--" ++ spelled name value
     third [] is b also e = absurd (no_option (name, value) e)
     third (x ∷ xs) is b also e =
-        let text = pair_back (x ∷ xs) name value (some_same (name_and_value (x ∷ xs)) (name, value) e) in
+        let text = pair_back (x ∷ xs) name value (some_once e) in
         ap (λ y. y ∷ b ∷ x ∷ xs) is ∙ (ap (λ y. 45 ∷ y ∷ x ∷ xs) also ∙ ap (λ ys. 45 ∷ 45 ∷ ys) text)
 
     second : (more : Text) → a ≡ 45 → (t : Bool) → (b : ℕ) → (b == 45) ≡ t
@@ -73,7 +71,7 @@ found_passes p [] key e = absurd (no_option key e)
 found_passes p (k ∷ ks) key e = go (p k) refl e (found_passes p ks key)
   where
     go : (t : Bool) → p k ≡ t → (if t then Some k else find p ks) ≡ Some key → (find p ks ≡ Some key → p key ≡ true) → p key ≡ true
-    go true is e rest = ap p (sym (some_same k key e)) ∙ is
+    go true is e rest = ap p (sym (some_once e)) ∙ is
     go false is e rest = rest e
 
 pub called_back : (name : Text) (key : Key) → called name ≡ Some key → name ≡ key_name key

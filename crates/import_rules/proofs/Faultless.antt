@@ -6,6 +6,7 @@ use Rattle.std.proofs.lemmas.List.Sorted.{length_permutation}
 use Rattle.module_table.specs.Facts.{Facts}
 use Rattle.file_library.specs.declared.fault.Fault.{Fault}
 use Rattle.file_library.specs.Loaded.{LoadedFiles}
+use Rattle.file_library.proofs.LoadedFiles.{none_paired}
 use Rattle.import_rules.specs.Clashes.{AreClashes}
 use Rattle.import_rules.specs.Flaws.{Flaw, AreFlaws, AreImportFaults, IsFaultOf, file_flaws, clash_flaw}
 use Rattle.import_rules.specs.Items.{foreign_items}
@@ -20,14 +21,9 @@ pub empty_is : {X : Type 0} (xs : List X) → length xs ≡ 0 → xs ≡ []
 empty_is {X} [] none = refl
 empty_is {X} (x ∷ xs) none = let full : ⊥ = omega (arith, none) in absurd full
 
-none_told : {A B : Type 0} (R : A → B → Type 0) (xs : List A) (ys : List B) → ys ≡ [] → AllZip R xs ys → xs ≡ []
-none_told {A} {B} R [] ys none all = refl
-none_told {A} {B} R (x ∷ xs) [] none all = absurd all
-none_told {A} {B} R (x ∷ xs) (y ∷ ys) none all = cc
-
 pub faultless : (loaded : LoadedFiles) (faults : List Fault) → faults ≡ [] → AreImportFaults loaded faults → AreFlaws loaded.files loaded.absent []
 faultless loaded faults none are =
-    subst (AreFlaws loaded.files loaded.absent) (none_told (IsFaultOf loaded.texts) are.flaws faults none are.placed) are.are
+    subst (AreFlaws loaded.files loaded.absent) (none_paired (IsFaultOf loaded.texts) are.flaws faults none are.placed) are.are
 
 -- neither files have flaws nor imports clash
 pub no_clashes : (files : List Facts) (absent : List (List ℕ)) → AreFlaws files absent [] → AreClashes (foreign_items files) []

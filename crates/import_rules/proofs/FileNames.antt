@@ -21,9 +21,6 @@ use Rattle.import_rules.proofs.Lists.{filter_none}
 abbrev before : Facts → Facts → Type 0
 before f g = slice_cmp nat_cmp f.file g.file ≡ Less
 
-pub same_name : (a b : List ℕ) → bytes_eq a b ≡ true → a ≡ b
-same_name a b is = (bytes_eq-Decides a b).0 is
-
 pub name_itself : (a : List ℕ) → bytes_eq a a ≡ true
 name_itself a = (bytes_eq-Decides a a).1 refl
 

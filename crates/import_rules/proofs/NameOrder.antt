@@ -1,5 +1,5 @@
 -- The order of predicates' names, and whether two are the same.
-use Rattle.std.proofs.Common.{◌≡◌, true, false, not, ◌&&◌, nat_eq, refl, sym, ap, ◌∙◌}
+use Rattle.std.proofs.Common.{◌≡◌, ℕ, List, true, false, not, ◌&&◌, nat_eq, refl, sym, ap, ◌∙◌}
 use Rattle.std.specs.Ordering.{is_eq, is_lt, nat_cmp, ordering_reverse, ordering_then}
 use Rattle.std.specs.Str.{bytes_eq}
 use Rattle.std.specs.Cmp.{IsTotalOrder, both_tied, unsigned_ties}
@@ -55,3 +55,6 @@ tied_is_same {X} cmp o x y = at (cmp x y) (cmp y x) (o.antisymm y x)
     at Less back e = refl
     at Equal back e = rw e refl
     at Greater back e = rw e refl
+
+pub same_text : (a b : List ℕ) → slice_cmp nat_cmp a b ≡ Equal → a ≡ b
+same_text a b e = (bytes_eq-Decides a b).0 (texts_ties a b ∙ ap is_eq e)

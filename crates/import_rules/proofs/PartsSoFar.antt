@@ -55,9 +55,9 @@ all_parts place file n past =
 
 -- what is defined at the places of a file is seen as what the file defines
 
-there : {X : Type 0} (xs : List X) (n : ℕ) → n < length xs → (x : X) × (slice_get xs n ≡ Some x)
-there {X} [] n within = absurd (omega (arith, within))
-there {X} (x ∷ xs) n within = (get_or (x ∷ xs) n x, slice_get-get_or (x ∷ xs) n x within)
+pub element_at : {X : Type 0} (xs : List X) (n : ℕ) → n < length xs → (x : X) × (slice_get xs n ≡ Some x)
+element_at {X} [] n within = absurd (omega (arith, within))
+element_at {X} (x ∷ xs) n within = (get_or (x ∷ xs) n x, slice_get-get_or (x ∷ xs) n x within)
 
 seen_at : (files : List FileFacts) (place n : ℕ) (file : FileFacts) (d : Defined) → slice_get files place ≡ Some file → slice_get file.defined.items n ≡ Some d
     → see_part files (part_at place n) ≡ part_of place (see_facts file) (n, see_defined file.names d)
@@ -70,7 +70,7 @@ seen_below files place file here zero within = refl
 seen_below files place file here (suc n) within =
     let next : n + 1 ≡ suc n = omega arith in
     let below : n < length file.defined.items = omega (arith, within) in
-    let at = there file.defined.items n below in
+    let at = element_at file.defined.items n below in
     subst (λ k. map (see_part files) (parts_to place k) ≡ parts_below place (see_facts file) k) next
     (more_part place file n at.0 [] (map (see_part files) (parts_to place n)) (map (see_part files) (parts_to place (n + 1))) below
     (sym (get_or_from_slice_get file.defined.items n at.0 at.0 at.1)) (seen_below files place file here n (omega (arith, within)))

@@ -20,9 +20,6 @@ pub known_none : {A : Type 0} (o : Option A) → IsKnown (o ≡ None)
 known_none None = inl refl
 known_none (Some x) = inr (λ e. let both : Some x ≡ None = e in cc)
 
-pub never_none : {A : Type 0} (x : A) → Some x ≡ None → ⊥
-never_none x e = let both : Some x ≡ None = e in cc
-
 -- what follows where a list is empty, and what where it isn't
 pub empty_or_not : {A B C : Type 0} (xs : List A) → (xs ≡ [] → B) → ((xs ≡ [] → ⊥) → C) → B ⊎ C
 empty_or_not [] none some = inl (none refl)

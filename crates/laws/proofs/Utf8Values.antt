@@ -2,10 +2,10 @@
 use Rattle.std.proofs.Common.{if◌then◌else◌, ◌≡◌, ◌&&◌, ◌<◌, ℕ, Bool, true, false, nat_lt, List, [], ◌∷◌, ◌++◌, flat_map, Option, Some, All, codes, refl, ap, ◌∙◌, subst, arith}
 use Rattle.std.specs.List.{list_all}
 use Rattle.std.specs.Str.{IsUtf8}
+use Rattle.std.proofs.lemmas.Bool.{and_parts}
 use Rattle.std.proofs.lemmas.Bool.Decides.{nat_tests}
 use Rattle.std.proofs.lemmas.List.Elements.{All-head, All-tail}
 use Rattle.std.proofs.lemmas.Str.{IsCharBoundary-after_ascii, IsUtf8-drop, IsUtf8-nil}
-use Rattle.group_words.proofs.Readings.{and_both}
 use Rattle.group_words.specs.Words.{Key, Jobs, Searches, Seed, Roots, Path, Order, Unreached, Effects, Loops, Stream, Make, Part, file, flag, apart, joined, IsReading, as_list, option_word, part_words, rest_words, same_key, values}
 
 abbrev AreUtf8 : List (List ℕ) → Type 0
@@ -41,7 +41,7 @@ behind_one b bs low utf8 =
 behind_ascii : (front back : List ℕ) → list_all is_ascii front ≡ true → IsUtf8 (front ++ back) → IsUtf8 back
 behind_ascii [] back low utf8 = utf8
 behind_ascii (b ∷ front) back low utf8 =
-    let each = and_both (is_ascii b) (list_all is_ascii front) low in
+    let each = and_parts (is_ascii b) (list_all is_ascii front) low in
     behind_ascii front back each.1 (behind_one b (front ++ back) each.0 utf8)
 
 word_ascii : (key : Key) → list_all is_ascii (option_word key ++ codes "=") ≡ true

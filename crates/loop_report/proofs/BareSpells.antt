@@ -1,7 +1,8 @@
 -- A bare name is one token as it stands, but for the two pairs of brackets.
 use Rattle.std.proofs.Common.{◌≡◌, ◌≢◌, inl, inr, ℕ, ◌<◌, Bool, true, false, not, List, [], ◌∷◌, length, get_or, codes, refl, ap, sym, subst, ◌∙◌, arith, nat_eq}
-use Rattle.std.proofs.lemmas.Bool.{or_cases, eqb-false}
+use Rattle.std.proofs.lemmas.Bool.{or_cases, eqb-false, and_parts}
 use Rattle.std.proofs.lemmas.List.Sums.{AllPass-from_list_all}
+use Rattle.std.proofs.lemmas.Slice.Eq.{bytes_eq-Decides}
 use Rattle.std.proofs.lemmas.List.FromFn.{length-range_with_len, get_or-range_with_len}
 use Rattle.std.specs.Prelude.{◌&&◌, ◌||◌, ◌==◌}
 use Rattle.std.specs.List.{list_any, range_with_len, starts_with}
@@ -14,13 +15,7 @@ use Rattle.prolog_tokens.specs.BareNames.{is_small, all_are, is_letter_name, is_
 use Rattle.prolog_tokens.specs.Layout.{IsOpener, IsHashBang}
 use Rattle.prolog_tokens.specs.Spelling.{IsRun, IsEnd, Spells}
 use Rattle.prolog_tokens.proofs.Classes.{byte_class, class_past, class_here, here}
-use Rattle.import_rules.proofs.FileNames.{same_name}
 use Rattle.loop_report.specs.ReadBack.{is_pair}
-
-both : (a b : Bool) → (a && b) ≡ true → (a ≡ true) × (b ≡ true)
-both true true is = (refl, refl)
-both true false is = absurd cc
-both false b is = absurd cc
 
 denied : (b : Bool) → not b ≡ true → b ≡ false
 denied true is = absurd cc
@@ -42,7 +37,7 @@ past_end text is = let other : class_at text (length text) ≡ Other = class_pas
 
 letter_spells : (name : List ℕ) → is_letter_name name ≡ true → Spells name 0 (length name) Name
 letter_spells name is =
-    let parts : (is_small (class_at name 0) ≡ true) × (all_are continues name ≡ true) = both (is_small (class_at name 0)) (all_are continues name) is in
+    let parts : (is_small (class_at name 0) ≡ true) × (all_are continues name ≡ true) = and_parts (is_small (class_at name 0)) (all_are continues name) is in
     let first : class_at name 0 ≡ Small = small_is (class_at name 0) parts.0 in
     inl (record {
       begins = first;
@@ -87,9 +82,9 @@ graphic_run name some graphic = record {
 
 graphic_spells : (name : List ℕ) → is_graphic_name name ≡ true → Spells name 0 (length name) Name
 graphic_spells name is =
-    let one = both (not (length name == 0)) (not (starts_with nat_eq name (codes "/*")) && (not (bytes_eq name (codes ".")) && all_are is_graphic name)) is in
-    let two = both (not (starts_with nat_eq name (codes "/*"))) (not (bytes_eq name (codes ".")) && all_are is_graphic name) one.1 in
-    let three = both (not (bytes_eq name (codes "."))) (all_are is_graphic name) two.1 in
+    let one = and_parts (not (length name == 0)) (not (starts_with nat_eq name (codes "/*")) && (not (bytes_eq name (codes ".")) && all_are is_graphic name)) is in
+    let two = and_parts (not (starts_with nat_eq name (codes "/*"))) (not (bytes_eq name (codes ".")) && all_are is_graphic name) one.1 in
+    let three = and_parts (not (bytes_eq name (codes "."))) (all_are is_graphic name) two.1 in
     let graphic : (k : ℕ) → k < length name → is_graphic (class_at name k) ≡ true = all_classes is_graphic name three.1 in
     inr (inl (record {
       run = graphic_run name (eqb-false (length name) 0 (denied (length name == 0) one.0)) graphic;
@@ -109,9 +104,9 @@ curly_pair name is = subst (λ n. is_pair n ≡ true) is refl
 
 no_pair : (name : List ℕ) → is_pair name ≡ false → (bytes_eq (codes "[]") name || (bytes_eq (codes "{}") name || false)) ≡ true → ⊥
 no_pair name single is = elim (or_cases (bytes_eq (codes "[]") name) (bytes_eq (codes "{}") name || false) is) [
-  | inl square ↦ let two : true ≡ false = sym (square_pair name (same_name (codes "[]") name square)) ∙ single in cc
+  | inl square ↦ let two : true ≡ false = sym (square_pair name ((bytes_eq-Decides (codes "[]") name).0 square)) ∙ single in cc
   | inr rest ↦ elim (or_cases (bytes_eq (codes "{}") name) false rest) [
-    | inl curly ↦ let two : true ≡ false = sym (curly_pair name (same_name (codes "{}") name curly)) ∙ single in cc
+    | inl curly ↦ let two : true ≡ false = sym (curly_pair name ((bytes_eq-Decides (codes "{}") name).0 curly)) ∙ single in cc
     | inr none ↦ let two : true ≡ false = sym none in cc
   ]
 ]
@@ -120,9 +115,9 @@ no_pair name single is = elim (or_cases (bytes_eq (codes "[]") name) (bytes_eq (
 sign_spells : (name : List ℕ) → list_any (λ sign. bytes_eq sign name) sign_names ≡ true → is_pair name ≡ false → Spells name 0 (length name) Name
 sign_spells name is single =
     elim (or_cases (bytes_eq (codes "!") name) (bytes_eq (codes ";") name || (bytes_eq (codes "[]") name || (bytes_eq (codes "{}") name || false))) is) [
-      | inl cut ↦ subst (λ n. Spells n 0 (length n) Name) (same_name (codes "!") name cut) (solo_spells (codes "!") refl refl)
+      | inl cut ↦ subst (λ n. Spells n 0 (length n) Name) ((bytes_eq-Decides (codes "!") name).0 cut) (solo_spells (codes "!") refl refl)
       | inr rest ↦ elim (or_cases (bytes_eq (codes ";") name) (bytes_eq (codes "[]") name || (bytes_eq (codes "{}") name || false)) rest) [
-        | inl semicolon ↦ subst (λ n. Spells n 0 (length n) Name) (same_name (codes ";") name semicolon) (solo_spells (codes ";") refl refl)
+        | inl semicolon ↦ subst (λ n. Spells n 0 (length n) Name) ((bytes_eq-Decides (codes ";") name).0 semicolon) (solo_spells (codes ";") refl refl)
         | inr pair ↦ absurd (no_pair name single pair)
       ]
     ]

@@ -8,10 +8,6 @@ use Rattle.std.proofs.lemmas.Option.{slice_get_within, slice_get-get_or, get_or_
 use Rattle.loop_report.specs.ModuleGraph.{AreRising}
 
 -- there is an element at each place
-pub element_at : {X : Type 0} (xs : List X) (k : ℕ) → k < length xs → (x : X) × (slice_get xs k ≡ Some x)
-element_at {X} [] k lt = absurd (omega (arith, lt))
-element_at {X} (x ∷ xs) k lt = (get_or (x ∷ xs) k x, slice_get-get_or (x ∷ xs) k x lt)
-
 -- and an element has a place
 pub place_there : {X : Type 0} (xs : List X) (x : X) (has : Contains xs x) → slice_get xs has.0 ≡ Some x
 place_there {X} xs x (k, lt, is) = slice_get-get_or xs k x lt ∙ ap (λ y. Some y) is

@@ -13,8 +13,9 @@ use Rattle.module_table.specs.declared.load.Load.{Load}
 use Rattle.module_table.specs.Said.{Loads}
 use Rattle.module_table.specs.Facts.{Facts}
 use Rattle.list_laws.proofs.OneOrder.{nothing_in}
+use Rattle.import_rules.proofs.PartsSoFar.{element_at}
 use Rattle.loop_report.specs.ModuleGraph.{AreRising, AreModulePlaces, HasLoad, AddsLoads, AreLoadLists, file_names}
-use Rattle.loop_report.proofs.Lists.{element_at, place_there, more_cases, more_old, more_new, one_place}
+use Rattle.loop_report.proofs.Lists.{place_there, more_cases, more_old, more_new, one_place}
 
 -- the name of the file of a load
 abbrev pub file_of : Load → List ℕ

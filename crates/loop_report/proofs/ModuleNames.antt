@@ -20,6 +20,7 @@ use Rattle.std.proofs.lemmas.Option.{slice_get-get_or}
 use Rattle.std.proofs.lemmas.Slice.Eq.{bytes_eq-Decides}
 use Rattle.list_laws.proofs.Members.{map_from, map_has}
 use Rattle.module_table.specs.Facts.{Facts}
+use Rattle.import_rules.proofs.NameOrder.{same_text}
 use Rattle.loop_report.specs.ImportLoops.{AreModules}
 use Rattle.loop_report.specs.ModuleGraph.{AreRising, texts_of}
 
@@ -72,9 +73,6 @@ modules_made files lent sorted kept are moved up is =
     }
 
 -- texts that compare alike are one
-pub same_text : (a b : List ℕ) → slice_cmp nat_cmp a b ≡ Equal → a ≡ b
-same_text a b e = (bytes_eq-Decides a b).0 (texts_ties a b ∙ ap is_eq e)
-
 pub found : (names : List (Bor (List ℕ))) (wanted : Bor (List ℕ)) (place : ℕ) → place < length names
     → HoldsAt (λ y. lent_cmp y wanted ≡ Equal) names place → slice_get (texts_of names) place ≡ Some wanted.now
 found names wanted place within tie =

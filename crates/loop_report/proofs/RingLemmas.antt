@@ -22,10 +22,10 @@ use Rattle.graph_law.specs.LegalOrder.{IsLegalOrder, IsComplete}
 use Rattle.graph_law.proofs.ClassLaws.{least_is_member}
 use Rattle.graph_law.proofs.Unique.{class_unique}
 use Rattle.list_laws.proofs.OneOrder.{range_has, holds_of, nothing_in}
+use Rattle.import_rules.proofs.PartsSoFar.{element_at}
 use Rattle.loop_report.specs.ImportLoops.{names_at}
 use Rattle.loop_report.specs.ModuleGraph.{IsRing, AreRings}
 use Rattle.loop_report.specs.Reportable.{LeastDiffer}
-use Rattle.loop_report.proofs.Lists.{element_at}
 
 -- the class loads itself, and isn't the module `user` alone
 abbrev pub IsLooping : List (List ℕ) → List (List ℕ) → List ℕ → Type 0

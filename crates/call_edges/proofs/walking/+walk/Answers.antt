@@ -15,7 +15,7 @@ use Rattle.call_edges.specs.Seen.{see_mets, see_taken}
 use Rattle.call_edges.proofs.AddedLemmas.{rows_within}
 use Rattle.call_edges.proofs.KeptMeanings.{meant_more}
 use Rattle.call_edges.proofs.MetLemmas.{first_none, first_more, first_rowless, first_one, first_two}
-use Rattle.call_edges.proofs.PartLemmas.{only_is, pair_is}
+use Rattle.module_table.proofs.Shapes.{only_seen, pair_seen}
 use Rattle.module_table.proofs.TakesLemmas.{read_seen}
 use Rattle.call_edges.proofs.WalkLemmas.{on_ok, part_falls, variable_walked, list_walked, tailed_walked, constant_walked, atom_walked, curly_walked, paren_walked, compound_walked}
 use Rattle.call_edges.proofs.walking.+walk.Goals as goal
@@ -39,7 +39,7 @@ walk-requires t c =
     let own = tree_of c.in-Some.only in
     let one = sym c.in-Some.ensures.tree in
     let falls =
-    part_falls T within owner role tree v.name.now args v.form span here 0 own c.role_of-first.result v.ensures.tree apart (ap (λ ts. slice_get (trees_in ts) 0) (only_is args own one))
+    part_falls T within owner role tree v.name.now args v.form span here 0 own c.role_of-first.result v.ensures.tree apart (ap (λ ts. slice_get (trees_in ts) 0) (only_seen args own one))
     c.role_of-first.ensures (omega (arith, c.requires)) in (omega (arith, falls.0), falls.1)
 
 pub walk-requires-in-Some-pair : goal.walk-requires-in-Some-pair
@@ -60,7 +60,7 @@ walk-requires-in-Some-pair t c =
     let two = sym c.in-Some-pair.ensures.trees in
     let falls =
     part_falls T within owner role tree v.name.now args v.form span here 0 left c.role_of-first.result v.ensures.tree apart
-    (ap (λ ts. slice_get (trees_in ts) 0) (pair_is args left right two)) c.role_of-first.ensures (omega (arith, c.requires)) in (omega (arith, falls.0), falls.1)
+    (ap (λ ts. slice_get (trees_in ts) 0) (pair_seen args left right two)) c.role_of-first.ensures (omega (arith, c.requires)) in (omega (arith, falls.0), falls.1)
 
 pub walk-requires-in-Some-pair-2 : goal.walk-requires-in-Some-pair-2
 walk-requires-in-Some-pair-2 t c =
@@ -80,7 +80,7 @@ walk-requires-in-Some-pair-2 t c =
     let two = sym c.in-Some-pair.ensures.trees in
     let falls =
     part_falls T within owner role tree v.name.now args v.form span here 1 right c.role_of-second.result v.ensures.tree apart
-    (ap (λ ts. slice_get (trees_in ts) 1) (pair_is args left right two)) c.role_of-second.ensures (omega (arith, c.requires)) in (omega (arith, falls.0), falls.1)
+    (ap (λ ts. slice_get (trees_in ts) 1) (pair_seen args left right two)) c.role_of-second.ensures (omega (arith, c.requires)) in (omega (arith, falls.0), falls.1)
 
 pub walk-requires-in-loop-at : goal.walk-requires-in-loop-at
 walk-requires-in-loop-at t c =
@@ -173,7 +173,7 @@ returns-in-Some-clause-met t c =
     let P : GoalArg → Type 0 = λ role. AddsMet T (place here.module_ role own) mid new in
     on_ok c.walk.result c.walk.ensures.met (λ adds.
     compound_walked T owner role tree old new v.name.now args v.form span here (trees_in args) 1 v.ensures.tree refl apart
-    (omega (arith, ap (λ ts. length (trees_in ts)) (only_is args own one)))
+    (omega (arith, ap (λ ts. length (trees_in ts)) (only_seen args own one)))
     (first_one T here args own old mid new one c.in_ok-push_met-in-Compound.ensures.mets (subst P c.role_of-first.ensures adds)))
 
 pub returns-in-Some-pair-clause-met : goal.returns-in-Some-pair-clause-met
@@ -199,7 +199,7 @@ returns-in-Some-pair-clause-met t c =
     let Q : GoalArg → Type 0 = λ role. AddsMet T (place here.module_ role right) between new in
     on_ok c.walk-in-Some-pair-2.result c.walk-in-Some-pair-2.ensures.met (λ adds.
     compound_walked T owner role tree old new v.name.now args v.form span here (trees_in args) 2 v.ensures.tree refl apart
-    (omega (arith, ap (λ ts. length (trees_in ts)) (pair_is args left right two)))
+    (omega (arith, ap (λ ts. length (trees_in ts)) (pair_seen args left right two)))
     (first_two T here args left right old mid between new two c.in_ok-push_met-in-Compound.ensures.mets
     (subst P c.role_of-first.ensures c.in_ok-walk-in-Compound.ensures.met) (subst Q c.role_of-second.ensures adds)))
 
