@@ -1,3 +1,4 @@
+pub mod Said
 pub mod LimitLine
 pub mod CarryingLemmas
 pub mod EndLemmas

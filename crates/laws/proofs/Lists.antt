@@ -24,7 +24,6 @@ use Rattle.import_rules.specs.declared.names.PredName.{PredName}
 use Rattle.group_words.specs.RootList.{IsList, IsRootList, all_there, list_text, named_predicate}
 use Rattle.group_words.specs.Settings.{FilesAre, PathIs, RootsAre, each_once}
 use Rattle.group_words.proofs.RootLists.{not_all_there, one_root_list}
-use Rattle.prolog_terms.proofs.PartsMade.{whole_part}
 use Rattle.laws.proofs.Known.{IsFound}
 
 -- each text in UTF-8 is tokens or has a fault
@@ -42,6 +41,9 @@ opening_table = table_of opening_ops
 
 opening_table_is : IsTable opening_table
 opening_table_is = table_is opening_ops opening_ops_are
+
+whole_part : (text : List ℕ) (ts : List Token) → IsCut text ts → ArePart text ts
+whole_part text ts cut = record { before = []; after = []; cut = subst (λ us. IsCut text us) (sym (append-nil ts)) cut }
 
 -- the tokens of a whole text are one clause, or aren't
 clause_found : AreClauses → (text : List ℕ) (ts : List Token) → IsCut text ts → IsFound (IsClauseOf opening_table text ts)

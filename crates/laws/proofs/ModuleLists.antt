@@ -15,7 +15,7 @@ use Rattle.laws.proofs.Orders.{HasOnce, has_once}
 use Rattle.loop_report.specs.ImportLoops.{LoadsModule, AreModules, PlaceLoads}
 use Rattle.loop_report.specs.ModuleGraph.{AreLoadLists}
 use Rattle.import_rules.proofs.PartsSoFar.{element_at}
-use Rattle.loop_report.proofs.ModuleNames.{same_text}
+use Rattle.import_rules.proofs.NameOrder.{same_text}
 use Rattle.laws.proofs.Decisions.{HasOne, both_or, same_or, one_or_none, AreRows, rows_of}
 
 abbrev module_of : Facts → List ℕ

@@ -24,7 +24,7 @@ use Rattle.loop_report.specs.ImportLoops.{names_at}
 use Rattle.loop_report.specs.ModuleGraph.{AreRings, IsRing}
 use Rattle.loop_report.proofs.RingLemmas.{IsLooping, members_nodes}
 use Rattle.laws.proofs.Decisions.{Chosen, alone_or, both_or, chosen_of, either_or, not_or, upto_or}
-use Rattle.loop_report.proofs.ModuleNames.{same_text}
+use Rattle.import_rules.proofs.NameOrder.{same_text}
 
 -- a class is a ring or not
 

@@ -1,4 +1,4 @@
-use Rattle.group_tool.proofs.Said.{taken_unflushed}
+use Rattle.calls_tool.proofs.Said.{taken_unflushed}
 use Rattle.calls_tool.proofs.say.say.Goals as goal
 
 pub returns-in-Failed-clause-said : goal.returns-in-Failed-clause-said

@@ -1,5 +1,5 @@
 use Rattle.call_told.specs.Told.{joined}
-use Rattle.group_tool.proofs.Said.{taken_unflushed}
+use Rattle.calls_tool.proofs.Said.{taken_unflushed}
 use Rattle.calls_tool.proofs.say.say_texts.Goals as goal
 
 pub returns-in-Failed-clause-said : goal.returns-in-Failed-clause-said
