@@ -4,6 +4,7 @@
 mod edges;
 mod ended;
 mod gate;
+mod openings;
 mod pausing;
 mod stopped;
 mod trial;
@@ -12,6 +13,7 @@ mod workers;
 
 pub use ended::Ended;
 pub use gate::{Gate, MeetGate, OpenGate};
+pub use openings::Openings;
 pub use pausing::pause;
 pub use worker::work;
 pub use workers::{drive_workers, run_all, split_for};

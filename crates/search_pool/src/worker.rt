@@ -4,6 +4,7 @@ ghost use Rattle.search_pool.specs.Worker.{EndsWell};
 
 use crate::ended::Ended;
 use crate::gate::Gate;
+use crate::openings::Openings;
 use graph_law::Opener;
 use node_claims::{Claims, Pass};
 use search_stack::Search;
@@ -26,7 +27,8 @@ use stretch::Stretch;
 use went::{Went, Worker};
 
 /// Works until the pass has seen each root finished, or memory is wanting. It calls the gate and then
-/// the opener for each node that it wins, without the turn. The promise holds if the call returns.
+/// the opener for each node that it wins, without the turn. What an opening costs tells it whether to go
+/// on beginning searches that at once have to wait. The promise holds if the call returns.
 pub fn work<O: Opener, G: Gate>(
     rt: &impl Wait,
     alloc: Global,
@@ -34,6 +36,7 @@ pub fn work<O: Opener, G: Gate>(
     pass: Pass,
     opener: &O,
     gate: &G,
+    openings: Openings,
 ) -> Ended
     requires made { claims.now.lists ≡ O.lists opener.now }
     requires pass { IsPassOf claims.now pass }
@@ -53,7 +56,7 @@ pub fn work<O: Opener, G: Gate>(
         awaited: 0,
     };
     'turns: for _ in rt.forever() {
-        match go_on(rt, alloc, claims, worker, opener, gate) {
+        match go_on(rt, alloc, claims, worker, opener, gate, openings) {
             Went::On(after) => worker = after,
             Went::Ended(ended) => return ended,
         }

@@ -8,7 +8,8 @@ ghost use Rattle.search_pool.specs.Worker.{EndsWell};
 
 use crate::ended::Ended;
 use crate::gate::{Gate, Gated};
-use crate::trial::search_alone;
+use crate::openings::Openings;
+use crate::trial::{Trial, search_alone};
 use crate::worker::work;
 use graph_law::Opener;
 use node_claims::{Claims, Pass};
@@ -18,8 +19,9 @@ use std::sync::Wait;
 use std::thread;
 use std::thread::Threads;
 
-// From how many nodes on one search is tried first, whose openings may cost next to nothing.
-const MANY_NODES: u32 = 32_768;
+// From how many nodes on one search is tried first, whose openings may cost next to nothing. Over fewer the
+// try would take too much of a run whose openings are dear: it lasts one to two milliseconds.
+const MANY_NODES: u32 = 4_096;
 
 /// The groups of all that the roots reach, in a legal order, found by `jobs` workers; or by one search,
 /// where the nodes are many and opening them costs little, since workers gain nothing then. Where no thread
@@ -44,14 +46,15 @@ pub fn drive_workers<R: Threads + Wait + Sync, O: Opener, G: Gate>(
     if jobs <= 1 {
         return groups_plain(alloc, &Gated { opener, gate }, roots);
     }
+    let trial = Trial::new();
     if opener.count() >= MANY_NODES {
-        if let Some(groups) = search_alone(rt, alloc, &Gated { opener, gate }, roots)? {
+        if let Some(groups) = search_alone(rt, alloc, &trial, &Gated { opener, gate }, roots)? {
             return Ok(groups);
         }
     }
     let (claims, pass) = Claims::make(alloc, opener, roots)?;
     let passes = split_for(alloc, &claims, pass, jobs)?;
-    let ended = run_all(rt, alloc, &claims, passes, opener, gate)?;
+    let ended = run_all(rt, alloc, &claims, passes, opener, gate, trial.openings())?;
     let pass = join_all(&claims, ended)?;
     Ok(claims.finish(rt, pass))
 }
@@ -98,6 +101,7 @@ pub fn run_all<R: Threads + Wait + Sync, O: Opener, G: Gate>(
     passes: Vec<Pass>,
     opener: &O,
     gate: &G,
+    openings: Openings,
 ) -> Result<Vec<Ended>, AllocError>
     requires made { claims.now.lists ≡ O.lists opener.now }
     requires idle { All (IsIdle claims.now) passes.items }
@@ -110,7 +114,7 @@ pub fn run_all<R: Threads + Wait + Sync, O: Opener, G: Gate>(
         &|pass: Pass| -> Ended
             requires { (claims.now.lists ≡ O.lists opener.now) × IsIdle claims.now pass }
             ensures { EndsWell claims.entry.now result }
-        { work(rt, alloc, claims, pass, opener, gate) },
+        { work(rt, alloc, claims, pass, opener, gate, openings) },
     )
 }
 

@@ -10,6 +10,7 @@ use super::stretch::Stretch;
 use super::went::{Went, Worker};
 use crate::ended::Ended;
 use crate::gate::Gate;
+use crate::openings::Openings;
 use crate::pausing::pause;
 use graph_law::Opener;
 use group_release::Book;
@@ -20,7 +21,8 @@ use std::sync::Wait;
 // In how many stretches the roots are handed out, where there are enough: four for each of 64 workers.
 const STRETCHES: usize = 256;
 
-// How many searches in a row may come to few nodes and wait before the worker waits too.
+// How many searches in a row may come to few nodes and wait before the worker waits too, where openings
+// are cheap.
 const MOST_VAIN: u32 = 4;
 
 // The most roots of a stretch. A turn for so many costs next to nothing, and no worker is left with much.
@@ -36,13 +38,14 @@ pub(crate) fn take_up<O: Opener, G: Gate>(
     worker: Worker,
     opener: &O,
     gate: &G,
+    openings: Openings,
 ) -> Went
     requires made { claims.now.lists ≡ O.lists opener.now }
     requires at_work { IsAtWork claims.now worker false }
     requires idle { size worker.search.stack ≡ 0 }
     ensures { GoesWell claims.now result }
 {
-    if worker.vain >= MOST_VAIN {
+    if are_too_many(worker.vain, openings) {
         return hold_back(rt, claims, worker);
     }
     if worker.stretch.next < worker.stretch.roots.len() {
@@ -81,6 +84,16 @@ pub(crate) fn take_up<O: Opener, G: Gate>(
     pause(rt, waits);
     worker.waits = waits.saturating_add(1);
     Went::On(worker)
+}
+
+// Whether the worker is to begin no other search, with so many of its last in vain. Where openings are
+// dear none is in vain: the nodes that it has opened are moved on top of the search that it waits for, which
+// need not open them.
+fn are_too_many(vain: u32, openings: Openings) -> bool {
+    match openings {
+        Openings::Cheap => vain >= MOST_VAIN,
+        Openings::Dear => false,
+    }
 }
 
 // Waits a little, where the worker's last searches all had to wait at once, and begins no other until the

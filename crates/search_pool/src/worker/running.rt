@@ -9,6 +9,7 @@ use super::suspending::suspend;
 use super::went::{Went, Worker};
 use crate::edges::run_free;
 use crate::gate::Gate;
+use crate::openings::Openings;
 use crate::stopped::Stopped;
 use graph_law::Opener;
 use node_claims::Claims;
@@ -23,13 +24,14 @@ pub(crate) fn go_on<O: Opener, G: Gate>(
     worker: Worker,
     opener: &O,
     gate: &G,
+    openings: Openings,
 ) -> Went
     requires made { claims.now.lists ≡ O.lists opener.now }
     requires at_work { IsAtWork claims.now worker false }
     ensures { GoesWell claims.now result }
 {
     if worker.search.is_empty() {
-        return take_up(rt, alloc, claims, worker, opener, gate);
+        return take_up(rt, alloc, claims, worker, opener, gate, openings);
     }
     run(rt, alloc, claims, worker, opener, gate)
 }

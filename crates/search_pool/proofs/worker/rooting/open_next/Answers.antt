@@ -1,5 +1,5 @@
 -- Each root that is claimed is the next one, and the first that is won is opened.
-use Rattle.std.proofs.Common.{◌≡◌, ◌+◌, ℕ, ap, ◌∙◌, arith}
+use Rattle.std.proofs.Common.{◌≡◌, ◌+◌, ap, ◌∙◌, arith}
 use Rattle.search_stack.specs.Search.{SearchValue}
 use Rattle.search_stack.specs.Stack.{size}
 use Rattle.search_pool.specs.declared.worker.stretch.Stretch.{Stretch}
