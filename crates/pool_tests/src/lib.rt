@@ -16,6 +16,10 @@ mod meeting;
 #[cfg(test)]
 mod seen_tests;
 #[cfg(test)]
+mod slow_gate;
+#[cfg(test)]
+mod star_gate;
+#[cfg(test)]
 mod starved;
 #[cfg(test)]
 mod starved_tests;

@@ -1,29 +1,11 @@
+use crate::slow_gate::SlowGate;
 use graph_law::Graph;
-use search_pool::{Gate, OpenGate, drive_workers};
+use search_pool::{OpenGate, drive_workers};
 use std::alloc::Global;
-use std::hint;
-use std::sync::atomic::{AtomicU32, Ordering};
 use std::test::Fail;
 
 // More than the nodes from which on one search is tried first.
-const COUNT: u32 = 40_000;
-
-const TURNS: u32 = 200;
-
-/// It takes a few microseconds for each node, and counts what it is told.
-#[derive(Drop)]
-struct SlowGate {
-    told: AtomicU32,
-}
-
-impl Gate for SlowGate {
-    fn opened(&self, _node: u32) {
-        for _turn in 0..TURNS {
-            hint::spin_loop();
-        }
-        self.told.fetch_add(1, Ordering::SeqCst);
-    }
-}
+const COUNT: u32 = 20_000;
 
 /// Where openings take nearly all its time, the search that is tried gives way, and the workers open
 /// its nodes again.
@@ -31,12 +13,10 @@ impl Gate for SlowGate {
 fn workers_find_what_a_slow_search_had_begun(rt: HostRuntime) -> Result<(), Fail> {
     let alloc = rt.alloc();
     let graph = chain(alloc, COUNT)?;
-    let gate = SlowGate {
-        told: AtomicU32::new(0),
-    };
+    let gate = SlowGate::new();
     let groups = drive_workers(&rt, alloc, &graph, graph.roots(), 4, &gate)?;
     assert_eq!(rt; groups.len(), COUNT as usize);
-    assert!(rt; gate.told.load(Ordering::SeqCst) >= COUNT);
+    assert!(rt; gate.told() >= COUNT);
     Ok(())
 }
 

@@ -4,9 +4,14 @@ use std::{hint, thread};
 // How many loops a test waits for another thread.
 const LOOPS: u32 = 50_000_000;
 
-/// Waits until the flag is set: false where it wasn't within so many loops.
+/// Waits until the flag is set: false where it wasn't within many loops.
 pub(crate) fn comes(flag: &AtomicBool) -> bool {
-    for turn in 0..LOOPS {
+    comes_within(flag, LOOPS)
+}
+
+/// The same, within so many loops.
+pub(crate) fn comes_within(flag: &AtomicBool, loops: u32) -> bool {
+    for turn in 0..loops {
         if flag.load(Ordering::SeqCst) {
             return true;
         }

@@ -1,0 +1,43 @@
+use crate::waiting::comes_within;
+use search_pool::Gate;
+use std::sync::atomic::{AtomicBool, AtomicU32, Ordering};
+
+/// The opening of node 0 waits until so many other nodes were opened, or a number of loops is over.
+#[derive(Drop)]
+pub(crate) struct StarGate {
+    others: u32,
+    loops: u32,
+    told: AtomicU32,
+    all: AtomicBool,
+    came: AtomicBool,
+}
+
+impl StarGate {
+    pub(crate) fn new(others: u32, loops: u32) -> StarGate {
+        StarGate {
+            others,
+            loops,
+            told: AtomicU32::new(0),
+            all: AtomicBool::new(false),
+            came: AtomicBool::new(false),
+        }
+    }
+
+    /// Whether the other nodes were opened while node 0 waited.
+    pub(crate) fn came(&self) -> bool {
+        self.came.load(Ordering::SeqCst)
+    }
+}
+
+impl Gate for StarGate {
+    fn opened(&self, node: u32) {
+        if node == 0 {
+            self.came
+                .store(comes_within(&self.all, self.loops), Ordering::SeqCst);
+            return;
+        }
+        if self.told.fetch_add(1, Ordering::SeqCst) >= self.others.saturating_sub(1) {
+            self.all.store(true, Ordering::SeqCst);
+        }
+    }
+}
