@@ -10,14 +10,14 @@ microseconds of arithmetic, as a node does whose calls must first be found, so t
 columns are what more workers gain; the plain search opens nodes at the same cost. `one`, `two` and `four` are the
 times of 1, 2 and 4 workers over that of the plain search.
 
-The second has counts, each of one run under `strace` on a fortieth of the nodes, since `strace` slows what it counts
+The second has counts, each of one run under `strace` on 250 times fewer nodes, since `strace` slows what it counts
 and over so few nodes workers search at once, without a try:
 for each number of workers how often a thread slept (until the turn was given back, or because it found nothing to
 do), how often one was woken, how often one let others go on, and all system calls. A turn that is given back while
 nobody sleeps makes none, so where nobody waits the counts stay the same however many groups there are.
 
 The third has how often the turn was taken, and the millions of instructions of all threads with the making of the
-graph, each of one run under `valgrind`, which lets one thread run at a time, on a fortieth of the nodes too.
+graph, each of one run under `valgrind`, which lets one thread run at a time, on 250 times fewer nodes too.
 
 It stops where two numbers of groups differ. Once the program is built it takes five minutes or so, and at most ten: a
 run that is counted is cut off after twenty seconds, and its row then has dashes.
@@ -46,7 +46,7 @@ GRAPHS = [
 ]
 JOBS = [1, 2, 4, 8]
 # Under `strace` and under `valgrind` a graph has so many times fewer nodes, which is too few for one search to be tried first.
-FEWER = 40
+FEWER = 250
 MOST_SECONDS = 20.0
 
 
