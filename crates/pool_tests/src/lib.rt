@@ -24,6 +24,10 @@ mod starved;
 #[cfg(test)]
 mod starved_tests;
 #[cfg(test)]
+mod told;
+#[cfg(test)]
+mod told_tests;
+#[cfg(test)]
 mod trial_tests;
 #[cfg(test)]
 mod turn_tests;
