@@ -11,6 +11,7 @@ pub mod Pieces
 pub mod OneToken
 pub mod Between
 pub mod Faults
+pub mod RowLemmas
 pub mod Lookups
 pub mod Longest
 pub mod NumberEnds

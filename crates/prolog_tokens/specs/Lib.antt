@@ -7,6 +7,7 @@ pub mod Layout
 pub mod Spelling
 pub mod Faults
 pub mod Cut
+pub mod Rows
 pub mod Values
 pub mod Padded
 pub mod Places

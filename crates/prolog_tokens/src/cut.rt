@@ -7,13 +7,10 @@ ghost use Rattle.prolog_tokens.specs.Places.{IsOffset, fault_offset};
 ghost use Rattle.prolog_tokens.specs.declared.chars.Class.TheVariants.{Inner};
 
 use crate::layout::layout_end;
+use crate::rows::join_rows;
 use crate::spelling::spell;
 use crate::token::{Token, TokenFault};
 use std::alloc::Global;
-
-/// How many bytes of a dense text a token takes, with the layout before it. Room for more tokens than a
-/// text has costs nothing while it isn't touched.
-const TOKEN_BYTES: usize = 3;
 
 /// Whether layout or the beginning of the text stands directly before `start`, where the token
 /// before it ended at `at`.
@@ -24,7 +21,7 @@ fn stands_apart(at: usize, start: usize) -> bool
 }
 
 /// The token that stands next after `at`, behind layout, or None where the text ends.
-fn next_token(text: &str, at: usize) -> Result<Option<Token>, TokenFault>
+pub fn next_token(text: &str, at: usize) -> Result<Option<Token>, TokenFault>
     requires small { length text.now ≤ MOST_BYTES }
     requires within { at ≤ length text.now }
     requires begins { class_of_place text.now at ≢ Inner }
@@ -55,11 +52,5 @@ pub fn tokens(alloc: Global, text: &str) -> Result<Vec<Token>, TokenFault>
     ensures no_cut { IfErr result (λ fault. fault ≢ TokenFault.NoMemory → (others : List Token) → IsCut text.now others → ⊥) }
     ensures place { IfErr result (λ fault. IfSome (fault_offset fault) (λ at. IsOffset text.now at)) }
 {
-    let mut found = Vec::with_capacity(alloc, text.len() / TOKEN_BYTES)?;
-    let mut at = 0;
-    while let Some(token) = next_token(text, at)? {
-        at = token.end as usize;
-        found.push(token)?;
-    }
-    Ok(found)
+    join_rows(alloc, text, Vec::new(alloc))
 }

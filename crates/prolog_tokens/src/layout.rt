@@ -10,7 +10,7 @@ use crate::chars::{Class, char_end, class_at};
 use crate::token::TokenFault;
 
 /// The next newline from `from` on, or the end of the text.
-fn newline_at(bytes: &[u8], from: usize) -> usize
+pub fn newline_at(bytes: &[u8], from: usize) -> usize
     requires { from ≤ length bytes.now }
     ensures { GoesToNewline bytes.now from result }
 {

@@ -1,0 +1,94 @@
+use Rattle.std.proofs.Common.{◌≡◌, ◌≢◌, List, All, refl, sym, subst, arith}
+use Rattle.std.specs.Prelude.{IfSome}
+use Rattle.std.proofs.lemmas.List.Elements.{All-head, All-tail}
+use Rattle.prolog_tokens.specs.declared.token.Token.{Token}
+use Rattle.prolog_tokens.specs.declared.token.TokenFault.{TokenFault}
+use Rattle.prolog_tokens.specs.declared.token.TokenFault.TheVariants.{NoMemory}
+use Rattle.prolog_tokens.specs.Places.{IsOffset, fault_offset}
+use Rattle.prolog_tokens.specs.Cut.{IsCut, HasFault, StandBetween}
+use Rattle.prolog_tokens.specs.Rows.{IsRow}
+use Rattle.prolog_tokens.proofs.Classes.{begins_first}
+use Rattle.prolog_tokens.proofs.Between.{one_cut}
+use Rattle.prolog_tokens.proofs.Faults.{one_fault, fault_no_cut}
+use Rattle.prolog_tokens.proofs.RowLemmas.{on_fault, fault_placed, row_fault, row_cut}
+use Rattle.prolog_tokens.proofs.rows.join_rows.Goals as goal
+
+pub loop-next-init : goal.loop-next-init
+loop-next-init c = record {
+  row = subst (λ ts. StandBetween c.args.text.now 0 ts 0) (sym c.in_ok-with_capacity.ensures.items) refl;
+  begins = record { within = omega arith; begins = begins_first c.args.text.now c.utf8.text };
+  rest = subst (All (IsRow c.args.text.now)) (sym c.into_iter-next-iterator.ensures.into_iter_gives.0) c.requires.rows;
+}
+
+pub join-requires-clause-next : goal.join-requires-clause-next
+join-requires-clause-next c =
+    All-head (IsRow c.args.text.now) c.in-Some.next c.next.new.self.rest.items (subst (All (IsRow c.args.text.now)) c.in-Some.ensures.steps.0 c.loop-next.invariant.rest)
+
+pub loop-next-preserved : goal.loop-next-preserved
+loop-next-preserved c = record {
+  row = c.in_ok-join.ensures.row 0 c.loop-next.invariant.row;
+  begins = c.in_ok-join.ensures.begins;
+  rest = All-tail (IsRow c.args.text.now) c.in-Some.next c.next.new.self.rest.items (subst (All (IsRow c.args.text.now)) c.in-Some.ensures.steps.0 c.loop-next.invariant.rest);
+}
+
+pub returns-in_err-join-clause-fault : goal.returns-in_err-join-clause-fault
+returns-in_err-join-clause-fault c =
+    on_fault c.from_residual-in_err-join.result c.in_err-join.field-0.0 (λ fault. fault ≢ NoMemory → HasFault c.args.text.now fault) c.from_residual-in_err-join.ensures.1
+    (λ some. c.in_err-join.ensures.fault some c.loop-next.invariant.row)
+
+pub returns-in_err-join-clause-only_fault : goal.returns-in_err-join-clause-only_fault
+returns-in_err-join-clause-only_fault c =
+    on_fault c.from_residual-in_err-join.result c.in_err-join.field-0.0
+    (λ fault. fault ≢ NoMemory → (other : TokenFault) → HasFault c.args.text.now other → other ≡ fault) c.from_residual-in_err-join.ensures.1
+    (λ some other also. one_fault c.args.text.now other c.in_err-join.field-0.0 also (c.in_err-join.ensures.fault some c.loop-next.invariant.row))
+
+pub returns-in_err-join-clause-no_cut : goal.returns-in_err-join-clause-no_cut
+returns-in_err-join-clause-no_cut c =
+    on_fault c.from_residual-in_err-join.result c.in_err-join.field-0.0 (λ fault. fault ≢ NoMemory → (others : List Token) → IsCut c.args.text.now others → ⊥)
+    c.from_residual-in_err-join.ensures.1
+    (λ some others cut. fault_no_cut c.args.text.now c.in_err-join.field-0.0 others (c.in_err-join.ensures.fault some c.loop-next.invariant.row) cut)
+
+pub returns-in_err-join-clause-place : goal.returns-in_err-join-clause-place
+returns-in_err-join-clause-place c =
+    on_fault c.from_residual-in_err-join.result c.in_err-join.field-0.0 (λ fault. IfSome (fault_offset fault) (λ at. IsOffset c.args.text.now at))
+    c.from_residual-in_err-join.ensures.1
+    (fault_placed c.args.text.now c.in_err-join.field-0.0 c.utf8.text (λ some. c.in_err-join.ensures.fault some c.loop-next.invariant.row))
+
+pub returns-in_err-go_on-clause-fault : goal.returns-in_err-go_on-clause-fault
+returns-in_err-go_on-clause-fault c =
+    on_fault c.from_residual-in_err-go_on.result c.in_err-go_on.field-0.0 (λ fault. fault ≢ NoMemory → HasFault c.args.text.now fault) c.from_residual-in_err-go_on.ensures.1
+    (λ some. row_fault c.args.text.now c.go_on.new.row c.in_err-go_on.field-0.0 (c.go_on.ensures.row 0 c.loop-next.invariant.row) (c.in_err-go_on.ensures.fault some))
+
+pub returns-in_err-go_on-clause-only_fault : goal.returns-in_err-go_on-clause-only_fault
+returns-in_err-go_on-clause-only_fault c =
+    on_fault c.from_residual-in_err-go_on.result c.in_err-go_on.field-0.0
+    (λ fault. fault ≢ NoMemory → (other : TokenFault) → HasFault c.args.text.now other → other ≡ fault) c.from_residual-in_err-go_on.ensures.1
+    (λ some other also. one_fault c.args.text.now other c.in_err-go_on.field-0.0 also
+    (row_fault c.args.text.now c.go_on.new.row c.in_err-go_on.field-0.0 (c.go_on.ensures.row 0 c.loop-next.invariant.row) (c.in_err-go_on.ensures.fault some)))
+
+pub returns-in_err-go_on-clause-no_cut : goal.returns-in_err-go_on-clause-no_cut
+returns-in_err-go_on-clause-no_cut c =
+    on_fault c.from_residual-in_err-go_on.result c.in_err-go_on.field-0.0 (λ fault. fault ≢ NoMemory → (others : List Token) → IsCut c.args.text.now others → ⊥)
+    c.from_residual-in_err-go_on.ensures.1
+    (λ some others cut. fault_no_cut c.args.text.now c.in_err-go_on.field-0.0 others
+    (row_fault c.args.text.now c.go_on.new.row c.in_err-go_on.field-0.0 (c.go_on.ensures.row 0 c.loop-next.invariant.row) (c.in_err-go_on.ensures.fault some)) cut)
+
+pub returns-in_err-go_on-clause-place : goal.returns-in_err-go_on-clause-place
+returns-in_err-go_on-clause-place c =
+    on_fault c.from_residual-in_err-go_on.result c.in_err-go_on.field-0.0 (λ fault. IfSome (fault_offset fault) (λ at. IsOffset c.args.text.now at))
+    c.from_residual-in_err-go_on.ensures.1
+    (fault_placed c.args.text.now c.in_err-go_on.field-0.0 c.utf8.text
+    (λ some. row_fault c.args.text.now c.go_on.new.row c.in_err-go_on.field-0.0 (c.go_on.ensures.row 0 c.loop-next.invariant.row) (c.in_err-go_on.ensures.fault some)))
+
+pub returns-clause-ok : goal.returns-clause-ok
+returns-clause-ok c = row_cut c.args.text.now c.go_on.new.row (c.go_on.ensures.row 0 c.loop-next.invariant.row) c.in_ok-go_on.ensures.none
+
+pub returns-clause-only : goal.returns-clause-only
+returns-clause-only c = λ others cut.
+    one_cut c.args.text.now others c.go_on.new.row.tokens.items cut
+    (row_cut c.args.text.now c.go_on.new.row (c.go_on.ensures.row 0 c.loop-next.invariant.row) c.in_ok-go_on.ensures.none)
+
+pub returns-clause-no_fault : goal.returns-clause-no_fault
+returns-clause-no_fault c = λ fault has.
+    fault_no_cut c.args.text.now fault c.go_on.new.row.tokens.items has
+    (row_cut c.args.text.now c.go_on.new.row (c.go_on.ensures.row 0 c.loop-next.invariant.row) c.in_ok-go_on.ensures.none)

@@ -1,0 +1,158 @@
+//! Rows of tokens: a text is cut from several places on, as if a token began at each, and the rows are
+//! joined to the one cut.
+
+ghost use Rattle.std.specs.Prelude.{◌≡◌, ◌≢◌, ◌<◌, ◌≤◌, ℕ, List, [], length, All, IfOk, IfErr, IfSome, OnOk};
+ghost use Rattle.prolog_tokens.specs.declared.limits.TheConstants.{MOST_BYTES};
+ghost use Rattle.prolog_tokens.specs.Cut.{IsCut, IsWrongNext, HasFault};
+ghost use Rattle.prolog_tokens.specs.Places.{IsOffset, fault_offset};
+ghost use Rattle.prolog_tokens.specs.Rows.{IsBegin, IsSpan, StandsFrom, IsRow, GoesOn, NoneBefore};
+
+use crate::cut::next_token;
+use crate::layout::newline_at;
+use crate::token::{Token, TokenFault};
+use std::alloc::{AllocError, Global};
+
+/// How many bytes of a dense text a token takes, with the layout before it. Room for more tokens than a
+/// text has costs nothing while it isn't touched.
+const TOKEN_BYTES: usize = 3;
+
+/// How many bytes a span has at least, but for the last one of a text. A row that begins within a comment
+/// may look in vain for the end of a quoted item up to the end of the text, so spans aren't many.
+const SPAN_BYTES: usize = 262_144;
+
+/// A part of a text, from where a character begins up to another place.
+#[derive(Clone, Copy)]
+pub struct Span {
+    pub from: usize,
+    pub to: usize,
+}
+
+/// Tokens that stand one after another, and where the last of them ends.
+#[derive(Drop)]
+pub struct TokenRow {
+    pub tokens: Vec<Token>,
+    pub end: usize,
+}
+
+/// Where the span from a place on ends: at a newline or at the end of the text.
+fn span_end(text: &str, from: usize) -> usize
+    requires { from < length text.now }
+    ensures some { from < result }
+    ensures begins { IsBegin text.now result }
+{
+    let bytes = text.as_bytes();
+    let size = SPAN_BYTES.min(bytes.len() - from);
+    newline_at(bytes, from + size)
+}
+
+/// The spans of a text, side by side. Each but the first begins with a newline.
+pub fn spans(alloc: Global, text: &str) -> Result<Vec<Span>, AllocError>
+    ensures { IfOk result (λ spans. All (IsSpan text.now) spans.items) }
+{
+    let mut spans = Vec::new(alloc);
+    let mut from = 0;
+    while from < text.len() {
+        let to = span_end(text, from);
+        spans.push(Span { from, to })?;
+        from = to;
+    }
+    Ok(spans)
+}
+
+/// Goes on with the row by the tokens that stand next and start before a place.
+fn go_on(text: &str, row: &mut TokenRow, to: usize) -> Result<(), TokenFault>
+    requires small { length text.now ≤ MOST_BYTES }
+    requires begins { IsBegin text.now row.old.end }
+    ensures row { GoesOn text.now row.old row.new }
+    ensures begins { IsBegin text.now row.new.end }
+    ensures none { OnOk result (NoneBefore text.now row.new.end to) }
+    ensures fault { IfErr result (λ fault. fault ≢ TokenFault.NoMemory → IsWrongNext text.now row.new.end fault) }
+{
+    while let Some(token) = next_token(text, row.end)? {
+        if token.start as usize >= to {
+            return Ok(());
+        }
+        row.tokens.push(token)?;
+        row.end = token.end as usize;
+    }
+    Ok(())
+}
+
+/// Room for the tokens of so many bytes, or none where memory runs out.
+fn room_for(alloc: Global, bytes: usize) -> Vec<Token>
+    ensures { result.items ≡ [] }
+{
+    match Vec::with_capacity(alloc, bytes / TOKEN_BYTES) {
+        Ok(tokens) => tokens,
+        Err(_) => Vec::new(alloc),
+    }
+}
+
+/// The tokens that stand one after another from the beginning of the span on, as many as start before its
+/// end. There are fewer where something is wrong behind them, or where memory runs out.
+pub fn tokens_in(alloc: Global, text: &str, span: &Span) -> TokenRow
+    requires small { length text.now ≤ MOST_BYTES }
+    requires span { IsSpan text.now span.now }
+    ensures { IsRow text.now result }
+{
+    let mut row = TokenRow {
+        tokens: room_for(alloc, SPAN_BYTES),
+        end: span.from,
+    };
+    let _gone_on = go_on(text, &mut row, span.to);
+    row
+}
+
+/// Puts the tokens of a row behind those of another, with what stands between. Where the first of them
+/// isn't met, it was no token, and none of them is put there.
+fn join(text: &str, row: &mut TokenRow, mut next: TokenRow) -> Result<(), TokenFault>
+    requires small { length text.now ≤ MOST_BYTES }
+    requires begins { IsBegin text.now row.old.end }
+    requires next { IsRow text.now next }
+    ensures row { OnOk result (GoesOn text.now row.old row.new) }
+    ensures begins { OnOk result (IsBegin text.now row.new.end) }
+    ensures fault { IfErr result (λ fault. fault ≢ TokenFault.NoMemory → StandsFrom text.now 0 row.old → HasFault text.now fault) }
+{
+    let Some(first) = next.tokens.first() else {
+        return Ok(());
+    };
+    let start = first.start;
+    let after_layout = first.after_layout;
+    go_on(text, row, start as usize)?;
+    let Some(token) = next_token(text, row.end)? else {
+        return Ok(());
+    };
+    if token.start != start {
+        return Ok(());
+    }
+    if token.after_layout != after_layout {
+        return Ok(());
+    }
+    row.tokens.append(&mut next.tokens)?;
+    row.end = next.end;
+    Ok(())
+}
+
+/// The tokens of a text of at most 8,388,608 bytes, or what is wrong first in it. What rows that were cut
+/// of the text have is taken from them: those of a row stand in the text if the first of them does.
+pub fn join_rows(alloc: Global, text: &str, rows: Vec<TokenRow>) -> Result<Vec<Token>, TokenFault>
+    requires small { length text.now ≤ MOST_BYTES }
+    requires rows { All (IsRow text.now) rows.items }
+    ensures ok { IfOk result (λ found. IsCut text.now found.items) }
+    ensures only { IfOk result (λ found. (others : List Token) → IsCut text.now others → others ≡ found.items) }
+    ensures no_fault { IfOk result (λ _. (fault : TokenFault) → HasFault text.now fault → ⊥) }
+    ensures fault { IfErr result (λ fault. fault ≢ TokenFault.NoMemory → HasFault text.now fault) }
+    ensures only_fault { IfErr result (λ fault. fault ≢ TokenFault.NoMemory → (other : TokenFault) → HasFault text.now other → other ≡ fault) }
+    ensures no_cut { IfErr result (λ fault. fault ≢ TokenFault.NoMemory → (others : List Token) → IsCut text.now others → ⊥) }
+    ensures place { IfErr result (λ fault. IfSome (fault_offset fault) (λ at. IsOffset text.now at)) }
+{
+    let mut row = TokenRow {
+        tokens: Vec::with_capacity(alloc, text.len() / TOKEN_BYTES)?,
+        end: 0,
+    };
+    for next in rows {
+        join(text, &mut row, next)?;
+    }
+    go_on(text, &mut row, text.len())?;
+    Ok(row.tokens)
+}
