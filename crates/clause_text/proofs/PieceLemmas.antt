@@ -1,6 +1,7 @@
 -- Stretches of tokens, and the pieces that they are read as.
 use Rattle.std.proofs.Common.{◌≡◌, ℕ, ◌-◌, ◌<◌, ◌≤◌, List, [], ◌∷◌, ◌++◌, Ok, false, sym, subst, refl, inl, inr, arith}
-use Rattle.std.specs.List.{AllZip}
+use Rattle.std.specs.List.{All, AllZip}
+use Rattle.std.proofs.lemmas.List.Elements.{All-nil, All-cons}
 use Rattle.std.proofs.lemmas.Bool.{cases_lt}
 use Rattle.prolog_tokens.specs.declared.token.Token.{Token}
 use Rattle.prolog_ops.specs.Table.{Ops}
@@ -47,3 +48,10 @@ pieces_of names table text ts [] (piece ∷ pieces) read from to are = absurd re
 pieces_of names table text ts (stretch ∷ stretches) [] read from to are = absurd read
 pieces_of names table text ts (stretch ∷ stretches) (piece ∷ pieces) read from to are =
     (stretch.to, subst (λ n. IsPiece names table text ts n stretch.to piece) are.0 read.0, pieces_of names table text ts stretches pieces read.1 stretch.to to are.2)
+
+-- what holds of each result of a list holds of all of them
+pub all_behind : {X Y : Type 0} (P : Y → Type 0) (xs : List X) (ys : List Y) → AllZip (λ x y. P y) xs ys → All P ys
+all_behind P [] [] each = All-nil P
+all_behind P [] (y ∷ ys) each = absurd each
+all_behind P (x ∷ xs) [] each = absurd each
+all_behind P (x ∷ xs) (y ∷ ys) each = All-cons P y ys each.0 (all_behind P xs ys each.1)

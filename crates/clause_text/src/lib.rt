@@ -9,6 +9,7 @@
 #![tactic(auto)]
 
 mod cause;
+mod cutting;
 mod fault;
 mod items;
 mod laws;

@@ -6,11 +6,11 @@ ghost use Rattle.clause_text.specs.Clauses.{ReadsAs, text_trees, total_weight};
 ghost use Rattle.clause_text.specs.TextFault.{HasTextFault, offset_of};
 
 use crate::cause::Cause;
+use crate::cutting::cut_text;
 use crate::fault::TextFault;
 use crate::parts::read_clauses;
 use crate::text_clauses::TextClauses;
 use prolog_names::number_names;
-use prolog_tokens::tokens;
 use std::alloc::Global;
 use std::thread::Threads;
 
@@ -36,7 +36,7 @@ pub fn read_text<R: Threads + Sync>(
         Ok(text) => text,
         Err(error) => return Err(TextFault::At(Cause::NotUtf8, error.valid_up_to() as u32)),
     };
-    let tokens = tokens(alloc, text)?;
+    let tokens = cut_text(rt, alloc, text)?;
     let numbered = number_names(alloc, text, &tokens)?;
     read_clauses(rt, alloc, text, &tokens, numbered)
 }

@@ -1,0 +1,56 @@
+//! The tokens of a text, which are cut side by side where it is long.
+
+ghost use Rattle.std.specs.Prelude.{◌≡◌, ◌≢◌, ◌≤◌, length, All, IfOk, IfErr, IfSome};
+ghost use Rattle.prolog_tokens.specs.declared.limits.TheConstants.{MOST_BYTES};
+ghost use Rattle.prolog_tokens.specs.Cut.{IsCut, HasFault};
+ghost use Rattle.prolog_tokens.specs.Places.{IsOffset, fault_offset};
+ghost use Rattle.prolog_tokens.specs.Rows.{IsSpan, IsRow};
+
+use prolog_tokens::{Span, Token, TokenFault, TokenRow, join_rows, spans, tokens, tokens_in};
+use rayon::prelude::*;
+use std::alloc::{AllocError, Global};
+use std::thread::Threads;
+
+/// Texts of fewer bytes are cut in sequence: they are too short for threads to be worth it.
+const LONG: usize = 1_048_576;
+
+/// The tokens of each of the spans of a text, side by side.
+fn rows_of<R: Threads + Sync>(
+    rt: &R,
+    alloc: Global,
+    text: &str,
+    spans: &[Span],
+) -> Result<Vec<TokenRow>, AllocError>
+    requires small { length text.now ≤ MOST_BYTES }
+    requires spans { All (IsSpan text.now) spans.now }
+    ensures { IfOk result (λ rows. All (IsRow text.now) rows.items) }
+{
+    spans
+        .par_iter()
+        .map(
+            |span: &Span| -> TokenRow
+                requires { (length text.now ≤ MOST_BYTES) × IsSpan text.now span.now }
+                ensures { IsRow text.entry.now result }
+            { tokens_in(alloc, text, span) },
+        )
+        .collect(rt, alloc)
+}
+
+/// The tokens of a text of at most 8,388,608 bytes, or what is wrong first in it, as `tokens` tells.
+pub fn cut_text<R: Threads + Sync>(
+    rt: &R,
+    alloc: Global,
+    text: &str,
+) -> Result<Vec<Token>, TokenFault>
+    requires small { length text.now ≤ MOST_BYTES }
+    ensures ok { IfOk result (λ found. IsCut text.now found.items) }
+    ensures fault { IfErr result (λ fault. fault ≢ TokenFault.NoMemory → HasFault text.now fault) }
+    ensures place { IfErr result (λ fault. IfSome (fault_offset fault) (λ at. IsOffset text.now at)) }
+{
+    if text.len() < LONG {
+        return tokens(alloc, text);
+    }
+    let spans = spans(alloc, text)?;
+    let rows = rows_of(rt, alloc, text, &spans)?;
+    join_rows(alloc, text, rows)
+}
