@@ -65,13 +65,13 @@ fn bucket_of(hash: u32, size: usize) -> usize
 }
 
 impl NameTable {
-    /// A table without names, with so many buckets and one more.
+    /// A table without names, with so many buckets and one more, and with room for as many names.
     pub fn new(alloc: Global, buckets: usize) -> Result<NameTable, AllocError>
         requires { buckets < 2 ^ 32 }
         ensures { IfOk result (λ table. table ≡ []) }
     {
         Ok(NameTable {
-            entries: Vec::new(alloc),
+            entries: Vec::with_capacity(alloc, buckets)?,
             heads: vec![in alloc; 0u32; buckets + 1]?,
         })
     }
