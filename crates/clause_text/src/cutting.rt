@@ -7,6 +7,7 @@ ghost use Rattle.prolog_tokens.specs.Places.{IsOffset, fault_offset};
 ghost use Rattle.prolog_tokens.specs.Rows.{IsSpan, IsRow};
 
 use prolog_tokens::{Span, Token, TokenFault, TokenRow, join_rows, spans, tokens, tokens_in};
+use rayon::current_num_threads;
 use rayon::prelude::*;
 use std::alloc::{AllocError, Global};
 use std::thread::Threads;
@@ -48,6 +49,9 @@ pub fn cut_text<R: Threads + Sync>(
     ensures place { IfErr result (λ fault. IfSome (fault_offset fault) (λ at. IsOffset text.now at)) }
 {
     if text.len() < LONG {
+        return tokens(alloc, text);
+    }
+    if current_num_threads(rt) == 1 {
         return tokens(alloc, text);
     }
     let spans = spans(alloc, text)?;

@@ -1,5 +1,5 @@
 -- Rows of tokens that go on, are joined, and become the cut of a text.
-use Rattle.std.proofs.Common.{◌≡◌, ◌≢◌, ℕ, ◌<◌, ◌⊎◌, ◌↔◌, inl, inr, List, [], ◌∷◌, ◌++◌, length, get_or, true, nat_lt, Result, Ok, Err, IsTrue, ap, sym, ◌∙◌, subst, arith}
+use Rattle.std.proofs.Common.{◌≡◌, ◌≢◌, ℕ, ◌<◌, ◌⊎◌, ◌↔◌, List, Option, Some, None, [], ◌∷◌, ◌++◌, length, get_or, true, nat_lt, Result, Ok, Err, IsTrue, ap, sym, ◌∙◌, subst, arith}
 use Rattle.std.specs.Prelude.{IfErr, IfSome, IsErrAnd, IsUtf8}
 use Rattle.prolog_tokens.specs.declared.token.Token.{Token}
 use Rattle.prolog_tokens.specs.declared.token.TokenFault.{TokenFault}
@@ -8,7 +8,7 @@ use Rattle.prolog_tokens.specs.declared.rows.TokenRow.{TokenRow}
 use Rattle.prolog_tokens.specs.Places.{IsOffset, fault_offset}
 use Rattle.prolog_tokens.specs.Layout.{IsLayout}
 use Rattle.prolog_tokens.specs.Cut.{IsNext, StandBetween, IsCut, IsWrongNext, HasFault}
-use Rattle.prolog_tokens.specs.Rows.{IsBegin, StandsFrom, GoesOn, NoneBefore}
+use Rattle.prolog_tokens.specs.Rows.{IsBegin, StandsFrom, GoesOn, StandsNext}
 use Rattle.prolog_tokens.proofs.Families.{token_here}
 use Rattle.prolog_tokens.proofs.OneToken.{token_within}
 use Rattle.prolog_tokens.proofs.Boundaries.{token_boundary, wrong_offset}
@@ -64,13 +64,13 @@ pub row_fault : (text : List ℕ) (row : TokenRow) (fault : TokenFault) → Stan
 row_fault text row fault stand next = record { tokens = row.tokens.items; last = row.end; stand = stand; next = next }
 
 -- behind which no token stands up to the end of the text
-pub row_cut : (text : List ℕ) (row : TokenRow) → StandsFrom text 0 row → NoneBefore text row.end (length text) → IsCut text row.tokens.items
-row_cut text row stand none = record { last = row.end; stand = stand; layout = layout_of none }
+pub row_cut : (text : List ℕ) (row : TokenRow) (next : Option Token) → StandsFrom text 0 row → StandsNext text row.end (length text) next → IsCut text row.tokens.items
+row_cut text row next stand stands = record { last = row.end; stand = stand; layout = layout_of next stands }
   where
-    layout_of : NoneBefore text row.end (length text) → IsLayout text row.end (length text)
-    layout_of (inl layout) = layout
-    layout_of (inr (t, next, behind)) =
-        absurd (let here : t.start < length text = token_here text t.start t.end t.kind next.spelled.spells in omega (arith, here, behind))
+    layout_of : (found : Option Token) → StandsNext text row.end (length text) found → IsLayout text row.end (length text)
+    layout_of None layout = layout
+    layout_of (Some t) (is, behind) =
+        absurd (let here : t.start < length text = token_here text t.start t.end t.kind is.spelled.spells in omega (arith, here, behind))
 
 -- whole characters stand before where a fault is told
 pub fault_placed : (text : List ℕ) (fault : TokenFault) → IsUtf8 text → (fault ≢ NoMemory → HasFault text fault) → IfSome (fault_offset fault) (λ at. IsOffset text at)

@@ -1,5 +1,5 @@
 -- Rows of tokens that begin at several places of a text.
-use Rattle.std.specs.Prelude.{◌≢◌, ℕ, ◌≤◌, ◌⊎◌, List, length}
+use Rattle.std.specs.Prelude.{◌≢◌, ℕ, ◌≤◌, List, Option, MatchOption, length}
 use Rattle.prolog_tokens.specs.declared.chars.Class.TheVariants.{Inner}
 use Rattle.prolog_tokens.specs.declared.token.Token.{Token}
 use Rattle.prolog_tokens.specs.declared.rows.Span.{Span}
@@ -27,6 +27,6 @@ IsRow text row = (a : ℕ) × StandsFrom text a row
 abbrev pub GoesOn : List ℕ → TokenRow → TokenRow → Type 0
 GoesOn text one other = (a : ℕ) → StandsFrom text a one → StandsFrom text a other
 
--- no token that starts before the other place stands next after the first
-abbrev pub NoneBefore : List ℕ → ℕ → ℕ → Type 0
-NoneBefore text at to = IsLayout text at (length text) ⊎ ((t : Token) × IsNext text at t × (to ≤ t.start))
+-- what stands next after the place: a token that starts no earlier than another place, or layout up to the end of the text
+abbrev pub StandsNext : List ℕ → ℕ → ℕ → Option Token → Type 0
+StandsNext text at to next = MatchOption next (IsLayout text at (length text)) (λ t. IsNext text at t × (to ≤ t.start))

@@ -4,13 +4,21 @@ ghost use Rattle.prolog_tokens.specs.Numbers.{IsChar};
 
 use unicode::properties::{GeneralCategory, is_xid_continue, is_xid_start};
 
-/// What a character is to the tokens (ISO/IEC 13211-1, 6.5).
+/// What a character is to the tokens (ISO/IEC 13211-1, 6.5). Those that go on a word come first, then the
+/// graphic ones, so that one comparison tells them.
 #[derive(Clone, Copy, Debug, PartialEq, Eq)]
 pub enum Class {
-    White,
     Small,
     Capital,
     Digit,
+    /// It goes on a word, and begins none.
+    Further,
+    /// A byte within a character.
+    Inner,
+    Dot,
+    Slash,
+    Graphic,
+    White,
     SingleQuote,
     DoubleQuote,
     BackQuote,
@@ -23,16 +31,9 @@ pub enum Class {
     CommaSign,
     BarSign,
     Percent,
-    Dot,
-    Slash,
     Solo,
-    Graphic,
-    /// It goes on a word, and begins none.
-    Further,
     /// U+FEFF.
     OrderMark,
-    /// A byte within a character.
-    Inner,
     Other,
 }
 

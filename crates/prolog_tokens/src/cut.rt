@@ -21,7 +21,6 @@ fn stands_apart(at: usize, start: usize) -> bool
 }
 
 /// The token that stands next after `at`, behind layout, or None where the text ends.
-#[inline(always)]
 pub fn next_token(text: &str, at: usize) -> Result<Option<Token>, TokenFault>
     requires small { length text.now ≤ MOST_BYTES }
     requires within { at ≤ length text.now }

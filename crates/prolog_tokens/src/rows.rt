@@ -5,7 +5,7 @@ ghost use Rattle.std.specs.Prelude.{◌≡◌, ◌≢◌, ◌<◌, ◌≤◌, �
 ghost use Rattle.prolog_tokens.specs.declared.limits.TheConstants.{MOST_BYTES};
 ghost use Rattle.prolog_tokens.specs.Cut.{IsCut, IsWrongNext, HasFault};
 ghost use Rattle.prolog_tokens.specs.Places.{IsOffset, fault_offset};
-ghost use Rattle.prolog_tokens.specs.Rows.{IsBegin, IsSpan, StandsFrom, IsRow, GoesOn, NoneBefore};
+ghost use Rattle.prolog_tokens.specs.Rows.{IsBegin, IsSpan, StandsFrom, IsRow, GoesOn, StandsNext};
 
 use crate::cut::next_token;
 use crate::layout::newline_at;
@@ -59,23 +59,24 @@ pub fn spans(alloc: Global, text: &str) -> Result<Vec<Span>, AllocError>
     Ok(spans)
 }
 
-/// Goes on with the row by the tokens that stand next and start before a place.
-fn go_on(text: &str, row: &mut TokenRow, to: usize) -> Result<(), TokenFault>
+/// Goes on with the row by the tokens that stand next and start before a place. Tells the token that stands
+/// next behind them, or None where the text ends.
+fn go_on(text: &str, row: &mut TokenRow, to: usize) -> Result<Option<Token>, TokenFault>
     requires small { length text.now ≤ MOST_BYTES }
     requires begins { IsBegin text.now row.old.end }
     ensures row { GoesOn text.now row.old row.new }
     ensures begins { IsBegin text.now row.new.end }
-    ensures none { OnOk result (NoneBefore text.now row.new.end to) }
+    ensures next { IfOk result (λ next. StandsNext text.now row.new.end to next) }
     ensures fault { IfErr result (λ fault. fault ≢ TokenFault.NoMemory → IsWrongNext text.now row.new.end fault) }
 {
     while let Some(token) = next_token(text, row.end)? {
         if token.start as usize >= to {
-            return Ok(());
+            return Ok(Some(token));
         }
         row.tokens.push(token)?;
         row.end = token.end as usize;
     }
-    Ok(())
+    Ok(None)
 }
 
 /// Room for the tokens of so many bytes, or none where memory runs out.
@@ -118,8 +119,7 @@ fn join(text: &str, row: &mut TokenRow, mut next: TokenRow) -> Result<(), TokenF
     };
     let start = first.start;
     let after_layout = first.after_layout;
-    go_on(text, row, start as usize)?;
-    let Some(token) = next_token(text, row.end)? else {
+    let Some(token) = go_on(text, row, start as usize)? else {
         return Ok(());
     };
     if token.start != start {

@@ -14,7 +14,7 @@ use std::str;
 pub const MOST: usize = 24;
 
 /// Texts of fewer bytes are compared byte by byte: to gather so few bytes to numbers takes longer.
-const FEW: usize = 8;
+const FEW: usize = 4;
 
 /// A text of few bytes. They stand in the value itself, so it needs no piece of memory of its own,
 /// as most names of a program are so short. Zeros stand behind them, so that two are compared as a

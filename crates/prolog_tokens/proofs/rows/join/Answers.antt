@@ -7,20 +7,12 @@ use Rattle.prolog_tokens.specs.Rows.{StandsFrom}
 use Rattle.prolog_tokens.proofs.RowLemmas.{on_fault, row_fault, row_joined, goes_on_by, begin_after}
 use Rattle.prolog_tokens.proofs.rows.join.Goals as goal
 
-pub returns-in_err-go_on-clause-fault : goal.returns-in_err-go_on-clause-fault
-returns-in_err-go_on-clause-fault c =
-    let text = c.args.text.now in
-    let row = c.args.row.now in
-    on_fault c.from_residual.result c.in_err-go_on.field-0.0 (λ fault. fault ≢ NoMemory → StandsFrom text 0 row → HasFault text fault) c.from_residual.ensures.1
-    (λ some stand. row_fault text c.go_on.new.row c.in_err-go_on.field-0.0 (c.go_on.ensures.row 0 stand) (c.in_err-go_on.ensures.fault some))
-
 pub returns-in_err-token-clause-fault : goal.returns-in_err-token-clause-fault
 returns-in_err-token-clause-fault c =
     let text = c.args.text.now in
     let row = c.args.row.now in
-    on_fault c.from_residual-in_err-token.result c.in_err-token.field-0.0 (λ fault. fault ≢ NoMemory → StandsFrom text 0 row → HasFault text fault)
-    c.from_residual-in_err-token.ensures.1
-    (λ some stand. row_fault text c.go_on.new.row c.in_err-token.field-0.0 (c.go_on.ensures.row 0 stand) c.in_err-token.ensures)
+    on_fault c.from_residual.result c.in_err-token.field-0.0 (λ fault. fault ≢ NoMemory → StandsFrom text 0 row → HasFault text fault) c.from_residual.ensures.1
+    (λ some stand. row_fault text c.go_on.new.row c.in_err-token.field-0.0 (c.go_on.ensures.row 0 stand) (c.in_err-token.ensures.fault some))
 
 pub returns-clause-row : goal.returns-clause-row
 returns-clause-row c =
@@ -28,7 +20,7 @@ returns-clause-row c =
     let other = c.args.next in
     let end = c.go_on.new.row.end in
     let token = c.in-Some-2.token in
-    let next : IsNext text end token = rw c.in-Some-2.is at c.in_ok-token.ensures in
+    let next : IsNext text end token = (rw c.in-Some-2.is at c.in_ok-token.ensures.next).0 in
     let told : token.after_layout ≡ c.in-Some.first.now.after_layout =
     (booleans_Decides token.after_layout c.in-Some.first.now.after_layout).0 (not-false _ c.if-token-after_layout.false) in
     let more : StandBetween text end other.tokens.items other.end =
@@ -42,7 +34,7 @@ returns-clause-begins c =
     let other = c.args.next in
     let end = c.go_on.new.row.end in
     let token = c.in-Some-2.token in
-    let next : IsNext text end token = rw c.in-Some-2.is at c.in_ok-token.ensures in
+    let next : IsNext text end token = (rw c.in-Some-2.is at c.in_ok-token.ensures.next).0 in
     let told : token.after_layout ≡ c.in-Some.first.now.after_layout =
     (booleans_Decides token.after_layout c.in-Some.first.now.after_layout).0 (not-false _ c.if-token-after_layout.false) in
     let more : StandBetween text end other.tokens.items other.end =

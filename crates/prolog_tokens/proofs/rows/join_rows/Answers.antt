@@ -81,14 +81,14 @@ returns-in_err-go_on-clause-place c =
     (λ some. row_fault c.args.text.now c.go_on.new.row c.in_err-go_on.field-0.0 (c.go_on.ensures.row 0 c.loop-next.invariant.row) (c.in_err-go_on.ensures.fault some)))
 
 pub returns-clause-ok : goal.returns-clause-ok
-returns-clause-ok c = row_cut c.args.text.now c.go_on.new.row (c.go_on.ensures.row 0 c.loop-next.invariant.row) c.in_ok-go_on.ensures.none
+returns-clause-ok c = row_cut c.args.text.now c.go_on.new.row c.in_ok-go_on.field-0 (c.go_on.ensures.row 0 c.loop-next.invariant.row) c.in_ok-go_on.ensures.next
 
 pub returns-clause-only : goal.returns-clause-only
 returns-clause-only c = λ others cut.
     one_cut c.args.text.now others c.go_on.new.row.tokens.items cut
-    (row_cut c.args.text.now c.go_on.new.row (c.go_on.ensures.row 0 c.loop-next.invariant.row) c.in_ok-go_on.ensures.none)
+    (row_cut c.args.text.now c.go_on.new.row c.in_ok-go_on.field-0 (c.go_on.ensures.row 0 c.loop-next.invariant.row) c.in_ok-go_on.ensures.next)
 
 pub returns-clause-no_fault : goal.returns-clause-no_fault
 returns-clause-no_fault c = λ fault has.
     fault_no_cut c.args.text.now fault c.go_on.new.row.tokens.items has
-    (row_cut c.args.text.now c.go_on.new.row (c.go_on.ensures.row 0 c.loop-next.invariant.row) c.in_ok-go_on.ensures.none)
+    (row_cut c.args.text.now c.go_on.new.row c.in_ok-go_on.field-0 (c.go_on.ensures.row 0 c.loop-next.invariant.row) c.in_ok-go_on.ensures.next)
