@@ -15,6 +15,9 @@ use std::thread::Threads;
 /// Texts of fewer bytes are cut in sequence: they are too short for threads to be worth it.
 const LONG: usize = 1_048_576;
 
+/// How few spans are worth a thread of their own.
+const FEWEST: usize = 1;
+
 /// The tokens of each of the spans of a text, side by side.
 fn rows_of<R: Threads + Sync>(
     rt: &R,
@@ -28,6 +31,7 @@ fn rows_of<R: Threads + Sync>(
 {
     spans
         .par_iter()
+        .with_min_len(FEWEST)
         .map(
             |span: &Span| -> TokenRow
                 requires { (length text.now ≤ MOST_BYTES) × IsSpan text.now span.now }

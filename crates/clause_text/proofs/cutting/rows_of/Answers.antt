@@ -12,7 +12,7 @@ use Rattle.clause_text.proofs.cutting.rows_of.Goals as goal
 pub returns : goal.returns
 returns g c =
     let text = c.args.text.now in
-    let slice = ap (λ it. it.slice.now) c.map.ensures.base ∙ c.par_iter.ensures in
+    let slice = ap (λ it. it.base.slice.now) c.map.ensures.base ∙ (ap (λ it. it.slice.now) c.with_min_len.ensures.base ∙ c.par_iter.ensures) in
     IfOk-then c.collect.result _ _ c.collect.ensures (λ v h.
     let chain = h.1 in
     let read = subst (λ f. AllZip (λ (span : Bor Span) (row : TokenRow). IsRow f.1.now row) chain.0 h.0) c.map.ensures.f chain.2 in
