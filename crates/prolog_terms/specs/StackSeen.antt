@@ -18,13 +18,14 @@ use Rattle.prolog_terms.specs.declared.state.Mode.TheVariants as mode
 use Rattle.prolog_terms.specs.declared.state.State.{State}
 use Rattle.prolog_terms.specs.declared.waiting.Waiting.{Waiting}
 use Rattle.prolog_terms.specs.declared.waiting.Waiting.TheVariants as waiting
+use Rattle.prolog_terms.specs.declared.waiting.Waited.{Waited}
 use Rattle.prolog_terms.specs.declared.waiting.Reader.{Reader}
 use Rattle.prolog_terms.specs.Words.{Word}
 use Rattle.prolog_terms.specs.Tree.{Tree, none}
 use Rattle.prolog_terms.specs.Forest.{last_of, before_last, parts_of, without, forest}
 use Rattle.prolog_terms.specs.ReaderSeen.{OperandSeen, operand, parts, OpenedSeen, Call, Square, OperatorSeen, prefix_on, infix_on, BracketSeen}
 use Rattle.prolog_terms.specs.ReaderSeen.{first_in, next_in, tail_in, wrap_in, PendingSeen, pending_operator, pending_bracket, entry, StackSeen}
-use Rattle.prolog_terms.specs.ReaderSeen.{wants, minus_of, functor_of, has, finished, StateSeen, Held, held, WaitingSeen, ready_seen, named_seen}
+use Rattle.prolog_terms.specs.ReaderSeen.{wants, has, finished, StateSeen, Held, held, WaitingSeen, ready_seen, named_seen}
 use Rattle.prolog_terms.specs.ReaderSeen.{doubt_seen}
 
 abbrev pub Names : Type 0
@@ -107,28 +108,28 @@ see_stack names state = see_entries names (innermost state.stack) (trees_in name
 abbrev pub see_held : Names → State → Operand → Held
 see_held names state o = held_in names (innermost state.stack) (trees_in names state) o
 
-abbrev pub in_mode : Names → List Entry → List Tree → Mode → StateSeen
-in_mode names es trees mode.Want = record { stack = see_entries names es trees; mode = wants }
-in_mode names es trees (mode.Minus word) = record { stack = see_entries names es trees; mode = minus_of (see_word names word) }
-in_mode names es trees (mode.Functor word) = record { stack = see_entries names es trees; mode = functor_of (see_word names word) }
-in_mode names es trees (mode.Have o) = record { stack = see_entries names es (before_last trees); mode = has (see_operand (last_of trees) o) }
-in_mode names es trees (mode.Done o) = record { stack = see_entries names es (before_last trees); mode = finished (see_operand (last_of trees) o) }
+abbrev pub in_mode : Names → List Entry → List Tree → Mode → Operand → StateSeen
+in_mode names es trees mode.Want o = record { stack = see_entries names es trees; mode = wants }
+in_mode names es trees mode.Have o = record { stack = see_entries names es (before_last trees); mode = has (see_operand (last_of trees) o) }
+in_mode names es trees mode.Done o = record { stack = see_entries names es (before_last trees); mode = finished (see_operand (last_of trees) o) }
 
 abbrev pub see_state : Names → State → StateSeen
-see_state names state = in_mode names (innermost state.stack) (trees_in names state) state.mode
+see_state names state = in_mode names (innermost state.stack) (trees_in names state) state.mode state.operand
 
 -- a step that may be refused, with the state behind it
 abbrev pub see_step : Names → State → Bool → Option StateSeen
 see_step names state goes = cond goes (Some (see_state names state)) None
 
-abbrev pub in_wait : Names → List Entry → List Tree → Mode → Waiting → WaitingSeen
-in_wait names es trees m waiting.Nothing = ready_seen (in_mode names es trees m).stack (in_mode names es trees m).mode
-in_wait names es trees m (waiting.Named word prefix) = named_seen (see_entries names es trees) (see_word names word) prefix
-in_wait names es trees m (waiting.Doubt first prefix second between floor) =
-    doubt_seen (see_entries names es trees) (see_word names first) prefix (see_word names second) between floor
+abbrev pub in_wait : Names → List Entry → List Tree → Mode → Operand → Waiting → Waited → WaitingSeen
+in_wait names es trees m o waiting.Nothing w = ready_seen (in_mode names es trees m o).stack (in_mode names es trees m o).mode
+in_wait names es trees m o waiting.Name w = named_seen (see_entries names es trees) (see_word names w.name) None
+in_wait names es trees m o waiting.Operator w = named_seen (see_entries names es trees) (see_word names w.name) (Some w.prefix)
+in_wait names es trees m o waiting.Doubt w =
+    doubt_seen (see_entries names es trees) (see_word names w.name) w.prefix (see_word names w.second) w.between w.floor
 
 abbrev pub see_reader : Names → Reader → WaitingSeen
-see_reader names reader = in_wait names (innermost reader.state.stack) (trees_in names reader.state) reader.state.mode reader.waiting
+see_reader names reader =
+    in_wait names (innermost reader.state.stack) (trees_in names reader.state) reader.state.mode reader.state.operand reader.waiting reader.waited
 
 abbrev pub see_fed : Names → Reader → Bool → Option WaitingSeen
 see_fed names reader goes = cond goes (Some (see_reader names reader)) None

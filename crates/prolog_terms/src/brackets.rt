@@ -153,7 +153,8 @@ fn close_group(
         (has (group_operand (see_opened names opened) (parts (parts_of count (trees_in names state.old) none) depth) (see_word names word)))) }
 {
     let made = group(&mut state.nodes, opened, count, depth, word)?;
-    state.mode = Mode::Have(made);
+    state.operand = made;
+    state.mode = Mode::Have;
     Ok(true)
 }
 
@@ -168,7 +169,8 @@ fn close_wrap(
         (has (wrapped_operand (see_word names opening) (see_held names state.old inner).operand (see_word names word)))) }
 {
     let made = wrapped(&mut state.nodes, opening, inner, word)?;
-    state.mode = Mode::Have(made);
+    state.operand = made;
+    state.mode = Mode::Have;
     Ok(true)
 }
 
@@ -221,7 +223,8 @@ fn close_tailed(
         (see_held names state.old tail).operand (see_word names word)))) }
 {
     let made = tailed(&mut state.nodes, square, count, depth, tail, word)?;
-    state.mode = Mode::Have(made);
+    state.operand = made;
+    state.mode = Mode::Have;
     Ok(true)
 }
 
@@ -286,6 +289,7 @@ pub fn end_behind(state: &mut State, last: Operand) -> bool
     if state.stack.height() > 0 {
         return false;
     }
-    state.mode = Mode::Done(last);
+    state.operand = last;
+    state.mode = Mode::Done;
     true
 }

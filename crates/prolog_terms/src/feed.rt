@@ -1,12 +1,13 @@
 //! The reader: one word at a time.
 
-ghost use Rattle.std.specs.Prelude.{◌≡◌, ◌&&◌, ◌<◌, ◌∷◌, [], not, IfOk, Some, false, true, MatchOption};
+ghost use Rattle.std.specs.Prelude.{◌≡◌, ◌&&◌, ◌<◌, ◌∷◌, [], not, IfOk, Some, None, false, true, MatchOption};
 ghost use Rattle.prolog_ops.specs.Table.{ops_of, IsOps};
-ghost use Rattle.prolog_terms.specs.Words.{table_of, opens, number_next, begins_term};
+ghost use Rattle.prolog_terms.specs.Words.{table_of, is_minus, opens, number_next, begins_term};
 ghost use Rattle.prolog_terms.specs.ReaderWaiting.{is_infix_only};
 ghost use Rattle.prolog_terms.specs.ReaderSeen.{parts_held, want_name_seen, waiting_parts, enter_seen, then_enter_seen, infix_fits, infix_floor};
 ghost use Rattle.prolog_terms.specs.ReaderSeen.{doubt_step, call_step, feed_named_seen, feed_doubt_seen, feed_seen, mode_floor_seen};
-ghost use Rattle.prolog_terms.specs.ReaderSeen.{waiting_floor_seen, reduced_measure, infix_held, reduced_seen, atom_operand};
+ghost use Rattle.prolog_terms.specs.ReaderSeen.{waiting_floor_seen, reduced_measure, infix_held, reduced_seen, atom_operand, negative_operand};
+ghost use Rattle.prolog_terms.specs.ReaderSeen.{ready_seen, named_seen, doubt_seen, settled_seen, have_step_seen, has, wants, pushed, pending_bracket, first_in, Call};
 ghost use Rattle.prolog_terms.specs.StackSeen.{Names as NamesSeen, see_word, see_stack, see_state, see_step, see_reader, see_fed};
 
 use crate::measure::Measure;
@@ -15,12 +16,27 @@ use crate::operator_sides::{Sides, infix_of, prefix_of};
 use crate::operators::infix_step;
 use crate::pending::{Bracket, Opened, Operator, Pending};
 use crate::state::{Mode, State};
-use crate::steps::{Behind, act, want_name};
-use crate::waiting::{Reader, Waiting};
-use crate::word::{Word, begins_term, is_name, is_near_number, is_opening};
+use crate::steps::{act, have_negative, have_step, open_call, prefix_step};
+use crate::waiting::{Reader, Waited, Waiting};
+use crate::word::{Word, begins_term, is_minus, is_name, is_near_number, is_opening};
 use prolog_names::Names;
 use prolog_ops::OpTable;
 use std::alloc::AllocError;
+
+/// A name waits for the word behind it, with its sides where it is a prefix operator.
+#[inline(always)]
+fn wait(reader: &mut Reader, name: Word, prefix: Option<Sides>)
+    ensures { (names : NamesSeen) → see_reader names reader.new ≡ named_seen (see_stack names reader.old.state) (see_word names name) prefix }
+{
+    reader.waited.name = name;
+    match prefix {
+        None => reader.waiting = Waiting::Name,
+        Some(sides) => {
+            reader.waited.prefix = sides;
+            reader.waiting = Waiting::Operator;
+        }
+    }
+}
 
 /// A word where nothing waits.
 fn enter(
@@ -37,15 +53,13 @@ fn enter(
     if let Mode::Want = reader.state.mode {
         if is_name(word.kind) {
             let prefix = prefix_of(table, names, word);
-            reader.waiting = Waiting::Named { word, prefix };
+            wait(reader, word, prefix);
             return Ok(true);
         }
     }
-    if !act(table, names, &mut reader.state, word)? {
-        return Ok(false);
-    }
+    let goes = act(table, names, &mut reader.state, word)?;
     reader.waiting = Waiting::Nothing;
-    Ok(true)
+    Ok(goes)
 }
 
 /// The sides of the word where it is an infix operator and no prefix operator.
@@ -82,6 +96,28 @@ fn infix_floor(measure: Measure) -> usize
     measure.reach.max(inner)
 }
 
+/// Two names wait for the word behind them.
+fn wait_in_doubt(
+    reader: &mut Reader,
+    first: Word,
+    prefix: Sides,
+    second: Word,
+    between: Sides,
+    floor: usize,
+)
+    ensures { (names : NamesSeen) → see_reader names reader.new
+        ≡ doubt_seen (see_stack names reader.old.state) (see_word names first) prefix (see_word names second) between floor }
+{
+    reader.waited = Waited {
+        name: first,
+        prefix,
+        second,
+        between,
+        floor,
+    };
+    reader.waiting = Waiting::Doubt;
+}
+
 /// Two words that one more has to decide: an atom and its infix operator, or a prefix operator and
 /// a functor.
 fn doubt(reader: &mut Reader, first: Word, prefix: Sides, second: Word, between: Sides) -> bool
@@ -97,25 +133,14 @@ fn doubt(reader: &mut Reader, first: Word, prefix: Sides, second: Word, between:
         } else {
             joined
         };
-        reader.waiting = Waiting::Doubt {
-            first,
-            prefix,
-            second,
-            between,
-            floor,
-        };
+        wait_in_doubt(reader, first, prefix, second, between, floor);
         return true;
     }
     if !calls {
         return false;
     }
-    reader.waiting = Waiting::Doubt {
-        first,
-        prefix,
-        second,
-        between,
-        floor: reader.state.stack.floor(3),
-    };
+    let floor = reader.state.stack.floor(3);
+    wait_in_doubt(reader, first, prefix, second, between, floor);
     true
 }
 
@@ -140,54 +165,126 @@ fn call(reader: &mut Reader, first: Word, prefix: Sides, second: Word) -> Result
     Ok(true)
 }
 
-/// A name by the word behind it, and then this word.
+/// A functor and its `(`.
+fn call_plain(reader: &mut Reader, functor: Word) -> Result<bool, AllocError>
+    ensures { IfOk result (λ goes. (names : NamesSeen) → see_fed names reader.new goes ≡ Some
+        (ready_seen (pushed (see_stack names reader.old.state) (pending_bracket (first_in (Call (see_word names functor))))) wants)) }
+{
+    let goes = open_call(&mut reader.state, functor)?;
+    reader.waiting = Waiting::Nothing;
+    Ok(goes)
+}
+
+/// A minus and its number.
+fn negative(reader: &mut Reader, minus: Word, word: Word) -> Result<bool, AllocError>
+    ensures { IfOk result (λ goes. (names : NamesSeen) → see_fed names reader.new goes
+        ≡ Some (ready_seen (see_stack names reader.old.state) (has (negative_operand (see_word names minus) (see_word names word))))) }
+{
+    let goes = have_negative(&mut reader.state, minus, word)?;
+    reader.waiting = Waiting::Nothing;
+    Ok(goes)
+}
+
+/// A name that is an atom, and the word behind it.
 #[inline(always)]
-fn enter_named(
+fn behind_atom(
     table: &OpTable,
     names: &Names,
     reader: &mut Reader,
     name: Word,
-    prefix: Option<Sides>,
     word: Word,
 ) -> Result<bool, AllocError>
     requires law { IsOps (ops_of table.now) }
     requires room { parts_held (see_stack names.now reader.old.state) < 4294967295 }
-    ensures { IfOk result (λ goes. see_fed names.now reader.new goes ≡ then_enter_seen (table_of (ops_of table.now))
-        (want_name_seen (see_stack names.now reader.old.state) (see_word names.now name) prefix (opens (see_word names.now word ∷ []))
-        (number_next (see_word names.now word ∷ [])) (not (begins_term word.kind))) (see_word names.now word)) }
+    ensures { IfOk result (λ goes. see_fed names.now reader.new goes ≡ settled_seen (have_step_seen (table_of (ops_of table.now))
+        (see_stack names.now reader.old.state) (atom_operand (see_word names.now name)) (see_word names.now word) word.kind)) }
 {
-    let behind = Behind {
-        bracket: is_opening(word),
-        number: is_near_number(word),
-        ends: !begins_term(word.kind),
-    };
-    if !want_name(names, &mut reader.state, name, prefix, behind)? {
-        return Ok(false);
-    }
-    enter(table, names, reader, word)
+    let made = atom(&mut reader.state.nodes, name)?;
+    let goes = have_step(table, names, &mut reader.state, made, word)?;
+    reader.waiting = Waiting::Nothing;
+    Ok(goes)
 }
 
-/// A word behind a name that waited for it.
+/// Whether the name and the number directly behind it are a negative number.
 #[inline(always)]
-fn feed_named(
+fn is_negative(names: &Names, name: Word, word: Word) -> bool
+    ensures { result ≡ (is_minus (see_word names.now name) && number_next (see_word names.now word ∷ [])) }
+{
+    is_minus(names, name) && is_near_number(word)
+}
+
+/// A name that is no prefix operator, and the word behind it: a functor (ISO/IEC 13211-1, 6.3.3), the
+/// minus of a number (6.3.1.2) or an atom (6.3.1.3).
+#[inline(always)]
+fn feed_name(
     table: &OpTable,
     names: &Names,
     reader: &mut Reader,
     name: Word,
-    prefix: Option<Sides>,
     word: Word,
 ) -> Result<bool, AllocError>
     requires law { IsOps (ops_of table.now) }
     requires room { parts_held (see_stack names.now reader.old.state) < 4294967295 }
     ensures { IfOk result (λ goes. see_fed names.now reader.new goes
-        ≡ feed_named_seen (table_of (ops_of table.now)) (see_stack names.now reader.old.state) (see_word names.now name) prefix (see_word names.now word)) }
+        ≡ feed_named_seen (table_of (ops_of table.now)) (see_stack names.now reader.old.state) (see_word names.now name) None (see_word names.now word)) }
 {
-    match prefix {
-        None => enter_named(table, names, reader, name, prefix, word),
-        Some(sides) => match infix_only(table, names, word) {
-            Some(infix) => Ok(doubt(reader, name, sides, word, infix)),
-            None => enter_named(table, names, reader, name, prefix, word),
-        },
+    if is_opening(word) {
+        return call_plain(reader, name);
+    }
+    if is_negative(names, name, word) {
+        return negative(reader, name, word);
+    }
+    behind_atom(table, names, reader, name, word)
+}
+
+/// A prefix operator, and the word behind it, which leaves no doubt: as another name, or the operator
+/// (ISO/IEC 13211-1, 6.3.4.2).
+fn enter_operator(
+    table: &OpTable,
+    names: &Names,
+    reader: &mut Reader,
+    name: Word,
+    sides: Sides,
+    word: Word,
+) -> Result<bool, AllocError>
+    requires law { IsOps (ops_of table.now) }
+    requires room { parts_held (see_stack names.now reader.old.state) < 4294967295 }
+    ensures { IfOk result (λ goes. see_fed names.now reader.new goes ≡ then_enter_seen (table_of (ops_of table.now))
+        (want_name_seen (see_stack names.now reader.old.state) (see_word names.now name) (Some sides) (opens (see_word names.now word ∷ []))
+        (number_next (see_word names.now word ∷ [])) (not (begins_term word.kind))) (see_word names.now word)) }
+{
+    if is_opening(word) {
+        return call_plain(reader, name);
+    }
+    if is_negative(names, name, word) {
+        return negative(reader, name, word);
+    }
+    if !begins_term(word.kind) {
+        return behind_atom(table, names, reader, name, word);
+    }
+    if !prefix_step(&mut reader.state, name, sides)? {
+        return Ok(false);
+    }
+    enter(table, names, reader, word)
+}
+
+/// A word behind a prefix operator.
+fn feed_operator(
+    table: &OpTable,
+    names: &Names,
+    reader: &mut Reader,
+    name: Word,
+    sides: Sides,
+    word: Word,
+) -> Result<bool, AllocError>
+    requires law { IsOps (ops_of table.now) }
+    requires room { parts_held (see_stack names.now reader.old.state) < 4294967295 }
+    ensures { IfOk result (λ goes. see_fed names.now reader.new goes ≡ feed_named_seen (table_of (ops_of table.now))
+        (see_stack names.now reader.old.state) (see_word names.now name) (Some sides) (see_word names.now word)) }
+{
+    match infix_only(table, names, word) {
+        Some(infix) => Ok(doubt(reader, name, sides, word, infix)),
+        None => enter_operator(table, names, reader, name, sides, word),
     }
 }
 
@@ -211,21 +308,24 @@ fn feed_doubt(
     table: &OpTable,
     names: &Names,
     reader: &mut Reader,
-    first: Word,
-    prefix: Sides,
-    second: Word,
-    between: Sides,
+    waited: Waited,
     word: Word,
 ) -> Result<bool, AllocError>
     requires law { IsOps (ops_of table.now) }
     requires room { parts_held (see_stack names.now reader.old.state) < 4294967295 }
     ensures { IfOk result (λ goes. see_fed names.now reader.new goes ≡ feed_doubt_seen (table_of (ops_of table.now)) (see_stack names.now reader.old.state)
-        (see_word names.now first) prefix (see_word names.now second) between (see_word names.now word)) }
+        (see_word names.now waited.name) waited.prefix (see_word names.now waited.second) waited.between (see_word names.now word)) }
 {
     if is_opening(word) {
-        return call(reader, first, prefix, second);
+        return call(reader, waited.name, waited.prefix, waited.second);
     }
-    if !join(names, &mut reader.state, first, second, between)? {
+    if !join(
+        names,
+        &mut reader.state,
+        waited.name,
+        waited.second,
+        waited.between,
+    )? {
         return Ok(false);
     }
     enter(table, names, reader, word)
@@ -246,16 +346,18 @@ pub fn feed(
 {
     match reader.waiting {
         Waiting::Nothing => enter(table, names, reader, word),
-        Waiting::Named { word: name, prefix } => {
-            feed_named(table, names, reader, name, prefix, word)
+        Waiting::Name => {
+            let name = reader.waited.name;
+            feed_name(table, names, reader, name, word)
         }
-        Waiting::Doubt {
-            first,
-            prefix,
-            second,
-            between,
-            ..
-        } => feed_doubt(table, names, reader, first, prefix, second, between, word),
+        Waiting::Operator => {
+            let waited = reader.waited;
+            feed_operator(table, names, reader, waited.name, waited.prefix, word)
+        }
+        Waiting::Doubt => {
+            let waited = reader.waited;
+            feed_doubt(table, names, reader, waited, word)
+        }
     }
 }
 
@@ -264,10 +366,8 @@ fn mode_floor(state: &State) -> usize
 {
     match state.mode {
         Mode::Want => state.stack.want_floor(),
-        Mode::Minus(_) => state.stack.floor(1),
-        Mode::Functor(_) => state.stack.floor(2),
-        Mode::Have(operand) => state.stack.floor(operand.depth),
-        Mode::Done(operand) => operand.depth,
+        Mode::Have => state.stack.floor(state.operand.depth),
+        Mode::Done => state.operand.depth,
     }
 }
 
@@ -277,7 +377,8 @@ pub fn waiting_floor(reader: &Reader) -> usize
 {
     match reader.waiting {
         Waiting::Nothing => mode_floor(&reader.state),
-        Waiting::Named { .. } => reader.state.stack.floor(1),
-        Waiting::Doubt { floor, .. } => floor,
+        Waiting::Name => reader.state.stack.floor(1),
+        Waiting::Operator => reader.state.stack.floor(1),
+        Waiting::Doubt => reader.waited.floor,
     }
 }

@@ -112,6 +112,7 @@ impl NodeList {
     }
 
     /// Adds a node of this shape behind its parts.
+    #[inline(always)]
     pub(crate) fn lay(&mut self, shape: Shape, span: Span) -> Result<(), AllocError>
         ensures { OnOk result ((names : List (List ℕ)) → forest names self.new
             ≡ node_tree names shape span (forest names self.old) ∷ without (taken shape) (forest names self.old)) }

@@ -231,6 +231,7 @@ pub fn wrapped(
 }
 
 /// An operator before its operand (ISO/IEC 13211-1, 6.3.4.2).
+#[inline(always)]
 fn prefixed(
     nodes: &mut NodeList,
     word: Word,
@@ -264,6 +265,7 @@ fn infix_name(names: &Names, word: Word) -> u32
 }
 
 /// An operator between its operands (ISO/IEC 13211-1, 6.3.4.2).
+#[inline(always)]
 fn infixed(
     nodes: &mut NodeList,
     names: &Names,
@@ -310,18 +312,19 @@ pub fn postfixed(
 }
 
 /// The prefix or infix operator with its right side (ISO/IEC 13211-1, 6.3.4.2).
+#[inline(always)]
 pub fn build(
     nodes: &mut NodeList,
     names: &Names,
-    operator: Operator,
+    operator: &Operator,
     right: Operand,
 ) -> Result<Operand, AllocError>
     ensures { IfOk result (λ operand. see_made (forest names.now nodes.new) operand ≡ made
-        (without (operator_holds operator) (before_last (forest names.now nodes.old)))
-        (built (see_operator names.now operator (before_last (forest names.now nodes.old)))
+        (without (operator_holds operator.now) (before_last (forest names.now nodes.old)))
+        (built (see_operator names.now operator.now (before_last (forest names.now nodes.old)))
         (see_operand (last_of (forest names.now nodes.old)) right))) }
 {
-    match operator {
+    match *operator {
         Operator::Prefix { word, sides } => prefixed(nodes, word, sides, right),
         Operator::Infix { left, word, sides } => infixed(nodes, names, left, word, sides, right),
     }

@@ -1,4 +1,4 @@
-use crate::term::Span;
+use crate::term::{NO_SPAN, Span};
 
 /// What the reader keeps of a term beside its node: its priority and depth, and where it stands.
 /// Depths over the greatest number count as that number.
@@ -8,3 +8,10 @@ pub struct Operand {
     pub depth: usize,
     pub span: Span,
 }
+
+/// What stands where there is no operand.
+pub const NO_OPERAND: Operand = Operand {
+    priority: 0,
+    depth: 0,
+    span: NO_SPAN,
+};

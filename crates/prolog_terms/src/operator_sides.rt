@@ -20,6 +20,13 @@ pub struct Sides {
     pub right: u32,
 }
 
+/// What stands where there is no operator.
+pub const NO_SIDES: Sides = Sides {
+    priority: 0,
+    left: 0,
+    right: 0,
+};
+
 /// The sides of a Comma, an operator that can't be changed.
 pub const COMMA_SIDES: Sides = Sides {
     priority: 1000,
@@ -190,6 +197,7 @@ fn operator_name(names: &Names, name: u32) -> Option<&str>
 }
 
 /// What the name is before an operand in the opening table. No text is read.
+#[inline(always)]
 fn opening_prefix(names: &Names, name: u32) -> Option<Sides>
     ensures { result ≡ named_operator (opening Prefix) (name_at names.now name) }
 {
@@ -201,6 +209,7 @@ fn opening_prefix(names: &Names, name: u32) -> Option<Sides>
 }
 
 /// What the name is between operands in the opening table. No text is read.
+#[inline(always)]
 fn opening_infix(names: &Names, name: u32) -> Option<Sides>
     ensures { result ≡ named_operator (opening Infix) (name_at names.now name) }
 {
@@ -211,26 +220,42 @@ fn opening_infix(names: &Names, name: u32) -> Option<Sides>
     OPENING_INFIXES[name as usize]
 }
 
+/// What the name is before an operand, where the table isn't the opening one.
+fn changed_prefix(table: &OpTable, names: &Names, name: u32) -> Option<Sides>
+    ensures { result ≡ named_operator (ops_of table.now Prefix) (name_at names.now name) }
+{
+    let text = operator_name(names, name)?;
+    let op = table.prefix(text)?;
+    Some(sides_of(op))
+}
+
+/// What the name is between operands, where the table isn't the opening one.
+fn changed_infix(table: &OpTable, names: &Names, name: u32) -> Option<Sides>
+    ensures { result ≡ named_operator (ops_of table.now Infix) (name_at names.now name) }
+{
+    let text = operator_name(names, name)?;
+    let op = table.infix(text)?;
+    Some(sides_of(op))
+}
+
+#[inline(always)]
 fn named_prefix(table: &OpTable, names: &Names, name: u32) -> Option<Sides>
     ensures { result ≡ named_operator (ops_of table.now Prefix) (name_at names.now name) }
 {
     if table.is_opening() {
         return opening_prefix(names, name);
     }
-    let text = operator_name(names, name)?;
-    let op = table.prefix(text)?;
-    Some(sides_of(op))
+    changed_prefix(table, names, name)
 }
 
+#[inline(always)]
 fn named_infix(table: &OpTable, names: &Names, name: u32) -> Option<Sides>
     ensures { result ≡ named_operator (ops_of table.now Infix) (name_at names.now name) }
 {
     if table.is_opening() {
         return opening_infix(names, name);
     }
-    let text = operator_name(names, name)?;
-    let op = table.infix(text)?;
-    Some(sides_of(op))
+    changed_infix(table, names, name)
 }
 
 fn named_postfix(table: &OpTable, names: &Names, name: u32) -> Option<Sides>
@@ -245,6 +270,7 @@ fn named_postfix(table: &OpTable, names: &Names, name: u32) -> Option<Sides>
 }
 
 /// The word as an operator before an operand. In no table is the Comma or Bar one.
+#[inline(always)]
 pub fn prefix_of(table: &OpTable, names: &Names, word: Word) -> Option<Sides>
     ensures { result ≡ (table_of (ops_of table.now)).prefix (see_word names.now word) }
 {
@@ -259,6 +285,7 @@ pub fn prefix_of(table: &OpTable, names: &Names, word: Word) -> Option<Sides>
 }
 
 /// The word as an operator between two operands. The Comma and the Bar are the same in each table.
+#[inline(always)]
 pub fn infix_of(table: &OpTable, names: &Names, word: Word) -> Option<Sides>
     ensures { result ≡ (table_of (ops_of table.now)).infix_ (see_word names.now word) }
 {

@@ -28,20 +28,23 @@ pub fn reduce(
         ≡ reduced_seen priority (see_held names.now state.old operand).stack (see_held names.now state.old operand).operand) }
 {
     let mut left = operand;
-    while let Some(operator) = state.stack.pop_operator_below(priority) {
+    while let Some(operator) = state.stack.operator_below(priority) {
         left = build(&mut state.nodes, names, operator, left)?;
+        state.stack.shorten();
     }
     Ok(left)
 }
 
 /// Closes all open operators down to the innermost bracket.
+#[inline(always)]
 pub fn close(names: &Names, state: &mut State, operand: Operand) -> Result<Operand, AllocError>
     ensures { IfOk result (λ last. see_held names.now state.new last
         ≡ closed_seen (see_held names.now state.old operand).stack (see_held names.now state.old operand).operand) }
 {
     let mut last = operand;
-    while let Some(operator) = state.stack.pop_operator() {
+    while let Some(operator) = state.stack.operator() {
         last = build(&mut state.nodes, names, operator, last)?;
+        state.stack.shorten();
     }
     Ok(last)
 }
@@ -87,7 +90,8 @@ fn postfix_behind(
         return Ok(false);
     }
     let made = postfixed(&mut state.nodes, left, word, sides)?;
-    state.mode = Mode::Have(made);
+    state.operand = made;
+    state.mode = Mode::Have;
     Ok(true)
 }
 

@@ -63,14 +63,13 @@ fn is_finished(reader: &Reader) -> bool
 {
     match reader.waiting {
         Waiting::Nothing => match reader.state.mode {
-            Mode::Done(_) => true,
+            Mode::Done => true,
             Mode::Want => false,
-            Mode::Minus(_) => false,
-            Mode::Functor(_) => false,
-            Mode::Have(_) => false,
+            Mode::Have => false,
         },
-        Waiting::Named { .. } => false,
-        Waiting::Doubt { .. } => false,
+        Waiting::Name => false,
+        Waiting::Operator => false,
+        Waiting::Doubt => false,
     }
 }
 

@@ -110,6 +110,7 @@ impl Stack {
     }
 
     /// Whether the innermost bracket has parts.
+    #[inline(always)]
     pub fn separates(&self) -> bool
         ensures { (names : Names) (trees : List Tree) → result ≡ separates_seen (see_entries names (innermost self.now) trees) }
     {
@@ -156,6 +157,8 @@ impl Stack {
         }
     }
 
+    /// An operator or bracket is open.
+    #[inline(always)]
     pub fn push(&mut self, pending: Pending) -> Result<(), AllocError>
         ensures { OnOk result ((names : Names) (trees : List Tree) → see_entries names (innermost self.new) trees
             ≡ pushed (see_entries names (innermost self.old) (without (holds pending) trees)) (see_pending names pending trees)) }
@@ -184,7 +187,7 @@ impl Stack {
 
     /// The innermost operator or bracket goes.
     #[inline(always)]
-    fn shorten(&mut self)
+    pub fn shorten(&mut self)
         ensures { (top : EntryKept) (below : List EntryKept) → innermost self.old ≡ top ∷ below → innermost self.new ≡ below }
     {
         let _ = self.entries.pop();
@@ -192,17 +195,14 @@ impl Stack {
 
     /// The innermost operator, where no bracket is open inside it.
     #[inline(always)]
-    pub fn pop_operator(&mut self) -> Option<Operator>
-        ensures { MatchOption result ((self.new ≡ self.old) × ((names : Names) (trees : List Tree)
-            → is_operator_top (see_entries names (innermost self.old) trees) ≡ false)) (λ found. (reach : ℕ) × (separates : Bool) × (innermost self.old
-            ≡ record { pending = OperatorKept found; reach = reach; separates = separates } ∷ innermost self.new)) }
+    pub fn operator(&self) -> Option<&Operator>
+        ensures { MatchOption result ((names : Names) (trees : List Tree) → is_operator_top (see_entries names (innermost self.now) trees) ≡ false)
+            (λ found. (reach : ℕ) × (separates : Bool) × (below : List EntryKept) × (innermost self.now
+            ≡ record { pending = OperatorKept found.now; reach = reach; separates = separates } ∷ below)) }
     {
-        let top = *self.top()?;
-        match top.pending {
-            Pending::Operator(found) => {
-                self.shorten();
-                Some(found)
-            }
+        let top = self.top()?;
+        match &top.pending {
+            Pending::Operator(found) => Some(found),
             Pending::Bracket(_) => None,
         }
     }
@@ -210,19 +210,18 @@ impl Stack {
     /// The innermost operator, where no bracket is open inside it and its right bound is below the
     /// priority.
     #[inline(always)]
-    pub fn pop_operator_below(&mut self, priority: u32) -> Option<Operator>
-        ensures { MatchOption result ((self.new ≡ self.old) × ((names : Names) (trees : List Tree)
-            → is_operator_below priority (see_entries names (innermost self.old) trees) ≡ false)) (λ found. (reach : ℕ) × (separates : Bool)
-            × (innermost self.old ≡ record { pending = OperatorKept found; reach = reach; separates = separates } ∷ innermost self.new)
-            × ((names : Names) (trees : List Tree) → nat_lt (right_of (see_operator names found trees)) priority ≡ true)) }
+    pub fn operator_below(&self, priority: u32) -> Option<&Operator>
+        ensures { MatchOption result ((names : Names) (trees : List Tree)
+            → is_operator_below priority (see_entries names (innermost self.now) trees) ≡ false) (λ found. (reach : ℕ) × (separates : Bool)
+            × (below : List EntryKept) × (innermost self.now ≡ record { pending = OperatorKept found.now; reach = reach; separates = separates } ∷ below)
+            × ((names : Names) (trees : List Tree) → nat_lt (right_of (see_operator names found.now trees)) priority ≡ true)) }
     {
-        let top = *self.top()?;
-        match top.pending {
+        let top = self.top()?;
+        match &top.pending {
             Pending::Operator(found) => {
-                if right_bound(found) >= priority {
+                if right_bound(*found) >= priority {
                     return None;
                 }
-                self.shorten();
                 Some(found)
             }
             Pending::Bracket(_) => None,

@@ -3,7 +3,6 @@
 use crate::node_list::NodeList;
 use crate::operand::Operand;
 use crate::stack::Stack;
-use crate::word::Word;
 use std::alloc::Global;
 
 /// What the next word meets.
@@ -11,21 +10,18 @@ use std::alloc::Global;
 pub enum Mode {
     /// An operand is wanted.
     Want,
-    /// The number of this minus is wanted.
-    Minus(Word),
-    /// The bracket of this functor is wanted.
-    Functor(Word),
     /// An operand is complete: the last term of the nodes.
-    Have(Operand),
+    Have,
     /// The clause and its End are read: it is the last term of the nodes.
-    Done(Operand),
+    Done,
 }
 
-/// What is open, the terms that are complete as one list of nodes, and what the next word meets. The
-/// terms stand in the order in which the stack holds them.
+/// What is open, the terms that are complete as one list of nodes, what the next word meets, and the
+/// operand that is complete, where one is. The terms stand in the order in which the stack holds them.
 #[derive(Drop)]
 pub struct State {
     pub stack: Stack,
     pub nodes: NodeList,
     pub mode: Mode,
+    pub operand: Operand,
 }

@@ -3,28 +3,83 @@
 ghost use Rattle.std.specs.Prelude.{◌≡◌, ◌<◌, IfOk};
 ghost use Rattle.prolog_ops.specs.Table.{ops_of, IsOps};
 ghost use Rattle.prolog_terms.specs.Words.{table_of};
-ghost use Rattle.prolog_terms.specs.ReaderSeen.{parts_held, goes_seen, wants, has, pushed, pending_bracket, Call, first_in, have_step_seen};
-ghost use Rattle.prolog_terms.specs.ReaderSeen.{want_other_seen, want_name_seen, square_pair_seen, curly_pair_seen, prefix_step_seen, act_seen};
-ghost use Rattle.prolog_terms.specs.ReaderSeen.{leaf_operand, negative_operand, atom_operand, pair_operand};
+ghost use Rattle.prolog_terms.specs.ReaderSeen.{parts_held, goes_seen, wants, has, pushed, pending_bracket, Call, first_in, have_step_seen, with_held, closed_seen};
+ghost use Rattle.prolog_terms.specs.ReaderSeen.{round_in, square_in, curly_in, end_in};
+ghost use Rattle.prolog_terms.specs.ReaderSeen.{want_other_seen, square_pair_seen, curly_pair_seen, prefix_step_seen, act_seen};
+ghost use Rattle.prolog_terms.specs.ReaderSeen.{leaf_operand, negative_operand, pair_operand};
 ghost use Rattle.prolog_terms.specs.StackSeen.{Names as NamesSeen, see_word, see_bracket, bracket_holds, see_entries, innermost, trees_in, see_stack};
 ghost use Rattle.prolog_terms.specs.StackSeen.{see_held, see_state, see_step};
 ghost use Rattle.prolog_terms.specs.Forest.{without};
 
 use crate::brackets::{bar, comma, curly_behind, end_behind, round_behind, square_behind};
-use crate::nodes::{atom, leaf, negative, pair};
+use crate::nodes::{leaf, negative, pair};
 use crate::operand::Operand;
 use crate::operator_sides::Sides;
 use crate::operators::{close, name_step};
 use crate::pending::{Bracket, Opened, Operator, Pending};
 use crate::state::{Mode, State};
-use crate::word::{Word, is_minus};
+use crate::word::Word;
 use prolog_names::Names;
 use prolog_ops::OpTable;
 use prolog_tokens::Kind;
 use std::alloc::AllocError;
 
+/// The `)` behind an operand.
+fn close_round(
+    names: &Names,
+    state: &mut State,
+    operand: Operand,
+    word: Word,
+) -> Result<bool, AllocError>
+    requires room { parts_held (see_held names.now state.old operand).stack < 4294967295 }
+    ensures { IfOk result (λ goes. see_step names.now state.new goes ≡ with_held (closed_seen (see_held names.now state.old operand).stack
+        (see_held names.now state.old operand).operand) (round_in (see_word names.now word))) }
+{
+    let last = close(names, state, operand)?;
+    round_behind(state, last, word)
+}
+
+/// The `]` behind an operand.
+fn close_square(
+    names: &Names,
+    state: &mut State,
+    operand: Operand,
+    word: Word,
+) -> Result<bool, AllocError>
+    requires room { parts_held (see_held names.now state.old operand).stack < 4294967295 }
+    ensures { IfOk result (λ goes. see_step names.now state.new goes ≡ with_held (closed_seen (see_held names.now state.old operand).stack
+        (see_held names.now state.old operand).operand) (square_in (see_word names.now word))) }
+{
+    let last = close(names, state, operand)?;
+    square_behind(state, last, word)
+}
+
+/// The `}` behind an operand.
+fn close_curly(
+    names: &Names,
+    state: &mut State,
+    operand: Operand,
+    word: Word,
+) -> Result<bool, AllocError>
+    ensures { IfOk result (λ goes. see_step names.now state.new goes ≡ with_held (closed_seen (see_held names.now state.old operand).stack
+        (see_held names.now state.old operand).operand) (curly_in (see_word names.now word))) }
+{
+    let last = close(names, state, operand)?;
+    curly_behind(state, last, word)
+}
+
+/// The End behind an operand.
+fn close_clause(names: &Names, state: &mut State, operand: Operand) -> Result<bool, AllocError>
+    ensures { IfOk result (λ goes. see_step names.now state.new goes ≡ with_held (closed_seen (see_held names.now state.old operand).stack
+        (see_held names.now state.old operand).operand) end_in) }
+{
+    let last = close(names, state, operand)?;
+    Ok(end_behind(state, last))
+}
+
 /// A word behind an operand: an operator, a separator, a closing bracket or the End.
-fn have_step(
+#[inline(always)]
+pub fn have_step(
     table: &OpTable,
     names: &Names,
     state: &mut State,
@@ -41,22 +96,10 @@ fn have_step(
         Kind::Quoted => name_step(table, names, state, operand, word),
         Kind::Comma => comma(names, state, operand, word),
         Kind::Bar => bar(names, state, operand, word),
-        Kind::CloseRound => {
-            let last = close(names, state, operand)?;
-            round_behind(state, last, word)
-        }
-        Kind::CloseSquare => {
-            let last = close(names, state, operand)?;
-            square_behind(state, last, word)
-        }
-        Kind::CloseCurly => {
-            let last = close(names, state, operand)?;
-            curly_behind(state, last, word)
-        }
-        Kind::End => {
-            let last = close(names, state, operand)?;
-            Ok(end_behind(state, last))
-        }
+        Kind::CloseRound => close_round(names, state, operand, word),
+        Kind::CloseSquare => close_square(names, state, operand, word),
+        Kind::CloseCurly => close_curly(names, state, operand, word),
+        Kind::End => close_clause(names, state, operand),
         _ => Ok(false),
     }
 }
@@ -67,28 +110,19 @@ fn have_leaf(state: &mut State, word: Word) -> Result<bool, AllocError>
         ≡ goes_seen (see_stack names state.old) (has (leaf_operand (see_word names word)))) }
 {
     let made = leaf(&mut state.nodes, word)?;
-    state.mode = Mode::Have(made);
+    state.operand = made;
+    state.mode = Mode::Have;
     Ok(true)
 }
 
 /// A minus and its number.
-fn have_negative(state: &mut State, minus: Word, word: Word) -> Result<bool, AllocError>
+pub fn have_negative(state: &mut State, minus: Word, word: Word) -> Result<bool, AllocError>
     ensures { IfOk result (λ goes. (names : NamesSeen) → see_step names state.new goes
         ≡ goes_seen (see_stack names state.old) (has (negative_operand (see_word names minus) (see_word names word)))) }
 {
     let made = negative(&mut state.nodes, minus, word)?;
-    state.mode = Mode::Have(made);
-    Ok(true)
-}
-
-/// An atom.
-#[inline(always)]
-fn have_atom(state: &mut State, word: Word) -> Result<bool, AllocError>
-    ensures { IfOk result (λ goes. (names : NamesSeen) → see_step names state.new goes
-        ≡ goes_seen (see_stack names state.old) (has (atom_operand (see_word names word)))) }
-{
-    let made = atom(&mut state.nodes, word)?;
-    state.mode = Mode::Have(made);
+    state.operand = made;
+    state.mode = Mode::Have;
     Ok(true)
 }
 
@@ -98,7 +132,8 @@ fn have_pair(names: &Names, state: &mut State, first: Word, last: Word) -> Resul
         ≡ goes_seen (see_stack names.now state.old) (has (pair_operand (see_word names.now first) (see_word names.now last)))) }
 {
     let made = pair(&mut state.nodes, names, first, last)?;
-    state.mode = Mode::Have(made);
+    state.operand = made;
+    state.mode = Mode::Have;
     Ok(true)
 }
 
@@ -152,7 +187,7 @@ fn open_bracket(state: &mut State, bracket: Bracket) -> Result<bool, AllocError>
 }
 
 /// The `(` of a functor, before its arguments (ISO/IEC 13211-1, 6.3.3).
-fn open_call(state: &mut State, functor: Word) -> Result<bool, AllocError>
+pub fn open_call(state: &mut State, functor: Word) -> Result<bool, AllocError>
     ensures { IfOk result (λ goes. (names : NamesSeen) → see_step names state.new goes
         ≡ goes_seen (pushed (see_stack names state.old) (pending_bracket (first_in (Call (see_word names functor))))) wants) }
 {
@@ -179,7 +214,7 @@ fn want_other(names: &Names, state: &mut State, word: Word) -> Result<bool, Allo
 }
 
 /// A prefix operator where an operand is wanted (ISO/IEC 13211-1, 6.3.4.2).
-fn prefix_step(state: &mut State, word: Word, sides: Sides) -> Result<bool, AllocError>
+pub fn prefix_step(state: &mut State, word: Word, sides: Sides) -> Result<bool, AllocError>
     ensures { IfOk result (λ goes. (names : NamesSeen) → see_step names state.new goes
         ≡ prefix_step_seen (see_stack names state.old) (see_word names word) sides) }
 {
@@ -191,49 +226,6 @@ fn prefix_step(state: &mut State, word: Word, sides: Sides) -> Result<bool, Allo
         .push(Pending::Operator(Operator::Prefix { word, sides }))?;
     state.mode = Mode::Want;
     Ok(true)
-}
-
-/// What stands directly behind a name where an operand is wanted.
-#[derive(Clone, Copy)]
-pub struct Behind {
-    /// A `(` with no layout before it.
-    pub bracket: bool,
-    /// A number with no layout before it.
-    pub number: bool,
-    /// No term begins there.
-    pub ends: bool,
-}
-
-/// A name where an operand is wanted: a functor (ISO/IEC 13211-1, 6.3.3), the minus of a number
-/// (6.3.1.2), a prefix operator (6.3.4.2) or an atom (6.3.1.3).
-#[inline(always)]
-pub fn want_name(
-    names: &Names,
-    state: &mut State,
-    word: Word,
-    prefix: Option<Sides>,
-    behind: Behind,
-) -> Result<bool, AllocError>
-    ensures { IfOk result (λ goes. see_step names.now state.new goes
-        ≡ want_name_seen (see_stack names.now state.old) (see_word names.now word) prefix behind.bracket behind.number behind.ends) }
-{
-    if behind.bracket {
-        state.mode = Mode::Functor(word);
-        return Ok(true);
-    }
-    if behind.number && is_minus(names, word) {
-        state.mode = Mode::Minus(word);
-        return Ok(true);
-    }
-    match prefix {
-        None => have_atom(state, word),
-        Some(sides) => {
-            if behind.ends {
-                return have_atom(state, word);
-            }
-            prefix_step(state, word, sides)
-        }
-    }
 }
 
 /// One word, which is no name where an operand is wanted. False where no clause goes on with it.
@@ -250,9 +242,10 @@ pub fn act(
 {
     match state.mode {
         Mode::Want => want_other(names, state, word),
-        Mode::Minus(minus) => have_negative(state, minus, word),
-        Mode::Functor(functor) => open_call(state, functor),
-        Mode::Have(operand) => have_step(table, names, state, operand, word),
-        Mode::Done(_) => Ok(false),
+        Mode::Have => {
+            let operand = state.operand;
+            have_step(table, names, state, operand, word)
+        }
+        Mode::Done => Ok(false),
     }
 }

@@ -17,6 +17,9 @@ pub struct Span {
     pub to: u32,
 }
 
+/// What stands where there is no place.
+pub const NO_SPAN: Span = Span { from: 0, to: 0 };
+
 /// How a compound term is written.
 #[derive(Clone, Copy, Debug, PartialEq, Eq)]
 pub enum Form {
@@ -90,7 +93,7 @@ pub enum TermKind<'a> {
 /// The node of a term where there are none.
 const NO_NODE: Node = Node {
     shape: Shape::Var,
-    span: Span { from: 0, to: 0 },
+    span: NO_SPAN,
     size: 0,
 };
 

@@ -5,31 +5,44 @@ ghost use Rattle.prolog_terms.specs.ReaderSeen.{ready_seen, wants};
 ghost use Rattle.prolog_terms.specs.StackSeen.{Names as NamesSeen, see_reader};
 
 use crate::node_list::NodeList;
-use crate::operator_sides::Sides;
+use crate::operand::NO_OPERAND;
+use crate::operator_sides::{NO_SIDES, Sides};
 use crate::stack::Stack;
 use crate::state::{Mode, State};
-use crate::word::Word;
+use crate::word::{NO_WORD, Word};
 use std::alloc::Global;
 
-/// The words that wait for the next word.
+/// Which words wait for the next word.
 #[derive(Clone, Copy)]
 pub enum Waiting {
     Nothing,
-    /// A name where an operand is wanted.
-    Named {
-        word: Word,
-        prefix: Option<Sides>,
-    },
-    /// A prefix operator, and a name behind it that is an infix operator and no prefix operator. The
-    /// clause is at least `floor` deep.
-    Doubt {
-        first: Word,
-        prefix: Sides,
-        second: Word,
-        between: Sides,
-        floor: usize,
-    },
+    /// A name where an operand is wanted, which is no prefix operator.
+    Name,
+    /// A prefix operator where an operand is wanted.
+    Operator,
+    /// A prefix operator, and a name behind it that is an infix operator and no prefix operator.
+    Doubt,
 }
+
+/// The words that wait, as many of them as do: a name, with its sides where it is a prefix operator, and
+/// a second name with its sides. With both the clause is at least `floor` deep.
+#[derive(Clone, Copy)]
+pub struct Waited {
+    pub name: Word,
+    pub prefix: Sides,
+    pub second: Word,
+    pub between: Sides,
+    pub floor: usize,
+}
+
+/// The words where none waits.
+const NOT_WAITED: Waited = Waited {
+    name: NO_WORD,
+    prefix: NO_SIDES,
+    second: NO_WORD,
+    between: NO_SIDES,
+    floor: 0,
+};
 
 /// What is read of a clause, and what waits behind it. Clause after clause is read in the memory of
 /// one reader.
@@ -37,6 +50,7 @@ pub enum Waiting {
 pub struct Reader {
     pub(crate) state: State,
     pub(crate) waiting: Waiting,
+    pub(crate) waited: Waited,
 }
 
 impl Reader {
@@ -46,8 +60,10 @@ impl Reader {
                 stack: Stack::new(alloc),
                 nodes: NodeList::new(alloc),
                 mode: Mode::Want,
+                operand: NO_OPERAND,
             },
             waiting: Waiting::Nothing,
+            waited: NOT_WAITED,
         }
     }
 

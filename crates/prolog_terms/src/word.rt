@@ -5,7 +5,7 @@ ghost use Rattle.prolog_terms.specs.Words.{is_name, is_minus, begins_term, opens
 ghost use Rattle.prolog_terms.specs.Clause.{IsWordOf};
 ghost use Rattle.prolog_terms.specs.StackSeen.{Names as NamesSeen, see_word};
 
-use crate::term::Span;
+use crate::term::{NO_SPAN, Span};
 use prolog_names::{MINUS, Names, names_law};
 use prolog_tokens::{Kind, Token, integer_value};
 
@@ -21,7 +21,17 @@ pub struct Word {
     pub name: u32,
 }
 
+/// What stands where there is no word.
+pub const NO_WORD: Word = Word {
+    kind: Kind::End,
+    after_layout: false,
+    span: NO_SPAN,
+    value: None,
+    name: 0,
+};
+
 /// The word of a token with its number.
+#[inline(always)]
 pub fn word_of(names: &Names, text: &str, token: Token, number: u32) -> Word
     requires spelled { IsSpelled text.now token.kind token.start token.end }
     requires numbered { IsNumberOf text.now names.now token number }
@@ -41,6 +51,7 @@ pub fn word_of(names: &Names, text: &str, token: Token, number: u32) -> Word
     }
 }
 
+#[inline(always)]
 pub fn is_name(kind: Kind) -> bool
     ensures { result ≡ is_name kind }
 {
@@ -69,6 +80,7 @@ pub fn begins_term(kind: Kind) -> bool
 }
 
 /// Whether the word is a `(` with no layout before it.
+#[inline(always)]
 pub fn is_opening(word: Word) -> bool
     ensures { (names : NamesSeen) → result ≡ opens (see_word names word ∷ []) }
 {
@@ -76,6 +88,7 @@ pub fn is_opening(word: Word) -> bool
 }
 
 /// Whether the word is a number with no layout before it.
+#[inline(always)]
 pub fn is_near_number(word: Word) -> bool
     ensures { (names : NamesSeen) → result ≡ number_next (see_word names word ∷ []) }
 {

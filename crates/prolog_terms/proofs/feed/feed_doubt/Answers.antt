@@ -13,44 +13,44 @@ returns-then-is_opening c =
     ok_then c.call.result _ _ c.call.ensures
     (λ goes step.
     step names
-    ∙ doubt_calls (table_of (ops_of c.args.table.now)) (see_stack names c.args.reader.now.state) (see_word names c.args.first) c.args.prefix (see_word names c.args.second) c.args.between
+    ∙ doubt_calls (table_of (ops_of c.args.table.now)) (see_stack names c.args.reader.now.state) (see_word names c.args.waited.name) c.args.waited.prefix (see_word names c.args.waited.second) c.args.waited.between
     (see_word names c.args.word) (sym (c.is_opening.ensures names) ∙ c.if-is_opening.true))
 
 pub returns-then-not-branch : goal.returns-then-not-branch
 returns-then-not-branch c =
     let names = c.args.names.now in
     let S = see_stack names c.args.reader.now.state in
-    let p = see_word names c.args.first in
-    let n = see_word names c.args.second in
+    let p = see_word names c.args.waited.name in
+    let n = see_word names c.args.waited.second in
     let x = see_word names c.args.word in
     stopped (table_of (ops_of c.args.table.now)) c.in_ok-join.field-0 (see_state names c.join.new.state)
-    (infix_held (reduced_seen c.args.between.priority S (atom_operand p)) n c.args.between) x c.in_ok-join.ensures c.if-not-branch.true
-    ∙ doubt_joins (table_of (ops_of c.args.table.now)) S p c.args.prefix n c.args.between x (sym (c.is_opening.ensures names) ∙ c.if-is_opening.false)
+    (infix_held (reduced_seen c.args.waited.between.priority S (atom_operand p)) n c.args.waited.between) x c.in_ok-join.ensures c.if-not-branch.true
+    ∙ doubt_joins (table_of (ops_of c.args.table.now)) S p c.args.waited.prefix n c.args.waited.between x (sym (c.is_opening.ensures names) ∙ c.if-is_opening.false)
 
 pub enter-requires-clause-room : goal.enter-requires-clause-room
 enter-requires-clause-room c =
     let names = c.args.names.now in
     let S = see_stack names c.args.reader.now.state in
-    let p = see_word names c.args.first in
-    let n = see_word names c.args.second in
+    let p = see_word names c.args.waited.name in
+    let n = see_word names c.args.waited.second in
     omega (
       arith,
       c.requires.room,
       went_within _ c.in_ok-join.field-0 (see_state names c.join.new.state)
-          (infix_held (reduced_seen c.args.between.priority S (atom_operand p)) n c.args.between) c.in_ok-join.ensures c.if-not-branch.false
-          (infix_reduced_room S (atom_operand p) n c.args.between),
+          (infix_held (reduced_seen c.args.waited.between.priority S (atom_operand p)) n c.args.waited.between) c.in_ok-join.ensures c.if-not-branch.false
+          (infix_reduced_room S (atom_operand p) n c.args.waited.between),
     )
 
 pub returns : goal.returns
 returns c =
     let names = c.args.names.now in
     let S = see_stack names c.args.reader.now.state in
-    let p = see_word names c.args.first in
-    let n = see_word names c.args.second in
+    let p = see_word names c.args.waited.name in
+    let n = see_word names c.args.waited.second in
     let x = see_word names c.args.word in
     ok_then c.enter.result _ _ c.enter.ensures
     (λ goes fed.
     fed
     ∙ (went_on (table_of (ops_of c.args.table.now)) c.in_ok-join.field-0 (see_state names c.join.new.state)
-    (infix_held (reduced_seen c.args.between.priority S (atom_operand p)) n c.args.between) x c.in_ok-join.ensures c.if-not-branch.false
-    ∙ doubt_joins (table_of (ops_of c.args.table.now)) S p c.args.prefix n c.args.between x (sym (c.is_opening.ensures names) ∙ c.if-is_opening.false)))
+    (infix_held (reduced_seen c.args.waited.between.priority S (atom_operand p)) n c.args.waited.between) x c.in_ok-join.ensures c.if-not-branch.false
+    ∙ doubt_joins (table_of (ops_of c.args.table.now)) S p c.args.waited.prefix n c.args.waited.between x (sym (c.is_opening.ensures names) ∙ c.if-is_opening.false)))

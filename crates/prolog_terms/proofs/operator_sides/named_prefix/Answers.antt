@@ -1,25 +1,10 @@
-use Rattle.std.proofs.Common.{Some, option_map, sym, ap, ◌∙◌}
+use Rattle.std.proofs.Common.{sym, ap, ◌∙◌}
 use Rattle.prolog_names.specs.Names.{name_at}
-use Rattle.prolog_ops.specs.Table.{Prefix, ops_of}
-use Rattle.prolog_terms.specs.Words.{sides, named_operator}
+use Rattle.prolog_ops.specs.Table.{Prefix}
+use Rattle.prolog_terms.specs.Words.{named_operator}
 use Rattle.prolog_terms.proofs.operator_sides.named_prefix.Goals as goal
 
 pub returns-then-is_opening : goal.returns-then-is_opening
 returns-then-is_opening c =
     c.opening_prefix.ensures
     ∙ ap (λ ops. named_operator (ops Prefix) (name_at c.args.names.now c.args.name)) (sym (c.is_opening.ensures.opening c.if-is_opening.true))
-
-pub returns-in_err-text : goal.returns-in_err-text
-returns-in_err-text c = c.from_residual.ensures ∙ sym (c.in_err-text.ensures (ops_of c.args.table.now Prefix))
-
-pub returns-in_err-op : goal.returns-in_err-op
-returns-in_err-op c =
-    c.from_residual-in_err-op.ensures
-    ∙ ap (option_map sides) c.in_err-op.ensures.is
-    ∙ sym (c.in_ok-text.ensures (ops_of c.args.table.now Prefix))
-
-pub returns : goal.returns
-returns c =
-    ap (λ s. Some s) c.sides_of.ensures
-    ∙ ap (option_map sides) c.in_ok-op.ensures.is
-    ∙ sym (c.in_ok-text.ensures (ops_of c.args.table.now Prefix))

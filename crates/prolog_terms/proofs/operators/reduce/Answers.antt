@@ -1,6 +1,8 @@
-use Rattle.std.proofs.Common.{length, ap, sym, ◌∙◌, arith}
+use Rattle.std.proofs.Common.{◌∷◌, length, ap, sym, ◌∙◌, arith}
+use Rattle.prolog_terms.specs.declared.stack.Entry.{Entry}
+use Rattle.prolog_terms.specs.declared.pending.Pending.TheVariants.{Operator as OperatorKept}
 use Rattle.prolog_terms.specs.Forest.{before_last, forest}
-use Rattle.prolog_terms.specs.StackSeen.{innermost, trees_in, held_in, see_held}
+use Rattle.prolog_terms.specs.StackSeen.{innermost, trees_in, see_held}
 use Rattle.prolog_terms.proofs.ReaderLoops.{reduced_built, reduced_stop}
 use Rattle.prolog_terms.proofs.operators.reduce.Goals as goal
 
@@ -8,18 +10,21 @@ pub loop-operator-preserved : goal.loop-operator-preserved
 loop-operator-preserved c =
     let names = c.args.names.now in
     let state = c.loop-operator.state in
-    reduced_built names c.args.priority (innermost state.stack) (innermost c.pop_operator_below.new.self) c.in-Some.operator c.in-Some.ensures.0 c.in-Some.ensures.1
-    (trees_in names state) (forest names c.build.new.nodes) c.loop-operator.left c.in_ok-left.left c.in-Some.ensures.2
-    (c.in-Some.ensures.3 names (before_last (trees_in names state))) c.in_ok-left.ensures
+    let top : Entry = record { pending = OperatorKept c.in-Some.operator.now; reach = c.in-Some.ensures.0; separates = c.in-Some.ensures.1 } in
+    reduced_built names c.args.priority (innermost state.stack) (innermost c.shorten.new.self) c.in-Some.operator.now c.in-Some.ensures.0 c.in-Some.ensures.1
+    (trees_in names state) (forest names c.build.new.nodes) c.loop-operator.left c.in_ok-left.left
+    (c.in-Some.ensures.3 ∙ ap (λ below. top ∷ below) (sym (c.shorten.ensures top c.in-Some.ensures.2 c.in-Some.ensures.3)))
+    (c.in-Some.ensures.4 names (before_last (trees_in names state))) c.in_ok-left.ensures
     ∙ c.loop-operator.invariant
 
 pub loop-operator-smaller : goal.loop-operator-smaller
-loop-operator-smaller c = omega (arith, ap length c.in-Some.ensures.2)
+loop-operator-smaller c =
+    let top : Entry = record { pending = OperatorKept c.in-Some.operator.now; reach = c.in-Some.ensures.0; separates = c.in-Some.ensures.1 } in
+    omega (arith, ap length c.in-Some.ensures.3, ap length (c.shorten.ensures top c.in-Some.ensures.2 c.in-Some.ensures.3))
 
 pub returns : goal.returns
 returns c =
     let names = c.args.names.now in
     let state = c.loop-operator.state in
     let left = c.loop-operator.left in
-    ap (λ stack. held_in names (innermost stack) (trees_in names state) left) c.in_default.ensures.0
-    ∙ (sym (reduced_stop c.args.priority (see_held names state left).stack (see_held names state left).operand (c.in_default.ensures.1 names (before_last (trees_in names state)))) ∙ c.loop-operator.invariant)
+    sym (reduced_stop c.args.priority (see_held names state left).stack (see_held names state left).operand (c.in_default.ensures names (before_last (trees_in names state)))) ∙ c.loop-operator.invariant

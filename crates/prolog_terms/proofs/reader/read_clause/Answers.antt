@@ -128,7 +128,7 @@ pub returns-clause-ok : goal.returns-clause-ok
 returns-clause-ok c =
     let reader = c.loop-at.reader in
     let names = c.args.names.now in
-    let done = finished_with names (innermost reader.state.stack) (trees_in names reader.state) reader.state.mode reader.waiting (sym (c.is_finished.ensures names) ∙ c.if-not-is_finished.false) in
+    let done = finished_with names (innermost reader.state.stack) (trees_in names reader.state) reader.state.mode reader.state.operand reader.waiting reader.waited (sym (c.is_finished.ensures names) ∙ c.if-not-is_finished.false) in
     (finished_read (table_of (ops_of c.args.table.now)) (table_is (ops_of c.args.table.now) c.table_law.ensures) c.args.text.now c.args.tokens.now c.loop-at.at
     (see_reader names reader) done.stack done.operand (root_tree names c.in_ok-clause.clause) c.loop-at-test.false c.loop-at.invariant done.is
     (done.tree_is ∙ sym (ap (root_tree names) c.in_ok-clause.ensures))).is
@@ -137,7 +137,7 @@ pub returns-clause-only : goal.returns-clause-only
 returns-clause-only c =
     let reader = c.loop-at.reader in
     let names = c.args.names.now in
-    let done = finished_with names (innermost reader.state.stack) (trees_in names reader.state) reader.state.mode reader.waiting (sym (c.is_finished.ensures names) ∙ c.if-not-is_finished.false) in
+    let done = finished_with names (innermost reader.state.stack) (trees_in names reader.state) reader.state.mode reader.state.operand reader.waiting reader.waited (sym (c.is_finished.ensures names) ∙ c.if-not-is_finished.false) in
     (finished_read (table_of (ops_of c.args.table.now)) (table_is (ops_of c.args.table.now) c.table_law.ensures) c.args.text.now c.args.tokens.now c.loop-at.at
     (see_reader names reader) done.stack done.operand (root_tree names c.in_ok-clause.clause) c.loop-at-test.false c.loop-at.invariant done.is
     (done.tree_is ∙ sym (ap (root_tree names) c.in_ok-clause.ensures))).only

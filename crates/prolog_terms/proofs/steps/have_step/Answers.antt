@@ -1,31 +1,11 @@
-use Rattle.std.proofs.Common.{ap, sym, ◌∙◌, arith}
+use Rattle.std.proofs.Common.{ap, sym, ◌∙◌}
 use Rattle.prolog_ops.specs.Table.{ops_of}
 use Rattle.prolog_terms.specs.Words.{table_of}
-use Rattle.prolog_terms.specs.ReaderSeen.{parts_held, separator_seen, have_step_seen, comma_in, bar_in}
-use Rattle.prolog_terms.specs.Forest.{before_last}
-use Rattle.prolog_terms.specs.StackSeen.{innermost, trees_in, see_word, see_held}
+use Rattle.prolog_terms.specs.ReaderSeen.{separator_seen, have_step_seen, comma_in, bar_in}
+use Rattle.prolog_terms.specs.StackSeen.{see_word, see_held}
 use Rattle.prolog_terms.proofs.Entries.{ok_then}
 use Rattle.prolog_terms.proofs.ReaderTables.{comma_is, bar_is}
-use Rattle.prolog_terms.proofs.ReaderRoom.{parts_same, closed_room}
 use Rattle.prolog_terms.proofs.steps.have_step.Goals as goal
-
-pub round_behind-requires : goal.round_behind-requires
-round_behind-requires c = record {
-  room = λ names.
-      let known = c.args.names.now in
-      let state = c.close.new.state in
-      let old = see_held known c.args.state.now c.args.operand in
-      omega (arith, parts_same names known (innermost state.stack) (before_last (trees_in names state)) (before_last (trees_in known state)), ap (λ h. parts_held h.stack) c.in_ok-last-in-CloseRound.ensures, closed_room old.stack old.operand, c.requires.room);
-}
-
-pub square_behind-requires : goal.square_behind-requires
-square_behind-requires c = record {
-  room = λ names.
-      let known = c.args.names.now in
-      let state = c.close-in-CloseSquare.new.state in
-      let old = see_held known c.args.state.now c.args.operand in
-      omega (arith, parts_same names known (innermost state.stack) (before_last (trees_in names state)) (before_last (trees_in known state)), ap (λ h. parts_held h.stack) c.in_ok-last-in-CloseSquare.ensures, closed_room old.stack old.operand, c.requires.room);
-}
 
 pub returns-in-Comma : goal.returns-in-Comma
 returns-in-Comma c =
