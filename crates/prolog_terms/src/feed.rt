@@ -7,7 +7,8 @@ ghost use Rattle.prolog_terms.specs.ReaderWaiting.{is_infix_only};
 ghost use Rattle.prolog_terms.specs.ReaderSeen.{parts_held, want_name_seen, waiting_parts, enter_seen, then_enter_seen, infix_fits, infix_floor};
 ghost use Rattle.prolog_terms.specs.ReaderSeen.{doubt_step, call_step, feed_named_seen, feed_doubt_seen, feed_seen, mode_floor_seen};
 ghost use Rattle.prolog_terms.specs.ReaderSeen.{waiting_floor_seen, reduced_measure, infix_held, reduced_seen, atom_operand, negative_operand};
-ghost use Rattle.prolog_terms.specs.ReaderSeen.{ready_seen, named_seen, doubt_seen, settled_seen, act_seen, have_step_seen, has, wants, pushed, pending_bracket, first_in, Call};
+ghost use Rattle.prolog_terms.specs.ReaderSeen.{ready_seen, named_seen, doubt_seen, settled_seen, act_seen, have_step_seen};
+ghost use Rattle.prolog_terms.specs.ReaderSeen.{has, wants, pushed, pending_bracket, first_in, Call};
 ghost use Rattle.prolog_terms.specs.StackSeen.{Names as NamesSeen, see_word, see_stack, see_state, see_step, see_reader, see_fed};
 
 use crate::measure::Measure;
@@ -39,12 +40,7 @@ fn wait(reader: &mut Reader, name: Word, prefix: Option<Sides>)
 }
 
 /// A word where nothing waits, which is no name where an operand is wanted.
-fn step(
-    table: &OpTable,
-    names: &Names,
-    reader: &mut Reader,
-    word: Word,
-) -> Result<bool, AllocError>
+fn step(table: &OpTable, names: &Names, reader: &mut Reader, word: Word) -> Result<bool, AllocError>
     requires law { IsOps (ops_of table.now) }
     requires room { parts_held (see_state names.now reader.old.state).stack < 4294967295 }
     ensures { IfOk result (λ goes. see_fed names.now reader.new goes ≡ settled_seen (act_seen (table_of (ops_of table.now))

@@ -3,8 +3,8 @@
 ghost use Rattle.std.specs.Prelude.{◌≡◌, ◌<◌, IfOk};
 ghost use Rattle.prolog_ops.specs.Table.{ops_of, IsOps};
 ghost use Rattle.prolog_terms.specs.Words.{table_of};
-ghost use Rattle.prolog_terms.specs.ReaderSeen.{parts_held, goes_seen, wants, has, pushed, pending_bracket, Call, first_in, have_step_seen, with_held, closed_seen};
-ghost use Rattle.prolog_terms.specs.ReaderSeen.{round_in, square_in, curly_in, end_in};
+ghost use Rattle.prolog_terms.specs.ReaderSeen.{parts_held, goes_seen, wants, has, pushed, pending_bracket, Call, first_in, have_step_seen};
+ghost use Rattle.prolog_terms.specs.ReaderSeen.{with_held, closed_seen, round_in, square_in, curly_in, end_in};
 ghost use Rattle.prolog_terms.specs.ReaderSeen.{want_other_seen, square_pair_seen, curly_pair_seen, prefix_step_seen, act_seen};
 ghost use Rattle.prolog_terms.specs.ReaderSeen.{leaf_operand, negative_operand, pair_operand};
 ghost use Rattle.prolog_terms.specs.StackSeen.{Names as NamesSeen, see_word, see_bracket, bracket_holds, see_entries, innermost, trees_in, see_stack};
