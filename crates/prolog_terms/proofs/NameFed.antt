@@ -1,7 +1,15 @@
 -- What a name is by the word behind it, with that word.
-use Rattle.std.proofs.Common.{◌≡◌, false, true, not, cond, ◌&&◌, ◌||◌, [], ◌∷◌, Option, Some, is_some, sym, ap}
+use Rattle.std.proofs.Common.{◌≡◌, false, true, not, cond, ◌&&◌, ◌||◌, [], ◌∷◌, Option, Some, is_some, Bool, refl, sym, ap}
 use Rattle.prolog_terms.specs.Words.{Word, Table, Sides, sides_of, is_minus, begins_term, opens, number_next}
 use Rattle.prolog_terms.specs.ReaderSeen.{StackSeen, StateSeen, WaitingSeen, ready_seen, settled_seen, wants, has, functor_of, minus_of, pushed, pending_bracket, first_in, Call, goes_seen, atom_operand, negative_operand, have_step_seen, prefix_step_seen, want_name_seen, then_enter_seen}
+
+pub and_false : (a b : Bool) → b ≡ false → false ≡ (a && b)
+and_false true b is = sym is
+and_false false b is = refl
+
+pub and_true : (a b : Bool) → b ≡ true → a ≡ (a && b)
+and_true true b is = sym is
+and_true false b is = refl
 
 abbrev pub name_fed : Table → StackSeen → Word → Option Sides → Word → Option WaitingSeen
 name_fed T S n prefix w = then_enter_seen T (want_name_seen S n prefix (opens (w ∷ [])) (number_next (w ∷ [])) (not (begins_term w.kind))) w

@@ -222,7 +222,10 @@ fn behind_atom(
 fn is_negative(names: &Names, name: Word, word: Word) -> bool
     ensures { result ≡ (is_minus (see_word names.now name) && number_next (see_word names.now word ∷ [])) }
 {
-    is_minus(names, name) && is_near_number(word)
+    if !is_near_number(word) {
+        return false;
+    }
+    is_minus(names, name)
 }
 
 /// A name that is no prefix operator, and the word behind it: a functor (ISO/IEC 13211-1, 6.3.3), the

@@ -91,7 +91,16 @@ impl NodeList {
         ensures rest { (names : List (List ℕ)) → forest names (take result self.now) ≡ before_last (forest names (take end self.now)) }
         ensures within { result ≤ end }
     {
-        let end = end.min(self.list.len());
+        self.before_these(end.min(self.list.len()))
+    }
+
+    /// How many of so many nodes stand before the last term of them, where there are as many.
+    #[inline(always)]
+    fn before_these(&self, end: usize) -> usize
+        requires { end ≤ length self.now }
+        ensures rest { (names : List (List ℕ)) → forest names (take result self.now) ≡ before_last (forest names (take end self.now)) }
+        ensures within { result ≤ end }
+    {
         if end == 0 {
             return 0;
         }
@@ -101,12 +110,13 @@ impl NodeList {
     /// How many of so many nodes stand before the last terms of them, as many as are counted.
     #[inline(always)]
     fn before_many(&self, end: usize, count: usize) -> usize
+        requires { end ≤ length self.now }
         ensures rest { (names : List (List ℕ)) → forest names (take result self.now) ≡ without count (forest names (take end self.now)) }
         ensures within { result ≤ end }
     {
         let mut at = end;
         for _part in 0..count {
-            at = self.before(at);
+            at = self.before_these(at);
         }
         at
     }

@@ -8,7 +8,7 @@ loop-part-preserved c =
     let next : c.args.count - c.loop-part._part ≡ suc left = omega (arith, c.loop-part-test.true) in
     record {
       rest = λ names.
-          ap (without left) (c.before-at.ensures.rest names)
+          ap (without left) (c.before_these-at.ensures.rest names)
           ∙ (sym (ap (λ n. without n (forest names (take c.loop-part.at c.args.self.now))) next) ∙ c.loop-part.invariant.rest names);
-      within = omega (arith, c.before-at.ensures.within, c.loop-part.invariant.within);
+      within = omega (arith, c.before_these-at.ensures.within, c.loop-part.invariant.within);
     }
