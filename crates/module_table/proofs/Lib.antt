@@ -5,6 +5,7 @@ pub mod Grouping
 pub mod RunLemmas
 pub mod Items
 pub mod SortedRuns
+pub mod LeadOrder
 pub mod PredicateOrder
 pub mod FreeNames
 pub mod HeadLemmas

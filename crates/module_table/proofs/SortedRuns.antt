@@ -4,6 +4,8 @@ use Rattle.std.specs.Ordering.{is_lt, is_eq, ordering_reverse}
 use Rattle.std.specs.declared.cmp.Ordering.{Ordering}
 use Rattle.std.specs.declared.cmp.Ordering.TheVariants.{Less, Equal, Greater}
 use Rattle.std.specs.Cmp.{IsStrictWeakOrder}
+use Rattle.std.specs.Bool.{OnTrue}
+use Rattle.std.specs.List.{IsAllAdjacentAnswer}
 use Rattle.std.specs.List.Sorted.{IsStrictlySortedBy, IsSortedBy, IsStableBy, ties}
 use Rattle.std.proofs.lemmas.Grind.{flat_map-append}
 use Rattle.std.proofs.lemmas.List.{append-nil, get_or-take, length-map, map-append}
@@ -14,7 +16,7 @@ use Rattle.std.proofs.Math.ListN.{get_or-map}
 use Rattle.prolog_names.specs.Names.{name_at}
 use Rattle.prolog_terms.specs.Tree.{Tree}
 use Rattle.module_table.specs.declared.defined.Defined.{Defined}
-use Rattle.module_table.specs.Defined.{Defines, Predicate, IsDefined, AreDefined, NoneIsAfter, key, key_of, predicate_cmp, clause_for, clauses_for, see_defined as defined_seen, defined_by, defined_by_all, see_run as run_seen}
+use Rattle.module_table.specs.Defined.{Defines, Predicate, IsDefined, AreDefined, NoneIsAfter, key, key_of, predicate_cmp, comes_before as stands_before, AreApart, clause_for, clauses_for, see_defined as defined_seen, defined_by, defined_by_all, see_run as run_seen}
 use Rattle.module_table.proofs.PredicateOrder.{predicate_cmp_total, same, same_ties, sorted_part, sorted_below}
 use Rattle.module_table.proofs.RunLemmas.{all_then}
 use Rattle.module_table.proofs.Grouping.{by_test, clause_of_another, all_of, run_added, none_defined}
@@ -26,9 +28,8 @@ tied_is_same Equal back e = rw e refl
 tied_is_same Greater back e = rw e refl
 
 module _ (names : List (List ℕ)) where
-  -- whether a run is of a predicate that comes before another's
-  abbrev pub comes_before : Defined → Defined → Bool
-  comes_before a b = is_lt (predicate_cmp (key_of names a) (key_of names b))
+  abbrev comes_before : Defined → Defined → Bool
+  comes_before a b = stands_before names a b
 
   pub comes_before_ranks : IsStrictWeakOrder comes_before
   comes_before_ranks = ranks_by predicate_cmp_total (key_of names)
@@ -47,7 +48,7 @@ module _ (names : List (List ℕ)) where
   abbrev see_run : Defined → List Defines
   see_run run = run_seen names run
 
-  ties_same : (asked run : Defined) → ties comes_before asked run ≡ same (own_module asked) (own_name asked) asked.arity (own_module run) (own_name run) run.arity
+  pub ties_same : (asked run : Defined) → ties comes_before asked run ≡ same (own_module asked) (own_name asked) asked.arity (own_module run) (own_name run) run.arity
   ties_same asked run =
       tied_is_same (predicate_cmp (see_defined asked) (see_defined run)) (predicate_cmp (see_defined run) (see_defined asked))
       (predicate_cmp_total.antisymm (see_defined run) (see_defined asked))
@@ -216,6 +217,10 @@ module _ (names : List (List ℕ)) where
 
   -- runs each of which comes before the next are the predicates themselves
   pub runs_apart : (xs ys : List Defined) → IsPermutation xs ys → IsStableBy comes_before xs ys
-      → ((k : ℕ) (d : Defined) → k + 1 < length ys → true ≡ comes_before (get_or ys k d) (get_or ys (k + 1) d))
-      → AreDefined (flat_map see_run xs) (map see_defined ys)
+      → AreApart names ys → AreDefined (flat_map see_run xs) (map see_defined ys)
   runs_apart xs ys moved stable next = from_sorted xs ys (map see_defined ys) moved stable (all_apart ys (up_from_next ys next))
+
+  -- the answer is right where it is that each comes before the next
+  pub apart_where : (runs : List Defined) (answer : Bool) → IsAllAdjacentAnswer (λ x y b. b ≡ comes_before x y) runs answer → OnTrue answer (AreApart names runs)
+  apart_where runs true all = all
+  apart_where runs false some = tt

@@ -1,5 +1,6 @@
 -- The predicates of a file and their clauses.
-use Rattle.std.specs.Prelude.{ℕ, ◌≡◌, ◌≢◌, List, [], ◌∷◌, ◌++◌, Option, Some, None, false, map, flat_map, Contains, All, ◌&&◌, nat_eq, if◌then◌else◌}
+use Rattle.std.specs.Prelude.{ℕ, ◌≡◌, ◌≢◌, ◌+◌, ◌<◌, List, [], ◌∷◌, ◌++◌, Option, Some, None, Bool, true, false, ◌&&◌, nat_eq, if◌then◌else◌}
+use Rattle.std.specs.Prelude.{map, flat_map, length, Contains, All, slice_index_or}
 use Rattle.std.specs.declared.cmp.Ordering.{Ordering}
 use Rattle.std.specs.Ordering.{ordering_then, nat_cmp, is_lt}
 use Rattle.std.specs.Cmp.Lexicographic.{slice_cmp}
@@ -84,6 +85,15 @@ key owner name arity = record { module_ = owner; name = name; arity = arity; cla
 
 abbrev pub key_of : List (List ℕ) → Defined → Predicate
 key_of names d = key (name_at names d.module) (name_at names d.name) d.arity
+
+-- whether a run is of a predicate that comes before another's
+abbrev pub comes_before : List (List ℕ) → Defined → Defined → Bool
+comes_before names a b = is_lt (predicate_cmp (key_of names a) (key_of names b))
+
+-- each run is of a predicate that comes before that of the next one
+abbrev pub AreApart : List (List ℕ) → List Defined → Type 0
+AreApart names runs =
+    (k : ℕ) (d : Defined) → k + 1 < length runs → true ≡ comes_before names (slice_index_or runs k d) (slice_index_or runs (k + 1) d)
 
 -- none of these is of a predicate that comes after p
 abbrev pub NoneIsAfter : Predicate → List Defines → Type 0

@@ -1,4 +1,5 @@
 pub mod Defined
+pub mod Lead
 pub mod FileName
 pub mod Paths
 pub mod Metas

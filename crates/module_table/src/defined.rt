@@ -1,10 +1,12 @@
 ghost use Rattle.std.specs.Prelude.{◌≡◌, ◌++◌, ◌&&◌, ℕ, List, nat_eq, map, flat_map, IfOk, OnOk};
+ghost use Rattle.std.specs.Bool.{OnTrue};
 ghost use Rattle.std.specs.Cmp.Lexicographic.{slice_cmp};
 ghost use Rattle.std.specs.Ordering.{is_lt, nat_cmp};
 ghost use Rattle.std.specs.Str.{bytes_eq};
 ghost use Rattle.prolog_names.specs.Names.{name_at};
-ghost use Rattle.module_table.specs.Defined.{AreDefined, Defines, NoneIsAfter, key_of, predicate_cmp, see_defined, see_run};
+ghost use Rattle.module_table.specs.Defined.{AreApart, AreDefined, Defines, NoneIsAfter, key_of, predicate_cmp, see_defined, see_run};
 
+use crate::lead::sort_by_lead;
 use clause_text::Clause;
 use prolog_names::Names;
 use std::alloc::{AllocError, Global};
@@ -29,9 +31,14 @@ pub fn group(
 ) -> Result<Vec<Defined>, AllocError>
     ensures { IfOk result (λ defined. AreDefined (flat_map (see_run names.now) runs.items) (map (see_defined names.now) defined.items)) }
 {
+    // Mostly the clauses of each predicate stand together, and so each run is a predicate; and mostly
+    // runs are in order once the first bytes of their names are.
+    sort_by_lead(names, &mut runs)?;
+    if are_apart(names, &runs) {
+        return Ok(runs);
+    }
     runs.sort_by(|a, b| compare(names, a, b))?;
-    // Mostly the clauses of each predicate stand together, and so each run is a predicate.
-    if runs.is_sorted_by(|a, b| comes_before(names, a, b)) {
+    if are_apart(names, &runs) {
         return Ok(runs);
     }
     let mut defined = Vec::with_capacity(alloc, runs.len())?;
@@ -63,6 +70,13 @@ fn comes_before(names: &Names, a: &Defined, b: &Defined) -> bool
     ensures { result ≡ is_lt (predicate_cmp (key_of names.now a.now) (key_of names.now b.now)) }
 {
     compare(names, a, b).is_lt()
+}
+
+/// Whether each run is of a predicate that comes before that of the next one.
+fn are_apart(names: &Names, runs: &[Defined]) -> bool
+    ensures { OnTrue result (AreApart names.now runs.now) }
+{
+    runs.is_sorted_by(|a, b| comes_before(names, a, b))
 }
 
 /// Adds one more run, of the last predicate or of one after it.

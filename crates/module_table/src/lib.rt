@@ -18,6 +18,7 @@ mod head;
 mod indicator;
 mod kinds;
 mod laws;
+mod lead;
 mod load;
 mod meta;
 mod module_directive;

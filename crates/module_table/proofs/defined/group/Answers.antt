@@ -3,18 +3,25 @@ use Rattle.std.proofs.lemmas.Iterator.Adapters.{YieldsList-from_vec}
 use Rattle.std.proofs.lemmas.Iterator.Consumers.{YieldsList-end, YieldsList-turn, YieldsList-so_far}
 use Rattle.std.proofs.lemmas.List.{map-id}
 use Rattle.std.proofs.lemmas.Fn.{always_returns_same}
-use Rattle.module_table.specs.Defined.{AreDefined, see_defined, see_run}
+use Rattle.std.proofs.lemmas.List.Sorted.{IsPermutation-trans}
+use Rattle.module_table.specs.Defined.{AreDefined, comes_before, see_defined, see_run}
 use Rattle.module_table.proofs.Grouping.{none_defined}
-use Rattle.module_table.proofs.SortedRuns.{comes_before, comes_before_ranks, none_after_next, from_sorted, runs_apart}
+use Rattle.module_table.proofs.SortedRuns.{comes_before_ranks, none_after_next, from_sorted, runs_apart}
 use Rattle.module_table.proofs.RunLemmas.{all_then}
 use Rattle.module_table.proofs.defined.group.Goals as goal
 
-pub returns-then-is_sorted_by : goal.returns-then-is_sorted_by
-returns-then-is_sorted_by c =
+pub returns-then-are_apart : goal.returns-then-are_apart
+returns-then-are_apart c =
+    runs_apart c.args.names.now c.args.runs.items c.sort_by_lead.new.runs.items c.sort_by_lead.ensures.moved c.sort_by_lead.ensures.stable
+    (rw (sym c.deref.ensures.value) c.if-are_apart.ensures)
+
+pub returns-then-are_apart-2 : goal.returns-then-are_apart-2
+returns-then-are_apart-2 c =
     let names = c.args.names.now in
     let stable = c.sort_by.ensures.stable (comes_before names) (comes_before_ranks names) (always_returns_same _ _ _ (λ a r f called. search rules)) in
-    runs_apart names c.args.runs.items c.sort_by.new.self.items c.sort_by.ensures.permutation stable
-    (rw (sym c.deref.ensures.value) (c.if-is_sorted_by.ensures.cases (comes_before names) (always_returns_same _ _ _ (λ a r f called. search rules))))
+    runs_apart names c.args.runs.items c.sort_by.new.self.items
+    (IsPermutation-trans c.args.runs.items c.sort_by_lead.new.runs.items c.sort_by.new.self.items c.sort_by_lead.ensures.moved c.sort_by.ensures.permutation)
+    (λ x. stable x ∙ c.sort_by_lead.ensures.stable x) (rw (sym c.deref-2.ensures.value) c.if-are_apart-2.ensures)
 
 pub loop-run-init : goal.loop-run-init
 loop-run-init c = subst (λ xs. AreDefined [] (map (see_defined c.args.names.now) xs)) (sym c.in_ok-defined.ensures.items) none_defined
@@ -45,5 +52,6 @@ returns c =
     sym (map-id done) ∙ (YieldsList-end road done c.loop-run.run-iterator c.loop-run.yielded_by c.next.result c.next.new.self c.in-None.is c.next.ensures.steps).0 in
     let stable = c.sort_by.ensures.stable (comes_before names) (comes_before_ranks names) (always_returns_same _ _ _ (λ a r f called. search rules)) in
     from_sorted names c.args.runs.items c.sort_by.new.self.items (map (see_defined names) c.loop-run.defined.items)
-    c.sort_by.ensures.permutation stable
+    (IsPermutation-trans c.args.runs.items c.sort_by_lead.new.runs.items c.sort_by.new.self.items c.sort_by_lead.ensures.moved c.sort_by.ensures.permutation)
+    (λ x. stable x ∙ c.sort_by_lead.ensures.stable x)
     (subst (λ runs. AreDefined (flat_map (see_run names) runs) (map (see_defined names) c.loop-run.defined.items)) all c.loop-run.invariant)
