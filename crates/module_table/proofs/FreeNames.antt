@@ -1,5 +1,5 @@
--- Names beyond the opening ones: heads with arguments may have them.
-use Rattle.std.proofs.Common.{if◌then◌else◌, ◌≡◌, ◌≢◌, ℕ, ◌<◌, ◌==◌, Bool, true, false, List, [], ◌∷◌, codes, refl, ap, ◌∙◌, arith}
+-- Names beyond the opening ones: heads may have them, but for the cut.
+use Rattle.std.proofs.Common.{if◌then◌else◌, ◌≡◌, ◌≢◌, ℕ, ◌<◌, ◌==◌, ◌&&◌, Bool, true, false, List, [], ◌∷◌, codes, refl, sym, ap, ◌∙◌, arith}
 use Rattle.std.specs.Str.{bytes_eq}
 use Rattle.std.proofs.lemmas.Bool.{false_from_ne_true}
 use Rattle.std.proofs.lemmas.Slice.Eq.{bytes_eq-Decides}
@@ -38,14 +38,32 @@ module _ (text : List ℕ) (others : text ≢ [] → (k : ℕ) → k < OPENING_C
   colon_free : is_among (codes ":" ∷ []) text ≡ false
   colon_free = rw (other_word (codes ":") 50 refl (omega arith) refl) refl
 
+  nothing_free : is_among (codes "[]" ∷ codes "{}" ∷ []) text ≡ false
+  nothing_free = rw (other_word (codes "[]") 3 refl (omega arith) refl, other_word (codes "{}") 4 refl (omega arith) refl) refl
+
+  cut_free : bytes_eq text (codes "!") ≡ false → is_among (codes "!" ∷ []) text ≡ false
+  cut_free other =
+      let turned : bytes_eq (codes "!") text ≡ false =
+      false_from_ne_true (bytes_eq (codes "!") text)
+      (λ same.
+      let itself : bytes_eq text (codes "!") ≡ true = (bytes_eq-Decides text (codes "!")).1 (sym ((bytes_eq-Decides (codes "!") text).0 same)) in
+      let clash : true ≡ false = sym itself ∙ other in
+      cc) in
+      rw turned refl
+
   chosen : (one two : Bool) (xs ys : List (List ℕ)) → is_among xs text ≡ false → is_among ys text ≡ false
       → is_among (if one then xs else if two then ys else []) text ≡ false
   chosen true two xs ys first second = first
   chosen false true xs ys first second = second
   chosen false false xs ys first second = refl
 
-  pub control_free : (arity : ℕ) → (arity == 0) ≡ false → is_among (control_names arity) text ≡ false
-  control_free arity some = rw some (chosen (arity == 1) (arity == 2) _ _ one_free two_free)
+  uncut : (none one two : Bool) (xs ys : List (List ℕ)) → (none && bytes_eq text (codes "!")) ≡ false → is_among xs text ≡ false → is_among ys text ≡ false
+      → is_among (if none then codes "!" ∷ [] else if one then xs else if two then ys else []) text ≡ false
+  uncut true one two xs ys other first second = cut_free other
+  uncut false one two xs ys other first second = chosen one two xs ys first second
 
-  pub headless_free : (arity : ℕ) → (arity == 0) ≡ false → is_among (headless_names arity) text ≡ false
-  headless_free arity some = rw some (chosen false (arity == 2) [] _ refl colon_free)
+  pub control_free : (arity : ℕ) → ((arity == 0) && bytes_eq text (codes "!")) ≡ false → is_among (control_names arity) text ≡ false
+  control_free arity other = uncut (arity == 0) (arity == 1) (arity == 2) _ _ other one_free two_free
+
+  pub headless_free : (arity : ℕ) → is_among (headless_names arity) text ≡ false
+  headless_free arity = chosen (arity == 0) (arity == 2) _ _ nothing_free colon_free

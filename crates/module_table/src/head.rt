@@ -1,7 +1,8 @@
 //! Heads of clauses.
 
-ghost use Rattle.std.specs.Prelude.{◌≡◌, IfOk, IfErr, Ok, false};
+ghost use Rattle.std.specs.Prelude.{◌≡◌, ◌==◌, ◌&&◌, IfOk, IfErr, Ok, false, codes};
 ghost use Rattle.std.specs.Bool.{OnTrue};
+ghost use Rattle.std.specs.Str.{bytes_eq};
 ghost use Rattle.prolog_names.specs.Names.{name_at};
 ghost use Rattle.prolog_terms.specs.Terms.{tree_of, IsOf};
 ghost use Rattle.module_table.specs.Said.{IsWhy};
@@ -34,14 +35,24 @@ fn is_headless(name: &str, arity: usize) -> bool
     }
 }
 
-/// Whether the numbers alone tell that a head of this name may be defined: names that no head with
-/// arguments has are among the opening ones.
+/// Whether it is the cut, which alone of the names that no head has is none of the opening ones.
+fn is_cut(names: &Names, name: u32, arity: usize) -> bool
+    ensures { result ≡ ((arity == 0) && bytes_eq (name_at names.now name) (codes "!")) }
+{
+    if arity > 0 {
+        return false;
+    }
+    names.is(name, "!")
+}
+
+/// Whether its number tells that a head of this name may be defined: names that no head has are among
+/// the opening ones, but for the cut.
 fn is_surely_free(names: &Names, name: u32, arity: usize) -> bool
     ensures { OnTrue result ((is_among (control_names arity) (name_at names.now name) ≡ false)
         × (is_among (headless_names arity) (name_at names.now name) ≡ false)) }
 {
     opening_law(names);
-    if arity == 0 {
+    if is_cut(names, name, arity) {
         return false;
     }
     name >= OPENING_COUNT

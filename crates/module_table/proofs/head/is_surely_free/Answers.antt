@@ -1,7 +1,6 @@
-use Rattle.std.proofs.Common.{◌≡◌, ◌≢◌, ℕ, ◌<◌, ◌≤◌, ◌==◌, Bool, true, false, [], refl}
+use Rattle.std.proofs.Common.{◌≡◌, ◌≢◌, ℕ, ◌<◌, ◌≤◌, Bool, true, false, [], refl, sym, ◌∙◌}
 use Rattle.std.specs.Bool.{OnTrue}
-use Rattle.std.proofs.lemmas.Bool.{leb-true, false_from_ne_true}
-use Rattle.std.proofs.lemmas.Bool.Decides.{Decides-eqb}
+use Rattle.std.proofs.lemmas.Bool.{leb-true}
 use Rattle.prolog_names.specs.declared.names.TheConstants.{OPENING_COUNT}
 use Rattle.prolog_names.specs.Names.{name_at, opening_names}
 use Rattle.module_table.proofs.FreeNames.{control_free, headless_free}
@@ -19,5 +18,4 @@ returns c =
     (λ is.
     let beyond : OPENING_COUNT ≤ c.args.name = leb-true OPENING_COUNT c.args.name is in
     let others : text ≢ [] → (k : ℕ) → k < OPENING_COUNT → name_at opening_names k ≢ text = λ some k below. c.opening_law.ensures.others c.args.name k beyond some below in
-    let some : (arity == 0) ≡ false = false_from_ne_true (arity == 0) (λ none. c.if-arity-eq0.false ((Decides-eqb arity 0).0 none)) in
-    (control_free text others arity some, headless_free text others arity some))
+    (control_free text others arity (sym c.is_cut.ensures ∙ c.if-is_cut.false), headless_free text others arity))
