@@ -1,15 +1,15 @@
 -- Chains of names in buckets: how one is followed, and how a place is added.
-use Rattle.std.proofs.Common.{◌≡◌, ◌≢◌, ℕ, zero, suc, ◌+◌, ◌-◌, ◌<◌, ◌≤◌, inl, inr, List, [], ◌∷◌, ◌++◌, length, map, take, get_or, set, false, refl, sym, ap, subst, ◌∙◌, arith, replicate}
+use Rattle.std.proofs.Common.{◌≡◌, ◌≢◌, ℕ, zero, suc, ◌-◌, ◌<◌, ◌≤◌, inl, inr, List, [], length, map, take, get_or, false, refl, sym, ap, subst, ◌∙◌, arith, replicate}
 use Rattle.std.specs.List.{list_any}
-use Rattle.std.proofs.lemmas.Bool.{cases_eq, cases_order, cases_lt, false_from_ne_true}
-use Rattle.std.proofs.Math.ListN.{length-set}
-use Rattle.std.proofs.lemmas.List.{get_or-map, get_or-set_same, get_or-set_other, get_or_append_left, get_or_push, get_or-replicate, length_push, map-append, take_more, take_all}
+use Rattle.std.proofs.lemmas.Bool.{cases_lt, false_from_ne_true}
+use Rattle.std.proofs.lemmas.List.{get_or-map, get_or-replicate, length-map, take_all}
 use Rattle.std.proofs.lemmas.List.Elements.{All-from_get_or}
 use Rattle.std.proofs.lemmas.List.Folds.{list_any_none}
 use Rattle.import_rules.specs.declared.name_table.Link.{Link}
 use Rattle.import_rules.specs.declared.names.PredName.{PredName}
 use Rattle.import_rules.specs.Names.{is_same}
-use Rattle.prolog_names.specs.Table.{bucket_at, IsLast, AreChains}
+use Rattle.std.proofs.lemmas.Simd.{map-map}
+use Rattle.prolog_names.specs.Table.{bucket_at, bucket_in, IsLast, AreChains}
 use Rattle.prolog_names.proofs.ChainSteps.{ArePassed, head_passed, next_passed}
 use Rattle.import_rules.specs.NameTable.{name_hash, bucket_of, buckets_of, next_of, hashes_of, IsChained, IsLinked}
 use Rattle.import_rules.proofs.NameOrder.{same_parts}
@@ -75,17 +75,6 @@ no_chains buckets size = record {
       is = λ some. absurd (omega (arith, some));
     }
 
--- the hashes beside the names
-
--- one more
-pub hash_more : (names : List PredName) (n : ℕ) (item : PredName) (links : List Link) (link : Link) → n < length names → item ≡ get_or names n item
-    → link.hash ≡ name_hash item → hashes_of links ≡ map name_hash (take n names) → hashes_of (links ++ link ∷ []) ≡ map name_hash (take (n + 1) names)
-hash_more names n item links link within here is so_far =
-    map-append (λ (l : Link). l.hash) links (link ∷ [])
-    ∙ ((λ i. so_far i ++ is i ∷ [])
-    ∙ (ap (λ p. map name_hash (take n names) ++ name_hash p ∷ []) here
-    ∙ sym (ap (map name_hash) (take_more names n item within) ∙ map-append name_hash (take n names) (get_or names n item ∷ []))))
-
 -- the one beside a name is its own
 pub hash_at : (names : List PredName) (links : List Link) (at : ℕ) (link : Link) (one : PredName) → hashes_of links ≡ map name_hash names → at < length names
     → at < length links → link ≡ get_or links at link → one ≡ get_or names at one → link.hash ≡ name_hash one
@@ -99,14 +88,18 @@ pub other_hash : (wanted one : PredName) → name_hash one ≢ name_hash wanted 
 other_hash wanted one apart = false_from_ne_true (is_same wanted one) (λ is. apart (ap name_hash (sym (same_parts wanted one is))))
 
 -- all names stand in the chains, with their hashes
-pub all_linked : (names : List PredName) (size n : ℕ) (heads : List ℕ) (links : List Link) → AreChains (buckets_of size names) n heads (next_of links)
-    → hashes_of links ≡ map name_hash (take n names) → length heads ≡ size → 0 < size → n ≡ length names → IsLinked names heads links
-all_linked names size n heads links chains hashed sized some end = record {
-  chained = record {
-    some = omega (arith, sized, some);
-    chains =
-        subst (λ m. AreChains (buckets_of m names) (length names) heads (next_of links)) (sym sized)
-        (subst (λ m. AreChains (buckets_of size names) m heads (next_of links)) end chains);
-  };
-  hashed = hashed ∙ ap (map name_hash) (take_all n names (omega (arith, end)));
-}
+pub all_linked : (names : List PredName) (size n : ℕ) (hashes heads : List ℕ) (links : List Link) → hashes ≡ map name_hash names
+    → AreChains (map (bucket_in size) hashes) n heads (next_of links) → hashes_of links ≡ take n hashes
+    → length heads ≡ size → 0 < size → n ≡ length hashes → IsLinked names heads links
+all_linked names size n hashes heads links are chains hashed sized some end =
+    let count : n ≡ length names = end ∙ ap length are ∙ length-map names name_hash in
+    let buckets : map (bucket_in size) hashes ≡ buckets_of size names = ap (map (bucket_in size)) are ∙ map-map (bucket_in size) name_hash names in record {
+      chained = record {
+        some = omega (arith, sized, some);
+        chains =
+            subst (λ m. AreChains (buckets_of m names) (length names) heads (next_of links)) (sym sized)
+            (subst (λ m. AreChains (buckets_of size names) m heads (next_of links)) count
+            (subst (λ bs. AreChains bs n heads (next_of links)) buckets chains));
+      };
+      hashed = hashed ∙ take_all n hashes (omega (arith, end)) ∙ are;
+    }

@@ -1,6 +1,6 @@
 //! Names in chains, one for each bucket of a hash: a name is found by one look-up, without memory.
 
-ghost use Rattle.std.specs.Prelude.{◌≡◌, ◌<◌, ◌++◌, length, slice_get, Some, false, IfOk, IfSome, MatchOption};
+ghost use Rattle.std.specs.Prelude.{◌≡◌, ◌<◌, ◌++◌, length, map, slice_get, Some, false, IfOk, IfSome, MatchOption};
 ghost use Rattle.std.specs.List.{list_any};
 ghost use Rattle.prolog_names.specs.Table.{bucket_in};
 ghost use Rattle.import_rules.specs.Names.{is_same, pred_name};
@@ -82,19 +82,31 @@ fn is_named(one: &PredName, kept: u32, module: &str, name: &str, arity: u32, has
     one.module.is(module) && (one.name.is(name) && arity == one.arity)
 }
 
+/// The hashes of the names.
+fn hashes_of(alloc: Global, names: &[PredName]) -> Result<Vec<u32>, AllocError>
+    ensures { IfOk result (λ hashes. hashes.items ≡ map name_hash names.now) }
+{
+    let mut hashes = Vec::with_capacity(alloc, names.len())?;
+    for one in names {
+        hashes.push(name_hash(one.module.as_str(), one.name.as_str(), one.arity))?;
+    }
+    Ok(hashes)
+}
+
 impl NameTable {
-    /// The table of these names.
+    /// The table of these names. Their hashes are found first, since a processor that has no texts to
+    /// read between two buckets looks many of them up at once.
     pub(crate) fn make(alloc: Global, names: Vec<PredName>) -> Result<NameTable, AllocError>
         ensures { IfOk result (λ table. table ≡ names.items) }
     {
         let size = names.len().max(1);
         let mut heads = vec![in alloc; 0usize; size]?;
         let mut links = Vec::with_capacity(alloc, names.len())?;
-        for one in &names {
-            let hash = name_hash(one.module.as_str(), one.name.as_str(), one.arity);
-            let bucket = bucket_of(hash, size);
+        let hashes = hashes_of(alloc, &names)?;
+        for hash in &hashes {
+            let bucket = bucket_of(*hash, size);
             links.push(Link {
-                hash,
+                hash: *hash,
                 next: heads[bucket],
             })?;
             heads[bucket] = links.len();
