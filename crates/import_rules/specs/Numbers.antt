@@ -36,7 +36,7 @@ pub record AreNumbers (parts : List DefinedAt) (predicates : List PredName) (pla
 
 abbrev pub see_places : Places → List (ℕ × ℕ)
 see_places (One one) = one
-see_places (More more) = more.items
+see_places (More more) = more.value.items
 
 abbrev pub lists_of : List Places → List (List (ℕ × ℕ))
 lists_of all = map see_places all

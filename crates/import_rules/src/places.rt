@@ -8,11 +8,12 @@ use crate::part::Part;
 use std::alloc::{AllocError, Global};
 
 /// The places at which a predicate is defined, each that of a file and of a part of the file. Most
-/// predicates are defined at one, which takes no memory of its own.
+/// predicates are defined at one, which takes no memory of its own. Those of the others stand behind
+/// one pointer, since a program has as many of these values as predicates.
 #[derive(Drop)]
 pub(crate) enum Places {
     One([(u32, u32); 1]),
-    More(Vec<(u32, u32)>),
+    More(Box<Vec<(u32, u32)>>),
 }
 
 impl Places {
@@ -37,5 +38,5 @@ pub(crate) fn places_of(alloc: Global, parts: &[Part]) -> Result<Places, AllocEr
     for part in parts {
         places.push((part.file, part.part))?;
     }
-    Ok(Places::More(places))
+    Ok(Places::More(Box::new(alloc, places)?))
 }
