@@ -24,7 +24,7 @@ use Rattle.prolog_tokens.specs.Places.{IsOffset, IsPlace}
 use Rattle.clause_text.specs.Cause.{number_of}
 use Rattle.file_library.specs.Asked.{AreInOrder}
 use Rattle.file_library.specs.Loaded.{NamedText}
-use Rattle.file_library.specs.Spots.{IsUpto, AreSpots, IsSpotPlace, StandsInText, texts_of}
+use Rattle.file_library.specs.Spots.{IsUpto, AreSpots, IsSpotPlace, texts_of}
 use Rattle.file_library.specs.declared.fault.Fault.{Fault}
 use Rattle.import_rules.specs.declared.finding.Finding.{Finding}
 use Rattle.import_rules.specs.Findings.{see_finding, see_findings}

@@ -1,5 +1,5 @@
 -- The texts of a program are within the limits of loading.
-use Rattle.std.proofs.Common.{◌+◌, ◌≤◌, length, arith}
+use Rattle.std.proofs.Common.{◌≤◌, length, arith}
 use Rattle.std.proofs.Math.Logic.{∥∥₁_elim}
 use Rattle.std.proofs.Props.{props}
 use Rattle.file_library.specs.declared.limits.TheConstants.{MOST_FILES}

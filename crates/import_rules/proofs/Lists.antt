@@ -1,14 +1,13 @@
 -- Lists that are filtered and mapped.
 use Rattle.std.proofs.Common.{◌≡◌, ℕ, ◌+◌, ◌<◌, Bool, true, false, ◌||◌, List, [], ◌∷◌, ◌++◌, Option, Some, None, All, AllPairs, Contains, length, map, filter, cond, take, get_or, option_map, option_to_list, refl, sym, ap, ◌∙◌, subst, inl, inr, arith, append_assoc, append-nil}
 use Rattle.std.specs.List.{filter_map, cons_option, find, flat_map, list_any}
-use Rattle.std.proofs.lemmas.List.Elements.{All-head, All-tail, All-contains, All-filter, All-contains_itself, All-map, filter_passes, filter_map-append, filter-append}
-use Rattle.std.proofs.lemmas.List.Folds.{Any-from_list_any, list_any-from_Any}
+use Rattle.std.proofs.lemmas.List.Elements.{All-head, All-tail, All-contains, All-map, filter_passes, filter_map-append, filter-append}
 use Rattle.std.proofs.lemmas.List.Kept.{AllPairs-cons}
-use Rattle.std.proofs.lemmas.List.{get_or_default, take_more}
+use Rattle.std.proofs.lemmas.List.{take_more}
 use Rattle.std.proofs.lemmas.Grind.{flat_map-append}
 use Rattle.module_table.specs.Kinds.{first_of}
 pub use Rattle.list_laws.proofs.Members.{all_by, any_from, any_there, kept_there, map_from, map_has}
-use Rattle.list_laws.proofs.OneOrder.{nothing_in, first_or_rest, in_rest, in_first, before_rest, rest_in_order}
+use Rattle.list_laws.proofs.OneOrder.{nothing_in, first_or_rest, before_rest, rest_in_order}
 
 -- none of the elements passes, or all of them
 

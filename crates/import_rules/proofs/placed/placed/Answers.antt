@@ -1,6 +1,5 @@
-use Rattle.std.proofs.Common.{rules, ◌≡◌, ◌∙◌, List, All, ap, sym, subst}
+use Rattle.std.proofs.Common.{rules, ◌≡◌, ◌∙◌, List, All, sym, subst}
 use Rattle.std.specs.List.{AllZip}
-use Rattle.std.specs.List.Sorted.{IsSorted}
 use Rattle.std.proofs.lemmas.List.Sorted.{answers_always, ranks_by, All-permutation, IsPermutation-map}
 use Rattle.file_library.specs.Spots.{AreSpots, IsSpotPlace, texts_of}
 use Rattle.import_rules.specs.declared.finding.Finding.{Finding}

@@ -1,6 +1,6 @@
-use Rattle.std.proofs.Common.{List, length, subst, arith}
+use Rattle.std.proofs.Common.{List, subst, arith}
 use Rattle.std.specs.List.{AllZip}
-use Rattle.std.proofs.lemmas.List.{length-map, take_all}
+use Rattle.std.proofs.lemmas.List.{take_all}
 use Rattle.file_library.specs.Spots.{texts_of}
 use Rattle.import_rules.specs.declared.finding.Finding.{Finding}
 use Rattle.import_rules.specs.Findings.{see_findings}
