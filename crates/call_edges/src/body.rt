@@ -86,7 +86,7 @@ pub fn push_bodies_of<'a>(
             place.0,
             file.module.as_str(),
             &file.names,
-            &predicate.clauses,
+            predicate.clauses.as_slice(),
             bodies,
         )?;
     }

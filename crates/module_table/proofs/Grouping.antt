@@ -11,7 +11,7 @@ use Rattle.prolog_names.specs.Names.{name_at}
 use Rattle.prolog_terms.specs.Tree.{Tree}
 use Rattle.clause_text.specs.Clauses.{clause_tree, clause_trees}
 use Rattle.module_table.specs.declared.defined.Defined.{Defined}
-use Rattle.module_table.specs.Defined.{Defines, Predicate, IsDefined, AreDefined, NoneIsAfter, key, predicate_cmp, clause_for, clauses_for, see_defined, defined_by, defined_by_all, see_run}
+use Rattle.module_table.specs.Defined.{Defines, Predicate, IsDefined, AreDefined, NoneIsAfter, key, predicate_cmp, clause_for, clauses_for, kept_clauses, see_defined, defined_by, defined_by_all, see_run}
 use Rattle.module_table.proofs.PredicateOrder.{predicate_cmp_total, same, same_parts, same_itself, apart_from_Less, Less-from_apart, sorted_push, sorted_front, sorted_below, not_itself, one_sorted_list}
 
 -- the predicate of that module, name and arity, with its clauses
@@ -255,19 +255,19 @@ add_behind names ds run old kept held new last was stays is other up are =
 
 pub add_to_last : (names : List (List ℕ)) (ds : List Defines) (run : Defined) (old kept new : List Defined) (last longer : Defined) → old ≡ kept ++ last ∷ []
     → new ≡ kept ++ longer ∷ [] → longer.module ≡ last.module → longer.name ≡ last.name → longer.arity ≡ last.arity
-    → longer.clauses.items ≡ last.clauses.items ++ run.clauses.items
+    → kept_clauses longer.clauses ≡ kept_clauses last.clauses ++ kept_clauses run.clauses
     → same (name_at names last.module) (name_at names last.name) last.arity (name_at names run.module) (name_at names run.name) run.arity ≡ true
     → AreDefined ds (map (see_defined names) old) → AreDefined (ds ++ see_run names run) (map (see_defined names) new)
 add_to_last names ds run old kept new last longer was is modules named arities clauses own are =
     let front = map (see_defined names) kept in
     let before : map (see_defined names) old ≡ front ++ see_defined names last ∷ [] = ap (map (see_defined names)) was ∙ map-append (see_defined names) kept (last ∷ []) in
-    let trees : clause_trees names longer.clauses.items ≡ clause_trees names last.clauses.items ++ clause_trees names run.clauses.items =
-    ap (clause_trees names) clauses ∙ map-append (clause_tree names) last.clauses.items run.clauses.items in
+    let trees : clause_trees names (kept_clauses longer.clauses) ≡ clause_trees names (kept_clauses last.clauses) ++ clause_trees names (kept_clauses run.clauses) =
+    ap (clause_trees names) clauses ∙ map-append (clause_tree names) (kept_clauses last.clauses) (kept_clauses run.clauses) in
     let whole : Predicate = record {
       module_ = name_at names last.module;
       name = name_at names last.name;
       arity = last.arity;
-      clauses = clause_trees names last.clauses.items ++ clause_trees names run.clauses.items;
+      clauses = clause_trees names (kept_clauses last.clauses) ++ clause_trees names (kept_clauses run.clauses);
     } in
     let seen : see_defined names longer ≡ whole = λ i. record { module_ = name_at names (modules i); name = name_at names (named i); arity = arities i; clauses = trees i } in
     let after : front ++ whole ∷ [] ≡ map (see_defined names) new =

@@ -10,7 +10,7 @@ use Rattle.prolog_names.specs.Names.{name_at}
 use Rattle.clause_text.specs.declared.text_clauses.Clause.{Clause}
 use Rattle.clause_text.specs.Clauses.{clause_tree, clause_trees}
 use Rattle.module_table.specs.declared.defined.Defined.{Defined}
-use Rattle.module_table.specs.Defined.{EndIn, defined_by, defined_by_all, see_run}
+use Rattle.module_table.specs.Defined.{EndIn, kept_clauses, defined_by, defined_by_all, see_run}
 
 pub none_there : (runs : List Defined) → length runs ≤ 0 → runs ≡ []
 none_there [] none = refl
@@ -57,17 +57,17 @@ ends_once (a ∷ xs) (b ∷ ys) x y e =
 -- one more clause of the last run
 pub push_to_last : (names : List (List ℕ)) (owner name arity : ℕ) (old before new : List Defined) (last longer : Defined) (clause : Clause) → EndIn owner name arity old
     → old ≡ before ++ last ∷ [] → new ≡ before ++ longer ∷ [] → longer.module ≡ last.module → longer.name ≡ last.name → longer.arity ≡ last.arity
-    → longer.clauses.items ≡ last.clauses.items ++ clause ∷ []
+    → kept_clauses longer.clauses ≡ kept_clauses last.clauses ++ clause ∷ []
     → flat_map (see_run names) new ≡ flat_map (see_run names) old ++ defined_by (name_at names owner) (name_at names name) arity (clause_tree names clause) ∷ []
 push_to_last names owner name arity old before new last longer clause end was is modules named arities clauses =
     let it : last ≡ end.last = (ends_once before end.before last end.last (sym was ∙ end.are)).1 in
-    let some : last.clauses.items ≢ [] = λ none. end.some (subst (λ (r : Defined). r.clauses.items ≡ []) it none) in
+    let some : kept_clauses last.clauses ≢ [] = λ none. end.some (subst (λ (r : Defined). kept_clauses r.clauses ≡ []) it none) in
     let own_module : last.module ≡ owner = ap (λ (r : Defined). r.module) it ∙ end.modules in
     let own_name : last.name ≡ name = ap (λ (r : Defined). r.name) it ∙ end.names in
     let own_arity : last.arity ≡ arity = ap (λ (r : Defined). r.arity) it ∙ end.arities in
     let seen : see_run names longer ≡ see_run names last ++ defined_by (name_at names owner) (name_at names name) arity (clause_tree names clause) ∷ [] =
     (λ i. defined_by_all (name_at names (modules i)) (name_at names (named i)) (arities i) (clause_trees names (clauses i)))
-    ∙ one_more names (name_at names last.module) (name_at names last.name) last.arity last.clauses.items clause some
+    ∙ one_more names (name_at names last.module) (name_at names last.name) last.arity (kept_clauses last.clauses) clause some
     ∙ (λ i. see_run names last ++ defined_by (name_at names (own_module i)) (name_at names (own_name i)) (own_arity i) (clause_tree names clause) ∷ []) in
     ap (flat_map (see_run names)) is
     ∙ all_then names before longer
@@ -83,7 +83,7 @@ some_there clauses count counted some none =
     let clash : true ≡ false = sym (ap (λ n. n == 0) zero) ∙ some in
     absurd (cc)
 
-pub ends_here : (test : Bool) (owner name arity : ℕ) (runs before : List Defined) (last : Defined) → runs ≡ before ++ last ∷ [] → last.clauses.items ≢ []
+pub ends_here : (test : Bool) (owner name arity : ℕ) (runs before : List Defined) (last : Defined) → runs ≡ before ++ last ∷ [] → kept_clauses last.clauses ≢ []
     → test ≡ (nat_eq last.arity arity && (nat_eq last.name name && nat_eq last.module owner)) → OnTrue test (EndIn owner name arity runs)
 ends_here true owner name arity runs before last are some is =
     let both = and_parts (nat_eq last.arity arity) (nat_eq last.name name && nat_eq last.module owner) (sym is) in

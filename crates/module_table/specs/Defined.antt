@@ -8,7 +8,10 @@ use Rattle.std.specs.List.Sorted.{IsStrictlySortedBy}
 use Rattle.std.specs.Str.{bytes_eq}
 use Rattle.prolog_names.specs.Names.{name_at}
 use Rattle.prolog_terms.specs.Tree.{Tree}
+use Rattle.clause_text.specs.declared.text_clauses.Clause.{Clause}
 use Rattle.clause_text.specs.Clauses.{clause_trees}
+use Rattle.module_table.specs.declared.clauses.Clauses.{Clauses}
+use Rattle.module_table.specs.declared.clauses.Clauses.TheVariants.{One, More}
 use Rattle.module_table.specs.declared.defined.Defined.{Defined}
 
 -- a predicate of a module is defined, by a clause or without one
@@ -25,9 +28,19 @@ pub record Predicate : Type 0 where
   pub arity : ℕ
   pub clauses : List Tree
 
+-- the clauses that are kept of a predicate
+abbrev pub kept_clauses : Clauses → List Clause
+kept_clauses (One one) = one
+kept_clauses (More more) = more.items
+
 -- a predicate that is kept; its own names and those of its clauses are numbers in these names
 abbrev pub see_defined : List (List ℕ) → Defined → Predicate
-see_defined names d = record { module_ = name_at names d.module; name = name_at names d.name; arity = d.arity; clauses = clause_trees names d.clauses.items }
+see_defined names d = record {
+  module_ = name_at names d.module;
+  name = name_at names d.name;
+  arity = d.arity;
+  clauses = clause_trees names (kept_clauses d.clauses);
+}
 
 -- the predicate is defined by the clause
 abbrev pub defined_by : List ℕ → List ℕ → ℕ → Tree → Defines
@@ -40,7 +53,7 @@ defined_by_all owner name arity (tree ∷ trees) = map (defined_by owner name ar
 
 -- what a run defines: its predicate, by each of its clauses or without one
 abbrev pub see_run : List (List ℕ) → Defined → List Defines
-see_run names run = defined_by_all (name_at names run.module) (name_at names run.name) run.arity (clause_trees names run.clauses.items)
+see_run names run = defined_by_all (name_at names run.module) (name_at names run.name) run.arity (clause_trees names (kept_clauses run.clauses))
 
 -- the last of the runs is of the predicate with these numbers, and has clauses
 pub record EndIn (owner name arity : ℕ) (runs : List Defined) : Type 0 where
@@ -50,7 +63,7 @@ pub record EndIn (owner name arity : ℕ) (runs : List Defined) : Type 0 where
   pub modules : last.module ≡ owner
   pub names : last.name ≡ name
   pub arities : last.arity ≡ arity
-  pub some : last.clauses.items ≢ []
+  pub some : kept_clauses last.clauses ≢ []
 
 -- the clause, where it is one of the predicate
 abbrev pub clause_for : List ℕ → List ℕ → ℕ → Defines → List Tree

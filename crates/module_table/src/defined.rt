@@ -6,8 +6,8 @@ ghost use Rattle.std.specs.Str.{bytes_eq};
 ghost use Rattle.prolog_names.specs.Names.{name_at};
 ghost use Rattle.module_table.specs.Defined.{AreApart, AreDefined, Defines, NoneIsAfter, key_of, predicate_cmp, see_defined, see_run};
 
+use crate::clauses::Clauses;
 use crate::lead::sort_by_lead;
-use clause_text::Clause;
 use prolog_names::Names;
 use std::alloc::{AllocError, Global};
 use std::cmp::Ordering;
@@ -19,7 +19,7 @@ pub struct Defined {
     pub module: u32,
     pub name: u32,
     pub arity: u32,
-    pub clauses: Vec<Clause>,
+    pub clauses: Clauses,
 }
 
 /// The predicates of the runs, each once, in the order of modules, names and arities. Each has its
@@ -43,7 +43,7 @@ pub fn group(
     }
     let mut defined = Vec::with_capacity(alloc, runs.len())?;
     for run in runs {
-        add(names, &mut defined, run)?;
+        add(alloc, names, &mut defined, run)?;
     }
     Ok(defined)
 }
@@ -80,7 +80,12 @@ fn are_apart(names: &Names, runs: &[Defined]) -> bool
 }
 
 /// Adds one more run, of the last predicate or of one after it.
-fn add(names: &Names, defined: &mut Vec<Defined>, mut run: Defined) -> Result<(), AllocError>
+fn add(
+    alloc: Global,
+    names: &Names,
+    defined: &mut Vec<Defined>,
+    run: Defined,
+) -> Result<(), AllocError>
     ensures { OnOk result ((ds : List Defines) → NoneIsAfter (see_defined names.now run) ds
         → AreDefined ds (map (see_defined names.now) defined.old.items)
         → AreDefined (ds ++ see_run names.now run) (map (see_defined names.now) defined.new.items)) }
@@ -90,7 +95,7 @@ fn add(names: &Names, defined: &mut Vec<Defined>, mut run: Defined) -> Result<()
         return Ok(());
     };
     if is_of(names, &run, last) {
-        last.clauses.append(&mut run.clauses)?;
+        last.clauses.append(alloc, run.clauses)?;
         return Ok(());
     }
     defined.push(run)?;

@@ -105,11 +105,10 @@ fn push_headed(
     };
     let arity = own.arity;
     if end_in(&kinds.definitions, own.module, own.name, arity) {
-        push_last(&mut kinds.definitions, clause)?;
+        push_last(alloc, &mut kinds.definitions, clause)?;
         return Ok(());
     }
     push_run(
-        alloc,
         &mut kinds.definitions,
         own.module,
         own.name,

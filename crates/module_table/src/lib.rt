@@ -8,6 +8,7 @@
 //! above.
 #![tactic(auto)]
 
+mod clauses;
 mod defined;
 mod directive;
 mod dynamic;
@@ -26,6 +27,7 @@ mod runs;
 mod said;
 mod terms;
 
+pub use clauses::Clauses;
 pub use defined::Defined;
 pub use file_facts::{DirectiveGoals, FileFacts, facts};
 pub use file_name::resolve_name;

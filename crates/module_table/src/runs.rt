@@ -7,6 +7,7 @@ ghost use Rattle.prolog_names.specs.Names.{name_at};
 ghost use Rattle.clause_text.specs.Clauses.{clause_tree};
 ghost use Rattle.module_table.specs.Defined.{EndIn, defined_by, see_run};
 
+use crate::clauses::Clauses;
 use crate::defined::Defined;
 use clause_text::Clause;
 use std::alloc::{AllocError, Global};
@@ -24,14 +25,14 @@ pub fn end_in(runs: &[Defined], owner: u32, name: u32, arity: usize) -> bool
     let Some(last) = runs.last() else {
         return false;
     };
-    if last.clauses.is_empty() {
+    if last.clauses.as_slice().is_empty() {
         return false;
     }
     is_named(last, owner, name, arity)
 }
 
 /// Adds a clause to the last run.
-pub fn push_last(runs: &mut Vec<Defined>, clause: Clause) -> Result<(), AllocError>
+pub fn push_last(alloc: Global, runs: &mut Vec<Defined>, clause: Clause) -> Result<(), AllocError>
     ensures { OnOk result ((names : List (List ℕ)) (owner name arity : ℕ) → EndIn owner name arity runs.old.items
         → flat_map (see_run names) runs.new.items
         ≡ flat_map (see_run names) runs.old.items ++ defined_by (name_at names owner) (name_at names name) arity (clause_tree names clause) ∷ []) }
@@ -39,13 +40,12 @@ pub fn push_last(runs: &mut Vec<Defined>, clause: Clause) -> Result<(), AllocErr
     let Some(last) = runs.last_mut() else {
         return Ok(());
     };
-    last.clauses.push(clause)?;
+    last.clauses.push(alloc, clause)?;
     Ok(())
 }
 
-/// Adds a run of one clause, in just its room, since most predicates of a large file have one.
+/// Adds a run of one clause.
 pub fn push_run(
-    alloc: Global,
     runs: &mut Vec<Defined>,
     owner: u32,
     name: u32,
@@ -55,12 +55,11 @@ pub fn push_run(
     ensures { OnOk result ((names : List (List ℕ)) → flat_map (see_run names) runs.new.items
         ≡ flat_map (see_run names) runs.old.items ++ defined_by (name_at names owner) (name_at names name) arity (clause_tree names clause) ∷ []) }
 {
-    let clauses = vec![in alloc; clause]?;
     runs.push(Defined {
         module: owner,
         name,
         arity,
-        clauses,
+        clauses: Clauses::One([clause]),
     })?;
     Ok(())
 }
@@ -80,7 +79,7 @@ pub fn push_bare(
         module: owner,
         name,
         arity,
-        clauses: Vec::new(alloc),
+        clauses: Clauses::More(Vec::new(alloc)),
     })?;
     Ok(())
 }

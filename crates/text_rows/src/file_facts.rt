@@ -61,7 +61,7 @@ fn push_defined(alloc: Global, out: &mut String, facts: &FileFacts) -> Result<()
             out.push_str(":")?;
         }
         let name = facts.names.text(predicate.name);
-        let (arity, clauses) = (predicate.arity, predicate.clauses.len());
+        let (arity, clauses) = (predicate.arity, predicate.clauses.as_slice().len());
         let text = format!(in alloc; "{name}/{arity}:{clauses};")?;
         out.push_str(&text)?;
     }
@@ -146,7 +146,7 @@ fn starts(alloc: Global, facts: &FileFacts) -> Result<String, AllocError> {
         let arity = predicate.arity;
         let text = format!(in alloc; "{name}/{arity}")?;
         out.push_str(&text)?;
-        for clause in &predicate.clauses {
+        for clause in predicate.clauses.as_slice() {
             let from = clause.term(&facts.names).span().from;
             let text = format!(in alloc; " {from}")?;
             out.push_str(&text)?;

@@ -66,8 +66,8 @@ loop-place-preserved c =
     let start = map see_body c.args.bodies.now.items in
     let before = map see_body c.loop-place.bodies.items in
     c.in_ok-push_bodies.ensures
-    ∙ (ap (λ name. before ++ clause_bodies at.0 name (clause_trees file.names c.deref.result.now)) c.as_str.ensures
-    ∙ (ap (λ xs. before ++ clause_bodies at.0 file.module (clause_trees file.names xs)) c.deref.ensures.value
+    ∙ (ap (λ name. before ++ clause_bodies at.0 name (clause_trees file.names c.as_slice.result.now)) c.as_str.ensures
+    ∙ (ap (λ xs. before ++ clause_bodies at.0 file.module (clause_trees file.names xs)) c.as_slice.ensures
     ∙ (ap (λ xs. before ++ xs) (sym (bodies_there all at (see_facts file) (see_defined file.names predicate) here own))
     ∙ (ap (λ xs. xs ++ bodies_at all at) c.loop-place.invariant
     ∙ (append_assoc start (flat_map (bodies_at all) (take k places)) (bodies_at all at)

@@ -20,7 +20,7 @@ returns-then-is_of c ds up are =
     let some = c.in-Some.ensures.item.3.0 in
     add_to_last names ds c.args.run old.items (take (old.len - 1) old.items) (slice_set old.items (old.len - 1) longer) last longer
     (last_there old.items old.len last old.ok.0 some c.in-Some.ensures.value) (last_changed old.items old.len longer old.ok.0 some)
-    refl refl refl c.in_ok-append.ensures.items (sym c.is_of.ensures ∙ c.if-is_of.true) are
+    refl refl refl c.in_ok-append.ensures (sym c.is_of.ensures ∙ c.if-is_of.true) are
 
 pub returns : goal.returns
 returns c ds up are =

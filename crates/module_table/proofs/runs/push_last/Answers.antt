@@ -12,4 +12,4 @@ returns c names owner name arity end =
     let some = c.in-Some.ensures.item.3.0 in
     push_to_last names owner name arity old.items (take (old.len - 1) old.items) (slice_set old.items (old.len - 1) longer) last longer c.args.clause end
     (last_there old.items old.len last old.ok.0 some c.in-Some.ensures.value) (last_changed old.items old.len longer old.ok.0 some)
-    refl refl refl c.in_ok-push.ensures.items
+    refl refl refl c.in_ok-push.ensures
