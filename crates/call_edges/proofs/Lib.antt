@@ -31,4 +31,5 @@ pub mod UnresolvedLemmas
 pub mod PlacedCallLemmas
 pub mod CallOffsets
 pub mod SpreadLemmas
-pub mod HeldLemmas
+pub mod JoinedLemmas
+pub mod FileOrderLemmas

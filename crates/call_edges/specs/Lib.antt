@@ -15,4 +15,4 @@ pub mod Called
 pub mod CallLists
 pub mod CallPlaces
 pub mod PlacedSeen
-pub mod HeldBodies
+pub mod FileOrder

@@ -22,7 +22,7 @@ mod calls;
 mod check;
 mod faults;
 mod goal_stop;
-mod held_bodies;
+mod file_order;
 mod laid_out;
 mod laws;
 mod lists;
@@ -40,6 +40,7 @@ mod walking;
 
 pub use calls::Calls;
 pub use check::{call_lists, check_goals};
+pub use file_order::in_file_order;
 pub use goal_stop::GoalStop;
 pub use laid_out::CallLists;
 pub use laws::{calls_told, one_list_of_faults, roots_below};

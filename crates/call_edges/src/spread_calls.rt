@@ -1,72 +1,96 @@
-//! The calls in bodies, found side by side.
+//! The calls of predicates, found side by side.
 
-ghost use Rattle.std.specs.Prelude.{◌<◌, ◌↔◌, All, Contains, length, IfOk};
-ghost use Rattle.call_edges.specs.CallPlaces.{CallAt, IsCallOf};
+ghost use Rattle.std.specs.Prelude.{◌<◌, ◌↔◌, All, Contains, length, map, IfOk, OnOk};
+ghost use Rattle.call_edges.specs.Bodies.{see_body, IsLight};
+ghost use Rattle.call_edges.specs.CallPlaces.{CallAt, IsCalledIn, IsCallOf};
 ghost use Rattle.call_edges.specs.Calls.{IsAmong};
-ghost use Rattle.call_edges.specs.HeldBodies.{IsCallIn, IsHeldLight};
+ghost use Rattle.call_edges.specs.Goals.{Adds};
 ghost use Rattle.call_edges.specs.PlacedSeen.{HasCall, see_calls};
 ghost use Rattle.call_edges.specs.ProgramRows.{rows_of};
 ghost use Rattle.import_rules.specs.Program.{see_program};
 
-use crate::held_bodies::{HeldBody, bodies_in_order};
+use crate::body::{Body, push_bodies_of};
 use crate::lists::joined;
 use crate::placed_calls::{PlacedCall, push_calls};
+use crate::role::Met;
 use crate::walking::walk;
 use import_rules::Program;
 use rayon::prelude::*;
 use std::alloc::{AllocError, Global};
 use std::thread::Threads;
 
-/// How many bodies are walked one after another. Only the last stretch has fewer.
-const SIZE: usize = 1_024;
+/// How many predicates are walked one after another. Only the last stretch has fewer.
+const SIZE: usize = 512;
 
 /// How few stretches are worth a thread of their own.
 const FEWEST: usize = 1;
 
-/// The calls in these bodies, body by body.
-fn calls_in<'a>(
+/// Adds the calls in these bodies of clauses of that predicate, body by body.
+fn push_calls_in<'a>(
     alloc: Global,
     program: &'a Program,
-    held: &[HeldBody<'a>],
-) -> Result<Vec<PlacedCall<'a>>, AllocError>
-    requires { All IsHeldLight held.now }
-    ensures { IfOk result (λ calls. (c : CallAt) → Contains (see_calls calls.items) c ↔ IsAmong (IsCallIn (rows_of (see_program program.now))) held.now c) }
+    caller: u32,
+    bodies: &[Body<'a>],
+    met: &mut Vec<Met<'a>>,
+    calls: &mut Vec<PlacedCall<'a>>,
+) -> Result<(), AllocError>
+    requires { All IsLight (map see_body bodies.now) }
+    ensures { OnOk result (Adds (IsAmong (IsCalledIn (rows_of (see_program program.now)) caller) (map see_body bodies.now))
+        (see_calls calls.old.items) (see_calls calls.new.items)) }
 {
+    for body in bodies {
+        met.clear();
+        walk(alloc, program, &body.term, body.owner, body.role, met)?;
+        push_calls(body.file, caller, met, calls)?;
+    }
+    Ok(())
+}
+
+/// The calls of these predicates, one predicate after another.
+fn calls_from<'a>(
+    alloc: Global,
+    program: &'a Program,
+    callers: &[u32],
+) -> Result<Vec<PlacedCall<'a>>, AllocError>
+    requires { All (λ p. p < length (see_program program.now).predicates) callers.now }
+    ensures { IfOk result (λ calls. (c : CallAt) → Contains (see_calls calls.items) c ↔ IsAmong (IsCallOf (see_program program.now)) callers.now c) }
+{
+    program.is_known();
+    let mut bodies = Vec::new(alloc);
     let mut met = Vec::new(alloc);
     let mut calls = Vec::new(alloc);
-    for one in held {
-        met.clear();
-        let body = one.body;
-        walk(alloc, program, &body.term, body.owner, body.role, &mut met)?;
-        push_calls(body.file, one.caller, &met, &mut calls)?;
+    for caller in callers {
+        bodies.clear();
+        push_bodies_of(program, *caller, &mut bodies)?;
+        push_calls_in(alloc, program, *caller, &bodies, &mut met, &mut calls)?;
     }
     Ok(calls)
 }
 
-/// The calls of each stretch of these bodies. The stretches are walked side by side.
+/// The calls of each stretch of these predicates. The stretches are walked side by side.
 fn calls_of_each<'a, R: Threads + Sync>(
     rt: &R,
     alloc: Global,
     program: &'a Program,
-    held: &[HeldBody<'a>],
+    callers: &[u32],
 ) -> Result<Vec<Vec<PlacedCall<'a>>>, AllocError>
-    requires light { All IsHeldLight held.now }
-    ensures { IfOk result (λ each. (c : CallAt) → IsAmong HasCall each.items c ↔ IsAmong (IsCallIn (rows_of (see_program program.now))) held.now c) }
+    requires { All (λ p. p < length (see_program program.now).predicates) callers.now }
+    ensures { IfOk result (λ each. (c : CallAt) → IsAmong HasCall each.items c ↔ IsAmong (IsCallOf (see_program program.now)) callers.now c) }
 {
-    held.par_chunks(SIZE)
+    callers
+        .par_chunks(SIZE)
         .with_min_len(FEWEST)
         .map(
-            |part: &[HeldBody<'_>]| -> Result<Vec<PlacedCall<'_>>, AllocError>
-                requires { All IsHeldLight part.now }
+            |part: &[u32]| -> Result<Vec<PlacedCall<'_>>, AllocError>
+                requires { All (λ p. p < length (see_program program.now).predicates) part.now }
                 ensures { IfOk result (λ calls. (c : CallAt) → Contains (see_calls calls.items) c
-                    ↔ IsAmong (IsCallIn (rows_of (see_program program.entry.now))) part.now c) }
-            { calls_in(alloc, program, part) },
+                    ↔ IsAmong (IsCallOf (see_program program.entry.now)) part.now c) }
+            { calls_from(alloc, program, part) },
         )
         .collect::<Result<Vec<Vec<PlacedCall<'_>>>, AllocError>>(rt, alloc)?
 }
 
-/// The calls of these predicates, body by body in the order in which these stand in the files. So mostly
-/// the calls are in order already.
+/// The calls of these predicates, one predicate after another.
 pub(crate) fn spread_calls<'a, R: Threads + Sync>(
     rt: &R,
     alloc: Global,
@@ -76,9 +100,7 @@ pub(crate) fn spread_calls<'a, R: Threads + Sync>(
     requires { All (λ p. p < length (see_program program.now).predicates) callers.now }
     ensures { IfOk result (λ calls. (c : CallAt) → Contains (see_calls calls.items) c ↔ IsAmong (IsCallOf (see_program program.now)) callers.now c) }
 {
-    program.is_known();
-    let held = bodies_in_order(rt, alloc, program, callers)?;
-    let each = calls_of_each(rt, alloc, program, &held)?;
+    let each = calls_of_each(rt, alloc, program, callers)?;
     let calls = joined(alloc, &each)?;
     Ok(calls)
 }

@@ -6,38 +6,31 @@ use Rattle.std.specs.declared.alloc.AllocError.{AllocError}
 use Rattle.rayon.specs.Lists.{chunks_of, chunks_size, chunks_slice, min_len_base}
 use Rattle.rayon.proofs.ToStd.{slice-AllZip, chunks_of-concat}
 use Rattle.import_rules.specs.Program.{see_program}
-use Rattle.call_edges.specs.Bodies.{Body}
 use Rattle.call_edges.specs.Calls.{IsAmong}
-use Rattle.call_edges.specs.HeldBodies.{HasHeld, IsBodyOf, see_held}
-use Rattle.call_edges.specs.declared.held_bodies.HeldBody.{HeldBody}
+use Rattle.call_edges.specs.FileOrder.{HasNode, IsNode, node_of}
+use Rattle.call_edges.specs.declared.file_order.Start.{Start}
 use Rattle.call_edges.proofs.SpreadLemmas.{all_in_parts, lists_found}
-use Rattle.call_edges.proofs.held_bodies.held_of_each.Goals as goal
+use Rattle.call_edges.proofs.file_order.starts_of_each.Goals as goal
 
 pub returns : goal.returns
 returns g c =
-    let seen = see_program c.args.program.now in
-    let callers = c.args.callers.now in
+    let nodes = c.args.nodes.now in
     let h = c.in_ok-collect.ensures in
     let chain = h.1 in
-    let shown : map (λ z. z.now) chain.0 ≡ chunks_of 1024 callers =
+    let shown : map (λ z. z.now) chain.0 ≡ chunks_of 1024 nodes =
     chain.1
     ∙ (ap (λ it. chunks_of (max (chunks_size (min_len_base it)) 1) (chunks_slice (min_len_base it))) c.map.ensures.base
     ∙ (ap (λ it. chunks_of (max (chunks_size it) 1) (chunks_slice it)) c.with_min_len.ensures.base
     ∙ (λ i. chunks_of (max (c.par_chunks.ensures.size i) 1) (c.par_chunks.ensures.slice i)))) in
-    let made =
-    subst
-    (λ f. AllZip (λ (part : Bor (List ℕ)) (one : Result (Vec HeldBody Global) AllocError). IfOk one
-    (λ held. (m : ℕ × Body) → Contains (map see_held held.items) m ↔ IsAmong (IsBodyOf (see_program f.1.now)) part.now m)) chain.0 h.0)
-    c.map.ensures.f chain.2 in
-    lists_found (IsBodyOf seen) HasHeld (λ v. v.items) (chunks_of 1024 callers) callers h.0 c.in_ok-collect.field-0 (chunks_of-concat 1024 callers (omega arith))
-    (slice-AllZip chain.0 (chunks_of 1024 callers) shown
-    (λ (part : List ℕ) (one : Result (Vec HeldBody Global) AllocError). IfOk one (λ held. (m : ℕ × Body) → Contains (map see_held held.items) m ↔ IsAmong (IsBodyOf seen) part m)) h.0 made)
-    h.2
+    let R : List ℕ → Result (Vec Start Global) AllocError → Type 0 = λ part one. IfOk one (λ starts. (q : ℕ) → Contains (map node_of starts.items) q ↔ IsAmong IsNode part q) in
+    let made = subst (λ f. AllZip (λ (part : Bor (List ℕ)) (one : Result (Vec Start Global) AllocError). R part.now one) chain.0 h.0) c.map.ensures.f chain.2 in
+    lists_found IsNode HasNode (λ v. v.items) (chunks_of 1024 nodes) nodes h.0 c.in_ok-collect.field-0 (chunks_of-concat 1024 nodes (omega arith))
+    (slice-AllZip chain.0 (chunks_of 1024 nodes) shown R h.0 made) h.2
 
 pub collect-requires-clause-ready : goal.collect-requires-clause-ready
 collect-requires-clause-ready g c κs within =
-    let callers = c.args.callers.now in
+    let nodes = c.args.nodes.now in
     let Below : ℕ → Type 0 = λ p. p < length (see_program c.args.program.now).predicates in
-    let all = all_in_parts Below (chunks_of 1024 callers) callers (chunks_of-concat 1024 callers (omega arith)) c.requires in
+    let all = all_in_parts Below (chunks_of 1024 nodes) nodes (chunks_of-concat 1024 nodes (omega arith)) c.requires in
     rw (c.map.ensures.base, c.map.ensures.f, c.with_min_len.ensures.base, c.par_chunks.ensures.slice, c.par_chunks.ensures.size)
     (λ k d lt x is. (subst (All Below) (sym is) (all k d lt), λ y p. tt))

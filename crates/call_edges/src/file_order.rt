@@ -1,0 +1,125 @@
+//! Predicates in the order in which they stand in the files.
+
+ghost use Rattle.std.specs.Prelude.{◌≡◌, ◌<◌, ◌↔◌, ℕ, All, Contains, length, map, IfOk};
+ghost use Rattle.call_edges.specs.Calls.{IsAmong};
+ghost use Rattle.call_edges.specs.FileOrder.{HasNode, IsNode, node_of};
+ghost use Rattle.import_rules.specs.Program.{see_program};
+
+use crate::lists::joined;
+use clause_text::Clause;
+use import_rules::Program;
+use prolog_names::Names;
+use prolog_terms::start_of;
+use rayon::prelude::*;
+use std::alloc::{AllocError, Global};
+use std::thread::Threads;
+
+/// How many predicates are looked at one after another. Only the last stretch has fewer.
+const SIZE: usize = 1_024;
+
+/// How few stretches are worth a thread of their own.
+const FEWEST: usize = 1;
+
+/// A predicate, by its number, and a number that rises with the place at which its first clause starts.
+#[derive(Clone, Copy)]
+pub struct Start {
+    pub place: u64,
+    pub node: u32,
+}
+
+/// The offset at which the first of the clauses starts, or 0 where there is none.
+fn first_offset(names: &Names, clauses: &[Clause]) -> u32 {
+    match clauses.first() {
+        Some(clause) => start_of(&clause.term(names)),
+        None => 0,
+    }
+}
+
+/// A number that rises with the place at which the first clause of a predicate starts: by file, then by
+/// offset.
+fn first_place(program: &Program, node: u32) -> u64
+    requires { node < length (see_program program.now).predicates }
+{
+    let files = &program.loaded().files;
+    for place in program.places_of(node) {
+        let file = &files[place.0 as usize];
+        let offset = first_offset(&file.names, &file.defined[place.1 as usize].clauses);
+        return u64::from(place.0) * 4_294_967_296 + u64::from(offset);
+    }
+    0
+}
+
+/// These predicates, with their places.
+fn starts_from(alloc: Global, program: &Program, nodes: &[u32]) -> Result<Vec<Start>, AllocError>
+    requires { All (λ p. p < length (see_program program.now).predicates) nodes.now }
+    ensures { IfOk result (λ starts. (q : ℕ) → Contains (map node_of starts.items) q ↔ IsAmong IsNode nodes.now q) }
+{
+    let mut starts = Vec::with_capacity(alloc, nodes.len())?;
+    for node in nodes {
+        starts.push(Start {
+            place: first_place(program, *node),
+            node: *node,
+        })?;
+    }
+    Ok(starts)
+}
+
+/// Each stretch of these predicates, with their places. The stretches are looked at side by side.
+fn starts_of_each<R: Threads + Sync>(
+    rt: &R,
+    alloc: Global,
+    program: &Program,
+    nodes: &[u32],
+) -> Result<Vec<Vec<Start>>, AllocError>
+    requires { All (λ p. p < length (see_program program.now).predicates) nodes.now }
+    ensures { IfOk result (λ each. (q : ℕ) → IsAmong HasNode each.items q ↔ IsAmong IsNode nodes.now q) }
+{
+    nodes
+        .par_chunks(SIZE)
+        .with_min_len(FEWEST)
+        .map(
+            |part: &[u32]| -> Result<Vec<Start>, AllocError>
+                requires { All (λ p. p < length (see_program program.now).predicates) part.now }
+                ensures { IfOk result (λ starts. (q : ℕ) → Contains (map node_of starts.items) q ↔ IsAmong IsNode part.now q) }
+            { starts_from(alloc, program, part) },
+        )
+        .collect::<Result<Vec<Vec<Start>>, AllocError>>(rt, alloc)?
+}
+
+/// These predicates, by the places at which their first clauses start.
+fn starts_in_order<R: Threads + Sync>(
+    rt: &R,
+    alloc: Global,
+    program: &Program,
+    nodes: &[u32],
+) -> Result<Vec<Start>, AllocError>
+    requires { All (λ p. p < length (see_program program.now).predicates) nodes.now }
+    ensures { IfOk result (λ starts. (q : ℕ) → Contains (map node_of starts.items) q ↔ Contains nodes.now q) }
+{
+    let each = starts_of_each(rt, alloc, program, nodes)?;
+    let mut starts = joined(alloc, &each)?;
+    par_sort_unstable_by_key(rt, &mut starts, |one: &Start| -> u64 { one.place });
+    Ok(starts)
+}
+
+fn nodes_of(alloc: Global, starts: &[Start]) -> Result<Vec<u32>, AllocError>
+    ensures { IfOk result (λ nodes. nodes.items ≡ map node_of starts.now) }
+{
+    starts.iter().map(|one| one.node).collect(alloc)
+}
+
+/// The same predicates in the order of the files and, in a file, of the places at which their first
+/// clauses start.
+pub fn in_file_order<R: Threads + Sync>(
+    rt: &R,
+    alloc: Global,
+    program: &Program,
+    nodes: &[u32],
+) -> Result<Vec<u32>, AllocError>
+    requires { All (λ p. p < length (see_program program.now).predicates) nodes.now }
+    ensures { IfOk result (λ order. (q : ℕ) → Contains order.items q ↔ Contains nodes.now q) }
+{
+    let starts = starts_in_order(rt, alloc, program, nodes)?;
+    let order = nodes_of(alloc, &starts)?;
+    Ok(order)
+}
