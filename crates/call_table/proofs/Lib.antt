@@ -2,3 +2,4 @@ pub mod SpotOrder
 pub mod ClauseLemmas
 pub mod MembershipLemmas
 pub mod ReachedLemmas
+pub mod OrderLemmas

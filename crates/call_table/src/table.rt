@@ -7,7 +7,7 @@ ghost use Rattle.import_rules.specs.Program.{see_program};
 
 use crate::clauses::{ClauseAt, clauses_of};
 use crate::memberships::groups_of;
-use call_edges::{PlacedCall, calls_of};
+use call_edges::{PlacedCall, calls_of, in_file_order};
 use import_rules::Program;
 use prolog_tokens::Place;
 use std::alloc::{AllocError, Global};
@@ -80,7 +80,8 @@ fn calls_with_places<'a, R: Threads + Sync>(
 }
 
 /// The table of these predicates of the program, and of these groups of its predicates. Clauses and calls
-/// are found side by side.
+/// are found side by side, and predicate by predicate in the order of the files, so that they mostly come
+/// out in order.
 pub fn call_table<'a, R: Threads + Sync>(
     rt: &R,
     alloc: Global,
@@ -92,16 +93,17 @@ pub fn call_table<'a, R: Threads + Sync>(
     requires members { All (All (λ member. member < length (see_program program.now).predicates)) (lists_of groups.now) }
     ensures { IfOk result (IsTable (see_program program.now) nodes.now (lists_of groups.now)) }
 {
+    let order = in_file_order(rt, alloc, program, nodes)?;
     let (clauses, calls) = join(
         rt,
         || -> Result<(Vec<ClauseAt>, Vec<Place>), AllocError>
-            requires { All (λ p. p < length (see_program program.now).predicates) nodes.now }
-            ensures { IfOk result (λ found. ArePlacedClauses (see_program program.entry.now) nodes.entry.now found.0.items found.1.items) }
-        { clauses_with_places(alloc, program, nodes) },
+            requires { All (λ p. p < length (see_program program.now).predicates) order.items }
+            ensures { IfOk result (λ found. ArePlacedClauses (see_program program.entry.now) order.items found.0.items found.1.items) }
+        { clauses_with_places(alloc, program, &order) },
         || -> Result<(Vec<PlacedCall<'_>>, Vec<Place>), AllocError>
-            requires { All (λ p. p < length (see_program program.now).predicates) nodes.now }
-            ensures { IfOk result (λ found. ArePlacedCalls (see_program program.entry.now) nodes.entry.now found.0.items found.1.items) }
-        { calls_with_places(rt, alloc, program, nodes) },
+            requires { All (λ p. p < length (see_program program.now).predicates) order.items }
+            ensures { IfOk result (λ found. ArePlacedCalls (see_program program.entry.now) order.items found.0.items found.1.items) }
+        { calls_with_places(rt, alloc, program, &order) },
     );
     let (clauses, clause_places) = clauses?;
     let (calls, call_places) = calls?;

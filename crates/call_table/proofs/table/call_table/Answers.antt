@@ -1,4 +1,4 @@
-use Rattle.std.proofs.Common.{Vec, Global, Result, IfOk, subst}
+use Rattle.std.proofs.Common.{Vec, Global, Result, IfOk, ◌<◌, length, subst}
 use Rattle.std.specs.declared.alloc.AllocError.{AllocError}
 use Rattle.prolog_tokens.specs.declared.token.Place.{Place}
 use Rattle.import_rules.specs.Program.{see_program}
@@ -7,16 +7,21 @@ use Rattle.call_edges.specs.declared.placed_calls.PlacedCall.{PlacedCall}
 use Rattle.call_table.specs.declared.clauses.ClauseAt.{ClauseAt}
 use Rattle.call_table.specs.Memberships.{AreGroupsOf}
 use Rattle.call_table.specs.Table.{ArePlacedCalls, ArePlacedClauses}
+use Rattle.call_table.proofs.OrderLemmas.{all_same, calls_same, clauses_same}
 use Rattle.call_table.proofs.table.call_table.Goals as goal
 
 pub returns : goal.returns
 returns g c =
     let seen = see_program c.args.program.now in
+    let order = c.in_ok-order.order.items in
     let nodes = c.args.nodes.now in
-    let P : Result (Vec ClauseAt Global × Vec Place Global) AllocError → Type 0 = λ r. IfOk r (λ found. ArePlacedClauses seen nodes found.0.items found.1.items) in
-    let Q : Result (Vec PlacedCall Global × Vec Place Global) AllocError → Type 0 = λ r. IfOk r (λ found. ArePlacedCalls seen nodes found.0.items found.1.items) in
-    let clauses : ArePlacedClauses seen nodes c.in_ok-clauses.clauses.items c.in_ok-clauses.clause_places.items = subst P c.in_ok-clauses.was c.join-clauses.ensures.first in
-    let calls : ArePlacedCalls seen nodes c.in_ok-calls.calls.items c.in_ok-calls.call_places.items = subst Q c.in_ok-calls.was c.join-clauses.ensures.second in
+    let P : Result (Vec ClauseAt Global × Vec Place Global) AllocError → Type 0 = λ r. IfOk r (λ found. ArePlacedClauses seen order found.0.items found.1.items) in
+    let Q : Result (Vec PlacedCall Global × Vec Place Global) AllocError → Type 0 = λ r. IfOk r (λ found. ArePlacedCalls seen order found.0.items found.1.items) in
+    let clauses : ArePlacedClauses seen nodes c.in_ok-clauses.clauses.items c.in_ok-clauses.clause_places.items =
+    clauses_same seen order nodes c.in_ok-order.ensures c.in_ok-clauses.clauses.items c.in_ok-clauses.clause_places.items
+    (subst P c.in_ok-clauses.was c.join-clauses.ensures.first) in
+    let calls : ArePlacedCalls seen nodes c.in_ok-calls.calls.items c.in_ok-calls.call_places.items =
+    calls_same seen order nodes c.in_ok-order.ensures c.in_ok-calls.calls.items c.in_ok-calls.call_places.items (subst Q c.in_ok-calls.was c.join-clauses.ensures.second) in
     record {
       clauses = clauses.are;
       clause_places = clauses.placed;
@@ -24,3 +29,9 @@ returns g c =
       call_places = calls.placed;
       groups_are = subst (λ count. AreGroupsOf count (lists_of c.args.groups.now) c.in_ok-groups.groups.items) c.count.ensures c.in_ok-groups.ensures;
     }
+
+pub join-clauses-requires-after_bounds : goal.join-clauses-requires-after_bounds
+join-clauses-requires-after_bounds g c κs within =
+    let seen = see_program c.args.program.now in
+    let below = all_same seen c.in_ok-order.order.items c.args.nodes.now c.in_ok-order.ensures (λ p. p < length seen.predicates) c.requires.below in
+    (below, (below, search))
