@@ -4,7 +4,7 @@ use Rattle.std.specs.Str.{bytes_eq}
 use Rattle.std.proofs.lemmas.Bool.{eqb-true, and_parts}
 use Rattle.std.proofs.lemmas.Option.{same_Some}
 use Rattle.prolog_terms.specs.Tree.{Tree, Trees, more, none, count}
-use Rattle.prolog_terms.specs.Views.{trees_in, only_of, pair_of}
+use Rattle.prolog_terms.specs.Views.{trees_in}
 use Rattle.prolog_terms.specs.Weight.{weight, weights}
 use Rattle.module_table.specs.declared.goal_arg.GoalArg.{GoalArg}
 use Rattle.module_table.specs.declared.goal_arg.GoalArg.TheVariants.{Plain, Goal, Caret, Grammar}

@@ -6,11 +6,10 @@ use Rattle.list_laws.proofs.Members.{all_by}
 use Rattle.prolog_tokens.specs.declared.token.Place.{Place}
 use Rattle.import_rules.specs.Program.{Seen}
 use Rattle.call_edges.specs.Calls.{IsAmong}
-use Rattle.call_edges.specs.CallPlaces.{AreCallsOf, IsCallOf}
-use Rattle.call_edges.specs.PlacedSeen.{see_calls}
+use Rattle.call_edges.specs.CallPlaces.{IsCallOf}
 use Rattle.call_edges.specs.declared.placed_calls.PlacedCall.{PlacedCall}
 use Rattle.call_table.specs.declared.clauses.ClauseAt.{ClauseAt}
-use Rattle.call_table.specs.Clauses.{AreClausesOf, clauses_in}
+use Rattle.call_table.specs.Clauses.{clauses_in}
 use Rattle.call_table.specs.Table.{ArePlacedCalls, ArePlacedClauses}
 
 among_same : {X M : Type 0} (P : X → M → Type 0) (xs ys : List X) (m : M) → ((x : X) → Contains xs x → Contains ys x) → IsAmong P xs m → IsAmong P ys m

@@ -1,4 +1,4 @@
-use Rattle.std.proofs.Common.{◌≡◌, ◌↔◌, ◌++◌, ◌∷◌, [], ℕ, List, map, get_or, ap, sym, ◌∙◌, subst, refl}
+use Rattle.std.proofs.Common.{◌↔◌, ◌++◌, ◌∷◌, [], ℕ, List, map, get_or, ap, sym, ◌∙◌, subst}
 use Rattle.std.specs.Prelude.{Contains}
 use Rattle.std.proofs.lemmas.List.{map-append, take_all, take_more}
 use Rattle.call_edges.specs.Calls.{IsAmong}
