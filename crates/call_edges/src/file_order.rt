@@ -40,13 +40,15 @@ fn first_offset(names: &Names, clauses: &[Clause]) -> u32 {
 fn first_place(program: &Program, node: u32) -> u64
     requires { node < length (see_program program.now).predicates }
 {
-    let files = &program.loaded().files;
-    for place in program.places_of(node) {
-        let file = &files[place.0 as usize];
-        let offset = first_offset(&file.names, &file.defined[place.1 as usize].clauses);
-        return u64::from(place.0) * 4_294_967_296 + u64::from(offset);
-    }
-    0
+    let Some(place) = program.places_of(node).first() else {
+        return 0;
+    };
+    let file = &program.loaded().files[place.0 as usize];
+    let offset = first_offset(
+        &file.names,
+        file.defined[place.1 as usize].clauses.as_slice(),
+    );
+    u64::from(place.0) * 4_294_967_296 + u64::from(offset)
 }
 
 /// These predicates, with their places.

@@ -20,7 +20,7 @@ use std::alloc::{AllocError, Global};
 use std::thread::Threads;
 
 /// How many predicates are walked one after another. Only the last stretch has fewer.
-const SIZE: usize = 512;
+const SIZE: usize = 64;
 
 /// How few stretches are worth a thread of their own.
 const FEWEST: usize = 1;

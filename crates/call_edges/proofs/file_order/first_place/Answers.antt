@@ -1,8 +1,8 @@
-use Rattle.std.proofs.Common.{◌≡◌, ◌<◌, ℕ, List, Some, length, map, get_or, slice_get, ap, sym, ◌∙◌, subst, arith}
+use Rattle.std.proofs.Common.{◌≡◌, ◌<◌, ℕ, List, Some, length, map, slice_get, ap, sym, ◌∙◌, subst, arith}
 use Rattle.std.specs.Prelude.{Contains}
 use Rattle.std.proofs.lemmas.List.{length-map}
 use Rattle.std.proofs.lemmas.List.Elements.{Contains-get_or}
-use Rattle.std.proofs.lemmas.Option.{slice_get_within}
+use Rattle.std.proofs.lemmas.Option.{slice_get_within, get_or_from_slice_get}
 use Rattle.import_rules.proofs.MetaTold.{seen_at}
 use Rattle.module_table.specs.Defined.{see_defined}
 use Rattle.module_table.specs.Facts.{see_facts, Facts}
@@ -11,30 +11,27 @@ use Rattle.import_rules.specs.Program.{Seen, see_program, places_in}
 use Rattle.call_edges.proofs.BodyLemmas.{IsThere, places_there}
 use Rattle.call_edges.proofs.file_order.first_place.Goals as goal
 
--- the place is one of a file and of a part of it
-there : (places : List (ℕ × ℕ)) (k : ℕ) (seen : Seen) (node : ℕ) → places ≡ places_in seen node → k < length places → IsThere seen.loaded.files (get_or places k (0, 0))
-there places k seen node are lt =
-    let at = get_or places k (0, 0) in
-    places_there seen node at (subst (λ ps. Contains ps at) are (Contains-get_or places k (0, 0) lt))
+-- the first place is one of a file and of a part of it
+there : (places : List (ℕ × ℕ)) (at : ℕ × ℕ) (seen : Seen) (node : ℕ) → slice_get places 0 ≡ Some at → places ≡ places_in seen node → IsThere seen.loaded.files at
+there places at seen node first are =
+    let lt = slice_get_within places 0 at first in
+    let is : Contains places at = subst (λ x. Contains places x) (get_or_from_slice_get places 0 at at first) (Contains-get_or places 0 at lt) in
+    places_there seen node at (subst (λ ps. Contains ps at) are is)
 
 pub index-file-requires : goal.index-file-requires
 index-file-requires c =
-    let places = c.places_of-place-items.result.now in
-    let k = c.loop-place.place-index in
-    let at = get_or places k (0, 0) in
+    let at = c.in-Some.place.now in
     let seen = see_program c.args.program.now in
-    let is = there places k seen c.args.node c.places_of-place-items.ensures c.loop-place-test.true in
+    let is = there c.places_of.result.now at seen c.args.node (sym c.in-Some.ensures.value) c.places_of.ensures in
     let files = c.loaded.result.now.files in
     let read : slice_get (map see_facts files.items) at.0 ≡ Some is.file = ap (λ (l : LoadedFiles). slice_get l.files at.0) (sym c.loaded.ensures) ∙ is.at_place in
     omega (arith, slice_get_within (map see_facts files.items) at.0 is.file read, length-map files.items see_facts, files.ok.0)
 
 pub index-requires : goal.index-requires
 index-requires c =
-    let places = c.places_of-place-items.result.now in
-    let k = c.loop-place.place-index in
-    let at = get_or places k (0, 0) in
+    let at = c.in-Some.place.now in
     let seen = see_program c.args.program.now in
-    let is = there places k seen c.args.node c.places_of-place-items.ensures c.loop-place-test.true in
+    let is = there c.places_of.result.now at seen c.args.node (sym c.in-Some.ensures.value) c.places_of.ensures in
     let files = c.loaded.result.now.files in
     let file = c.index-file.result.now in
     let read : slice_get (map see_facts files.items) at.0 ≡ Some is.file = ap (λ (l : LoadedFiles). slice_get l.files at.0) (sym c.loaded.ensures) ∙ is.at_place in
