@@ -52,13 +52,8 @@ fn push_clauses_of(program: &Program, node: u32, out: &mut Vec<ClauseAt>) -> Res
     for place in program.places_of(node) {
         let file = &files[place.0 as usize];
         let predicate = &file.defined[place.1 as usize];
-        push_clauses(
-            place.0,
-            node,
-            &file.names,
-            predicate.clauses.as_slice(),
-            out,
-        )?;
+        let clauses = predicate.clauses.as_slice();
+        push_clauses(place.0, node, &file.names, clauses, out)?;
     }
     Ok(())
 }
