@@ -19,7 +19,7 @@ returns g c =
     let callers = c.args.callers.now in
     let h = c.in_ok-collect.ensures in
     let chain = h.1 in
-    let shown : map (λ z. z.now) chain.0 ≡ chunks_of 512 callers =
+    let shown : map (λ z. z.now) chain.0 ≡ chunks_of 64 callers =
     chain.1
     ∙ (ap (λ it. chunks_of (max (chunks_size (min_len_base it)) 1) (chunks_slice (min_len_base it))) c.map.ensures.base
     ∙ (ap (λ it. chunks_of (max (chunks_size it) 1) (chunks_slice it)) c.with_min_len.ensures.base
@@ -29,8 +29,8 @@ returns g c =
     (λ f. AllZip (λ (part : Bor (List ℕ)) (one : Result (Vec PlacedCall Global) AllocError). IfOk one
     (λ calls. (m : CallAt) → Contains (see_calls calls.items) m ↔ IsAmong (IsCallOf (see_program f.1.now)) part.now m)) chain.0 h.0)
     c.map.ensures.f chain.2 in
-    lists_found (IsCallOf seen) HasCall (λ v. v.items) (chunks_of 512 callers) callers h.0 c.in_ok-collect.field-0 (chunks_of-concat 512 callers (omega arith))
-    (slice-AllZip chain.0 (chunks_of 512 callers) shown
+    lists_found (IsCallOf seen) HasCall (λ v. v.items) (chunks_of 64 callers) callers h.0 c.in_ok-collect.field-0 (chunks_of-concat 64 callers (omega arith))
+    (slice-AllZip chain.0 (chunks_of 64 callers) shown
     (λ (part : List ℕ) (one : Result (Vec PlacedCall Global) AllocError). IfOk one (λ calls. (m : CallAt) → Contains (see_calls calls.items) m ↔ IsAmong (IsCallOf seen) part m)) h.0 made)
     h.2
 
@@ -38,6 +38,6 @@ pub collect-requires-clause-ready : goal.collect-requires-clause-ready
 collect-requires-clause-ready g c κs within =
     let callers = c.args.callers.now in
     let Below : ℕ → Type 0 = λ p. p < length (see_program c.args.program.now).predicates in
-    let all = all_in_parts Below (chunks_of 512 callers) callers (chunks_of-concat 512 callers (omega arith)) c.requires in
+    let all = all_in_parts Below (chunks_of 64 callers) callers (chunks_of-concat 64 callers (omega arith)) c.requires in
     rw (c.map.ensures.base, c.map.ensures.f, c.with_min_len.ensures.base, c.par_chunks.ensures.slice, c.par_chunks.ensures.size)
     (λ k d lt x is. (subst (All Below) (sym is) (all k d lt), λ y p. tt))
