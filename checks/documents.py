@@ -32,21 +32,32 @@ def account_words(text, known):
                 yield from (f"docs/proved.md: {crate}: `{word}` stands nowhere" for word in WORD.findall(code) if word not in known)
 
 
+def modules_of(cell):
+    """The files of the modules that a cell names, as `CRATE: Module`, or `Module` for one more of the same crate; none where it names others."""
+    files, crate = [], None
+    for code in CODE.findall(cell):
+        place = re.fullmatch(r"(?:(\w+): )?(\w+)", code)
+        crate = (place and place[1]) or crate
+        if not place or not crate:
+            return []
+        files.append(ROOT / "crates" / crate / "specs" / f"{place[2]}.antt")
+    return files
+
+
 def definition_rows(text, evaluators):
     """What the tables of definitions name that isn't where they say."""
     for line in text.splitlines():
         cells = [cell.strip() for cell in line.strip("|").split(" | ")]
-        places = [re.fullmatch(r"(\w+): (\w+)", code) for code in CODE.findall(cells[2])] if len(cells) == 4 else []
-        if not places or None in places:
+        modules = modules_of(cells[2].rstrip("| ")) if len(cells) in (3, 4) else []
+        if not modules:
             continue
-        modules = [ROOT / "crates" / place[1] / "specs" / f"{place[2]}.antt" for place in places]
         yield from (f"docs/definitions.md: there is no {path.relative_to(ROOT)}" for path in modules if not path.exists())
         standing = words_of(modules)
         for code in CODE.findall(cells[0]):
             name = WORD.match(code)
             if name and name[0] not in standing:
                 yield f"docs/definitions.md: `{name[0]}` doesn't stand in {cells[2]}"
-        for code in CODE.findall(cells[3]):
+        for code in CODE.findall(cells[3]) if len(cells) == 4 else []:
             if WORD.fullmatch(code) and code not in evaluators:
                 yield f"docs/definitions.md: `{code}`, which evaluates {cells[0]}, stands nowhere"
 
