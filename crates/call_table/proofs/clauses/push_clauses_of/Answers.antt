@@ -68,7 +68,7 @@ loop-place-preserved c =
     let before = c.loop-place.out.items in
     let node = c.args.node in
     c.in_ok-push_clauses.ensures
-    ∙ (ap (λ xs. before ++ map (clause_at at.0 node) (clause_trees file.names xs)) c.as_slice.ensures
+    ∙ (ap (λ xs. before ++ map (clause_at at.0 node) (clause_trees file.names xs)) c.as_slice-clauses.ensures
     ∙ (ap (λ xs. before ++ xs) (sym (clauses_at all node at (see_facts file) (see_defined file.names predicate) here own))
     ∙ (ap (λ xs. xs ++ clauses_there all node at) c.loop-place.invariant
     ∙ (append_assoc start (flat_map (clauses_there all node) (take k places)) (clauses_there all node at)
