@@ -1,7 +1,9 @@
 -- Stretches of tokens, and the pieces that they are read as.
-use Rattle.std.proofs.Common.{◌≡◌, ℕ, ◌-◌, ◌<◌, ◌≤◌, List, [], ◌∷◌, ◌++◌, Ok, false, sym, subst, refl, inl, inr, arith}
+use Rattle.std.proofs.Common.{◌≡◌, ℕ, ◌-◌, ◌<◌, ◌≤◌, List, [], ◌∷◌, ◌++◌, Result, Ok, Err, IfOk, false, sym, subst, refl, inl, inr, arith}
+use Rattle.std.specs.Prelude.{Contains, MatchResult, map}
+use Rattle.std.specs.declared.alloc.AllocError.{AllocError}
 use Rattle.std.specs.List.{All, AllZip}
-use Rattle.std.proofs.lemmas.List.Elements.{All-nil, All-cons}
+use Rattle.std.proofs.lemmas.List.Elements.{All-nil, All-cons, All-head, All-tail}
 use Rattle.std.proofs.lemmas.Bool.{cases_lt}
 use Rattle.prolog_tokens.specs.declared.token.Token.{Token}
 use Rattle.prolog_ops.specs.Table.{Ops}
@@ -55,3 +57,15 @@ all_behind P [] [] each = All-nil P
 all_behind P [] (y ∷ ys) each = absurd each
 all_behind P (x ∷ xs) [] each = absurd each
 all_behind P (x ∷ xs) (y ∷ ys) each = All-cons P y ys each.0 (all_behind P xs ys each.1)
+
+oks : {Y : Type 0} (P : Y → Type 0) (ys : List Y) → All (λ (one : Result Y AllocError). IfOk one P) (map (λ y. Ok y) ys) → All P ys
+oks P [] all = All-nil P
+oks P (y ∷ ys) all =
+    All-cons P y ys (All-head (λ (one : Result _ AllocError). IfOk one P) (Ok y) (map (λ z. Ok z) ys) all)
+    (oks P ys (All-tail (λ (one : Result _ AllocError). IfOk one P) (Ok y) (map (λ z. Ok z) ys) all))
+
+-- what holds of each result holds of all values, where memory was wanting for none
+pub all_of_ok : {Y V : Type 0} (items : V → List Y) (P : Y → Type 0) (each : List (Result Y AllocError)) (result : Result V AllocError) → All (λ one. IfOk one P) each
+    → MatchResult result (λ v. (ys : List Y) × (each ≡ map (λ y. Ok y) ys) × (items v ≡ ys)) (λ e. Contains each (Err e)) → IfOk result (λ v. All P (items v))
+all_of_ok items P each (Ok v) all is = subst (All P) (sym is.2) (oks P is.0 (subst (All (λ one. IfOk one P)) is.1 all))
+all_of_ok items P each (Err e) all is = tt

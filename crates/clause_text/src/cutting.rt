@@ -33,12 +33,12 @@ fn rows_of<R: Threads + Sync>(
         .par_iter()
         .with_min_len(FEWEST)
         .map(
-            |span: &Span| -> TokenRow
+            |span: &Span| -> Result<TokenRow, AllocError>
                 requires { (length text.now ≤ MOST_BYTES) × IsSpan text.now span.now }
-                ensures { IsRow text.entry.now result }
+                ensures { IfOk result (IsRow text.entry.now) }
             { tokens_in(alloc, text, span) },
         )
-        .collect(rt, alloc)
+        .collect::<Result<Vec<TokenRow>, AllocError>>(rt, alloc)?
 }
 
 /// The tokens of a text of at most 8,388,608 bytes, or what is wrong first in it, as `tokens` tells.

@@ -1,6 +1,6 @@
 -- Rows of tokens that go on, are joined, and become the cut of a text.
-use Rattle.std.proofs.Common.{◌≡◌, ◌≢◌, ℕ, ◌<◌, ◌⊎◌, ◌↔◌, List, Option, Some, None, [], ◌∷◌, ◌++◌, length, get_or, true, nat_lt, Result, Ok, Err, IsTrue, ap, sym, ◌∙◌, subst, arith}
-use Rattle.std.specs.Prelude.{IfErr, IfSome, IsErrAnd, IsUtf8}
+use Rattle.std.proofs.Common.{◌≡◌, ◌≢◌, ℕ, ◌<◌, ◌⊎◌, ◌↔◌, List, Option, Some, None, [], ◌∷◌, ◌++◌, length, get_or, true, nat_lt, Result, Ok, Err, IsTrue, ap, sym, ◌∙◌, subst, refl, rules, arith}
+use Rattle.std.specs.Prelude.{IfErr, IfSome, IsErrAnd, IsUtf8, All}
 use Rattle.prolog_tokens.specs.declared.token.Token.{Token}
 use Rattle.prolog_tokens.specs.declared.token.TokenFault.{TokenFault}
 use Rattle.prolog_tokens.specs.declared.token.TokenFault.TheVariants.{BadChar, OpenQuote, OpenComment, BadEscape, NoMemory}
@@ -8,7 +8,8 @@ use Rattle.prolog_tokens.specs.declared.rows.TokenRow.{TokenRow}
 use Rattle.prolog_tokens.specs.Places.{IsOffset, fault_offset}
 use Rattle.prolog_tokens.specs.Layout.{IsLayout}
 use Rattle.prolog_tokens.specs.Cut.{IsNext, StandBetween, IsCut, IsWrongNext, HasFault}
-use Rattle.prolog_tokens.specs.Rows.{IsBegin, StandsFrom, GoesOn, StandsNext}
+use Rattle.prolog_tokens.specs.declared.rows.Span.{Span}
+use Rattle.prolog_tokens.specs.Rows.{IsBegin, StandSideBySide, StandsFrom, GoesOn, StandsNext}
 use Rattle.prolog_tokens.proofs.Families.{token_here}
 use Rattle.prolog_tokens.proofs.OneToken.{token_within}
 use Rattle.prolog_tokens.proofs.Boundaries.{token_boundary, wrong_offset}
@@ -82,3 +83,16 @@ fault_placed text fault utf8 has = by_fault fault (λ some. wrong_offset text (h
     by_fault (OpenComment at) placed = placed (λ e. cc)
     by_fault (BadEscape at) placed = placed (λ e. cc)
     by_fault NoMemory placed = tt
+
+-- one more span behind those that stand side by side
+pub one_more_span : (a b : ℕ) (spans : List Span) (span : Span) → StandSideBySide a spans b → b ≡ span.from → span.from < span.to → StandSideBySide a (spans ++ span ∷ []) span.to
+one_more_span a b [] span is from some = ((is ∙ from, some), refl)
+one_more_span a b (first ∷ spans) span (here, rest) from some = (here, one_more_span first.to b spans span rest from some)
+
+-- a row without tokens stands from where it ends, and each of its tokens starts before any place
+pub starts_row : (text : List ℕ) (from : ℕ) (ts : List Token) → ts ≡ [] → StandBetween text from ts from
+starts_row text from [] none = refl
+starts_row text from (t ∷ ts) none = cc
+
+pub starts_before : (to : ℕ) (ts : List Token) → ts ≡ [] → All (λ t. t.start < to) ts
+starts_before to ts none = subst (All (λ t. t.start < to)) (sym none) (search rules)

@@ -5,7 +5,7 @@ ghost use Rattle.std.specs.Prelude.{◌≡◌, ◌≢◌, ◌<◌, ◌≤◌, �
 ghost use Rattle.prolog_tokens.specs.declared.limits.TheConstants.{MOST_BYTES};
 ghost use Rattle.prolog_tokens.specs.Cut.{IsCut, IsWrongNext, HasFault};
 ghost use Rattle.prolog_tokens.specs.Places.{IsOffset, fault_offset};
-ghost use Rattle.prolog_tokens.specs.Rows.{IsBegin, IsSpan, StandsFrom, IsRow, GoesOn, StandsNext};
+ghost use Rattle.prolog_tokens.specs.Rows.{IsBegin, IsSpan, StandSideBySide, StandsFrom, IsRow, IsRowOf, GoesOn, StandsNext};
 
 use crate::cut::next_token;
 use crate::layout::newline_at;
@@ -45,9 +45,10 @@ fn span_end(text: &str, from: usize) -> usize
     newline_at(bytes, from + size)
 }
 
-/// The spans of a text, side by side. Each but the first begins with a newline.
+/// The spans of a text, side by side from its beginning to its end. Each but the first begins with a newline.
 pub fn spans(alloc: Global, text: &str) -> Result<Vec<Span>, AllocError>
-    ensures { IfOk result (λ spans. All (IsSpan text.now) spans.items) }
+    ensures spans { IfOk result (λ spans. All (IsSpan text.now) spans.items) }
+    ensures whole { IfOk result (λ spans. StandSideBySide 0 spans.items (length text.now)) }
 {
     let mut spans = Vec::new(alloc);
     let mut from = 0;
@@ -65,6 +66,7 @@ fn go_on(text: &str, row: &mut TokenRow, to: usize) -> Result<Option<Token>, Tok
     requires small { length text.now ≤ MOST_BYTES }
     requires begins { IsBegin text.now row.old.end }
     ensures row { GoesOn text.now row.old row.new }
+    ensures before { All (λ t. t.start < to) row.old.tokens.items → All (λ t. t.start < to) row.new.tokens.items }
     ensures begins { IsBegin text.now row.new.end }
     ensures next { IfOk result (λ next. StandsNext text.now row.new.end to next) }
     ensures fault { IfErr result (λ fault. fault ≢ TokenFault.NoMemory → IsWrongNext text.now row.new.end fault) }
@@ -79,29 +81,25 @@ fn go_on(text: &str, row: &mut TokenRow, to: usize) -> Result<Option<Token>, Tok
     Ok(None)
 }
 
-/// Room for the tokens of so many bytes, or none where memory runs out.
-fn room_for(alloc: Global, bytes: usize) -> Vec<Token>
-    ensures { result.items ≡ [] }
-{
-    match Vec::with_capacity(alloc, bytes / TOKEN_BYTES) {
-        Ok(tokens) => tokens,
-        Err(_) => Vec::new(alloc),
-    }
-}
-
 /// The tokens that stand one after another from the beginning of the span on, as many as start before its
-/// end. There are fewer where something is wrong behind them, or where memory runs out.
-pub fn tokens_in(alloc: Global, text: &str, span: &Span) -> TokenRow
+/// end. There are fewer where something is wrong behind them. Fails only where memory runs out.
+pub fn tokens_in(alloc: Global, text: &str, span: &Span) -> Result<TokenRow, AllocError>
     requires small { length text.now ≤ MOST_BYTES }
     requires span { IsSpan text.now span.now }
-    ensures { IsRow text.now result }
+    ensures row { IfOk result (IsRow text.now) }
+    ensures all { IfOk result (IsRowOf text.now span.now) }
 {
     let mut row = TokenRow {
-        tokens: room_for(alloc, SPAN_BYTES),
+        tokens: Vec::with_capacity(alloc, SPAN_BYTES / TOKEN_BYTES)?,
         end: span.from,
     };
-    let _gone_on = go_on(text, &mut row, span.to);
-    row
+    let Err(fault) = go_on(text, &mut row, span.to) else {
+        return Ok(row);
+    };
+    match fault {
+        TokenFault::NoMemory => Err(AllocError),
+        _ => Ok(row),
+    }
 }
 
 /// Puts the tokens of a row behind those of another, with what stands between. Where the first of them

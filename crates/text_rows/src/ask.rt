@@ -7,7 +7,7 @@ use crate::places::place_told;
 use crate::row::bytes_of;
 use crate::terms::{clause_told, parts_told};
 use crate::texts::{count_told, forms_told};
-use crate::tokens::{bare_told, integer_told, less_told, name_text_told, slice_told, tokens_told};
+use crate::tokens::{bare_told, integer_told, less_told, name_text_told, rows_told, slice_told, tokens_told};
 use crate::words::{made_told, options_told};
 use prolog_tokens::MOST_BYTES;
 use std::alloc::{AllocError, Global};
@@ -18,6 +18,8 @@ use std::thread::Threads;
 pub enum Ask {
     /// The tokens of a text.
     Tokens,
+    /// Its spans, each with the number of tokens that start in it, and where these end.
+    Rows,
     /// The name of its first token.
     Name,
     /// The name of its third token.
@@ -64,6 +66,7 @@ impl Ask {
         let word = heading.split_once(' ').map_or(heading, |parts| parts.0);
         match word {
             "tokens" => Ask::Tokens,
+            "rows" => Ask::Rows,
             "name" => Ask::Name,
             "third_name" => Ask::ThirdName,
             "slice" => Ask::Slice,
@@ -133,6 +136,7 @@ fn told_of_text(alloc: Global, ask: Ask, text: &str) -> Result<String, AllocErro
 {
     match ask {
         Ask::Tokens => tokens_told(alloc, text),
+        Ask::Rows => rows_told(alloc, text),
         Ask::Name => name_text_told(alloc, text, 0),
         Ask::ThirdName => name_text_told(alloc, text, 2),
         Ask::Slice => slice_told(alloc, text),

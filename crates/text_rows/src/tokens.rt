@@ -1,10 +1,11 @@
 ghost use Rattle.std.specs.Prelude.{◌≤◌, length, IfOk};
 ghost use Rattle.prolog_tokens.specs.declared.limits.TheConstants.{MOST_BYTES};
 ghost use Rattle.prolog_tokens.specs.Cut.{IsTokenOf};
+ghost use Rattle.prolog_tokens.specs.Rows.{IsSpan};
 
 use prolog_tokens::{
-    Kind, Text, Token, TokenFault, cut_tokens, integer_value, is_bare_name, name_slice, name_text,
-    tokens,
+    Kind, Span, Text, Token, TokenFault, cut_tokens, integer_value, is_bare_name, name_slice,
+    name_text, spans, tokens, tokens_in,
 };
 use std::alloc::{AllocError, Global};
 use std::cmp::Ordering;
@@ -57,6 +58,30 @@ pub fn tokens_told(alloc: Global, text: &str) -> Result<String, AllocError>
         Ok(found) => words(alloc, found.as_slice()),
         Err(fault) => format!(in alloc; "{fault:?}"),
     }
+}
+
+/// A span of the text, how many tokens start in it, and where they end.
+fn row_told(alloc: Global, text: &str, span: &Span) -> Result<String, AllocError>
+    requires small { length text.now ≤ MOST_BYTES }
+    requires span { IsSpan text.now span.now }
+{
+    let row = tokens_in(alloc, text, span)?;
+    format!(in alloc; "{}-{}: {} up to {}", span.from, span.to, row.tokens.len(), row.end)
+}
+
+/// The spans of the text with their rows.
+pub fn rows_told(alloc: Global, text: &str) -> Result<String, AllocError>
+    requires { length text.now ≤ MOST_BYTES }
+{
+    let mut told = String::new(alloc);
+    for span in &spans(alloc, text)? {
+        if !told.is_empty() {
+            told.push_str(", ")?;
+        }
+        let row = row_told(alloc, text, span)?;
+        told.push_str(&row)?;
+    }
+    Ok(told)
 }
 
 /// There is no such token.

@@ -1,4 +1,5 @@
 use Rattle.std.proofs.Common.{◌<◌, ◌≤◌, length, arith}
+use Rattle.std.proofs.lemmas.List.Elements.{All-push}
 use Rattle.prolog_tokens.specs.Cut.{IsNext}
 use Rattle.prolog_tokens.proofs.OneToken.{token_within}
 use Rattle.prolog_tokens.proofs.Between.{next_some}
@@ -19,5 +20,6 @@ loop-token-preserved c =
     let next : IsNext text c.loop-token.row.end token = rw c.in-Some.is at c.in_ok-token.ensures in
     record {
       row = goes_on_one text c.args.row.now c.loop-token.row token c.push.new.self.items c.loop-token.invariant.row next c.in_ok-push.ensures.items;
+      before = λ old. rw (c.in_ok-push.ensures.items) (All-push (λ t. t.start < c.args.to) c.loop-token.row.tokens.items token (c.loop-token.invariant.before old) (omega (arith, c.if-token-to.false)));
       begins = begin_behind text c.loop-token.row.end token c.utf8.text next;
     }
