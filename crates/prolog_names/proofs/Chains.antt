@@ -1,5 +1,6 @@
 -- Chains of names in buckets: how one is followed, and how a name is added.
 use Rattle.std.proofs.Common.{◌≡◌, ◌≢◌, ℕ, ◌+◌, ◌-◌, ◌<◌, List, [], ◌∷◌, ◌++◌, length, get_or, set, true, false, sym, ap, subst, ◌∙◌, arith}
+use Rattle.std.specs.Int.{IsPowerOfTwo}
 use Rattle.std.specs.List.{list_any}
 use Rattle.std.specs.Str.{bytes_eq}
 use Rattle.std.proofs.lemmas.Bool.{false_from_ne_true}
@@ -52,7 +53,7 @@ none_named names size wanted at end passed =
 pub add_name : (names : List (List ℕ)) (heads next : List ℕ) (name : List ℕ) → IsChained names heads next → bucket_of (length heads) name < length heads
     → IsChained (names ++ name ∷ []) (set heads (bucket_of (length heads) name) (length names + 1)) (next ++ get_or heads (bucket_of (length heads) name) 0 ∷ [])
 add_name names heads next name chained below = record {
-  some = omega (arith, as_many, chained.some);
+  power = subst IsPowerOfTwo (sym as_many) chained.power;
   chains =
       subst (λ m. AreChains (buckets_of m (names ++ name ∷ [])) (length (names ++ name ∷ [])) heads_more next_more) (sym as_many)
       (subst (λ k. AreChains (buckets_of size (names ++ name ∷ [])) k heads_more next_more) (sym (length_push names name))

@@ -1,9 +1,10 @@
 -- What some tables of names, hashes and numbers are, and what they aren't.
-use Rattle.std.proofs.Common.{◌≡◌, ℕ, List, [], ◌∷◌, true, false, length, codes, refl, sym, ap, ◌∙◌, arith, lit<, lit≤}
+use Rattle.std.proofs.Common.{◌≡◌, ◌≤◌, ℕ, List, [], ◌∷◌, true, false, length, codes, refl, sym, ap, ◌∙◌, arith, lit<, lit≤}
 use Rattle.prolog_tokens.specs.declared.token.Kind.TheVariants.{Name, Quoted, Variable, Comma}
+use Rattle.prolog_names.specs.declared.table.Entry.{Entry}
 use Rattle.prolog_names.specs.Names.{name_at, opening_names, AreDistinct, IsOpened}
 use Rattle.prolog_names.specs.Numbers.{has_name}
-use Rattle.prolog_names.specs.Table.{text_hash, bucket_in, buckets_of, bucket_at, IsLast, with_name}
+use Rattle.prolog_names.specs.Table.{text_hash, bucket_in, buckets_of, bucket_at, bytes_of, name_in, names_of, next_of, IsLast, IsHashed, IsSpan, with_name}
 
 abbrev two : List (List ℕ)
 two = codes "b" ∷ codes "foo" ∷ []
@@ -55,6 +56,40 @@ only_bucket = refl
 
 side_by_side : buckets_of 10 (codes "a1" ∷ codes "a2" ∷ []) ≡ 2 ∷ 3 ∷ []
 side_by_side = refl
+
+-- names one behind the other in one text: each stands where its entry says, as whole characters
+
+abbrev two_texts : List ℕ
+two_texts = codes "bfoo"
+
+abbrev first_entry : Entry
+first_entry = record { start = 0; end = 1; hash = text_hash (codes "b"); next = 0 }
+
+abbrev second_entry : Entry
+second_entry = record { start = 1; end = 4; hash = text_hash (codes "foo"); next = 1 }
+
+name_there : name_in two_texts second_entry ≡ codes "foo"
+name_there = refl
+
+names_there : names_of two_texts (first_entry ∷ second_entry ∷ []) ≡ two
+names_there = refl
+
+nexts_there : next_of (first_entry ∷ second_entry ∷ []) ≡ 0 ∷ 1 ∷ []
+nexts_there = refl
+
+bytes_there : bytes_of two ≡ 4
+bytes_there = refl
+
+hashed_there : IsHashed two_texts second_entry
+hashed_there = refl
+
+span_there : IsSpan two_texts second_entry
+span_there = record { order = lit≤ tt; starts = (lit≤ tt, λ _ high. absurd (omega (arith, high))); ends = (lit≤ tt, λ under _. absurd (omega (arith, under))) }
+
+-- no name ends within a character: 195 and 169 are the bytes of one
+
+within_character : IsSpan (195 ∷ 169 ∷ []) (record { start = 0; end = 1; hash = 0; next = 0 }) → ⊥
+within_character span = let lead : 192 ≤ 169 = span.ends.1 (lit< tt) (lit≤ tt) in omega (arith, lead)
 
 -- the last place in a bucket, of the places before one
 

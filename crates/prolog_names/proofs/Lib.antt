@@ -6,3 +6,6 @@ pub mod GrownTable
 pub mod PlainNames
 pub mod OneNumber
 pub mod OpeningTable
+pub mod Buckets
+pub mod Spans
+pub mod FewBytes

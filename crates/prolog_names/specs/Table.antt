@@ -1,7 +1,8 @@
 -- Names in chains, one for each bucket of a hash.
-use Rattle.std.specs.Prelude.{ℕ, ◌≡◌, ◌≢◌, ◌+◌, ◌-◌, ◌*◌, ◌%◌, ◌^◌, ◌<◌, ◌≤◌, ◌++◌, [], ◌∷◌, List, length, map, fold, All, slice_index_or, if◌then◌else◌}
-use Rattle.std.specs.List.{list_any}
-use Rattle.std.specs.Str.{bytes_eq}
+use Rattle.std.specs.Prelude.{ℕ, ◌≡◌, ◌≢◌, ◌+◌, ◌-◌, ◌*◌, ◌%◌, ◌^◌, ◌<◌, ◌≤◌, ◌++◌, [], ◌∷◌, List, length, map, fold, All, slice_index_or, slice_range, if◌then◌else◌}
+use Rattle.std.specs.Int.{IsPowerOfTwo}
+use Rattle.std.specs.List.{list_any, sum_by}
+use Rattle.std.specs.Str.{bytes_eq, IsCharBoundary}
 use Rattle.prolog_names.specs.declared.table.Entry.{Entry}
 use Rattle.prolog_names.specs.Names.{AreDistinct}
 
@@ -38,23 +39,39 @@ pub record AreChains (buckets : List ℕ) (count : ℕ) (heads next : List ℕ) 
   pub last : (b : ℕ) → b < length heads → IsLast buckets count b (slice_index_or heads b 0)
   pub earlier : (n : ℕ) → n < count → IsLast buckets n (bucket_at buckets n) (slice_index_or next n 0)
 
-abbrev pub names_of : List Entry → List (List ℕ)
-names_of entries = map (λ (entry : Entry). entry.text) entries
+-- how many bytes the names have
+abbrev pub bytes_of : List (List ℕ) → ℕ
+bytes_of names = sum_by (λ (name : List ℕ). length name) names
+
+-- the name of an entry, in the text of all names
+abbrev pub name_in : List ℕ → Entry → List ℕ
+name_in texts entry = slice_range texts entry.start entry.end
+
+abbrev pub names_of : List ℕ → List Entry → List (List ℕ)
+names_of texts entries = map (name_in texts) entries
 
 abbrev pub next_of : List Entry → List ℕ
 next_of entries = map (λ (entry : Entry). entry.next) entries
 
--- the hash that stands beside a name is its own
-abbrev pub IsHashed : Entry → Type 0
-IsHashed entry = entry.hash ≡ text_hash entry.text
+-- the entry's name stands in the text of all names, as whole characters
+pub record IsSpan (texts : List ℕ) (entry : Entry) : Type 0 where
+  pub order : entry.start ≤ entry.end
+  pub starts : IsCharBoundary texts entry.start
+  pub ends : IsCharBoundary texts entry.end
 
--- the names stand in the chains of one bucket or more
+-- the hash that stands beside a name is its own
+abbrev pub IsHashed : List ℕ → Entry → Type 0
+IsHashed texts entry = entry.hash ≡ text_hash (name_in texts entry)
+
+-- the names stand in the chains of as many buckets as a power of two
 pub record IsChained (names : List (List ℕ)) (heads next : List ℕ) : Type 0 where
-  pub some : 0 < length heads
+  pub power : IsPowerOfTwo (length heads)
   pub chains : AreChains (buckets_of (length heads) names) (length names) heads next
 
--- each name stands once, in the chain of its bucket, with its hash beside it
-pub record IsTable (entries : List Entry) (heads : List ℕ) : Type 0 where
-  pub chained : IsChained (names_of entries) heads (next_of entries)
-  pub hashed : All IsHashed entries
-  pub distinct : AreDistinct (names_of entries)
+-- each name stands once, in the chain of its bucket, with its hash beside it; no other byte stands in the text of all names
+pub record IsTable (texts : List ℕ) (entries : List Entry) (heads : List ℕ) : Type 0 where
+  pub chained : IsChained (names_of texts entries) heads (next_of entries)
+  pub spans : All (IsSpan texts) entries
+  pub hashed : All (IsHashed texts) entries
+  pub distinct : AreDistinct (names_of texts entries)
+  pub bytes : length texts ≡ bytes_of (names_of texts entries)

@@ -1,10 +1,11 @@
-ghost use Rattle.std.specs.Prelude.{◌≡◌, ◌<◌, ◌≤◌, ◌^◌, ◌++◌, ℕ, List, length, IfOk, OnOk, IfSome};
+ghost use Rattle.std.specs.Prelude.{◌≡◌, ◌<◌, ◌≤◌, ◌^◌, ◌+◌, ◌-◌, ◌*◌, ◌++◌, ℕ, List, length, IfOk, OnOk, IfSome};
 ghost use Rattle.prolog_tokens.specs.declared.limits.TheConstants.{MOST_BYTES};
 ghost use Rattle.prolog_tokens.specs.Cut.{IsCut, IsTokenOf};
 ghost use Rattle.prolog_tokens.specs.Quoted.{IsQuoted};
 ghost use Rattle.prolog_tokens.specs.Values.{IsQuotedText};
 ghost use Rattle.prolog_names.specs.Names.{opening_names};
 ghost use Rattle.prolog_names.specs.Numbers.{IsNumberOf, AreNumbered};
+ghost use Rattle.prolog_names.specs.Table.{bytes_of};
 
 use crate::names::{Names, OPENING_COUNT};
 use crate::table::NameTable;
@@ -79,13 +80,13 @@ pub struct Numbered {
     pub numbers: Vec<u32>,
 }
 
-/// The table of the opening names, with so many buckets and one more.
+/// The table of the opening names, with more than so many buckets.
 fn opening_table(alloc: Global, buckets: usize) -> Result<NameTable, AllocError>
     requires { buckets < 2 ^ 32 }
     ensures { IfOk result (λ table. table ≡ opening_names) }
 {
     let mut table = NameTable::new(alloc, buckets)?;
-    table.place_each(alloc, &OPENING)?;
+    table.place_each(&OPENING)?;
     Ok(table)
 }
 
@@ -120,17 +121,19 @@ fn number_of(
     requires spelled { IsTokenOf text.now token }
     requires some { 0 < length table.old }
     requires room { length table.old < 4294967295 }
+    requires few { bytes_of table.old + 4 * (token.end - token.start) < 2 ^ 32 }
     ensures number { IfOk result (λ number. IsNumberOf text.now table.new token number) }
     ensures kept { OnOk result ((more : List (List ℕ)) × (table.new ≡ table.old ++ more) × (length more ≤ 1)) }
+    ensures few { OnOk result (bytes_of table.new ≤ bytes_of table.old + 4 * (token.end - token.start)) }
 {
     match token.kind {
-        Kind::Name => table.place_of(alloc, name_slice(text, token)),
+        Kind::Name => table.place_of(name_slice(text, token)),
         Kind::Quoted => {
             if let Some(name) = plain_name(text, token) {
-                return table.place_of(alloc, name);
+                return table.place_of(name);
             }
             let name = name_text(alloc, text, token)?;
-            table.place_of(alloc, name.as_str())
+            table.place_of(name.as_str())
         }
         _ => Ok(0),
     }

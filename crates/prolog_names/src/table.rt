@@ -1,20 +1,24 @@
 //! Names in chains, one for each bucket of a hash: a name is found by one look-up, without memory.
 
-ghost use Rattle.std.specs.Prelude.{◌≡◌, ◌<◌, ◌+◌, ◌^◌, [], ℕ, false, length, map, fold, IfOk, OnOk, MatchOption};
+ghost use Rattle.std.specs.Prelude.{◌≡◌, ◌<◌, ◌+◌, ◌^◌, ◌++◌, [], ◌∷◌, ℕ, false, length, map, fold, IfOk, OnOk, MatchOption};
+ghost use Rattle.std.specs.Int.{IsPowerOfTwo};
 ghost use Rattle.std.specs.List.{list_any};
 ghost use Rattle.std.specs.Str.{bytes_eq};
 ghost use Rattle.prolog_names.specs.Names.{name_at, AreDistinct};
-ghost use Rattle.prolog_names.specs.Table.{text_hash, bucket_in, with_name};
+ghost use Rattle.prolog_names.specs.Table.{text_hash, bucket_in, bytes_of, name_in, with_name, IsSpan};
 
-use prolog_tokens::Text;
 use std::alloc::{AllocError, Global};
 use std::marker::Model;
 
-/// A name with its hash, and one more than the place of the name before it in its bucket; 0 where
-/// there is none.
-#[derive(Drop)]
+/// How many bytes of names there is room for at first, for each bucket: those of a usual name.
+const NAME_BYTES: usize = 8;
+
+/// Where a name starts and ends in the text of all names, its hash, and one more than the place of the
+/// name before it in its bucket; 0 where there is none.
+#[derive(Clone, Copy)]
 struct Entry {
-    text: Text,
+    start: u32,
+    end: u32,
     hash: u32,
     next: u32,
 }
@@ -23,6 +27,8 @@ struct Entry {
 /// of other hashes are passed without a look at their texts.
 #[derive(Drop)]
 pub struct NameTable {
+    /// The names, one behind the other, so that none needs a piece of memory of its own.
+    texts: String,
     entries: Vec<Entry>,
     /// For each bucket one more than the place of its last name; 0 where it has none.
     heads: Vec<u32>,
@@ -30,13 +36,14 @@ pub struct NameTable {
 
 impl Model for NameTable {
     ghost use Rattle.std.specs.Prelude.{List, ℕ};
+    ghost use Rattle.std.specs.String.{string_bytes};
     ghost use Rattle.prolog_names.specs.Table.{names_of, IsTable};
 
     ghost Value = { List (List ℕ) };
 
-    ghost view = { λ table. names_of table.entries.items };
+    ghost view = { λ table. names_of (string_bytes table.texts) table.entries.items };
 
-    ghost invariant = { λ table. IsTable table.entries.items table.heads.items };
+    ghost invariant = { λ table. IsTable (string_bytes table.texts) table.entries.items table.heads.items };
 }
 
 /// The hash of a text. Texts that differ in their last byte alone have neighbouring hashes.
@@ -54,25 +61,52 @@ pub fn text_hash(text: &str) -> u32
 }
 
 /// The bucket of a hash, of so many. Neighbouring hashes have neighbouring buckets, since names that
-/// stand side by side in a text mostly differ in their last byte alone.
+/// stand side by side in a text mostly differ in their last byte alone. The count is a power of two,
+/// so that no division is needed.
 #[inline(always)]
 fn bucket_of(hash: u32, size: usize) -> usize
-    requires { 0 < size }
+    requires { IsPowerOfTwo size }
     ensures is { result ≡ bucket_in size hash }
     ensures below { result < size }
 {
-    hash as usize % size
+    hash as usize & (size - 1)
+}
+
+/// The name of an entry, in the text of all names.
+#[inline(always)]
+fn name_in<'a>(texts: &'a str, entry: &Entry) -> &'a str
+    requires { IsSpan texts.now entry.now }
+    ensures { result.now ≡ name_in texts.now entry.now }
+{
+    &texts[entry.start as usize..entry.end as usize]
+}
+
+/// Whether the entry is that of the name of the hash. Where its own hash is another one, its text isn't
+/// read.
+#[inline(always)]
+fn is_named(texts: &str, entry: &Entry, name: &str, hash: u32) -> bool
+    requires span { IsSpan texts.now entry.now }
+    requires own { entry.now.hash ≡ text_hash (name_in texts.now entry.now) }
+    requires wanted { hash ≡ text_hash name.now }
+    ensures { result ≡ bytes_eq name.now (name_in texts.now entry.now) }
+{
+    if entry.hash != hash {
+        return false;
+    }
+    name == name_in(texts, entry)
 }
 
 impl NameTable {
-    /// A table without names, with so many buckets and one more, and with room for as many names.
+    /// A table without names, with more than so many buckets, and with room for as many names.
     pub fn new(alloc: Global, buckets: usize) -> Result<NameTable, AllocError>
         requires { buckets < 2 ^ 32 }
         ensures { IfOk result (λ table. table ≡ []) }
     {
+        let size = (buckets + 1).next_power_of_two();
         Ok(NameTable {
+            texts: String::with_capacity(alloc, buckets * NAME_BYTES)?,
             entries: Vec::with_capacity(alloc, buckets)?,
-            heads: vec![in alloc; 0u32; buckets + 1]?,
+            heads: vec![in alloc; 0u32; size]?,
         })
     }
 
@@ -85,11 +119,12 @@ impl NameTable {
     }
 
     /// The name at a place, or none behind the last one.
+    #[inline(always)]
     pub fn text(&self, place: usize) -> &str
         ensures { result.now ≡ name_at self.now place }
     {
         match self.entries.get(place) {
-            Some(entry) => entry.text.as_str(),
+            Some(entry) => name_in(self.texts.as_str(), entry),
             None => "",
         }
     }
@@ -99,10 +134,7 @@ impl NameTable {
     pub fn is(&self, place: usize, name: &str) -> bool
         ensures { result ≡ bytes_eq (name_at self.now place) name.now }
     {
-        match self.entries.get(place) {
-            Some(named) => named.text.is(name),
-            None => "" == name,
-        }
+        self.text(place) == name
     }
 
     /// The place of the name of that hash.
@@ -111,11 +143,12 @@ impl NameTable {
         requires { hash ≡ text_hash name.now }
         ensures { MatchOption result (list_any (bytes_eq name.now) self.now ≡ false) (λ n. (n < length self.now) × (name_at self.now n ≡ name.now)) }
     {
+        let texts = self.texts.as_str();
         let mut at = self.heads[bucket_of(hash, self.heads.len())];
         while at > 0 {
             let place = at - 1;
             let entry = &self.entries[place as usize];
-            if is_named(entry, name, hash) {
+            if is_named(texts, entry, name, hash) {
                 return Some(place);
             }
             at = entry.next;
@@ -123,20 +156,24 @@ impl NameTable {
         None
     }
 
-    /// The place of the name, which is put behind the others where it isn't there yet.
-    pub fn place_of(&mut self, alloc: Global, name: &str) -> Result<u32, AllocError>
-        requires { length self.old < 4294967295 }
-        ensures names { OnOk result (self.new ≡ with_name self.old name.now) }
-        ensures place { IfOk result (λ place. (place < length self.new) × (name_at self.new place ≡ name.now)) }
+    /// Puts a name of that hash, which isn't there yet, behind the others, and tells its place. Room
+    /// for its entry is made first, so that where memory runs out no text stands without one.
+    fn add(&mut self, name: &str, hash: u32) -> Result<u32, AllocError>
+        requires hash { hash ≡ text_hash name.now }
+        requires absent { list_any (bytes_eq name.now) self.old ≡ false }
+        requires room { length self.old < 4294967295 }
+        requires few { bytes_of self.old + length name.now < 2 ^ 32 }
+        ensures names { OnOk result (self.new ≡ self.old ++ name.now ∷ []) }
+        ensures place { IfOk result (λ place. place ≡ length self.old) }
     {
-        let hash = text_hash(name);
-        if let Some(place) = self.find(name, hash) {
-            return Ok(place);
-        }
         let place = self.entries.len() as u32;
         let bucket = bucket_of(hash, self.heads.len());
+        let start = self.texts.len() as u32;
+        self.entries.reserve(1)?;
+        self.texts.push_str(name)?;
         self.entries.push(Entry {
-            text: Text::new(alloc, name)?,
+            start,
+            end: self.texts.len() as u32,
             hash,
             next: self.heads[bucket],
         })?;
@@ -144,28 +181,29 @@ impl NameTable {
         Ok(place)
     }
 
+    /// The place of the name, which is put behind the others where it isn't there yet.
+    pub fn place_of(&mut self, name: &str) -> Result<u32, AllocError>
+        requires room { length self.old < 4294967295 }
+        requires few { bytes_of self.old + length name.now < 2 ^ 32 }
+        ensures names { OnOk result (self.new ≡ with_name self.old name.now) }
+        ensures place { IfOk result (λ place. (place < length self.new) × (name_at self.new place ≡ name.now)) }
+    {
+        let hash = text_hash(name);
+        if let Some(place) = self.find(name, hash) {
+            return Ok(place);
+        }
+        self.add(name, hash)
+    }
+
     /// Puts each of the names behind the others where it isn't there yet.
-    pub fn place_each(&mut self, alloc: Global, names: &[&str]) -> Result<(), AllocError>
-        requires { length self.old + length names.now < 4294967296 }
+    pub fn place_each(&mut self, names: &[&str]) -> Result<(), AllocError>
+        requires room { length self.old + length names.now < 4294967296 }
+        requires few { bytes_of self.old + bytes_of (map (λ name. name.now) names.now) < 2 ^ 32 }
         ensures { OnOk result (self.new ≡ fold with_name self.old (map (λ name. name.now) names.now)) }
     {
         for name in names {
-            self.place_of(alloc, name)?;
+            self.place_of(name)?;
         }
         Ok(())
     }
-}
-
-/// Whether the entry is that of the name of the hash. Where its own hash is another one, its text isn't
-/// read.
-#[inline(always)]
-fn is_named(entry: &Entry, name: &str, hash: u32) -> bool
-    requires own { entry.now.hash ≡ text_hash entry.now.text }
-    requires wanted { hash ≡ text_hash name.now }
-    ensures { result ≡ bytes_eq name.now entry.now.text }
-{
-    if entry.hash != hash {
-        return false;
-    }
-    entry.text.is(name)
 }

@@ -1,4 +1,4 @@
-use Rattle.std.proofs.Common.{◌≡◌, ◌∙◌, ◌<◌, length, sym, ap, subst}
+use Rattle.std.proofs.Common.{◌≡◌, ◌∙◌, ◌<◌, length, sym, ap, subst, arith}
 use Rattle.std.proofs.lemmas.Result.{IfOk-weaker, on_ok_weaker}
 use Rattle.prolog_tokens.specs.Quoted.{IsQuoted}
 use Rattle.prolog_tokens.specs.Spelling.{Spells}
@@ -7,7 +7,8 @@ use Rattle.prolog_tokens.proofs.Names.{quoted_text_once}
 use Rattle.prolog_tokens.proofs.OneToken.{single_quote}
 use Rattle.prolog_names.specs.Names.{name_at}
 use Rattle.prolog_names.specs.Numbers.{has_name, IsNumberOf}
-use Rattle.prolog_names.proofs.GrownTable.{no_more, more_kept}
+use Rattle.prolog_names.proofs.FewBytes.{quoted_few, slice_few}
+use Rattle.prolog_names.proofs.GrownTable.{no_more, more_kept, bytes_grown}
 use Rattle.prolog_names.proofs.NumberedParts.{number_is, no_number, unnamed_kind}
 use Rattle.prolog_names.proofs.numbers.number_of.Goals as goal
 
@@ -33,6 +34,7 @@ returns-in_default c = record {
   number =
       no_number c.args.text.now c.args.table.now c.args.token (unnamed_kind c.args.token.kind c.in_default.not-Name c.in_default.not-Quoted) c.requires.some;
   kept = no_more c.args.table.now;
+  few = omega arith;
 }
 
 pub returns-in-Some-clause-number : goal.returns-in-Some-clause-number
@@ -49,3 +51,49 @@ returns-in-Some-clause-number c =
     (λ other stands.
     quoted_text_once text 39 from to other c.in-Some.name.now single_quote item (subst (NameTextBy text from to other) c.in-Quoted.is stands) c.in-Some.ensures))
     c.place_of-in-Some.ensures.place
+
+pub place_of-requires-in-Some-clause-few : goal.place_of-requires-in-Some-clause-few
+place_of-requires-in-Some-clause-few c =
+    omega (arith, c.requires.few, quoted_few c.args.text.now 39 c.args.token.start c.args.token.end c.in-Some.name.now c.in-Some.ensures)
+
+pub place_of-requires-in-Quoted-clause-few : goal.place_of-requires-in-Quoted-clause-few
+place_of-requires-in-Quoted-clause-few c =
+    let text = c.args.text.now in
+    let from = c.args.token.start in
+    let to = c.args.token.end in
+    let name = c.in_ok-name-in-Quoted.name in
+    omega (
+      arith,
+      c.requires.few,
+      ap length c.as_str.ensures,
+      quoted_few text 39 from to name (subst (NameTextBy text from to name) c.in-Quoted.is c.in_ok-name-in-Quoted.ensures.name),
+    )
+
+pub returns-in-Name-clause-few : goal.returns-in-Name-clause-few
+returns-in-Name-clause-few c =
+    on_ok_weaker c.place_of.result
+    (λ names. bytes_grown c.args.table.now c.place_of.new.self c.name_slice.result.now names
+    (slice_few c.args.text.now c.args.token.start c.args.token.end c.name_slice.result.now c.name_slice.ensures.slice))
+    c.place_of.ensures.names
+
+pub returns-in-Some-clause-few : goal.returns-in-Some-clause-few
+returns-in-Some-clause-few c =
+    on_ok_weaker c.place_of-in-Some.result
+    (λ names. bytes_grown c.args.table.now c.place_of-in-Some.new.self c.in-Some.name.now names
+    (quoted_few c.args.text.now 39 c.args.token.start c.args.token.end c.in-Some.name.now c.in-Some.ensures))
+    c.place_of-in-Some.ensures.names
+
+pub returns-in_ok-name-in-Quoted-clause-few : goal.returns-in_ok-name-in-Quoted-clause-few
+returns-in_ok-name-in-Quoted-clause-few c =
+    let text = c.args.text.now in
+    let from = c.args.token.start in
+    let to = c.args.token.end in
+    let name = c.in_ok-name-in-Quoted.name in
+    on_ok_weaker c.place_of-in-Quoted.result
+    (λ names. bytes_grown c.args.table.now c.place_of-in-Quoted.new.self c.as_str.result.now names
+    (omega (
+      arith,
+      ap length c.as_str.ensures,
+      quoted_few text 39 from to name (subst (NameTextBy text from to name) c.in-Quoted.is c.in_ok-name-in-Quoted.ensures.name),
+    )))
+    c.place_of-in-Quoted.ensures.names

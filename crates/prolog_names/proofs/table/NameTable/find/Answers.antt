@@ -1,15 +1,17 @@
 use Rattle.std.proofs.Common.{◌≡◌, ◌<◌, ◌-◌, [], length, get_or, sym, ap, subst, ◌∙◌, false, arith}
 use Rattle.std.specs.List.{list_any}
 use Rattle.std.specs.Str.{bytes_eq}
+use Rattle.std.specs.String.{string_bytes}
 use Rattle.std.proofs.lemmas.List.{get_or_read, get_or-map, length-map}
 use Rattle.prolog_names.specs.declared.table.Entry.{Entry}
 use Rattle.prolog_names.specs.Names.{name_at}
-use Rattle.prolog_names.specs.Table.{bucket_in, bucket_of, names_of, next_of}
+use Rattle.prolog_names.specs.Table.{bucket_in, bucket_of, name_in, names_of, next_of}
 use Rattle.prolog_names.proofs.Chains.{IsPassed, same_bytes, from_head, from_next, none_named}
 use Rattle.prolog_names.proofs.table.NameTable.find.Goals as goal
 
 pub loop-at-init : goal.loop-at-init
 loop-at-init c =
+    let texts = string_bytes c.self.inside.texts in
     let entries = c.self.inside.entries.items in
     let heads = c.self.inside.heads.items in
     let name = c.args.name.now in
@@ -19,42 +21,46 @@ loop-at-init c =
     let below : c.bucket_of.result < length heads = omega (arith, c.bucket_of.ensures.below, size) in
     let read : c.index-at.result.now ≡ get_or heads (bucket_of (length heads) name) 0 =
     get_or_read heads c.bucket_of.result c.index-at.result.now below c.index-at.ensures 0 ∙ ap (λ b. get_or heads b 0) bucket in
-    subst (IsPassed (names_of entries) (length heads) name) (sym read)
-    (from_head (names_of entries) heads (next_of entries) name c.self.invariant.chained (subst (λ b. b < length heads) bucket below))
+    subst (IsPassed (names_of texts entries) (length heads) name) (sym read)
+    (from_head (names_of texts entries) heads (next_of entries) name c.self.invariant.chained (subst (λ b. b < length heads) bucket below))
 
 pub returns-then-is_named : goal.returns-then-is_named
 returns-then-is_named c =
+    let texts = string_bytes c.self.inside.texts in
     let entries = c.self.inside.entries.items in
     let at = c.loop-at.at - 1 in
     let entry = c.index-entry.result.now in
-    let count : length (names_of entries) ≡ length entries = length-map entries (λ (e : Entry). e.text) in
+    let own : name_in c.as_str-texts.result.now entry ≡ name_in texts entry = ap (λ t. name_in t entry) c.as_str-texts.ensures.value in
+    let count : length (names_of texts entries) ≡ length entries = length-map entries (name_in texts) in
     let below : at < length entries = omega (arith, c.loop-at.invariant.within, c.loop-at-test.true, count) in
     let here : at < length c.args.self.now = subst (λ names. at < length names) c.self.view_is (omega (arith, below, count)) in
-    let is : c.args.name.now ≡ entry.text = same_bytes c.args.name.now entry.text (sym c.is_named.ensures ∙ c.if-is_named.true) in
-    let read : name_at (names_of entries) at ≡ entry.text =
-    get_or-map (λ (e : Entry). e.text) entries at entry [] below ∙ ap (λ (e : Entry). e.text) (sym c.index-entry.ensures) in (
+    let is : c.args.name.now ≡ name_in texts entry = same_bytes c.args.name.now (name_in texts entry) (ap (bytes_eq c.args.name.now) (sym own) ∙ (sym c.is_named.ensures ∙ c.if-is_named.true)) in
+    let read : name_at (names_of texts entries) at ≡ name_in texts entry =
+    get_or-map (name_in texts) entries at entry [] below ∙ ap (name_in texts) (sym c.index-entry.ensures) in (
       here,
       ap (λ names. name_at names at) (sym c.self.view_is) ∙ read ∙ sym is,
     )
 
 pub loop-at-preserved : goal.loop-at-preserved
 loop-at-preserved c =
+    let texts = string_bytes c.self.inside.texts in
     let entries = c.self.inside.entries.items in
     let heads = c.self.inside.heads.items in
     let name = c.args.name.now in
     let at = c.loop-at.at - 1 in
     let entry = c.index-entry.result.now in
-    let count : length (names_of entries) ≡ length entries = length-map entries (λ (e : Entry). e.text) in
+    let own : name_in c.as_str-texts.result.now entry ≡ name_in texts entry = ap (λ t. name_in t entry) c.as_str-texts.ensures.value in
+    let count : length (names_of texts entries) ≡ length entries = length-map entries (name_in texts) in
     let below : at < length entries = omega (arith, c.loop-at.invariant.within, c.loop-at-test.true, count) in
     let next : entry.next ≡ get_or (next_of entries) at 0 =
     ap (λ (e : Entry). e.next) c.index-entry.ensures ∙ sym (get_or-map (λ (e : Entry). e.next) entries at entry 0 below) in
-    let read : get_or (names_of entries) at [] ≡ entry.text =
-    get_or-map (λ (e : Entry). e.text) entries at entry [] below ∙ ap (λ (e : Entry). e.text) (sym c.index-entry.ensures) in
-    let other : bytes_eq name (get_or (names_of entries) at []) ≡ false = ap (bytes_eq name) read ∙ sym c.is_named.ensures ∙ c.if-is_named.false in
-    subst (IsPassed (names_of entries) (length heads) name) (sym next)
-    (from_next (names_of entries) heads (next_of entries) name c.loop-at.at c.self.invariant.chained c.loop-at.invariant c.loop-at-test.true other)
+    let read : get_or (names_of texts entries) at [] ≡ name_in texts entry =
+    get_or-map (name_in texts) entries at entry [] below ∙ ap (name_in texts) (sym c.index-entry.ensures) in
+    let other : bytes_eq name (get_or (names_of texts entries) at []) ≡ false = ap (bytes_eq name) (read ∙ sym own) ∙ sym c.is_named.ensures ∙ c.if-is_named.false in
+    subst (IsPassed (names_of texts entries) (length heads) name) (sym next)
+    (from_next (names_of texts entries) heads (next_of entries) name c.loop-at.at c.self.invariant.chained c.loop-at.invariant c.loop-at-test.true other)
 
 pub returns : goal.returns
 returns c =
     ap (list_any (bytes_eq c.args.name.now)) (sym c.self.view_is)
-    ∙ none_named (names_of c.self.inside.entries.items) (length c.self.inside.heads.items) c.args.name.now c.loop-at.at (omega (arith, c.loop-at-test.false)) c.loop-at.invariant
+    ∙ none_named (names_of (string_bytes c.self.inside.texts) c.self.inside.entries.items) (length c.self.inside.heads.items) c.args.name.now c.loop-at.at (omega (arith, c.loop-at-test.false)) c.loop-at.invariant
