@@ -1,5 +1,5 @@
 -- Rows of tokens that go on, are joined, and become the cut of a text.
-use Rattle.std.proofs.Common.{◌≡◌, ◌≢◌, ℕ, ◌<◌, ◌⊎◌, ◌↔◌, List, Option, Some, None, [], ◌∷◌, ◌++◌, length, get_or, true, nat_lt, Result, Ok, Err, IsTrue, ap, sym, ◌∙◌, subst, refl, rules, arith}
+use Rattle.std.proofs.Common.{◌≡◌, ◌≢◌, ℕ, ◌<◌, ◌⊎◌, ◌↔◌, List, All, Option, Some, None, [], ◌∷◌, ◌++◌, length, get_or, true, nat_lt, Result, Ok, Err, IsTrue, ap, sym, ◌∙◌, subst, refl, rules, arith}
 use Rattle.std.specs.Prelude.{IfErr, IfSome, IsErrAnd, IsUtf8}
 use Rattle.prolog_tokens.specs.declared.token.Token.{Token}
 use Rattle.prolog_tokens.specs.declared.token.TokenFault.{TokenFault}

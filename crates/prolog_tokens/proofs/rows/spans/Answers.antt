@@ -1,4 +1,4 @@
-use Rattle.std.proofs.Common.{◌≡◌, refl, sym, ◌∙◌, subst, rules, arith}
+use Rattle.std.proofs.Common.{refl, sym, subst, rules, arith}
 use Rattle.std.proofs.lemmas.List.Elements.{All-push}
 use Rattle.prolog_tokens.specs.Rows.{IsSpan, StandSideBySide}
 use Rattle.prolog_tokens.proofs.RowLemmas.{one_more_span}
