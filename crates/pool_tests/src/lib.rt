@@ -4,6 +4,8 @@
 #[cfg(test)]
 mod agree_tests;
 #[cfg(test)]
+mod crew_tests;
+#[cfg(test)]
 mod crowd;
 #[cfg(test)]
 mod gate_tests;
@@ -27,8 +29,6 @@ mod starved_tests;
 mod told;
 #[cfg(test)]
 mod told_tests;
-#[cfg(test)]
-mod trial_tests;
 #[cfg(test)]
 mod turn_tests;
 #[cfg(test)]
