@@ -1,7 +1,7 @@
 -- Names in chains, one for each bucket of a hash.
-use Rattle.std.specs.Prelude.{ℕ, ◌≡◌, ◌≢◌, ◌+◌, ◌-◌, ◌*◌, ◌%◌, ◌^◌, ◌<◌, ◌≤◌, ◌++◌, [], ◌∷◌, List, length, map, fold, All, slice_index_or, slice_range, if◌then◌else◌}
+use Rattle.std.specs.Prelude.{ℕ, ◌≡◌, ◌≢◌, ◌+◌, ◌-◌, ◌*◌, ◌%◌, ◌^◌, ◌<◌, ◌≤◌, ◌++◌, [], ◌∷◌, List, length, map, fold, All, slice_index_or, if◌then◌else◌}
 use Rattle.std.specs.Int.{IsPowerOfTwo}
-use Rattle.std.specs.List.{list_any, sum_by}
+use Rattle.std.specs.List.{list_any, slice_range, sum_by}
 use Rattle.std.specs.Str.{bytes_eq, IsCharBoundary}
 use Rattle.prolog_names.specs.declared.table.Entry.{Entry}
 use Rattle.prolog_names.specs.Names.{AreDistinct}
