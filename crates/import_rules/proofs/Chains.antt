@@ -75,31 +75,42 @@ no_chains buckets size = record {
       is = λ some. absurd (omega (arith, some));
     }
 
+-- the hash that is kept at the place of a name is its own
+pub kept_hash : (names : List PredName) (hashes : List ℕ) (at hash : ℕ) (one : PredName) → hashes ≡ map name_hash names → at < length names
+    → hash ≡ get_or hashes at 0 → one ≡ get_or names at one → hash ≡ name_hash one
+kept_hash names hashes at hash one are within is here =
+    is ∙ (ap (λ xs. get_or xs at 0) are ∙ (get_or-map name_hash names at one 0 within ∙ ap name_hash (sym here)))
+
 -- the one beside a name is its own
 pub hash_at : (names : List PredName) (links : List Link) (at : ℕ) (link : Link) (one : PredName) → hashes_of links ≡ map name_hash names → at < length names
     → at < length links → link ≡ get_or links at link → one ≡ get_or names at one → link.hash ≡ name_hash one
 hash_at names links at link one hashed within inside link_is here =
-    ap (λ (l : Link). l.hash) link_is
-    ∙ (sym (get_or-map (λ (l : Link). l.hash) links at link 0 inside)
-    ∙ (ap (λ xs. get_or xs at 0) hashed ∙ (get_or-map name_hash names at one 0 within ∙ ap name_hash (sym here))))
+    kept_hash names (hashes_of links) at link.hash one hashed within
+    (ap (λ (l : Link). l.hash) link_is ∙ sym (get_or-map (λ (l : Link). l.hash) links at link 0 inside)) here
 
 -- a name of another hash is another one
 pub other_hash : (wanted one : PredName) → name_hash one ≢ name_hash wanted → is_same wanted one ≡ false
 other_hash wanted one apart = false_from_ne_true (is_same wanted one) (λ is. apart (ap name_hash (sym (same_parts wanted one is))))
 
 -- all names stand in the chains, with their hashes
+pub all_chained : (names : List PredName) (size n : ℕ) (hashes heads next kept : List ℕ) → hashes ≡ map name_hash names
+    → AreChains (map (bucket_in size) hashes) n heads next → kept ≡ take n hashes
+    → length heads ≡ size → 0 < size → n ≡ length hashes → IsChained names heads next × (kept ≡ map name_hash names)
+all_chained names size n hashes heads next kept are chains hashed sized some end =
+    let count : n ≡ length names = end ∙ ap length are ∙ length-map names name_hash in
+    let buckets : map (bucket_in size) hashes ≡ buckets_of size names = ap (map (bucket_in size)) are ∙ map-map (bucket_in size) name_hash names in (
+      record {
+        some = omega (arith, sized, some);
+        chains =
+            subst (λ m. AreChains (buckets_of m names) (length names) heads next) (sym sized)
+            (subst (λ m. AreChains (buckets_of size names) m heads next) count
+            (subst (λ bs. AreChains bs n heads next) buckets chains));
+      },
+      hashed ∙ take_all n hashes (omega (arith, end)) ∙ are,
+    )
+
 pub all_linked : (names : List PredName) (size n : ℕ) (hashes heads : List ℕ) (links : List Link) → hashes ≡ map name_hash names
     → AreChains (map (bucket_in size) hashes) n heads (next_of links) → hashes_of links ≡ take n hashes
     → length heads ≡ size → 0 < size → n ≡ length hashes → IsLinked names heads links
 all_linked names size n hashes heads links are chains hashed sized some end =
-    let count : n ≡ length names = end ∙ ap length are ∙ length-map names name_hash in
-    let buckets : map (bucket_in size) hashes ≡ buckets_of size names = ap (map (bucket_in size)) are ∙ map-map (bucket_in size) name_hash names in record {
-      chained = record {
-        some = omega (arith, sized, some);
-        chains =
-            subst (λ m. AreChains (buckets_of m names) (length names) heads (next_of links)) (sym sized)
-            (subst (λ m. AreChains (buckets_of size names) m heads (next_of links)) count
-            (subst (λ bs. AreChains bs n heads (next_of links)) buckets chains));
-      };
-      hashed = hashed ∙ take_all n hashes (omega (arith, end)) ∙ are;
-    }
+    let all = all_chained names size n hashes heads (next_of links) (hashes_of links) are chains hashed sized some end in record { chained = all.0; hashed = all.1 }

@@ -1,5 +1,5 @@
 -- What is known of each program.
-use Rattle.std.proofs.Common.{◌≡◌, List, true, All, Contains, take, sym, subst, arith}
+use Rattle.std.proofs.Common.{◌≡◌, List, true, All, Contains, sym, subst, arith}
 use Rattle.std.specs.List.{list_any}
 use Rattle.std.proofs.Math.Logic.{∥∥₁_elim}
 use Rattle.std.proofs.Props.{props}
@@ -10,6 +10,7 @@ use Rattle.import_rules.specs.declared.names.PredName.{PredName}
 use Rattle.import_rules.specs.declared.program.Program.{Program}
 use Rattle.import_rules.specs.Files.{AreNumbered, all_defined}
 use Rattle.import_rules.specs.Names.{is_same}
+use Rattle.import_rules.specs.Parts.{names_at}
 use Rattle.import_rules.specs.Program.{see_program, IsKnown, IsReadFrom}
 use Rattle.import_rules.proofs.Lists.{any_there, any_from}
 use Rattle.import_rules.proofs.Loaded.{was_read}
@@ -40,7 +41,7 @@ pub known : (p : Program) → IsKnown (see_program p)
 unfolding see_program
 known p =
     let loaded = see_loaded p.loaded in record {
-      numbered = numbered_from loaded.files (take p.count p.names) p.numbered;
+      numbered = numbered_from loaded.files (names_at p.loaded.files.items p.places.items) p.numbered;
       few = omega (arith, p.few, count_is p);
       ordered = ∥∥₁_elim p.was_loaded (hlevel props) (λ was. was.is.ordered);
       read = ∥∥₁_elim p.was_loaded (zip_prop IsReadFrom read_prop loaded.texts loaded.files) (λ was. was_read loaded was);

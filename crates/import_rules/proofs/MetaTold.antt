@@ -1,5 +1,5 @@
 -- What a program keeps of declarations of goal arguments.
-use Rattle.std.proofs.Common.{◌≡◌, ◌==◌, Bool, true, false, ◌≢◌, ◌<◌, ◌-◌, ℕ, List, [], Option, Some, None, length, map, take, get_or, option_map, refl, sym, ap, ◌∙◌, subst, arith}
+use Rattle.std.proofs.Common.{◌≡◌, ◌==◌, Bool, true, false, ◌≢◌, ◌<◌, ◌-◌, ℕ, List, [], Option, Some, None, length, map, get_or, option_map, refl, sym, ap, ◌∙◌, subst, arith}
 use Rattle.std.specs.Prelude.{slice_get, slice_index_or}
 use Rattle.std.proofs.lemmas.Bool.{eq-eqb, eqb-true}
 use Rattle.std.proofs.lemmas.List.{length-map, get_or_past}
@@ -7,6 +7,7 @@ use Rattle.std.proofs.lemmas.Option.{slice_get-get_or, slice_get_within, slice_g
 use Rattle.file_library.specs.SortedOut.{see_loaded}
 use Rattle.import_rules.specs.declared.program.Program.{Program}
 use Rattle.import_rules.specs.Names.{pred_name}
+use Rattle.import_rules.specs.Parts.{names_at}
 use Rattle.import_rules.specs.Program.{see_program, args_at, meta_in, meta_of_found}
 use Rattle.import_rules.proofs.MetaThere.{IsMetaAt, none_kept, one_kept}
 
@@ -33,7 +34,7 @@ pub told_none : (p : Program) (node : ℕ) (at : ℕ × ℕ) → node < length (
 unfolding see_program meta_in
 told_none p node at below is zero_ =
     let files = (see_loaded p.loaded).files in
-    let names = take p.count p.names in
+    let names = names_at p.loaded.files.items p.places.items in
     let own = get_or names node (pred_name [] [] 0) in
     let named = slice_get-get_or names node (pred_name [] [] 0) below in
     none_kept files own at (is ∙ p.told.each node own named) zero_ ∙ ap (args_at files) (sym named)
@@ -43,7 +44,7 @@ pub told_one : (p : Program) (node : ℕ) (at : ℕ × ℕ) → node < length (s
 unfolding see_program meta_in
 told_one p node at below is some =
     let files = (see_loaded p.loaded).files in
-    let names = take p.count p.names in
+    let names = names_at p.loaded.files.items p.places.items in
     let own = get_or names node (pred_name [] [] 0) in
     let named = slice_get-get_or names node (pred_name [] [] 0) below in
     subst (IsMetaAt files (at.0, at.1 - 1)) (ap (args_at files) (sym named)) (one_kept files own at (is ∙ p.told.each node own named) some)

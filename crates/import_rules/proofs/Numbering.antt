@@ -14,7 +14,7 @@ use Rattle.import_rules.specs.declared.names.PredName.{PredName}
 use Rattle.import_rules.specs.declared.part.Part.{Part}
 use Rattle.import_rules.specs.Names.{pred_cmp, is_same}
 use Rattle.import_rules.specs.Numbers.{DefinedAt, AreNumbers, places_for}
-use Rattle.import_rules.specs.Parts.{name_of_part, see_part, places_of_parts}
+use Rattle.import_rules.specs.Parts.{first_name, name_of_part, see_part, places_of_parts}
 use Rattle.import_rules.proofs.Lists.{filter-map, filter_map_push, all_pairs_map, map_has, map_agrees}
 use Rattle.import_rules.proofs.NameOrder.{pred_cmp_total, same_ties, same_parts, tied_is_same}
 use Rattle.import_rules.proofs.Runs.{comes_before, same, AreRuns, IsCut, cut_more, heads_there}
@@ -25,6 +25,12 @@ names_in files runs = filter_map (λ run. option_map (name_of_part files) (first
 
 abbrev pub places_in_runs : List (List Part) → List (List (ℕ × ℕ))
 places_in_runs runs = filter_map (λ run. option_map (λ first. places_of_parts run) (first_of run)) runs
+
+-- the name at the first place of each run
+pub names_read : (files : List FileFacts) (runs : List (List Part)) → map (first_name files) (places_in_runs runs) ≡ names_in files runs
+names_read files [] = refl
+names_read files ([] ∷ runs) = names_read files runs
+names_read files ((x ∷ run) ∷ runs) = ap (λ ps. name_of_part files x ∷ ps) (names_read files runs)
 
 module _ (files : List FileFacts) (parts sorted : List Part) (runs : List (List Part)) (moved : IsPermutation parts sorted) (are : AreRuns pred_cmp pred_cmp_total (name_of_part files) sorted runs) where
   has_head : All (λ (x : Part). (h : Part) × Contains are.heads h × (name_of_part files h ≡ name_of_part files x)) parts
@@ -113,14 +119,6 @@ next_run files whole before rest lent run sorted is some chunk cut =
       λ k d below. sym (same_ties (name_of_part files (get_or before k d)) (name_of_part files (get_or before (k + 1) d))) ∙ chunk.0 k d below,
       λ below d. sym (same_ties (name_of_part files (get_or before (length run.now - 1) d)) (name_of_part files (get_or before (length run.now) d))) ∙ chunk.1 below d,
     )))
-
-pub next_name : (files : List FileFacts) (lent : List (Bor (List Part))) (run : Bor (List Part)) (old new : List PredName)
-    → new ≡ old ++ option_to_list (option_map (name_of_part files) (first_of run.now)) → old ≡ names_in files (now_of lent) → new ≡ names_in files (now_of (lent ++ run ∷ []))
-next_name files lent run old new more is =
-    more
-    ∙ ap (λ xs. xs ++ option_to_list (option_map (name_of_part files) (first_of run.now))) is
-    ∙ sym (filter_map_push (λ r. option_map (name_of_part files) (first_of r)) (now_of lent) run.now)
-    ∙ ap (names_in files) (sym (map-append (λ (r : Bor (List Part)). r.now) lent (run ∷ [])))
 
 pub next_places : (lent : List (Bor (List Part))) (run : Bor (List Part)) (old new : List (List (ℕ × ℕ)))
     → new ≡ old ++ option_to_list (option_map (λ first. places_of_parts run.now) (first_of run.now)) → old ≡ places_in_runs (now_of lent)

@@ -1,14 +1,10 @@
--- A table of the predicates, and of one name for each import, is what is found.
-use Rattle.std.proofs.Common.{◌≡◌, ℕ, ◌+◌, ◌-◌, ◌<◌, inl, inr, List, [], ◌∷◌, ◌++◌, Option, Some, None, Bool, true, false, not, ◌||◌, Contains, length, map, filter, get_or, refl, sym, ap, subst, ◌∙◌, arith}
+-- A table of one name for each import is what is found beside the predicates themselves.
+use Rattle.std.proofs.Common.{◌≡◌, ℕ, ◌<◌, inl, inr, List, [], ◌∷◌, Option, Some, None, Bool, true, false, not, Contains, length, map, filter, get_or, refl, sym, ap, subst, ◌∙◌}
 use Rattle.std.specs.Prelude.{option_map}
-use Rattle.std.specs.List.{list_any, filter_map, range_with_len}
+use Rattle.std.specs.List.{list_any, filter_map}
 use Rattle.std.specs.Str.{bytes_eq}
-use Rattle.std.proofs.lemmas.Bool.{cases_lt, false_from_ne_true, not-false}
-use Rattle.std.proofs.lemmas.List.{get_or_append_left, get_or-append_right, length-append}
+use Rattle.std.proofs.lemmas.Bool.{false_from_ne_true, not-false}
 use Rattle.std.proofs.lemmas.List.Elements.{All-contains}
-use Rattle.std.proofs.lemmas.List.Folds.{list_any-append}
-use Rattle.std.proofs.lemmas.List.FromFn.{length-range_with_len, get_or-range_with_len}
-use Rattle.std.proofs.lemmas.Option.{slice_get-get_or}
 use Rattle.std.proofs.lemmas.Slice.Eq.{bytes_eq-Decides}
 use Rattle.module_table.specs.Facts.{Facts}
 use Rattle.module_table.specs.Kinds.{first_of}
@@ -24,7 +20,7 @@ use Rattle.import_rules.specs.Sources.{AreSources}
 use Rattle.list_laws.proofs.Members.{kept_in as kept}
 use Rattle.import_rules.proofs.Lists.{any_there, kept_there, kept_passes, map_from}
 use Rattle.import_rules.proofs.NameOrder.{same_parts, same_itself, same_from}
-use Rattle.import_rules.proofs.NumberLemmas.{number_at, number_none, numbered_is_local}
+use Rattle.import_rules.proofs.NumberLemmas.{number_none, numbered_is_local}
 
 -- items that give one predicate give it from one module, where none clash
 
@@ -117,11 +113,6 @@ source_first files none i has =
 
 module _ (files : List Facts) (predicates added : List PredName) (ts : List ℕ) (is : List Imports) (numbered : AreNumbered files predicates)
     (none : AreClashes (foreign_items files) []) (firsts : AreFirsts (foreign_items files) is) (sources : AreSources predicates is added ts) where
-  own_found : (n : ℕ) (p : PredName) → n < length predicates → found_in files predicates (get_or predicates n p) ≡ Some n
-  own_found n p within =
-      let q = get_or predicates n p in
-      ap (λ found. or_found predicates found (first_source files q)) (number_at predicates q n numbered.in_order (slice_get-get_or predicates n p within))
-
   not_numbered : (p : PredName) → is_local files p ≡ false → number_of predicates p ≡ None
   not_numbered p other = number_none predicates p (numbered_is_local files predicates numbered p ∙ other)
 
@@ -163,37 +154,5 @@ module _ (files : List Facts) (predicates added : List PredName) (ts : List ℕ)
           ∙ ap (number_of predicates) (one_source (foreign_items files) none j i has i_has (sym by.2))
           ∙ nothing
 
-  either_false : (a b : Bool) → (a || b) ≡ false → (a ≡ false) × (b ≡ false)
-  either_false true b fails = cc
-  either_false false b fails = (refl, fails)
-
-  pub targets_found : AreTargets files predicates (predicates ++ added) (range_with_len 0 (length predicates) ++ ts)
-  targets_found = record {
-    as_many =
-        length-append (range_with_len 0 (length predicates)) ts
-        ∙ (λ i. length-range_with_len 0 (length predicates) i + sources.as_many i)
-        ∙ sym (length-append predicates added);
-    named = λ n p within.
-        elim (cases_lt n (length predicates)) [
-          | inl before ↦
-              ap (found_in files predicates) (get_or_append_left predicates added p n before)
-              ∙ own_found n p before
-              ∙ ap (λ k. Some k)
-              (sym
-              (get_or_append_left (range_with_len 0 (length predicates)) ts 0 n (omega (arith, before, length-range_with_len 0 (length predicates)))
-              ∙ get_or-range_with_len 0 (length predicates) n 0 before
-              ∙ zero_more n))
-          | inr past ↦
-              ap (found_in files predicates) (get_or-append_right predicates added (length predicates) n p refl past)
-              ∙ added_found (n - length predicates) p (omega (arith, past, within, length-append predicates added))
-              ∙ ap (λ k. Some k)
-              (sym
-              (get_or-append_right (range_with_len 0 (length predicates)) ts (length predicates) n 0 (length-range_with_len 0 (length predicates)) past))
-        ];
-    unnamed = λ p fails.
-        let parts = either_false (list_any (is_same p) predicates) (list_any (is_same p) added) (sym (list_any-append (is_same p) predicates added) ∙ fails) in
-        unfound p parts.0 parts.1;
-  }
-    where
-      zero_more : (n : ℕ) → 0 + n ≡ n
-      zero_more n = omega arith
+  pub targets_found : AreTargets files predicates added ts
+  targets_found = record { as_many = sources.as_many; named = added_found; unnamed = unfound }

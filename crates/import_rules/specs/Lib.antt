@@ -10,6 +10,7 @@ pub mod Sources
 pub mod Numbers
 pub mod Parts
 pub mod NameTable
+pub mod Chained
 pub mod Program
 pub mod Findings
 pub mod KnownFiles

@@ -1,4 +1,4 @@
--- A table of what names mean.
+-- What names mean, and a table of the imported ones.
 use Rattle.std.specs.Prelude.{ℕ, ◌≡◌, ◌<◌, List, Some, None, false, length, slice_index, slice_index_or, map, All, Contains}
 use Rattle.std.specs.List.{list_any}
 use Rattle.module_table.specs.Facts.{Facts}
@@ -16,8 +16,8 @@ pub record AreMeanings (files : List Facts) (meanings : List Meaning) : Type 0 w
   pub each : All (λ (m : Meaning). Means files m.name m.is) meanings
   pub all : (p q : PredName) → Means files p q → Contains (map (λ (m : Meaning). m.name) meanings) p
 
--- each name of the table is found as the number beside it, and no other name is found
+-- each imported name is found as the number beside it, and no other name but a predicate's own is found
 pub record AreTargets (files : List Facts) (predicates names : List PredName) (targets : List ℕ) : Type 0 where
   pub as_many : length targets ≡ length names
   pub named : (n : ℕ) (p : PredName) → n < length names → found_in files predicates (slice_index_or names n p) ≡ Some (slice_index targets n)
-  pub unnamed : (p : PredName) → list_any (is_same p) names ≡ false → found_in files predicates p ≡ None
+  pub unnamed : (p : PredName) → list_any (is_same p) predicates ≡ false → list_any (is_same p) names ≡ false → found_in files predicates p ≡ None

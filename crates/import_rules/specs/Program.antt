@@ -1,5 +1,5 @@
 -- A program: what was loaded, and its predicates with their numbers.
-use Rattle.std.specs.Prelude.{ℕ, ◌≡◌, ◌≢◌, ◌<◌, ◌≤◌, List, [], Option, Some, None, All, length, map, take, slice_get}
+use Rattle.std.specs.Prelude.{ℕ, ◌≡◌, ◌≢◌, ◌<◌, ◌≤◌, List, [], Option, Some, None, All, length, map, slice_get}
 use Rattle.std.specs.List.{AllZip}
 use Rattle.prolog_terms.specs.Tree.{Tree}
 use Rattle.prolog_terms.specs.Weight.{weight}
@@ -23,6 +23,7 @@ use Rattle.import_rules.specs.Find.{found_in}
 use Rattle.import_rules.specs.Flaws.{AreFlaws, AreImportFaults}
 use Rattle.import_rules.specs.Metas.{args_for}
 use Rattle.import_rules.specs.Numbers.{parts_in, places_for}
+use Rattle.import_rules.specs.Parts.{names_at}
 
 -- a program as it is seen: what was loaded, and its predicates in the order of their numbers
 pub record Seen : Type 0 where
@@ -30,7 +31,7 @@ pub record Seen : Type 0 where
   pub predicates : List PredName
 
 unfoldable pub see_program : Program → Seen
-see_program p = record { loaded = see_loaded p.loaded; predicates = take p.count p.names }
+see_program p = record { loaded = see_loaded p.loaded; predicates = names_at p.loaded.files.items p.places.items }
 
 abbrev pub places_at : List Facts → Option PredName → List (ℕ × ℕ)
 places_at files (Some p) = places_for (parts_in files) p

@@ -15,8 +15,8 @@ use crate::gather::gather;
 use crate::item::Item;
 use crate::known_file::known_files;
 use crate::lookups::Lookups;
-use crate::name_table::NameTable;
 use crate::placed::placed;
+use crate::predicates::Predicates;
 use clause_text::Cause;
 use file_library::{Fault, Loaded};
 use std::alloc::{AllocError, Global};
@@ -34,7 +34,7 @@ pub(crate) struct Checked<'a> {
 pub(crate) fn check_imports<'a>(
     alloc: Global,
     loaded: &'a Loaded,
-    predicates: &NameTable,
+    predicates: &Predicates<'a>,
 ) -> Result<Checked<'a>, AllocError>
     requires loaded { WasLoaded (see_loaded loaded.now) }
     requires numbered { AreNumbered (see_loaded loaded.now).files predicates.now }

@@ -31,6 +31,7 @@ mod own;
 mod part;
 mod placed;
 mod places;
+mod predicates;
 mod program;
 mod resolve;
 mod spots;
@@ -40,7 +41,7 @@ mod taken;
 pub use laws::{
     found_means, one_list_of_faults, one_meaning, one_numbering, one_program, places_told,
 };
-pub use names::PredName;
+pub use names::{NameView, PredName};
 pub use program::Program;
 pub use resolve::{MOST_PREDICATES, resolve_all};
 pub use stop::ImportStop;

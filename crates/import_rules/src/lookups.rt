@@ -8,7 +8,7 @@ ghost use Rattle.import_rules.specs.Files.{file_named, is_local};
 ghost use Rattle.import_rules.specs.KnownFiles.{IsKnownIn, IsReady, absent_of, files_of, see_known};
 
 use crate::known_file::{KnownFile, file_at};
-use crate::name_table::NameTable;
+use crate::predicates::Predicates;
 use prolog_tokens::Text;
 
 /// The loaded files in order of name, the names of absent files, and the predicates that the files
@@ -17,7 +17,7 @@ use prolog_tokens::Text;
 pub(crate) struct Lookups<'a, 't> {
     pub known: Vec<KnownFile<'a>>,
     pub absent: &'a [Text],
-    pub predicates: &'t NameTable,
+    pub predicates: &'t Predicates<'a>,
 }
 
 impl<'a> Lookups<'a, '_> {

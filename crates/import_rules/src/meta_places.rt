@@ -7,7 +7,7 @@ ghost use Rattle.module_table.specs.Facts.{Facts, see_facts};
 ghost use Rattle.import_rules.specs.Names.{pred_cmp};
 ghost use Rattle.import_rules.specs.Metas.{MetaAt, AreDeclared, HasFewMetas, metas_of_file, metas_in, first_kept};
 
-use crate::name_table::NameTable;
+use crate::predicates::Predicates;
 use module_table::FileFacts;
 use std::alloc::{AllocError, Global};
 
@@ -42,7 +42,7 @@ fn keep_file(
     alloc: Global,
     place: u32,
     file: &FileFacts,
-    predicates: &NameTable,
+    predicates: &Predicates<'_>,
     kept: &mut Vec<(u32, u32)>,
 ) -> Result<(), AllocError>
     requires few { HasFewMetas (see_facts file.now) }
@@ -60,7 +60,7 @@ fn keep_file(
             continue;
         };
         make_room(alloc, predicates.len(), kept)?;
-        keep(node, (place, at as u32 + 1), kept);
+        keep(node as usize, (place, at as u32 + 1), kept);
     }
     Ok(())
 }
@@ -71,7 +71,7 @@ fn keep_file(
 pub(crate) fn meta_places(
     alloc: Global,
     files: &[FileFacts],
-    predicates: &NameTable,
+    predicates: &Predicates<'_>,
 ) -> Result<Vec<(u32, u32)>, AllocError>
     requires few { length files.now ≤ 4294967295 }
     requires small { All HasFewMetas (map see_facts files.now) }

@@ -1,6 +1,6 @@
 //! Names in chains, one for each bucket of a hash: a name is found by one look-up, without memory.
 
-ghost use Rattle.std.specs.Prelude.{◌≡◌, ◌<◌, ◌++◌, length, map, slice_get, Some, false, IfOk, IfSome, MatchOption};
+ghost use Rattle.std.specs.Prelude.{◌≡◌, ◌<◌, length, map, slice_get, Some, false, IfOk, IfSome, MatchOption};
 ghost use Rattle.std.specs.List.{list_any};
 ghost use Rattle.prolog_names.specs.Table.{bucket_in};
 ghost use Rattle.import_rules.specs.Names.{is_same, pred_name};
@@ -19,8 +19,9 @@ struct Link {
     next: usize,
 }
 
-/// Names with their places. A name is found by the hashes of its two texts and its arity. On the way the
-/// names of other hashes are passed by their links, without a look at their texts.
+/// Names with their places: those that are imported, of which there may be any number. A name is found by
+/// the hashes of its two texts and its arity. On the way the names of other hashes are passed by their
+/// links, without a look at their texts.
 #[derive(Drop)]
 pub(crate) struct NameTable {
     names: Vec<PredName>,
@@ -53,7 +54,8 @@ fn joint_hash(owner: u32, name: u32, arity: u32) -> u32
         .wrapping_add(name)
 }
 
-fn name_hash(module: &str, name: &str, arity: u32) -> u32
+/// The hash of the name of a predicate.
+pub(crate) fn name_hash(module: &str, name: &str, arity: u32) -> u32
     ensures { result ≡ name_hash (pred_name module.now name.now arity) }
 {
     joint_hash(text_hash(module), text_hash(name), arity)
@@ -61,7 +63,7 @@ fn name_hash(module: &str, name: &str, arity: u32) -> u32
 
 /// The bucket of a hash, of so many. Neighbouring hashes have neighbouring buckets, since names that
 /// stand side by side are put into a table and looked up one after another.
-fn bucket_of(hash: u32, size: usize) -> usize
+pub(crate) fn bucket_of(hash: u32, size: usize) -> usize
     requires { 0 < size }
     ensures is { result ≡ bucket_in size hash }
     ensures below { result < size }
@@ -118,45 +120,14 @@ impl NameTable {
         })
     }
 
-    /// The name at a place.
-    pub(crate) fn name_at(&self, place: usize) -> &PredName
-        requires { place < length self.now }
-        ensures { slice_get self.now place ≡ Some result.now }
-    {
-        &self.names[place]
-    }
-
-    /// How many names there are.
-    pub(crate) fn len(&self) -> usize
-        ensures { result ≡ length self.now }
-    {
-        self.names.len()
-    }
-
-    /// The table of the names and, behind them, of more names, which are taken out of their list.
-    pub(crate) fn with_more(
-        self,
-        alloc: Global,
-        more: &mut Vec<PredName>,
-    ) -> Result<NameTable, AllocError>
-        ensures { IfOk result (λ table. table ≡ self ++ more.old.items) }
-    {
-        if more.is_empty() {
-            return Ok(self);
-        }
-        let mut names = self.names;
-        names.append(more)?;
-        NameTable::make(alloc, names)
-    }
-
-    /// The last place at which the name stands.
-    pub(crate) fn find(&self, module: &str, name: &str, arity: u32) -> Option<usize>
+    /// The last place at which the name of that hash stands.
+    pub(crate) fn find(&self, module: &str, name: &str, arity: u32, hash: u32) -> Option<usize>
+        requires { hash ≡ name_hash (pred_name module.now name.now arity) }
         ensures is { MatchOption result
             (list_any (is_same (pred_name module.now name.now arity)) self.now ≡ false)
             (λ n. slice_get self.now n ≡ Some (pred_name module.now name.now arity)) }
         ensures below { IfSome result (λ n. n < length self.now) }
     {
-        let hash = name_hash(module, name, arity);
         let mut at = self.heads[bucket_of(hash, self.heads.len())];
         while at > 0 {
             let place = at - 1;

@@ -1,15 +1,16 @@
 //! The predicate of a name itself, whatever its module imports.
 
 ghost use Rattle.std.specs.Prelude.{◌≡◌, ◌↔◌, Contains, IsTrue, MatchOption, Some, slice_get};
+ghost use Rattle.import_rules.specs.Parts.{see_name};
 ghost use Rattle.import_rules.specs.Program.{see_program};
 
 use crate::laws::found_means;
-use crate::names::PredName;
+use crate::names::{NameView, PredName};
 use crate::program::Program;
 
 /// Whether the names are those of one predicate.
-fn is_same(name: &PredName, other: &PredName) -> bool
-    ensures { IsTrue result ↔ (name.now ≡ other.now) }
+fn is_same(name: NameView<'_>, other: NameView<'_>) -> bool
+    ensures { IsTrue result ↔ (see_name name.entry ≡ see_name other.entry) }
 {
     if name.arity != other.arity {
         return false;
@@ -29,10 +30,11 @@ impl Program {
     {
         self.is_known();
         found_means();
-        let Some(node) = self.find(name.module.as_str(), name.name.as_str(), name.arity) else {
+        let wanted = name.view();
+        let Some(node) = self.find(wanted.module, wanted.name, wanted.arity) else {
             return None;
         };
-        if is_same(self.name_of(node), name) {
+        if is_same(self.name_of(node), wanted) {
             return Some(node);
         }
         None

@@ -7,6 +7,7 @@ ghost use Rattle.import_rules.specs.Names.{is_same, pred_cmp, pred_name};
 ghost use Rattle.import_rules.specs.Parts.{name_of_part, parts_to, see_name, see_part};
 ghost use Rattle.import_rules.specs.Numbers.{parts_in};
 
+use crate::names::NameView;
 use module_table::FileFacts;
 use std::alloc::{AllocError, Global};
 use std::cmp::Ordering;
@@ -19,19 +20,11 @@ pub(crate) struct Part {
     pub part: u32,
 }
 
-/// The name of the predicate that is defined at a place.
-#[derive(Clone, Copy)]
-pub(crate) struct PartName<'a> {
-    pub module: &'a str,
-    pub name: &'a str,
-    pub arity: u32,
-}
-
 /// The name where nothing is defined.
-fn no_name<'a>() -> PartName<'a>
+pub(crate) fn no_name<'a>() -> NameView<'a>
     ensures { see_name result ≡ pred_name [] [] 0 }
 {
-    PartName {
+    NameView {
         module: "",
         name: "",
         arity: 0,
@@ -39,7 +32,7 @@ fn no_name<'a>() -> PartName<'a>
 }
 
 /// The name of the predicate that is defined at that place of the files.
-pub(crate) fn part_name<'a>(files: &'a [FileFacts], part: &Part) -> PartName<'a>
+pub(crate) fn part_name<'a>(files: &'a [FileFacts], part: &Part) -> NameView<'a>
     ensures { see_name result ≡ name_of_part files.now part.now }
 {
     let Some(file) = files.get(part.file as usize) else {
@@ -48,7 +41,7 @@ pub(crate) fn part_name<'a>(files: &'a [FileFacts], part: &Part) -> PartName<'a>
     let Some(defined) = file.defined.get(part.part as usize) else {
         return no_name();
     };
-    PartName {
+    NameView {
         module: file.names.text(defined.module),
         name: file.names.text(defined.name),
         arity: defined.arity,

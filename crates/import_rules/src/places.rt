@@ -1,10 +1,13 @@
 //! The places at which a predicate is defined.
 
 ghost use Rattle.std.specs.Prelude.{◌≡◌, IfOk};
+ghost use Rattle.import_rules.specs.Names.{is_same, pred_name};
 ghost use Rattle.import_rules.specs.Numbers.{see_places};
-ghost use Rattle.import_rules.specs.Parts.{places_of_parts};
+ghost use Rattle.import_rules.specs.Parts.{name_of_places, places_of_parts, see_name};
 
-use crate::part::Part;
+use crate::names::NameView;
+use crate::part::{Part, no_name, part_name};
+use module_table::FileFacts;
 use std::alloc::{AllocError, Global};
 
 /// The places at which a predicate is defined, each that of a file and of a part of the file. Most
@@ -24,6 +27,42 @@ impl Places {
             Places::One(one) => one,
             Places::More(more) => more.as_slice(),
         }
+    }
+
+    /// The name of the predicate, which is read at the first of the places.
+    pub(crate) fn name<'a>(&self, files: &'a [FileFacts]) -> NameView<'a>
+        ensures { see_name result ≡ name_of_places files.now self.now }
+    {
+        let Some(first) = self.as_slice().first() else {
+            return no_name();
+        };
+        part_name(
+            files,
+            &Part {
+                file: first.0,
+                part: first.1,
+            },
+        )
+    }
+
+    /// Whether that is the name of the predicate. Modules, which are mostly one, are compared last.
+    pub(crate) fn are_named(
+        &self,
+        files: &[FileFacts],
+        module: &str,
+        name: &str,
+        arity: u32,
+    ) -> bool
+        ensures { result ≡ is_same (pred_name module.now name.now arity) (name_of_places files.now self.now) }
+    {
+        let own = self.name(files);
+        if arity != own.arity {
+            return false;
+        }
+        if name != own.name {
+            return false;
+        }
+        module == own.module
     }
 }
 

@@ -1,17 +1,20 @@
-ghost use Rattle.std.specs.Prelude.{◌≡◌, ◌<◌, ◌≤◌, ℕ, List, [], true, Some, length, map, take, slice_get};
+ghost use Rattle.std.specs.Prelude.{◌≡◌, ◌<◌, ◌≤◌, ℕ, List, [], true, Some, length, map, slice_get};
 ghost use Rattle.std.proofs.Props.{props};
 ghost use Rattle.file_library.specs.SortedOut.{see_loaded};
 ghost use Rattle.import_rules.specs.declared.resolve.TheConstants.{MOST_PREDICATES};
+ghost use Rattle.import_rules.specs.Chained.{AreChained};
 ghost use Rattle.import_rules.specs.Files.{AreNumbered};
 ghost use Rattle.import_rules.specs.Flaws.{AreFlaws};
 ghost use Rattle.file_library.specs.Loaded.{WasLoaded};
 ghost use Rattle.import_rules.specs.Meanings.{AreTargets};
 ghost use Rattle.import_rules.specs.Metas.{AreDeclared, metas_in};
 ghost use Rattle.import_rules.specs.Numbers.{lists_of, places_for, parts_in};
+ghost use Rattle.import_rules.specs.Parts.{names_at};
 
-use crate::name_table::NameTable;
-use crate::names::PredName;
+use crate::name_table::{NameTable, name_hash};
+use crate::names::NameView;
 use crate::places::Places;
+use crate::predicates::{Chains, Predicates};
 use file_library::Loaded;
 use module_table::GoalArg;
 
@@ -20,28 +23,29 @@ use module_table::GoalArg;
 #[derive(Drop)]
 pub struct Program {
     pub(crate) loaded: Loaded,
-    /// How many of the names are those of predicates.
-    pub(crate) count: u32,
-    /// The predicates, in the order of their numbers, and behind them the names that are imported.
-    pub(crate) names: NameTable,
-    /// For each name the number of the predicate that it means.
-    pub(crate) targets: Vec<u32>,
-    /// For each predicate the places at which it is defined.
+    /// The predicates, in the order of their numbers: the places at which each is defined. Their names
+    /// stand in the files alone.
     pub(crate) places: Vec<Places>,
+    pub(crate) chains: Chains,
+    /// The names that modules import.
+    pub(crate) imported: NameTable,
+    /// For each imported name the number of the predicate that it means.
+    pub(crate) targets: Vec<u32>,
     /// For each predicate the place of its declaration of goal arguments: that of a file, and one more
     /// than that in the file; 0 where it has none. Empty where no predicate has one.
     pub(crate) meta_places: Vec<(u32, u32)>,
     pub ghost was_loaded: { ∥ WasLoaded (see_loaded loaded) ∥₁ },
-    pub ghost within: { count ≤ length names },
-    pub ghost few: { count ≤ MOST_PREDICATES },
-    pub ghost numbered: { ∥ AreNumbered (see_loaded loaded).files (take count names) ∥₁ },
+    pub ghost few: { length places.items ≤ MOST_PREDICATES },
+    pub ghost numbered: { ∥ AreNumbered (see_loaded loaded).files (names_at loaded.files.items places.items) ∥₁ },
+    pub ghost chained: { AreChained (names_at loaded.files.items places.items) chains } by { Prim.hlevel props },
     pub ghost faultless: { ∥ AreFlaws (see_loaded loaded).files (see_loaded loaded).absent [] ∥₁ },
-    pub ghost meant: { AreTargets (see_loaded loaded).files (take count names) names targets.items } by { Prim.hlevel props },
-    pub ghost placed: { lists_of places.items ≡ map (places_for (parts_in (see_loaded loaded).files)) (take count names) },
-    pub ghost told: { AreDeclared (metas_in (see_loaded loaded).files) (take count names) meta_places.items } by { Prim.hlevel props },
+    pub ghost meant: { AreTargets (see_loaded loaded).files (names_at loaded.files.items places.items) imported targets.items } by { Prim.hlevel props },
+    pub ghost placed: { lists_of places.items ≡ map (places_for (parts_in (see_loaded loaded).files)) (names_at loaded.files.items places.items) },
+    pub ghost told: { AreDeclared (metas_in (see_loaded loaded).files) (names_at loaded.files.items places.items) meta_places.items } by { Prim.hlevel props },
 }
 
 impl Program {
+    ghost use Rattle.import_rules.specs.Parts.{see_name};
     ghost use Rattle.import_rules.specs.Program.{see_program, places_in, meta_in, meta_meant, found, IsKnown};
 
     /// A program is few predicates in order, and files in order of name, each read from its text. It
@@ -54,15 +58,26 @@ impl Program {
     pub fn count(&self) -> u32
         ensures { result ≡ length (see_program self.now).predicates }
     {
-        self.count
+        self.places.len() as u32
     }
 
     /// The predicate of a number below the count.
-    pub fn name_of(&self, node: u32) -> &PredName
+    pub fn name_of(&self, node: u32) -> NameView<'_>
         requires { node < length (see_program self.now).predicates }
-        ensures { slice_get (see_program self.now).predicates node ≡ Some result.now }
+        ensures { slice_get (see_program self.now).predicates node ≡ Some (see_name result) }
     {
-        self.names.name_at(node as usize)
+        self.places[node as usize].name(&self.loaded.files)
+    }
+
+    /// The predicates, as they are looked up.
+    fn predicates(&self) -> Predicates<'_>
+        ensures { result ≡ (see_program self.now).predicates }
+    {
+        Predicates {
+            files: &self.loaded.files,
+            places: &self.places,
+            chains: &self.chains,
+        }
     }
 
     /// What was loaded, as it was handed in.
@@ -123,7 +138,12 @@ impl Program {
     pub fn find(&self, module: &str, name: &str, arity: u32) -> Option<u32>
         ensures { result ≡ found (see_program self.now) module.now name.now arity }
     {
-        let Some(at) = self.names.find(module, name, arity) else {
+        let hash = name_hash(module, name, arity);
+        let predicates = self.predicates();
+        if let Some(node) = predicates.find_hashed(module, name, arity, hash) {
+            return Some(node);
+        }
+        let Some(at) = self.imported.find(module, name, arity, hash) else {
             return None;
         };
         Some(self.targets[at])

@@ -1,6 +1,6 @@
 //! The program of what was loaded.
 
-ghost use Rattle.std.specs.Prelude.{◌≡◌, ◌≤◌, [], IfOk, IfErr, length, map, take};
+ghost use Rattle.std.specs.Prelude.{◌≡◌, ◌≤◌, [], IfOk, IfErr, length, map};
 ghost use Rattle.module_table.specs.Facts.{see_facts};
 ghost use Rattle.file_library.specs.SortedOut.{see_loaded};
 ghost use Rattle.import_rules.specs.declared.resolve.TheConstants.{MOST_PREDICATES};
@@ -9,14 +9,16 @@ ghost use Rattle.import_rules.specs.Flaws.{AreFlaws};
 ghost use Rattle.file_library.specs.Loaded.{WasLoaded};
 ghost use Rattle.import_rules.specs.Meanings.{AreTargets};
 ghost use Rattle.import_rules.specs.Numbers.{AreNumbers, lists_of, parts_in};
+ghost use Rattle.import_rules.specs.Parts.{names_at};
 ghost use Rattle.import_rules.specs.Program.{see_program, IsProgram, IsImportStop};
 
 use crate::check::{Checked, check_imports};
-use crate::meanings::{Meanings, with_imports};
+use crate::meanings::{Meanings, find_meanings};
 use crate::meta_places::meta_places;
-use crate::name_table::NameTable;
-use crate::number::{Numbered, number};
+use crate::number::number;
 use crate::part::parts_of;
+use crate::places::Places;
+use crate::predicates::{Chains, Predicates};
 use crate::program::Program;
 use crate::stop::ImportStop;
 use file_library::Loaded;
@@ -25,30 +27,33 @@ use std::alloc::{AllocError, Global};
 /// How many predicates a program may have.
 pub const MOST_PREDICATES: usize = 1_048_576;
 
-/// The predicates of the files, numbered.
-fn numbered(alloc: Global, loaded: &Loaded) -> Result<Numbered, AllocError>
+/// The predicates of the files, numbered: the places of each.
+fn numbered(alloc: Global, loaded: &Loaded) -> Result<Vec<Places>, AllocError>
     requires { WasLoaded (see_loaded loaded.now) }
-    ensures { IfOk result (λ made. AreNumbers (parts_in (see_loaded loaded.now).files) made.predicates.items (lists_of made.places.items)) }
+    ensures { IfOk result (λ places. AreNumbers (parts_in (see_loaded loaded.now).files) (names_at loaded.now.files.items places.items) (lists_of places.items)) }
 {
     let parts = parts_of(alloc, &loaded.files)?;
     number(alloc, &loaded.files, parts)
 }
 
-/// What names mean, where no import is at fault.
-fn meanings(alloc: Global, loaded: &Loaded, predicates: NameTable) -> Result<Meanings, ImportStop>
+/// What imported names mean, where no import is at fault.
+fn meanings<'a>(
+    alloc: Global,
+    loaded: &'a Loaded,
+    predicates: &Predicates<'a>,
+) -> Result<Meanings, ImportStop>
     requires loaded { WasLoaded (see_loaded loaded.now) }
-    requires numbered { AreNumbered (see_loaded loaded.now).files predicates }
-    requires few { length predicates ≤ MOST_PREDICATES }
-    ensures kept { IfOk result (λ made. take (length predicates) made.names ≡ predicates) }
-    ensures targets { IfOk result (λ made. AreTargets (see_loaded loaded.now).files predicates made.names made.targets.items) }
+    requires numbered { AreNumbered (see_loaded loaded.now).files predicates.now }
+    requires few { length predicates.now ≤ MOST_PREDICATES }
+    ensures targets { IfOk result (λ made. AreTargets (see_loaded loaded.now).files predicates.now made.names made.targets.items) }
     ensures faultless { IfOk result (λ made. AreFlaws (see_loaded loaded.now).files (see_loaded loaded.now).absent []) }
     ensures refused { IfErr result (IsImportStop (see_loaded loaded.now)) }
 {
-    let Checked { faults, imports } = check_imports(alloc, loaded, &predicates)?;
+    let Checked { faults, imports } = check_imports(alloc, loaded, predicates)?;
     if faults.len() > 0 {
         return Err(ImportStop::Faults(faults));
     }
-    Ok(with_imports(alloc, predicates, &imports)?)
+    Ok(find_meanings(alloc, predicates, &imports)?)
 }
 
 /// The program of what was loaded by one call of `load_all`. That there are too many predicates is
@@ -58,23 +63,27 @@ pub fn resolve_all(alloc: Global, loaded: Loaded) -> Result<Program, ImportStop>
     ensures ok { IfOk result (λ program. IsProgram (see_loaded loaded) (see_program program)) }
     ensures refused { IfErr result (IsImportStop (see_loaded loaded)) }
 {
-    let Numbered { predicates, places } = numbered(alloc, &loaded)?;
-    if predicates.len() > MOST_PREDICATES {
+    let places = numbered(alloc, &loaded)?;
+    if places.len() > MOST_PREDICATES {
         return Err(ImportStop::TooManyPredicates);
     }
-    let count = predicates.len() as u32;
-    let table = NameTable::make(alloc, predicates)?;
-    let meta_places = meta_places(alloc, &loaded.files, &table)?;
-    let Meanings { names, targets } = match meanings(alloc, &loaded, table) {
+    let chains = Chains::make(alloc, &loaded.files, &places)?;
+    let predicates = Predicates {
+        files: &loaded.files,
+        places: &places,
+        chains: &chains,
+    };
+    let meta_places = meta_places(alloc, &loaded.files, &predicates)?;
+    let Meanings { names, targets } = match meanings(alloc, &loaded, &predicates) {
         Ok(found) => found,
         Err(stop) => return Err(stop),
     };
     Ok(Program {
         loaded,
-        count,
-        names,
-        targets,
         places,
+        chains,
+        imported: names,
+        targets,
         meta_places,
     })
 }

@@ -10,5 +10,5 @@ pub loop-item-preserved : goal.loop-item-preserved
 loop-item-preserved c =
     put_next c.args.predicates.now c.args.items.now c.loop-item.item-index _ c.loop-item.made.names.items c.push.new.self.items
     c.loop-item.made.targets.items c.push-in-loop-item.new.self.items c.in_ok-name_given.field-0 c.in-Some.target
-    c.loop-item-test.true c.requires.in_order c.in-Some.ensures.is c.in_ok-name_given.ensures c.in_ok-push.ensures.items c.in_ok-push-2.ensures.items
+    c.loop-item-test.true c.requires c.in-Some.ensures.is c.in_ok-name_given.ensures c.in_ok-push.ensures.items c.in_ok-push-2.ensures.items
     c.loop-item.invariant

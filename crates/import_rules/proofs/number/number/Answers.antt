@@ -1,19 +1,20 @@
-use Rattle.std.proofs.Common.{rules, sym, ap, ◌∙◌, subst}
+use Rattle.std.proofs.Common.{rules, map, sym, ap, ◌∙◌, subst}
 use Rattle.std.specs.List.Sorted.{IsSortedBy}
 use Rattle.std.specs.Slice.Iter.{chunk_by_callee}
 use Rattle.std.proofs.lemmas.Fn.{always_returns_same}
 use Rattle.std.proofs.lemmas.List.Sorted.{ranks_by}
+use Rattle.std.proofs.lemmas.Simd.{map-map}
 use Rattle.import_rules.specs.Names.{pred_cmp}
-use Rattle.import_rules.specs.Numbers.{lists_of}
-use Rattle.import_rules.specs.Parts.{name_of_part}
+use Rattle.import_rules.specs.Numbers.{lists_of, see_places}
+use Rattle.import_rules.specs.Parts.{first_name, name_of_part, names_at}
 use Rattle.import_rules.proofs.NameOrder.{pred_cmp_total}
 use Rattle.import_rules.proofs.Runs.{comes_before, AreRuns, none_cut, all_cut}
 use Rattle.import_rules.proofs.Chunks.{answers_on}
-use Rattle.import_rules.proofs.Numbering.{alike, now_of, next_run, next_name, next_places, numbers_found}
+use Rattle.import_rules.proofs.Numbering.{alike, now_of, next_run, next_places, names_read, numbers_found}
 use Rattle.import_rules.proofs.number.number.Goals as goal
 
 pub loop-run-init : goal.loop-run-init
-loop-run-init c = (none_cut pred_cmp pred_cmp_total (name_of_part c.args.files.now) c.into_iter-run-iterator.result.rest.now, c.in_ok-with_capacity.ensures.items, ap lists_of c.in_ok-with_capacity-2.ensures.items)
+loop-run-init c = (none_cut pred_cmp pred_cmp_total (name_of_part c.args.files.now) c.into_iter-run-iterator.result.rest.now, ap lists_of c.in_ok-predicates.ensures.items)
 
 pub loop-run-preserved : goal.loop-run-preserved
 loop-run-preserved c =
@@ -27,8 +28,7 @@ loop-run-preserved c =
     let whole = ap (λ (x : _). x.rest.now) c.into_iter-run-iterator.ensures.into_iter_gives ∙ c.chunk_by-run-items.ensures.rest ∙ c.deref.ensures.value in (
       next_run c.args.files.now c.into_iter-run-iterator.result.rest.now c.loop-run.run-iterator.rest.now c.next.new.self.rest.now c.loop-run.yielded c.in-Some.run'
           (subst (IsSortedBy (comes_before pred_cmp (name_of_part c.args.files.now))) (sym whole) sorted) steps.0 steps.1 chunk.1 c.loop-run.invariant.0,
-      next_name c.args.files.now c.loop-run.yielded c.in-Some.run' c.loop-run.made.predicates.items c.add.new.made.predicates.items c.in_ok-add.ensures.predicates c.loop-run.invariant.1,
-      next_places c.loop-run.yielded c.in-Some.run' (lists_of c.loop-run.made.places.items) (lists_of c.add.new.made.places.items) c.in_ok-add.ensures.places c.loop-run.invariant.2,
+      next_places c.loop-run.yielded c.in-Some.run' (lists_of c.loop-run.predicates.items) (lists_of c.add.new.predicates.items) c.in_ok-add.ensures c.loop-run.invariant.1,
     )
 
 pub returns : goal.returns
@@ -38,4 +38,8 @@ returns c =
     numbers_found c.args.files.now c.args.parts.items c.sort_by.new.self.items (now_of c.loop-run.yielded) c.in_ok-sort_by.ensures.permutation
     (subst (λ parts. AreRuns pred_cmp pred_cmp_total (name_of_part c.args.files.now) parts (now_of c.loop-run.yielded)) whole
     (all_cut pred_cmp pred_cmp_total (name_of_part c.args.files.now) c.into_iter-run-iterator.result.rest.now (now_of c.loop-run.yielded) c.loop-run.run-iterator.rest.now c.in-None.ensures.steps.0 c.loop-run.invariant.0))
-    stable c.loop-run.made.predicates.items (lists_of c.loop-run.made.places.items) c.loop-run.invariant.1 c.loop-run.invariant.2
+    stable (names_at c.args.files.now c.loop-run.predicates.items) (lists_of c.loop-run.predicates.items)
+    (sym (map-map (first_name c.args.files.now) see_places c.loop-run.predicates.items)
+    ∙ ap (map (first_name c.args.files.now)) c.loop-run.invariant.1
+    ∙ names_read c.args.files.now (now_of c.loop-run.yielded))
+    c.loop-run.invariant.1

@@ -3,7 +3,7 @@ use Rattle.import_rules.specs.Names.{pred_cmp}
 use Rattle.import_rules.specs.Numbers.{lists_of}
 use Rattle.import_rules.specs.Parts.{name_of_part}
 use Rattle.import_rules.proofs.NameOrder.{pred_cmp_total}
-use Rattle.import_rules.proofs.Numbering.{names_in, places_in_runs, now_of}
+use Rattle.import_rules.proofs.Numbering.{places_in_runs, now_of}
 use Rattle.import_rules.proofs.Runs.{IsCut}
 use Rattle.import_rules.proofs.number.number.Given as goal
 
@@ -11,4 +11,4 @@ use Rattle.import_rules.proofs.number.number.Given as goal
 abbrev pub invariant-loop-run : goal.invariant-loop-run
 invariant-loop-run l =
     IsCut pred_cmp pred_cmp_total (name_of_part l.files) l.initial.run-iterator.rest.now (now_of l.yielded) l.run-iterator.rest.now
-    × (l.made.predicates.items ≡ names_in l.files (now_of l.yielded)) × (lists_of l.made.places.items ≡ places_in_runs (now_of l.yielded))
+    × (lists_of l.predicates.items ≡ places_in_runs (now_of l.yielded))

@@ -11,7 +11,7 @@ returns-clause-targets c =
     let loaded = see_loaded c.args.loaded.now in
     let found = c.in_ok-faults.field-0 in
     let none : found.faults.items ≡ [] = empty_is found.faults.items (omega (arith, c.if-len-gt0.false, c.len.ensures, found.faults.ok.0)) in
-    c.in_ok-with_imports.ensures.targets loaded.files c.requires.numbered
+    c.in_ok-find_meanings.ensures loaded.files c.requires.numbered
     (no_clashes loaded.files loaded.absent (faultless loaded found.faults.items none c.in_ok-faults.ensures.faults))
     (subst (λ (is : List Item). AreFirsts (foreign_items loaded.files) (map see_item is)) (sym c.deref.ensures.value) c.in_ok-faults.ensures.imports)
 

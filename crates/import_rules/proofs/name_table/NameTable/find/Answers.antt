@@ -18,7 +18,7 @@ loop-at-init c =
     let heads = c.self.inside.heads.items in
     let size : c.len.result ≡ length heads = c.len.ensures ∙ c.self.inside.heads.ok.0 in
     let bucket : c.bucket_of.result ≡ bucket_of (length heads) wanted =
-    c.bucket_of.ensures.is ∙ ap (λ n. bucket_in n c.name_hash-hash.result) size ∙ ap (bucket_in (length heads)) c.name_hash-hash.ensures in
+    c.bucket_of.ensures.is ∙ ap (λ n. bucket_in n c.args.hash) size ∙ ap (bucket_in (length heads)) c.requires in
     let below : c.bucket_of.result < length heads = omega (arith, c.bucket_of.ensures.below, size) in
     let read : c.index-at.result.now ≡ get_or heads (bucket_of (length heads) wanted) 0 =
     get_or_read heads c.bucket_of.result c.index-at.result.now below c.index-at.ensures 0 ∙ ap (λ b. get_or heads b 0) bucket in

@@ -1,13 +1,12 @@
 use Rattle.std.proofs.Common.{ap, ◌∙◌, arith}
-use Rattle.std.specs.Prelude.{slice_get}
-use Rattle.import_rules.proofs.Seen.{count_is, predicates_are, take_get}
+use Rattle.import_rules.specs.Parts.{name_of_places, see_name}
+use Rattle.import_rules.proofs.Seen.{count_is, name_there}
 use Rattle.import_rules.proofs.program.Program.name_of.Goals as goal
 
-pub name_at-requires : goal.name_at-requires
-name_at-requires c = omega (arith, c.requires, count_is c.args.self.now, c.args.self.now.within)
+pub index-requires : goal.index-requires
+index-requires c = omega (arith, c.requires, count_is c.args.self.now, c.args.self.now.places.ok.0)
 
 pub returns : goal.returns
 returns c =
-    let p = c.args.self.now in
-    ap (λ ps. slice_get ps c.args.node) (predicates_are p)
-    ∙ take_get p.count p.names c.args.node c.name_at.result.now (omega (arith, c.requires, count_is p)) c.name_at.ensures
+    name_there c.args.self.now c.args.node c.index.result.now (see_name c.name.result) c.requires c.index.ensures
+    (c.name.ensures ∙ ap (λ files. name_of_places files c.index.result.now) c.deref.ensures.value)

@@ -1,0 +1,91 @@
+use Rattle.std.proofs.Common.{◌≡◌, ◌<◌, ◌-◌, Some, length, get_or, refl, sym, ap, subst, ◌∙◌, false, arith}
+use Rattle.std.specs.Prelude.{slice_get}
+use Rattle.std.specs.List.{list_any}
+use Rattle.std.proofs.lemmas.List.{get_or_read, get_or-map, length-map}
+use Rattle.std.proofs.lemmas.Option.{slice_get_read}
+use Rattle.import_rules.specs.declared.predicates.Link.{Link}
+use Rattle.import_rules.specs.Names.{is_same, pred_name}
+use Rattle.prolog_names.specs.Table.{bucket_in}
+use Rattle.import_rules.specs.Chained.{next_in, hashes_in}
+use Rattle.import_rules.specs.NameTable.{bucket_of}
+use Rattle.import_rules.specs.Parts.{name_of_places, names_at}
+use Rattle.import_rules.proofs.NameOrder.{same_parts}
+use Rattle.import_rules.proofs.Chains.{IsPassed, from_head, from_next, none_named, kept_hash}
+use Rattle.import_rules.proofs.predicates.Predicates.find_hashed.Goals as goal
+
+pub loop-at-init : goal.loop-at-init
+loop-at-init c =
+    let wanted = pred_name c.args.module.now c.args.name.now c.args.arity in
+    let names = names_at c.self.inside.files.now c.self.inside.places.now in
+    let chains = c.self.inside.chains.now in
+    let heads = chains.heads.items in
+    let size : c.len.result ≡ length heads = c.len.ensures ∙ chains.heads.ok.0 in
+    let bucket : c.bucket_of.result ≡ bucket_of (length heads) wanted =
+    c.bucket_of.ensures.is ∙ ap (λ n. bucket_in n c.args.hash) size ∙ ap (bucket_in (length heads)) c.requires in
+    let below : c.bucket_of.result < length heads = omega (arith, c.bucket_of.ensures.below, size) in
+    let read : c.index-at.result.now ≡ get_or heads (bucket_of (length heads) wanted) 0 =
+    get_or_read heads c.bucket_of.result c.index-at.result.now below c.index-at.ensures 0 ∙ ap (λ b. get_or heads b 0) bucket in
+    subst (IsPassed names (length heads) wanted) (sym read)
+    (from_head names heads (next_in chains.links.items) wanted c.self.invariant.chained (subst (λ b. b < length heads) bucket below))
+
+pub returns-then-is_named-clause-is : goal.returns-then-is_named-clause-is
+returns-then-is_named-clause-is c =
+    let wanted = pred_name c.args.module.now c.args.name.now c.args.arity in
+    let files = c.self.inside.files.now in
+    let places = c.self.inside.places.now in
+    let names = names_at files places in
+    let node = c.loop-at.at - 1 in
+    let own = name_of_places files (get_or places node c.index-self-node.result) in
+    let below : node < length names = omega (arith, c.loop-at.invariant.within, c.loop-at-test.true) in
+    let here : own ≡ get_or names node own =
+    sym (get_or-map (name_of_places files) places node c.index-self-node.result own (omega (arith, below, length-map places (name_of_places files)))) in
+    let is : wanted ≡ own = same_parts wanted own (sym c.is_named.ensures ∙ c.if-is_named.true) in
+    ap (λ ps. slice_get ps node) (sym c.self.view_is)
+    ∙ slice_get_read names (length names) node own refl below here
+    ∙ ap (λ p. Some p) (sym is)
+
+pub is_named-requires-clause-kept : goal.is_named-requires-clause-kept
+is_named-requires-clause-kept c =
+    let files = c.self.inside.files.now in
+    let places = c.self.inside.places.now in
+    let names = names_at files places in
+    let links = c.self.inside.chains.now.links.items in
+    let link = c.index-link.result.now in
+    let node = c.loop-at.at - 1 in
+    let own = name_of_places files (get_or places node c.index-self-node.result) in
+    let below : node < length names = omega (arith, c.loop-at.invariant.within, c.loop-at-test.true) in
+    let inside : node < length links = omega (arith, below, c.self.invariant.chained.chains.as_many, length-map links (λ (l : Link). l.next)) in
+    let here : own ≡ get_or names node own =
+    sym (get_or-map (name_of_places files) places node c.index-self-node.result own (omega (arith, below, length-map places (name_of_places files)))) in
+    let kept : link.hash ≡ get_or (hashes_in links) node 0 =
+    ap (λ (l : Link). l.hash) c.index-link.ensures ∙ sym (get_or-map (λ (l : Link). l.hash) links node link 0 inside) in
+    kept_hash names (hashes_in links) node link.hash own c.self.invariant.hashed below kept here
+
+pub loop-at-preserved : goal.loop-at-preserved
+loop-at-preserved c =
+    let wanted = pred_name c.args.module.now c.args.name.now c.args.arity in
+    let files = c.self.inside.files.now in
+    let places = c.self.inside.places.now in
+    let names = names_at files places in
+    let heads = c.self.inside.chains.now.heads.items in
+    let links = c.self.inside.chains.now.links.items in
+    let next = next_in links in
+    let link = c.index-link.result.now in
+    let node = c.loop-at.at - 1 in
+    let own = name_of_places files (get_or places node c.index-self-node.result) in
+    let below : node < length names = omega (arith, c.loop-at.invariant.within, c.loop-at-test.true) in
+    let inside : node < length links = omega (arith, below, c.self.invariant.chained.chains.as_many, length-map links (λ (l : Link). l.next)) in
+    let here : own ≡ get_or names node own =
+    sym (get_or-map (name_of_places files) places node c.index-self-node.result own (omega (arith, below, length-map places (name_of_places files)))) in
+    let read : link.next ≡ get_or next node 0 = ap (λ (l : Link). l.next) c.index-link.ensures ∙ sym (get_or-map (λ (l : Link). l.next) links node link 0 inside) in
+    let other : is_same wanted (get_or names node wanted) ≡ false =
+    ap (is_same wanted) (sym (get_or_read names node own below here wanted)) ∙ sym c.is_named.ensures ∙ c.if-is_named.false in
+    subst (IsPassed names (length heads) wanted) (sym read)
+    (from_next names heads next wanted c.loop-at.at c.self.invariant.chained c.loop-at.invariant c.loop-at-test.true other)
+
+pub returns-clause-is : goal.returns-clause-is
+returns-clause-is c =
+    let wanted = pred_name c.args.module.now c.args.name.now c.args.arity in
+    let names = names_at c.self.inside.files.now c.self.inside.places.now in
+    ap (list_any (is_same wanted)) (sym c.self.view_is)
+    ∙ none_named names (length c.self.inside.chains.now.heads.items) wanted c.loop-at.at (omega (arith, c.loop-at-test.false)) c.loop-at.invariant

@@ -1,0 +1,157 @@
+//! The predicates of files in the order of their numbers, and how one is found by its name.
+
+ghost use Rattle.std.specs.Prelude.{◌≡◌, ◌<◌, ◌≤◌, length, map, slice_get, Some, false, IfOk, IfSome, MatchOption};
+ghost use Rattle.std.specs.List.{list_any};
+ghost use Rattle.import_rules.specs.Chained.{AreChained};
+ghost use Rattle.import_rules.specs.declared.resolve.TheConstants.{MOST_PREDICATES};
+ghost use Rattle.import_rules.specs.Names.{is_same, pred_name};
+ghost use Rattle.import_rules.specs.NameTable.{name_hash};
+ghost use Rattle.import_rules.specs.Parts.{name_of_places, names_at};
+
+use crate::name_table::{bucket_of, name_hash};
+use crate::places::Places;
+use module_table::FileFacts;
+use std::alloc::{AllocError, Global};
+use std::marker::Model;
+
+/// What stands beside a predicate: the hash of its name, and one more than the number of the predicate
+/// before it in its bucket; 0 where there is none.
+#[derive(Clone, Copy)]
+struct Link {
+    hash: u32,
+    next: u32,
+}
+
+/// Predicates in chains, one for each bucket of a hash. Their names aren't kept here: they stand in
+/// the files.
+#[derive(Drop)]
+pub(crate) struct Chains {
+    /// For each bucket one more than the number of its last predicate; 0 where it has none.
+    heads: Vec<u32>,
+    links: Vec<Link>,
+}
+
+/// The predicates of files, each by the places at which it is defined.
+#[derive(Drop)]
+pub(crate) struct Predicates<'a> {
+    pub(crate) files: &'a [FileFacts],
+    pub(crate) places: &'a [Places],
+    pub(crate) chains: &'a Chains,
+}
+
+impl<'a> Model for Predicates<'a> {
+    ghost use Rattle.std.specs.Prelude.{List};
+    ghost use Rattle.import_rules.specs.declared.names.PredName.{PredName};
+    ghost use Rattle.import_rules.specs.Chained.{AreChained};
+    ghost use Rattle.import_rules.specs.Parts.{names_at};
+
+    ghost Value = { List PredName };
+
+    ghost view = { λ p. names_at p.files.now p.places.now };
+
+    ghost invariant = { λ p. AreChained (names_at p.files.now p.places.now) p.chains.now };
+}
+
+/// The hashes of the names of predicates.
+fn hashes_of(
+    alloc: Global,
+    files: &[FileFacts],
+    predicates: &[Places],
+) -> Result<Vec<u32>, AllocError>
+    ensures { IfOk result (λ hashes. hashes.items ≡ map name_hash (names_at files.now predicates.now)) }
+{
+    let mut hashes = Vec::with_capacity(alloc, predicates.len())?;
+    for places in predicates {
+        let own = places.name(files);
+        hashes.push(name_hash(own.module, own.name, own.arity))?;
+    }
+    Ok(hashes)
+}
+
+/// Whether it is the predicate of that name and hash. `kept` is the hash of its own name: where it is
+/// another one, that isn't read.
+fn is_named(
+    files: &[FileFacts],
+    places: &Places,
+    kept: u32,
+    module: &str,
+    name: &str,
+    arity: u32,
+    hash: u32,
+) -> bool
+    requires kept { kept ≡ name_hash (name_of_places files.now places.now) }
+    requires wanted { hash ≡ name_hash (pred_name module.now name.now arity) }
+    ensures { result ≡ is_same (pred_name module.now name.now arity) (name_of_places files.now places.now) }
+{
+    if kept != hash {
+        return false;
+    }
+    places.are_named(files, module, name, arity)
+}
+
+impl Chains {
+    /// The chains of these predicates. Their hashes are found first, since a processor that has no texts
+    /// to read between two buckets looks many of them up at once.
+    pub(crate) fn make(
+        alloc: Global,
+        files: &[FileFacts],
+        predicates: &[Places],
+    ) -> Result<Chains, AllocError>
+        requires { length predicates.now ≤ MOST_PREDICATES }
+        ensures { IfOk result (AreChained (names_at files.now predicates.now)) }
+    {
+        let size = predicates.len().max(1);
+        let mut heads = vec![in alloc; 0u32; size]?;
+        let mut links = Vec::with_capacity(alloc, predicates.len())?;
+        let hashes = hashes_of(alloc, files, predicates)?;
+        for hash in &hashes {
+            let bucket = bucket_of(*hash, size);
+            links.push(Link {
+                hash: *hash,
+                next: heads[bucket],
+            })?;
+            heads[bucket] = links.len() as u32;
+        }
+        Ok(Chains { heads, links })
+    }
+}
+
+impl<'a> Predicates<'a> {
+    /// How many predicates there are.
+    pub(crate) fn len(&self) -> usize
+        ensures { result ≡ length self.now }
+    {
+        self.places.len()
+    }
+
+    /// The number of the predicate of that name.
+    pub(crate) fn find(&self, module: &str, name: &str, arity: u32) -> Option<u32>
+        ensures is { MatchOption result
+            (list_any (is_same (pred_name module.now name.now arity)) self.now ≡ false)
+            (λ n. slice_get self.now n ≡ Some (pred_name module.now name.now arity)) }
+        ensures below { IfSome result (λ n. n < length self.now) }
+    {
+        self.find_hashed(module, name, arity, name_hash(module, name, arity))
+    }
+
+    /// The number of the predicate of that name and hash.
+    pub(crate) fn find_hashed(&self, module: &str, name: &str, arity: u32, hash: u32) -> Option<u32>
+        requires { hash ≡ name_hash (pred_name module.now name.now arity) }
+        ensures is { MatchOption result
+            (list_any (is_same (pred_name module.now name.now arity)) self.now ≡ false)
+            (λ n. slice_get self.now n ≡ Some (pred_name module.now name.now arity)) }
+        ensures below { IfSome result (λ n. n < length self.now) }
+    {
+        let mut at = self.chains.heads[bucket_of(hash, self.chains.heads.len())];
+        while at > 0 {
+            let node = at - 1;
+            let link = self.chains.links[node as usize];
+            let places = &self.places[node as usize];
+            if is_named(self.files, places, link.hash, module, name, arity, hash) {
+                return Some(node);
+            }
+            at = link.next;
+        }
+        None
+    }
+}
