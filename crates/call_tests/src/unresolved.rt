@@ -2,7 +2,7 @@
 
 use call_edges::{GoalStop, check_goals, roots_of, unresolved_of};
 use file_library::{Fault, MemoryLibrary, load_all};
-use import_rules::{ImportStop, PredName, Program, resolve_all};
+use import_rules::{ImportStop, NameView, Program, resolve_all};
 use prolog_tokens::Text;
 use std::alloc::{AllocError, Global};
 use std::collections::BTreeMap;
@@ -164,8 +164,8 @@ static DECLARED: [Row; 17] = [
 ];
 
 /// Adds the name behind a space.
-fn push_name(alloc: Global, out: &mut String, name: &PredName) -> Result<(), AllocError> {
-    let (owner, own) = (name.module.as_str(), name.name.as_str());
+fn push_name(alloc: Global, out: &mut String, name: NameView<'_>) -> Result<(), AllocError> {
+    let (owner, own) = (name.module, name.name);
     let arity = name.arity;
     let text = format!(in alloc; " {owner}:{own}/{arity}")?;
     out.push_str(&text)
@@ -178,7 +178,7 @@ fn push_unresolved(alloc: Global, out: &mut String, program: &Program) -> Result
         push_name(alloc, &mut line, program.name_of(node))?;
         line.push_str(":")?;
         for name in &unresolved_of(alloc, program, node)? {
-            push_name(alloc, &mut line, name)?;
+            push_name(alloc, &mut line, name.view())?;
         }
         out.push_str(line.trim_start())?;
         out.push_str("\n")?;

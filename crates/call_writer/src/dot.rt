@@ -5,10 +5,11 @@ ghost use Rattle.std.specs.List.{flat_map};
 ghost use Rattle.std.specs.String.{string_bytes};
 ghost use Rattle.call_writer.specs.Dot.{cluster, cluster_head, dot_char, dot_text, edge_line, label, node_line_of};
 ghost use Rattle.graph_law.specs.Classes.{least_member};
+ghost use Rattle.import_rules.specs.Parts.{see_name};
 ghost use Rattle.import_rules.specs.Program.{see_program};
 
 use crate::json::push_number;
-use import_rules::{PredName, Program};
+use import_rules::{NameView, Program};
 use std::alloc::AllocError;
 
 /// Adds a character of a quoted label.
@@ -38,12 +39,12 @@ fn push_dot_text(text: &mut String, name: &str) -> Result<(), AllocError>
 }
 
 /// Adds `MODULE:NAME/ARITY`.
-fn push_label(text: &mut String, name: &PredName) -> Result<(), AllocError>
-    ensures { OnOk result (string_bytes text.new ≡ string_bytes text.old ++ label name.now) }
+fn push_label(text: &mut String, name: NameView<'_>) -> Result<(), AllocError>
+    ensures { OnOk result (string_bytes text.new ≡ string_bytes text.old ++ label (see_name name.entry)) }
 {
-    push_dot_text(text, name.module.as_str())?;
+    push_dot_text(text, name.module)?;
     text.push_str(":")?;
-    push_dot_text(text, name.name.as_str())?;
+    push_dot_text(text, name.name)?;
     text.push_str("/")?;
     push_number(text, u64::from(name.arity))
 }

@@ -11,6 +11,7 @@ ghost use Rattle.call_writer.specs.Lines.{spot_fields, truth};
 ghost use Rattle.graph_law.specs.Classes.{group_at, least_member};
 ghost use Rattle.graph_law.specs.Graph.{lists_of};
 ghost use Rattle.import_rules.specs.Names.{pred_name};
+ghost use Rattle.import_rules.specs.Parts.{see_name};
 ghost use Rattle.import_rules.specs.Program.{found, see_program};
 
 use crate::json::{push_inner, push_json_string, push_number};
@@ -18,7 +19,7 @@ use crate::last::{Last, LastFile, LastModule};
 use call_edges::PlacedCall;
 use call_table::ClauseAt;
 use group_release::Level;
-use import_rules::{PredName, Program};
+use import_rules::{NameView, Program};
 use prolog_tokens::Place;
 use std::alloc::{AllocError, Global};
 
@@ -276,13 +277,13 @@ fn push_group(
 }
 
 /// Adds the beginning of the line of a predicate: what kind of line it is, its number and its name.
-fn push_predicate_head(text: &mut String, node: u32, name: &PredName) -> Result<(), AllocError>
-    ensures { OnOk result (string_bytes text.new ≡ string_bytes text.old ++ predicate_head node name.now) }
+fn push_predicate_head(text: &mut String, node: u32, name: NameView<'_>) -> Result<(), AllocError>
+    ensures { OnOk result (string_bytes text.new ≡ string_bytes text.old ++ predicate_head node (see_name name.entry)) }
 {
     text.push_str("{\"is\":\"predicate\",\"id\":")?;
     push_number(text, u64::from(node))?;
     text.push_str(",")?;
-    push_name(text, name.module.as_str(), name.name.as_str(), name.arity)?;
+    push_name(text, name.module, name.name, name.arity)?;
     Ok(())
 }
 
@@ -292,13 +293,13 @@ fn push_named(
     groups: &[Vec<u32>],
     levels: &[Level],
     node: u32,
-    name: &PredName,
+    name: NameView<'_>,
     place: usize,
 ) -> Result<(), AllocError>
     requires one_level_each { length levels.now ≡ length groups.now }
     requires inhabited { All (λ members. 0 < length members) (lists_of groups.now) }
     requires within { place ≤ length groups.now }
-    ensures { OnOk result (string_bytes text.new ≡ string_bytes text.old ++ predicate_line (lists_of groups.now) levels.now node name.now place) }
+    ensures { OnOk result (string_bytes text.new ≡ string_bytes text.old ++ predicate_line (lists_of groups.now) levels.now node (see_name name.entry) place) }
 {
     push_predicate_head(text, node, name)?;
     text.push_str(",")?;

@@ -6,7 +6,6 @@ ghost use Rattle.std.specs.String.{string_bytes};
 ghost use Rattle.loop_report.specs.Names.{module_text};
 
 use crate::spelled::push_atom;
-use prolog_tokens::Text;
 use std::alloc::{AllocError, Global};
 
 /// The module of the last name of a line, and what stands there before a name of that module. Names
@@ -14,7 +13,7 @@ use std::alloc::{AllocError, Global};
 #[derive(Drop)]
 pub(crate) struct LastModule<'a> {
     /// None before the first name.
-    module: Option<&'a Text>,
+    module: Option<&'a str>,
     /// A space, the module as it is spelled, and a colon.
     pub(crate) text: String,
     ghost spelled: { (last : Bor (List ℕ)) → «module» ≡ Some last → string_bytes text ≡ module_text last.now },
@@ -30,7 +29,7 @@ impl<'a> LastModule<'a> {
     }
 
     /// Makes this the last module, and spells it where it wasn't that before.
-    pub(crate) fn take(&mut self, module: &'a Text) -> Result<(), AllocError>
+    pub(crate) fn take(&mut self, module: &'a str) -> Result<(), AllocError>
         ensures { OnOk result (string_bytes self.new.text ≡ module_text «module».now) }
     {
         if let Some(last) = self.module {
@@ -41,7 +40,7 @@ impl<'a> LastModule<'a> {
         self.module = None;
         self.text.clear();
         self.text.push_str(" ")?;
-        push_atom(&mut self.text, module.as_str())?;
+        push_atom(&mut self.text, module)?;
         self.text.push_str(":")?;
         self.module = Some(module);
         Ok(())

@@ -1,12 +1,13 @@
 ghost use Rattle.std.specs.Prelude.{◌≡◌, ◌<◌, ◌+◌, ◌++◌, IfOk, OnOk, codes, length};
 ghost use Rattle.std.specs.Fmt.{decimal};
 ghost use Rattle.std.specs.String.{string_bytes};
+ghost use Rattle.import_rules.specs.Parts.{see_name};
 ghost use Rattle.import_rules.specs.Program.{see_program};
 ghost use Rattle.loop_report.specs.Names.{member_name, name_text, own_text};
 
 use crate::last_module::LastModule;
 use crate::spelled::push_atom;
-use import_rules::{PredName, Program};
+use import_rules::{NameView, PredName, Program};
 use std::alloc::{AllocError, Global};
 
 /// The decimal digit of a number below 10.
@@ -48,11 +49,11 @@ fn short_arity(arity: u32) -> &'static str
 }
 
 /// Adds the name without its module.
-fn push_own(text: &mut String, predicate: &PredName) -> Result<(), AllocError>
+fn push_own(text: &mut String, predicate: NameView<'_>) -> Result<(), AllocError>
     ensures { OnOk result (string_bytes text.new
-        ≡ string_bytes text.old ++ own_text predicate.now) }
+        ≡ string_bytes text.old ++ own_text (see_name predicate.entry)) }
 {
-    push_atom(text, predicate.name.as_str())?;
+    push_atom(text, predicate.name)?;
     if predicate.arity < 10 {
         return text.push_str(short_arity(predicate.arity));
     }
@@ -60,11 +61,11 @@ fn push_own(text: &mut String, predicate: &PredName) -> Result<(), AllocError>
     push_number(text, u64::from(predicate.arity))
 }
 
-fn push_name(text: &mut String, predicate: &PredName) -> Result<(), AllocError>
+fn push_name(text: &mut String, predicate: NameView<'_>) -> Result<(), AllocError>
     ensures { OnOk result (string_bytes text.new
-        ≡ string_bytes text.old ++ name_text predicate.now) }
+        ≡ string_bytes text.old ++ name_text (see_name predicate.entry)) }
 {
-    push_atom(text, predicate.module.as_str())?;
+    push_atom(text, predicate.module)?;
     text.push_str(":")?;
     push_own(text, predicate)
 }
@@ -75,7 +76,7 @@ pub fn predicate_name(alloc: Global, predicate: &PredName) -> Result<String, All
     ensures { IfOk result (λ text. string_bytes text ≡ name_text predicate.now) }
 {
     let mut text = String::new(alloc);
-    push_name(&mut text, predicate)?;
+    push_name(&mut text, predicate.view())?;
     Ok(text)
 }
 
@@ -92,7 +93,7 @@ pub(crate) fn push_member<'a>(
         ≡ string_bytes text.old ++ member_name (see_program program.now).predicates member) }
 {
     let predicate = program.name_of(member);
-    last.take(&predicate.module)?;
+    last.take(predicate.module)?;
     text.push_str(last.text.as_str())?;
     push_own(text, predicate)
 }

@@ -1,7 +1,7 @@
 use Rattle.std.proofs.Common.{◌++◌, ap, ◌∙◌, codes}
 use Rattle.std.specs.Fmt.{decimal}
 use Rattle.std.specs.String.{string_bytes}
-use Rattle.import_rules.specs.Names.{pred_name}
+use Rattle.import_rules.specs.Parts.{see_name}
 use Rattle.call_writer.specs.Lines.{name_fields}
 use Rattle.call_writer.proofs.Appended.{four}
 use Rattle.call_writer.proofs.lines.push_predicate_head.Goals as goal
@@ -9,8 +9,7 @@ use Rattle.call_writer.proofs.lines.push_predicate_head.Goals as goal
 pub returns : goal.returns
 returns c =
     four (string_bytes c.args.text.now) (string_bytes c.push_str.new.self) (string_bytes c.push_number.new.text) (string_bytes c.push_str-2.new.self)
-    (string_bytes c.push_name.new.text) (codes "{\"is\":\"predicate\",\"id\":") (decimal c.args.node) (codes ",") (name_fields c.args.name.now)
+    (string_bytes c.push_name.new.text) (codes "{\"is\":\"predicate\",\"id\":") (decimal c.args.node) (codes ",") (name_fields (see_name c.args.name))
     c.in_ok-push_str.ensures.bytes (c.in_ok-push_number.ensures ∙ ap (λ n. string_bytes c.push_str.new.self ++ decimal n) c.from.ensures)
     c.in_ok-push_str-2.ensures.bytes
-    (c.in_ok-push_name.ensures
-    ∙ (λ i. string_bytes c.push_str-2.new.self ++ name_fields (pred_name (c.as_str.ensures i) (c.as_str-2.ensures i) c.args.name.now.arity)))
+    c.in_ok-push_name.ensures
