@@ -32,7 +32,7 @@ mod word;
 pub use binary_term::Binary;
 pub use laws::{clause_depths, clause_weights, one_clause};
 pub use node_list::NodeList;
-pub use reader::{DEEPEST, ReadFault, read_clause};
+pub use reader::{DEEPEST, ReadFault, read_clause, read_onto};
 pub use term::{ConstKind, Form, Parts, Span, Term, TermKind};
 pub use views::{
     atom_name, atom_number, binary, inside, name_and_arity, number_and_arity, sides, start_of,

@@ -1,7 +1,7 @@
 ghost use Rattle.std.specs.Prelude.{◌≡◌};
 ghost use Rattle.prolog_terms.specs.Forest.{taken};
 
-use crate::term::{ConstKind, Form, Span};
+use crate::term::{ConstKind, Form, NO_SPAN, Span};
 
 /// What a term is, with the number of its name. It stands behind its parts: the `count` arguments of
 /// a compound, the `count` items of a list and then its tail, the term in brackets.
@@ -39,6 +39,13 @@ pub struct Node {
     pub span: Span,
     pub size: usize,
 }
+
+/// The node of a term where there is none: a variable at 0.
+pub const NO_NODE: Node = Node {
+    shape: Shape::Var,
+    span: NO_SPAN,
+    size: 1,
+};
 
 /// How many of the terms before it are parts of a node.
 #[inline(always)]

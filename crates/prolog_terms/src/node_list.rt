@@ -1,30 +1,35 @@
 //! Terms as one list of nodes, each behind its parts.
 
 ghost use Rattle.std.specs.Prelude.{◌≡◌, ◌≤◌, ◌<◌, ◌∷◌, ◌++◌, [], ℕ, List, Some, IfOk, OnOk, length, take, slice_get, MatchOption};
+ghost use Rattle.prolog_terms.specs.declared.node.Node.{Node as NodeOf};
 ghost use Rattle.prolog_terms.specs.Forest.{before_last, forest, last_of, node_tree, taken, without};
+ghost use Rattle.prolog_terms.specs.Sized.{filled};
+ghost use Rattle.prolog_terms.specs.Terms.{root_tree};
 ghost use Rattle.prolog_terms.specs.Views.{inside};
 
-use crate::node::{Node, Shape, taken};
+use crate::node::{NO_NODE, Node, Shape, taken};
 use crate::term::Span;
 use std::alloc::{AllocError, Global};
 use std::marker::Model;
 
-/// Nodes, each behind its parts and with its size.
+/// Nodes, each behind its parts and with its size, and how many terms stand side by side in them. No
+/// term takes parts from what would stand before the nodes.
 #[derive(Drop)]
 pub struct NodeList {
     list: Vec<Node>,
+    terms: usize,
 }
 
 impl Model for NodeList {
     ghost use Rattle.std.specs.Prelude.{List};
     ghost use Rattle.prolog_terms.specs.declared.node.Node.{Node};
-    ghost use Rattle.prolog_terms.specs.Sized.{IsSized};
+    ghost use Rattle.prolog_terms.specs.Sized.{AreTerms};
 
     ghost Value = { List Node };
 
     ghost view = { λ nodes. nodes.list.items };
 
-    ghost invariant = { λ nodes. IsSized nodes.list.items };
+    ghost invariant = { λ nodes. AreTerms nodes.list.items nodes.terms };
 }
 
 /// The node at a place.
@@ -42,6 +47,7 @@ impl NodeList {
     {
         NodeList {
             list: Vec::new(alloc),
+            terms: 0,
         }
     }
 
@@ -56,6 +62,7 @@ impl NodeList {
         ensures { self.new ≡ [] }
     {
         self.list.clear();
+        self.terms = 0;
     }
 
     /// The last of so many nodes, and how many stand before it.
@@ -121,25 +128,71 @@ impl NodeList {
         at
     }
 
+    /// How many terms stand side by side.
+    #[inline(always)]
+    fn terms(&self) -> usize
+        ensures { (names : List (List ℕ)) → result ≡ length (forest names self.now) }
+    {
+        self.terms
+    }
+
+    /// Puts a variable at 0 before all nodes.
+    fn put_first(&mut self) -> Result<(), AllocError>
+        ensures { OnOk result ((names : List (List ℕ)) → forest names self.new ≡ forest names self.old ++ last_of [] ∷ []) }
+    {
+        self.list.insert(0, NO_NODE)?;
+        self.terms += 1;
+        Ok(())
+    }
+
+    /// Puts variables at 0 before all nodes, which missing terms are, until there are so many terms.
+    #[inline(always)]
+    fn fill(&mut self, count: usize) -> Result<(), AllocError>
+        ensures trees { OnOk result ((names : List (List ℕ)) → forest names self.new ≡ filled count (forest names self.old)) }
+        ensures some { OnOk result ((names : List (List ℕ)) → count ≤ length (forest names self.new)) }
+    {
+        while self.terms() < count {
+            self.put_first()?;
+        }
+        Ok(())
+    }
+
     /// Adds a node of this shape behind its parts.
     #[inline(always)]
     pub(crate) fn lay(&mut self, shape: Shape, span: Span) -> Result<(), AllocError>
         ensures { OnOk result ((names : List (List ℕ)) → forest names self.new
             ≡ node_tree names shape span (forest names self.old) ∷ without (taken shape) (forest names self.old)) }
     {
+        let count = taken(shape);
+        self.fill(count)?;
         let end = self.list.len();
-        let from = self.before_many(end, taken(shape));
+        let from = self.before_many(end, count);
         let size = end - from + 1;
         self.list.push(Node { shape, span, size })?;
+        self.terms = self.terms - count + 1;
+        Ok(())
+    }
+
+    /// Adds other nodes, of which there is at least one then: the last of them is the last of all.
+    pub(crate) fn append(&mut self, others: &mut NodeList) -> Result<(), AllocError>
+        ensures more { (more : List NodeOf) × (self.new ≡ self.old ++ more) }
+        ensures root { OnOk result ((names : List (List ℕ)) → root_tree names self.new ≡ root_tree names others.old) }
+    {
+        others.fill(1)?;
+        self.list.extend_from_slice(&others.list)?;
+        self.terms += others.terms;
         Ok(())
     }
 
     /// The same nodes in just their room.
-    pub(crate) fn copied(&self, alloc: Global) -> Result<NodeList, AllocError>
+    pub fn copied(&self, alloc: Global) -> Result<NodeList, AllocError>
         ensures { IfOk result (λ copy. copy ≡ self.now) }
     {
         let mut list = Vec::with_capacity(alloc, self.list.len())?;
         list.extend_from_slice(&self.list)?;
-        Ok(NodeList { list })
+        Ok(NodeList {
+            list,
+            terms: self.terms,
+        })
     }
 }

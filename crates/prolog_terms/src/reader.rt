@@ -1,7 +1,8 @@
-ghost use Rattle.std.specs.Prelude.{◌≡◌, ◌≢◌, ◌≤◌, length, IfOk, IfErr};
+ghost use Rattle.std.specs.Prelude.{◌≡◌, ◌≢◌, ◌≤◌, ◌++◌, List, length, IfOk, IfErr, OnOk};
 ghost use Rattle.prolog_tokens.specs.declared.limits.TheConstants.{MOST_BYTES};
 ghost use Rattle.prolog_names.specs.Numbers.{AreNumbered};
 ghost use Rattle.prolog_ops.specs.Table.{ops_of};
+ghost use Rattle.prolog_terms.specs.declared.node.Node.{Node as NodeOf};
 ghost use Rattle.prolog_terms.specs.declared.reader.ReadFault.TheVariants.{NoMemory};
 ghost use Rattle.prolog_terms.specs.ReaderSeen.{is_finished};
 ghost use Rattle.prolog_terms.specs.StackSeen.{Names as NamesSeen, see_reader};
@@ -73,6 +74,78 @@ fn is_finished(reader: &Reader) -> bool
     }
 }
 
+/// Reads the tokens as one clause and its End. The clause is the last of the reader's nodes.
+fn read_nodes(
+    reader: &mut Reader,
+    table: &OpTable,
+    names: &Names,
+    text: &str,
+    tokens: &[Token],
+    numbers: &[u32],
+) -> Result<(), ReadFault>
+    requires small { length text.now ≤ MOST_BYTES }
+    requires part { ArePart text.now tokens.now }
+    requires clause { IsOneClause tokens.now }
+    requires numbered { AreNumbered text.now names.now tokens.now numbers.now }
+    ensures ok { OnOk result (IsClauseOf (table_of (ops_of table.now)) text.now tokens.now (root_tree names.now reader.new.state.nodes)) }
+    ensures only { OnOk result ((other : Tree) → IsClauseOf (table_of (ops_of table.now)) text.now tokens.now other
+        → other ≡ root_tree names.now reader.new.state.nodes) }
+    ensures none { IfErr result (λ fault. fault ≢ ReadFault.NoMemory → (other : Tree)
+        → IsClauseOf (table_of (ops_of table.now)) text.now tokens.now other → ⊥) }
+    ensures only_fault { IfErr result (λ fault. fault ≢ ReadFault.NoMemory → (other : ReadFault)
+        → IsReadFault (table_of (ops_of table.now)) text.now tokens.now other → other ≡ fault) }
+    ensures fault { IfErr result (λ fault. fault ≢ ReadFault.NoMemory → IsReadFault (table_of (ops_of table.now)) text.now tokens.now fault) }
+{
+    table_law(table);
+    reader.begin();
+    for (at, token) in tokens.iter().enumerate() {
+        let word = word_of(names, text, *token, numbers[at]);
+        if !feed(table, names, reader, word)? {
+            return Err(ReadFault::Stuck(token.start));
+        }
+        if waiting_floor(reader) > DEEPEST {
+            return Err(ReadFault::TooDeep(token.start));
+        }
+    }
+    if !is_finished(reader) {
+        return Err(no_end(text));
+    }
+    Ok(())
+}
+
+/// Reads the tokens as `read_clause` does, and adds the nodes of the clause, which is the last of all
+/// nodes then. The earlier ones stay as they are.
+pub fn read_onto(
+    reader: &mut Reader,
+    table: &OpTable,
+    names: &Names,
+    text: &str,
+    tokens: &[Token],
+    numbers: &[u32],
+    nodes: &mut NodeList,
+) -> Result<(), ReadFault>
+    requires small { length text.now ≤ MOST_BYTES }
+    requires part { ArePart text.now tokens.now }
+    requires clause { IsOneClause tokens.now }
+    requires numbered { AreNumbered text.now names.now tokens.now numbers.now }
+    ensures more { (more : List NodeOf) × (nodes.new ≡ nodes.old ++ more) }
+    ensures ok { OnOk result (IsClauseOf (table_of (ops_of table.now)) text.now tokens.now (root_tree names.now nodes.new)) }
+    ensures only { OnOk result ((other : Tree) → IsClauseOf (table_of (ops_of table.now)) text.now tokens.now other
+        → other ≡ root_tree names.now nodes.new) }
+    ensures none { IfErr result (λ fault. fault ≢ ReadFault.NoMemory → (other : Tree)
+        → IsClauseOf (table_of (ops_of table.now)) text.now tokens.now other → ⊥) }
+    ensures only_fault { IfErr result (λ fault. fault ≢ ReadFault.NoMemory → (other : ReadFault)
+        → IsReadFault (table_of (ops_of table.now)) text.now tokens.now other → other ≡ fault) }
+    ensures fault { IfErr result (λ fault. fault ≢ ReadFault.NoMemory → IsReadFault (table_of (ops_of table.now)) text.now tokens.now fault) }
+{
+    match read_nodes(reader, table, names, text, tokens, numbers) {
+        Ok(()) => {}
+        Err(fault) => return Err(fault),
+    }
+    nodes.append(&mut reader.state.nodes)?;
+    Ok(())
+}
+
 /// Reads the tokens, a part of those of the text of at most 8,388,608 bytes, as one clause and its
 /// End (ISO/IEC 13211-1, 6.3). With each token comes the number of its name. The clause is the last of
 /// the nodes. What the reader has read before doesn't matter.
@@ -98,20 +171,9 @@ pub fn read_clause(
         → IsReadFault (table_of (ops_of table.now)) text.now tokens.now other → other ≡ fault) }
     ensures fault { IfErr result (λ fault. fault ≢ ReadFault.NoMemory → IsReadFault (table_of (ops_of table.now)) text.now tokens.now fault) }
 {
-    table_law(table);
-    reader.begin();
-    for (at, token) in tokens.iter().enumerate() {
-        let word = word_of(names, text, *token, numbers[at]);
-        if !feed(table, names, reader, word)? {
-            return Err(ReadFault::Stuck(token.start));
-        }
-        if waiting_floor(reader) > DEEPEST {
-            return Err(ReadFault::TooDeep(token.start));
-        }
+    let mut nodes = NodeList::new(alloc);
+    match read_onto(reader, table, names, text, tokens, numbers, &mut nodes) {
+        Ok(()) => Ok(nodes),
+        Err(fault) => Err(fault),
     }
-    if !is_finished(reader) {
-        return Err(no_end(text));
-    }
-    let clause = reader.state.nodes.copied(alloc)?;
-    Ok(clause)
 }

@@ -5,7 +5,7 @@ ghost use Rattle.prolog_terms.specs.Tree.{count, span_of};
 ghost use Rattle.prolog_terms.specs.Views.{trees_in, only_of, pair_of, triple_of};
 ghost use Rattle.prolog_terms.specs.Terms.{kind_tree, parts_in, root_tree, tree_in, tree_of, trees_of, IsNodeOf, IsOf, IsPartsOf, AreOf};
 
-use crate::node::{Node, Shape};
+use crate::node::{NO_NODE, Node, Shape};
 use crate::node_list::NodeList;
 use prolog_names::Names;
 use std::alloc::{AllocError, Global};
@@ -89,13 +89,6 @@ pub enum TermKind<'a> {
         inner: Term<'a>,
     },
 }
-
-/// The node of a term where there are none.
-const NO_NODE: Node = Node {
-    shape: Shape::Var,
-    span: NO_SPAN,
-    size: 0,
-};
 
 impl<'a> Term<'a> {
     /// The term of the last node.

@@ -12,7 +12,7 @@ use Rattle.prolog_terms.proofs.PartsMade.{part_spelled, part_few}
 use Rattle.prolog_terms.proofs.ReaderFinished.{finished_with}
 use Rattle.prolog_terms.proofs.ReaderTables.{table_is}
 use Rattle.prolog_terms.proofs.ReadClause.{HasRead, read_nothing, read_more, front_is, stuck, deep, finished_read, unfinished_read}
-use Rattle.prolog_terms.proofs.reader.read_clause.Goals as goal
+use Rattle.prolog_terms.proofs.reader.read_nodes.Goals as goal
 
 -- what stands for a token past the end of a list
 abbrev blank : Token
@@ -130,8 +130,8 @@ returns-clause-ok c =
     let names = c.args.names.now in
     let done = finished_with names (innermost reader.state.stack) (trees_in names reader.state) reader.state.mode reader.state.operand reader.waiting reader.waited (sym (c.is_finished.ensures names) ∙ c.if-not-is_finished.false) in
     (finished_read (table_of (ops_of c.args.table.now)) (table_is (ops_of c.args.table.now) c.table_law.ensures) c.args.text.now c.args.tokens.now c.loop-at.at
-    (see_reader names reader) done.stack done.operand (root_tree names c.in_ok-clause.clause) c.loop-at-test.false c.loop-at.invariant done.is
-    (done.tree_is ∙ sym (ap (root_tree names) c.in_ok-clause.ensures))).is
+    (see_reader names reader) done.stack done.operand (root_tree names reader.state.nodes) c.loop-at-test.false c.loop-at.invariant done.is
+    done.tree_is).is
 
 pub returns-clause-only : goal.returns-clause-only
 returns-clause-only c =
@@ -139,5 +139,5 @@ returns-clause-only c =
     let names = c.args.names.now in
     let done = finished_with names (innermost reader.state.stack) (trees_in names reader.state) reader.state.mode reader.state.operand reader.waiting reader.waited (sym (c.is_finished.ensures names) ∙ c.if-not-is_finished.false) in
     (finished_read (table_of (ops_of c.args.table.now)) (table_is (ops_of c.args.table.now) c.table_law.ensures) c.args.text.now c.args.tokens.now c.loop-at.at
-    (see_reader names reader) done.stack done.operand (root_tree names c.in_ok-clause.clause) c.loop-at-test.false c.loop-at.invariant done.is
-    (done.tree_is ∙ sym (ap (root_tree names) c.in_ok-clause.ensures))).only
+    (see_reader names reader) done.stack done.operand (root_tree names reader.state.nodes) c.loop-at-test.false c.loop-at.invariant done.is
+    done.tree_is).only
