@@ -15,6 +15,8 @@ use Rattle.prolog_terms.specs.Tree.{Tree, variable, constant, atom, compound, li
 use Rattle.clause_text.specs.declared.cause.Cause.TheVariants.{BadPriority, BadKind, BadName, FixedOp, InfixAndPostfix}
 use Rattle.clause_text.specs.declared.fault.TextFault.TheVariants.{At}
 use Rattle.clause_text.specs.Items.{Item, items_of, item_on, has_some}
+use Rattle.std.specs.Arc.{arc_with_value}
+use Rattle.clause_text.specs.declared.text_clauses.Clause.{Clause}
 use Rattle.clause_text.specs.Clauses.{clause_trees, total_weight}
 use Rattle.clause_text.specs.Offsets.{HasOffsets}
 use Rattle.clause_text.specs.Pieces.{IsBehindClause, AreStretches}
@@ -38,10 +40,16 @@ word name from = atom name (at from)
 abbrev node : Shape → ℕ → ℕ → Node
 node shape from size = record { shape = shape; span = at from; size = size }
 
-clauses_there : clause_trees ([] ∷ codes "p" ∷ codes "q" ∷ [])
-    (record { nodes = node (shape.Atom 1) 0 1 ∷ [] } ∷ record { nodes = node shape.Var 5 1 ∷ node (shape.Compound 2 1 Functional) 3 2 ∷ [] } ∷ [])
+abbrev both_clauses : List Node
+both_clauses = node (shape.Atom 1) 0 1 ∷ node shape.Var 5 1 ∷ node (shape.Compound 2 1 Functional) 3 2 ∷ []
+
+-- one of them up to its end, whatever points at them
+abbrev ends_at : Clause → ℕ → Clause
+ends_at any end = record { nodes = arc_with_value any.nodes both_clauses; end = end }
+
+clauses_there : (any : Clause) → clause_trees ([] ∷ codes "p" ∷ codes "q" ∷ []) (ends_at any 1 ∷ ends_at any 3 ∷ [])
     ≡ word (codes "p") 0 ∷ compound (codes "q") (more (variable (at 5)) none) Functional (at 3) ∷ []
-clauses_there = refl
+clauses_there any = refl
 
 -- `:- op(700, xfx, eq)`, and `?-` and brackets alike
 law_1 : items_of (compound (codes ":-") (more (op (number 700 6) (word (codes "xfx") 11) (word (codes "eq") 16)) none) Prefix (at 0))

@@ -1,12 +1,16 @@
 -- Stretches of tokens, and the pieces that they are read as.
-use Rattle.std.proofs.Common.{◌≡◌, ℕ, ◌-◌, ◌<◌, ◌≤◌, List, [], ◌∷◌, ◌++◌, Result, Ok, Err, IfOk, false, sym, subst, refl, inl, inr, arith}
-use Rattle.std.specs.Prelude.{Contains, MatchResult, map}
+use Rattle.std.proofs.Common.{◌≡◌, ℕ, ◌+◌, ◌-◌, ◌<◌, ◌≤◌, List, [], ◌∷◌, ◌++◌, Result, Ok, Err, IfOk, false, sym, subst, refl, inl, inr, arith, ap, ◌∙◌, length, length-append, map}
+use Rattle.std.specs.Prelude.{Contains, MatchResult}
 use Rattle.std.specs.declared.alloc.AllocError.{AllocError}
 use Rattle.std.specs.List.{All, AllZip}
-use Rattle.std.proofs.lemmas.List.Elements.{All-nil, All-cons, All-head, All-tail}
+use Rattle.std.proofs.lemmas.List.{map-append, take-append-le, take_all}
+use Rattle.std.proofs.lemmas.List.Elements.{All-nil, All-cons, All-head, All-tail, All-push, All-weaker}
 use Rattle.std.proofs.lemmas.Bool.{cases_lt}
 use Rattle.prolog_tokens.specs.declared.token.Token.{Token}
 use Rattle.prolog_ops.specs.Table.{Ops}
+use Rattle.prolog_terms.specs.declared.node.Node.{Node}
+use Rattle.prolog_terms.specs.Forest.{forest, last_of}
+use Rattle.prolog_terms.specs.Terms.{root_tree, tree_in}
 use Rattle.clause_text.specs.declared.piece.Stretch.{Stretch}
 use Rattle.clause_text.specs.declared.piece.Piece.{Piece}
 use Rattle.clause_text.specs.Items.{Item, has_some, items_on}
@@ -69,3 +73,35 @@ pub all_of_ok : {Y V : Type 0} (items : V → List Y) (P : Y → Type 0) (each :
     → MatchResult result (λ v. (ys : List Y) × (each ≡ map (λ y. Ok y) ys) × (items v ≡ ys)) (λ e. Contains each (Err e)) → IfOk result (λ v. All P (items v))
 all_of_ok items P each (Ok v) all is = subst (All P) (sym is.2) (oks P is.0 (subst (All (λ one. IfOk one P)) is.1 all))
 all_of_ok items P each (Err e) all is = tt
+
+-- nodes behind others change no clause that ends within these
+
+trees_kept : (names : List (List ℕ)) (nodes more : List Node) (ends : List ℕ) → All (λ end. end ≤ length nodes) ends → map (tree_in names (nodes ++ more)) ends ≡ map (tree_in names nodes) ends
+trees_kept names nodes more [] all = refl
+trees_kept names nodes more (end ∷ ends) all =
+    let one : tree_in names (nodes ++ more) end ≡ tree_in names nodes end =
+    ap (λ ns. last_of (forest names ns)) (take-append-le end nodes more (All-head (λ e. e ≤ length nodes) end ends all)) in
+    let others = trees_kept names nodes more ends (All-tail (λ e. e ≤ length nodes) end ends all) in
+    λ i. one i ∷ others i
+
+pub trees_kept_in : (names : List (List ℕ)) (nodes new more : List Node) → new ≡ nodes ++ more → (ends : List ℕ) → All (λ end. end ≤ length nodes) ends
+    → map (tree_in names new) ends ≡ map (tree_in names nodes) ends
+trees_kept_in names nodes new more is ends all = ap (λ ns. map (tree_in names ns) ends) is ∙ trees_kept names nodes more ends all
+
+-- the last of all nodes is one clause more
+pub root_end : (names : List (List ℕ)) (nodes : List Node) (end : ℕ) → end ≡ length nodes → tree_in names nodes end ≡ root_tree names nodes
+root_end names nodes end is = ap (λ ns. last_of (forest names ns)) (take_all end nodes (omega (arith, is)))
+
+pub trees_more : (names : List (List ℕ)) (nodes new more : List Node) → new ≡ nodes ++ more → (ends all : List ℕ) (end : ℕ) → end ≡ length new → all ≡ ends ++ end ∷ []
+    → All (λ e. e ≤ length nodes) ends → map (tree_in names new) all ≡ map (tree_in names nodes) ends ++ root_tree names new ∷ []
+trees_more names nodes new more is ends all end last are within =
+    ap (map (tree_in names new)) are
+    ∙ (map-append (tree_in names new) ends (end ∷ [])
+    ∙ (λ i. trees_kept_in names nodes new more is ends within i ++ root_end names new end last i ∷ []))
+
+pub ends_more : (nodes new more : List Node) → new ≡ nodes ++ more → (ends all : List ℕ) (end : ℕ) → end ≡ length new → all ≡ ends ++ end ∷ []
+    → All (λ e. e ≤ length nodes) ends → All (λ e. e ≤ length new) all
+ends_more nodes new more is ends all end last are within =
+    let longer : length new ≡ length nodes + length more = ap length is ∙ length-append nodes more in
+    subst (All (λ e. e ≤ length new)) (sym are)
+    (All-push (λ e. e ≤ length new) ends end (All-weaker (λ e. e ≤ length nodes) (λ e. e ≤ length new) (λ e small. omega (arith, small, longer)) ends within) (omega (arith, last)))

@@ -1,5 +1,6 @@
 -- A text as clauses, one after another, each read under the operators that those before it leave, or up to the first that is refused.
 use Rattle.std.specs.Prelude.{◌≡◌, ◌≢◌, ℕ, ◌+◌, ◌-◌, ◌<◌, ◌≤◌, ◌⊎◌, List, [], ◌∷◌, ◌++◌, Option, Some, Ok, Err, length, slice_get, option_map, map, sum_by}
+use Rattle.std.specs.Arc.{arc_value}
 use Rattle.std.specs.Str.{IsUtf8}
 use Rattle.prolog_tokens.specs.declared.token.Kind.{Kind}
 use Rattle.prolog_tokens.specs.declared.token.Kind.TheVariants.{End}
@@ -9,7 +10,7 @@ use Rattle.prolog_ops.specs.Table.{Ops, opening}
 use Rattle.prolog_terms.specs.declared.reader.ReadFault.{ReadFault}
 use Rattle.prolog_terms.specs.declared.reader.ReadFault.TheVariants as of_clauses
 use Rattle.prolog_terms.specs.Tree.{Tree}
-use Rattle.prolog_terms.specs.Terms.{root_tree}
+use Rattle.prolog_terms.specs.Terms.{tree_in}
 use Rattle.prolog_terms.specs.Weight.{weight}
 use Rattle.prolog_terms.specs.Words.{table_of}
 use Rattle.prolog_terms.specs.Clause.{IsClauseOf, IsReadFault, IsOneClause}
@@ -26,7 +27,7 @@ opening_ops = opening
 
 -- the tree of a clause, whose names are numbers in these names
 abbrev pub clause_tree : List (List ℕ) → Clause → Tree
-clause_tree names clause = root_tree names clause.nodes
+clause_tree names clause = tree_in names (arc_value clause.nodes) clause.end
 
 abbrev pub clause_trees : List (List ℕ) → List Clause → List Tree
 clause_trees names clauses = map (clause_tree names) clauses

@@ -1,8 +1,10 @@
 -- Clauses that stand side by side, where the table that the first of them is read with is known.
-use Rattle.std.specs.Prelude.{◌≡◌, ◌≢◌, ℕ, ◌-◌, ◌<◌, ◌≤◌, ◌⊎◌, List, [], ◌∷◌, ◌++◌, Some, length, slice_range}
+use Rattle.std.specs.Prelude.{◌≡◌, ◌≢◌, ℕ, ◌-◌, ◌<◌, ◌≤◌, ◌⊎◌, List, [], ◌∷◌, ◌++◌, Some, length, map, slice_range}
 use Rattle.prolog_tokens.specs.declared.token.Kind.TheVariants.{End}
 use Rattle.prolog_tokens.specs.declared.token.Token.{Token}
 use Rattle.prolog_ops.specs.Table.{Ops}
+use Rattle.prolog_terms.specs.declared.node.Node.{Node}
+use Rattle.prolog_terms.specs.Terms.{root_tree, tree_in}
 use Rattle.prolog_terms.specs.Tree.{Tree}
 use Rattle.prolog_terms.specs.Words.{table_of}
 use Rattle.prolog_terms.specs.Clause.{IsClauseOf}
@@ -12,6 +14,9 @@ use Rattle.clause_text.specs.declared.piece.Stretch.{Stretch}
 use Rattle.clause_text.specs.declared.piece.Piece.{Piece}
 use Rattle.clause_text.specs.declared.piece.PieceEnd.{PieceEnd}
 use Rattle.clause_text.specs.declared.piece.PieceEnd.TheVariants.{Whole, AtOperators, Refused}
+use Rattle.clause_text.specs.declared.piece.ReadEnd.{ReadEnd}
+use Rattle.clause_text.specs.declared.piece.ReadEnd.TheVariants as read_end
+use Rattle.clause_text.specs.declared.piece.ReadStretch.{ReadStretch}
 use Rattle.clause_text.specs.Clauses.{LeavesAs, IsPartFault, EndsFirst, clause_tree, clause_trees, kind_there}
 
 -- from the table on, the tokens from a place up to another are the clauses, and leave the other table
@@ -51,6 +56,26 @@ pub record IsPiece (names : List (List ℕ)) (table : Ops) (text : List ℕ) (ts
   pub at : ℕ
   pub clauses : LeadTo table text ts from (clause_trees names piece.clauses.items) table at
   pub end : EndIs names table text ts at to piece.end
+
+-- the trees that end at those places of the nodes
+abbrev pub read_trees : List (List ℕ) → ReadStretch → List Tree
+read_trees names read = map (tree_in names read.nodes) read.ends.items
+
+-- what stands behind them, up to a place: nothing more, a clause that is the last of the nodes, or a part that is none
+abbrev pub ReadEndIs : List (List ℕ) → Ops → List ℕ → List Token → ℕ → ℕ → List Node → ReadEnd → Type 0
+ReadEndIs names table text ts at to nodes read_end.Whole = at ≡ to
+ReadEndIs names table text ts at to nodes (read_end.AtOperators place) =
+    EndsFirst ts at place × IsClauseOf (table_of table) text (slice_range ts at place) (root_tree names nodes)
+ReadEndIs names table text ts at to nodes (read_end.Refused fault) =
+    fault ≢ NoMemory → (next : ℕ) × EndsFirst ts at next × IsPartFault table text (slice_range ts at next) fault
+
+-- a stretch as a piece, whose clauses don't share their nodes yet
+pub record IsRead (names : List (List ℕ)) (table : Ops) (text : List ℕ) (ts : List Token) (from to : ℕ) (read : ReadStretch) : Type 0 where
+  pub some : from < to
+  pub behind : IsBehindClause ts to
+  pub at : ℕ
+  pub clauses : LeadTo table text ts from (read_trees names read) table at
+  pub end : ReadEndIs names table text ts at to read.nodes read.end
 
 -- the pieces are read side by side from a place up to another
 abbrev pub ArePieces : List (List ℕ) → Ops → List ℕ → List Token → ℕ → List Piece → ℕ → Type 0

@@ -1,25 +1,30 @@
 //! Clauses that stand side by side in a text, read under one table of operators.
 
-ghost use Rattle.std.specs.Prelude.{◌≡◌, ◌≢◌, ◌≤◌, ◌<◌, ℕ, length, All, IfOk, IfErr};
+ghost use Rattle.std.specs.Prelude.{◌≡◌, ◌≢◌, ◌≤◌, ◌<◌, ◌++◌, ℕ, List, length, map, All, IfOk, IfErr, OnOk};
+ghost use Rattle.std.specs.Arc.{arc_value};
 ghost use Rattle.prolog_tokens.specs.declared.limits.TheConstants.{MOST_BYTES};
+ghost use Rattle.prolog_tokens.specs.declared.token.Token.{Token as TokenOf};
 ghost use Rattle.prolog_tokens.specs.Cut.{IsCut};
 ghost use Rattle.prolog_names.specs.Numbers.{AreNumbered};
-ghost use Rattle.prolog_ops.specs.Table.{ops_of};
+ghost use Rattle.prolog_ops.specs.Table.{Ops, ops_of};
+ghost use Rattle.prolog_terms.specs.declared.node.Node.{Node as NodeOf};
+ghost use Rattle.prolog_terms.specs.Terms.{root_tree, tree_in};
 ghost use Rattle.prolog_terms.specs.Clause.{ArePart, IsClauseOf, IsOneClause};
 ghost use Rattle.prolog_terms.specs.Words.{table_of};
 ghost use Rattle.clause_text.specs.Items.{has_some, items_of};
-ghost use Rattle.clause_text.specs.Clauses.{EndsFirst, IsUnread, clause_tree};
-ghost use Rattle.clause_text.specs.Pieces.{IsBehindClause, IsStretch, AreStretches, IsPiece, ArePieces};
+ghost use Rattle.clause_text.specs.Clauses.{EndsFirst, IsUnread, clause_trees};
+ghost use Rattle.clause_text.specs.Pieces.{IsBehindClause, IsStretch, AreStretches, IsRead, ReadEndIs, IsPiece, EndIs, ArePieces};
 
 use crate::Clause;
 use crate::fault::TextFault;
 use crate::items::has_items;
 use prolog_names::{Names, Numbered, numbered_part};
 use prolog_ops::OpTable;
-use prolog_terms::{Reader, read_clause};
+use prolog_terms::{NodeList, Reader, Term, read_onto};
 use prolog_tokens::{Kind, Token};
 use rayon::prelude::*;
 use std::alloc::{AllocError, Global};
+use std::sync::Arc;
 use std::thread::Threads;
 
 /// How many tokens a stretch has at least, but for the last one of a text.
@@ -120,14 +125,8 @@ pub fn stretches_from(
     Ok(stretches)
 }
 
-/// A clause, and whether it sets operators.
-#[derive(Drop)]
-struct ReadPart {
-    clause: Clause,
-    sets: bool,
-}
-
-/// The clause that the tokens up to an End are under the table, with the numbers of their names.
+/// Adds the nodes of the clause that the tokens up to an End are under the table, with the numbers of
+/// their names, and tells whether it sets operators.
 fn read_part(
     alloc: Global,
     reader: &mut Reader,
@@ -136,19 +135,136 @@ fn read_part(
     text: &str,
     tokens: &[Token],
     numbers: &[u32],
-) -> Result<ReadPart, TextFault>
+    nodes: &mut NodeList,
+) -> Result<bool, TextFault>
     requires small { length text.now ≤ MOST_BYTES }
     requires part { ArePart text.now tokens.now }
     requires clause { IsOneClause tokens.now }
     requires numbered { AreNumbered text.now names.now tokens.now numbers.now }
-    ensures clause { IfOk result (λ part. IsClauseOf (table_of (ops_of table.now)) text.now tokens.now (clause_tree names.now part.clause)) }
-    ensures sets { IfOk result (λ part. part.sets ≡ has_some (items_of (clause_tree names.now part.clause))) }
+    ensures more { (more : List NodeOf) × (nodes.new ≡ nodes.old ++ more) }
+    ensures clause { OnOk result (IsClauseOf (table_of (ops_of table.now)) text.now tokens.now (root_tree names.now nodes.new)) }
+    ensures sets { IfOk result (λ sets. sets ≡ has_some (items_of (root_tree names.now nodes.new))) }
     ensures fault { IfErr result (λ fault. fault ≢ TextFault.NoMemory → IsUnread (ops_of table.now) text.now tokens.now fault) }
 {
-    let nodes = read_clause(alloc, reader, table, names, text, tokens, numbers)?;
-    let clause = Clause { nodes };
-    let sets = has_items(alloc, &clause.term(names))?;
-    Ok(ReadPart { clause, sets })
+    read_onto(reader, table, names, text, tokens, numbers, nodes)?;
+    let sets = has_items(alloc, &Term::root(names, nodes))?;
+    Ok(sets)
+}
+
+/// What stands behind the clauses that were read of a stretch.
+#[derive(Clone, Copy)]
+enum ReadEnd {
+    /// Nothing more: the stretch is read as a whole.
+    Whole,
+    /// A clause up to a place that sets operators, which is the last of the nodes.
+    AtOperators(usize),
+    /// A part of the tokens that is refused.
+    Refused(TextFault),
+}
+
+/// What is read of a stretch: nodes, how many of them there are up to the end of each clause, and
+/// what stands behind these clauses.
+#[derive(Drop)]
+struct ReadStretch {
+    nodes: NodeList,
+    ends: Vec<usize>,
+    end: ReadEnd,
+}
+
+/// What the stretch is read as under the table, up to a clause that sets operators or a fault.
+fn read_on(
+    alloc: Global,
+    table: &OpTable,
+    text: &str,
+    tokens: &[Token],
+    numbered: &Numbered,
+    stretch: &Stretch,
+) -> ReadStretch
+    requires small { length text.now ≤ MOST_BYTES }
+    requires cut { IsCut text.now tokens.now }
+    requires numbered { AreNumbered text.now numbered.now.names tokens.now numbered.now.numbers.items }
+    requires stretch { IsStretch tokens.now stretch.now }
+    ensures { IsRead numbered.now.names (ops_of table.now) text.now tokens.now stretch.now.from stretch.now.to result }
+{
+    numbered_part();
+    let names = &numbered.names;
+    let numbers = numbered.numbers.as_slice();
+    let mut reader = Reader::new(alloc);
+    let mut nodes = NodeList::new(alloc);
+    let mut ends = Vec::new(alloc);
+    let mut at = stretch.from;
+    while at < stretch.to {
+        let next = part_end(tokens, at);
+        let sets = match read_part(
+            alloc,
+            &mut reader,
+            table,
+            names,
+            text,
+            &tokens[at..next],
+            &numbers[at..next],
+            &mut nodes,
+        ) {
+            Ok(sets) => sets,
+            Err(fault) => {
+                let end = ReadEnd::Refused(fault);
+                return ReadStretch { nodes, ends, end };
+            }
+        };
+        if sets {
+            let end = ReadEnd::AtOperators(next);
+            return ReadStretch { nodes, ends, end };
+        }
+        if ends.push(nodes.len()).is_err() {
+            let end = ReadEnd::Refused(TextFault::NoMemory);
+            return ReadStretch { nodes, ends, end };
+        }
+        at = next;
+    }
+    let end = ReadEnd::Whole;
+    ReadStretch { nodes, ends, end }
+}
+
+/// The clauses that end at these places of the nodes, which they share.
+fn sharing(
+    alloc: Global,
+    nodes: &Arc<NodeList>,
+    ends: &[usize],
+) -> Result<Vec<Clause>, AllocError>
+    ensures { IfOk result (λ clauses. (names : List (List ℕ)) → clause_trees names clauses.items ≡ map (tree_in names (arc_value nodes.now)) ends.now) }
+{
+    let mut clauses = Vec::with_capacity(alloc, ends.len())?;
+    for end in ends {
+        let nodes = Arc::try_clone(nodes)?;
+        clauses.push(Clause { nodes, end: *end })?;
+    }
+    Ok(clauses)
+}
+
+/// What stands behind the clauses, where these are the nodes.
+fn piece_end(nodes: Arc<NodeList>, end: ReadEnd) -> PieceEnd
+    ensures { (names : List (List ℕ)) (table : Ops) (text : List ℕ) (ts : List TokenOf) (at to : ℕ)
+        → ReadEndIs names table text ts at to (arc_value nodes) end → EndIs names table text ts at to result }
+{
+    match end {
+        ReadEnd::Whole => PieceEnd::Whole,
+        ReadEnd::AtOperators(place) => {
+            let end = nodes.len();
+            PieceEnd::AtOperators(Clause { nodes, end }, place)
+        }
+        ReadEnd::Refused(fault) => PieceEnd::Refused(fault),
+    }
+}
+
+/// What was read of a stretch up to a place, as clauses that share their nodes.
+fn shared(alloc: Global, read: ReadStretch, to: usize) -> Result<Piece, AllocError>
+    ensures { IfOk result (λ piece. (names : List (List ℕ)) (table : Ops) (text : List ℕ) (ts : List TokenOf) (from : ℕ)
+        → IsRead names table text ts from to read → IsPiece names table text ts from to piece) }
+{
+    let nodes = Arc::new(alloc, read.nodes.copied(alloc)?)?;
+    let clauses = sharing(alloc, &nodes, &read.ends)?;
+    let end = piece_end(nodes, read.end);
+    Ok(Piece { clauses, to, end })
 }
 
 /// What the stretch is read as under the table.
@@ -166,42 +282,15 @@ fn read_stretch(
     requires stretch { IsStretch tokens.now stretch.now }
     ensures { IsPiece numbered.now.names (ops_of table.now) text.now tokens.now stretch.now.from stretch.now.to result }
 {
-    numbered_part();
-    let names = &numbered.names;
-    let numbers = numbered.numbers.as_slice();
-    let to = stretch.to;
-    let mut reader = Reader::new(alloc);
-    let mut clauses = Vec::new(alloc);
-    let mut at = stretch.from;
-    while at < to {
-        let next = part_end(tokens, at);
-        let part = match read_part(
-            alloc,
-            &mut reader,
-            table,
-            names,
-            text,
-            &tokens[at..next],
-            &numbers[at..next],
-        ) {
-            Ok(part) => part,
-            Err(fault) => {
-                let end = PieceEnd::Refused(fault);
-                return Piece { clauses, to, end };
-            }
-        };
-        if part.sets {
-            let end = PieceEnd::AtOperators(part.clause, next);
-            return Piece { clauses, to, end };
-        }
-        if clauses.push(part.clause).is_err() {
-            let end = PieceEnd::Refused(TextFault::NoMemory);
-            return Piece { clauses, to, end };
-        }
-        at = next;
+    let read = read_on(alloc, table, text, tokens, numbered, stretch);
+    match shared(alloc, read, stretch.to) {
+        Ok(piece) => piece,
+        Err(_) => Piece {
+            clauses: Vec::new(alloc),
+            to: stretch.to,
+            end: PieceEnd::Refused(TextFault::NoMemory),
+        },
     }
-    let end = PieceEnd::Whole;
-    Piece { clauses, to, end }
 }
 
 /// What the stretches are read as under the table. They are read side by side, and share the names.

@@ -1,24 +1,31 @@
 ghost use Rattle.std.specs.Prelude.{◌≡◌};
+ghost use Rattle.std.specs.Arc.{arc_value};
 ghost use Rattle.prolog_terms.specs.Terms.{tree_of, IsOf};
 ghost use Rattle.clause_text.specs.Clauses.{clause_tree};
 
 use prolog_names::Names;
 use prolog_terms::{NodeList, Term};
+use std::sync::Arc;
 
-/// A clause of a text, directives and grammar rules among them: the last of its nodes, in which names
-/// are numbers in the text's names.
+/// A clause of a text, directives and grammar rules among them: the last of so many nodes, in which
+/// names are numbers in the text's names. Clauses that were read one after another share their nodes.
 #[derive(Drop)]
 pub struct Clause {
-    pub nodes: NodeList,
+    pub nodes: Arc<NodeList>,
+    pub end: usize,
 }
 
 impl Clause {
     /// The term of the clause, with the names of its text.
     pub fn term<'a>(&'a self, names: &'a Names) -> Term<'a>
         ensures tree { tree_of result ≡ clause_tree names.now self.now }
-        ensures within { IsOf names.now self.now.nodes result }
+        ensures within { IsOf names.now (arc_value self.now.nodes) result }
     {
-        Term::root(names, &self.nodes)
+        Term {
+            names,
+            nodes: &self.nodes,
+            end: self.end,
+        }
     }
 }
 

@@ -1,14 +1,13 @@
-use Rattle.std.proofs.Common.{◌≡◌, ◌++◌, ◌∷◌, [], ap, sym, ◌∙◌, subst, refl, inl, arith, slice_range}
-use Rattle.std.proofs.lemmas.List.{map-append}
+use Rattle.std.proofs.Common.{◌≡◌, ◌++◌, ◌∷◌, [], ap, sym, ◌∙◌, subst, refl, inl, arith, slice_range, map}
 use Rattle.prolog_names.specs.Numbers.{AreNumbered}
 use Rattle.prolog_ops.specs.Table.{ops_of}
+use Rattle.prolog_terms.specs.Terms.{root_tree, tree_in}
 use Rattle.clause_text.specs.Items.{items_of}
-use Rattle.clause_text.specs.Clauses.{clause_tree, clause_trees}
 use Rattle.clause_text.specs.Pieces.{LeadTo}
 use Rattle.clause_text.proofs.ClauseSplits.{slice_part, part_one}
 use Rattle.clause_text.proofs.Leads.{lead_more}
-use Rattle.clause_text.proofs.PieceLemmas.{none_on, not_past}
-use Rattle.clause_text.proofs.piece.read_stretch.Goals as goal
+use Rattle.clause_text.proofs.PieceLemmas.{none_on, not_past, trees_kept_in, trees_more, ends_more}
+use Rattle.clause_text.proofs.piece.read_on.Goals as goal
 
 pub read_part-requires-clause-part : goal.read_part-requires-clause-part
 read_part-requires-clause-part c =
@@ -24,32 +23,55 @@ loop-at-preserved c =
     let ts = c.args.tokens.now in
     let stretch = c.args.stretch.now in
     let names = c.args.numbered.now.names in
-    let tree = clause_tree names c.in-Ok.part.clause in
-    let clauses = clause_trees names c.loop-at.clauses.items in
+    let old = c.loop-at.nodes in
+    let new = c.read_part.new.nodes in
+    let ends = c.loop-at.ends.items in
+    let tree = root_tree names new in
+    let clauses = map (tree_in names old) ends in
     let next = c.part_end-next.result in
     let items = rw c.if-is_err.ensures.negation at c.push.ensures.items in
-    let all : clause_trees names c.push.new.self.items ≡ clauses ++ tree ∷ [] =
-    ap (clause_trees names) items ∙ map-append (clause_tree names) c.loop-at.clauses.items (c.in-Ok.part.clause ∷ []) in
-    let more : LeadTo table text ts stretch.from (clauses ++ tree ∷ []) table next =
+    let more = c.in-Ok.ensures.more in
+    let all : map (tree_in names new) c.push.new.self.items ≡ clauses ++ tree ∷ [] =
+    trees_more names old new more.0 more.1 ends c.push.new.self.items c.len.result c.len.ensures items c.loop-at.invariant.2 in
+    let lead : LeadTo table text ts stretch.from (clauses ++ tree ∷ []) table next =
     lead_more table text ts stretch.from clauses table c.loop-at.at tree table next c.loop-at.invariant.0 c.part_end-next.ensures
-    (record { clause = c.in-Ok.ensures.clause; items = none_on (items_of tree) table (sym c.in-Ok.ensures.sets ∙ c.if-part.false) }) in (
-      subst (λ trees. LeadTo table text ts stretch.from trees table next) (sym all) more,
+    (record { clause = c.in-Ok.ensures.clause; items = none_on (items_of tree) table (sym c.in-Ok.ensures.sets ∙ c.if-sets.false) }) in (
+      subst (λ trees. LeadTo table text ts stretch.from trees table next) (sym all) lead,
       not_past ts c.loop-at.at next stretch.to c.part_end-next.ensures c.loop-at-test.true c.requires.stretch.ends,
+      ends_more old new more.0 more.1 ends c.push.new.self.items c.len.result c.len.ensures items c.loop-at.invariant.2,
     )
 
 pub returns-in-Err : goal.returns-in-Err
-returns-in-Err c = record {
-  some = c.requires.stretch.some;
-  behind = c.requires.stretch.ends;
-  told = refl;
-  at = c.loop-at.at;
-  clauses = c.loop-at.invariant.0;
-  end = λ some. (
-    c.part_end-next.result,
-    c.part_end-next.ensures,
-    inl (c.in-Err.ensures.fault some),
-  );
-}
+returns-in-Err c =
+    let more = c.in-Err.ensures.more in
+    let names = c.args.numbered.now.names in
+    record {
+      some = c.requires.stretch.some;
+      behind = c.requires.stretch.ends;
+      at = c.loop-at.at;
+      clauses =
+          subst (λ trees. LeadTo (ops_of c.args.table.now) c.args.text.now c.args.tokens.now c.args.stretch.now.from trees (ops_of c.args.table.now) c.loop-at.at)
+          (sym (trees_kept_in names c.loop-at.nodes c.read_part.new.nodes more.0 more.1 c.loop-at.ends.items c.loop-at.invariant.2)) c.loop-at.invariant.0;
+      end = λ some. (
+        c.part_end-next.result,
+        c.part_end-next.ensures,
+        inl (c.in-Err.ensures.fault some),
+      );
+    }
+
+pub returns-then-sets : goal.returns-then-sets
+returns-then-sets c =
+    let more = c.in-Ok.ensures.more in
+    let names = c.args.numbered.now.names in
+    record {
+      some = c.requires.stretch.some;
+      behind = c.requires.stretch.ends;
+      at = c.loop-at.at;
+      clauses =
+          subst (λ trees. LeadTo (ops_of c.args.table.now) c.args.text.now c.args.tokens.now c.args.stretch.now.from trees (ops_of c.args.table.now) c.loop-at.at)
+          (sym (trees_kept_in names c.loop-at.nodes c.read_part.new.nodes more.0 more.1 c.loop-at.ends.items c.loop-at.invariant.2)) c.loop-at.invariant.0;
+      end = (c.part_end-next.ensures, c.in-Ok.ensures.clause);
+    }
 
 pub read_part-requires-clause-numbered : goal.read_part-requires-clause-numbered
 read_part-requires-clause-numbered c =
@@ -62,14 +84,16 @@ read_part-requires-clause-numbered c =
 
 pub returns-then-is_err : goal.returns-then-is_err
 returns-then-is_err c =
-    let table = ops_of c.args.table.now in
     let items = rw c.if-is_err.ensures.negation at c.push.ensures.items in
+    let more = c.in-Ok.ensures.more in
+    let names = c.args.numbered.now.names in
     record {
       some = c.requires.stretch.some;
       behind = c.requires.stretch.ends;
-      told = refl;
       at = c.loop-at.at;
       clauses =
-          subst (λ trees. LeadTo table c.args.text.now c.args.tokens.now c.args.stretch.now.from trees table c.loop-at.at) (sym (ap (clause_trees c.args.numbered.now.names) items)) c.loop-at.invariant.0;
+          subst (λ trees. LeadTo (ops_of c.args.table.now) c.args.text.now c.args.tokens.now c.args.stretch.now.from trees (ops_of c.args.table.now) c.loop-at.at)
+          (sym (ap (map (tree_in names c.read_part.new.nodes)) items ∙ trees_kept_in names c.loop-at.nodes c.read_part.new.nodes more.0 more.1 c.loop-at.ends.items c.loop-at.invariant.2))
+          c.loop-at.invariant.0;
       end = λ some. absurd (some refl);
     }
