@@ -17,13 +17,13 @@ use Rattle.import_rules.proofs.places.Places.TheSendSync as places
 use Rattle.import_rules.specs.contracts.program.Program as of_program
 
 clause_shared : IsSync of_clause.the_field.row
-clause_shared = search (sendable, crosses, nodes.the_sync) depth 20
+clause_shared = search (sendable, crosses, nodes.the_send, nodes.the_sync) depth 20
 
 defined_shared : IsSync of_defined.the_field.row
 defined_shared = let clause = clause_shared in search (sendable, crosses, text.the_sync) depth 20
 
 goals_shared : IsSync of_goals.the_field.row
-goals_shared = search (sendable, crosses, nodes.the_sync) depth 20
+goals_shared = search (sendable, crosses, nodes.the_send, nodes.the_sync) depth 20
 
 facts_shared : IsSync of_facts.the_field.row
 facts_shared =

@@ -1,6 +1,7 @@
 -- What the clauses of a file say, and the facts of the file.
 use Rattle.std.specs.Prelude.{ℕ, ◌≡◌, List, [], ◌∷◌, Option, Some, None, Result, Ok, Err, Bool, true, false, if◌then◌else◌, codes}
 use Rattle.std.specs.Prelude.{map, flat_map, ◌+◌, ◌&&◌, nat_eq}
+use Rattle.std.specs.Arc.{arc_value}
 use Rattle.std.specs.List.{filter_map}
 use Rattle.std.specs.Str.{bytes_eq}
 use Rattle.prolog_terms.specs.Tree.{Tree}
@@ -86,7 +87,7 @@ pub record Facts : Type 0 where
 
 -- the goals of a directive, whose names are numbers in these names
 abbrev pub goal_trees : List (List ℕ) → DirectiveGoals → List Tree
-goal_trees names goals = map (tree_in names goals.nodes) goals.ends.items
+goal_trees names goals = map (tree_in names (arc_value goals.nodes)) goals.ends.items
 
 abbrev pub see_facts : FileFacts → Facts
 see_facts f = record {

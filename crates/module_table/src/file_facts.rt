@@ -26,12 +26,13 @@ use prolog_names::{Names, USER, names_law};
 use prolog_terms::{NodeList, Term, atom_number, binary, sides};
 use prolog_tokens::Text;
 use std::alloc::Global;
+use std::sync::Arc;
 
-/// The goals of a directive: its nodes, and for each goal how many of them there are up to the goal's
-/// own.
+/// The goals of a directive: nodes in which it stands, and for each goal how many of them there are up
+/// to the goal's own.
 #[derive(Drop)]
 pub struct DirectiveGoals {
-    pub nodes: NodeList,
+    pub nodes: Arc<NodeList>,
     pub ends: Vec<usize>,
 }
 

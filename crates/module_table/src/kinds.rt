@@ -1,6 +1,7 @@
 //! What a file says, by kind.
 
 ghost use Rattle.std.specs.Prelude.{◌≡◌, [], ℕ, List, IfErr, IfOk, OnOk, option_map};
+ghost use Rattle.std.specs.Arc.{arc_value};
 ghost use Rattle.prolog_terms.specs.declared.node.Node.{Node as NodeOf};
 ghost use Rattle.prolog_terms.specs.Terms.{tree_in};
 ghost use Rattle.module_table.specs.declared.said.FactFault.TheVariants.{NoMemory};
@@ -17,6 +18,7 @@ use crate::said::{FactFault, Module, Part};
 use prolog_terms::NodeList;
 use prolog_tokens::Text;
 use std::alloc::{AllocError, Global};
+use std::sync::Arc;
 
 /// What a file says, by kind and each kind in order: of modules the first, and what it defines as
 /// runs. The ends are those of the goals of the directive under way, whose nodes are still to come.
@@ -85,9 +87,14 @@ pub fn push_goal(kinds: &mut Kinds, end: usize) -> Result<(), AllocError>
     Ok(())
 }
 
-/// Keeps the nodes of a directive with its goals, where it has some.
-pub fn close_directive(alloc: Global, kinds: &mut Kinds, nodes: NodeList) -> Result<(), AllocError>
-    ensures same { OnOk result ((names : List (List ℕ)) (others : List NodeOf) → see_kinds names others kinds.new ≡ see_kinds names nodes kinds.old) }
+/// Keeps the nodes in which a directive stands with its goals, where it has some.
+pub fn close_directive(
+    alloc: Global,
+    kinds: &mut Kinds,
+    nodes: Arc<NodeList>,
+) -> Result<(), AllocError>
+    ensures same { OnOk result ((names : List (List ℕ)) (others : List NodeOf) → see_kinds names others kinds.new
+        ≡ see_kinds names (arc_value nodes) kinds.old) }
     ensures ends { OnOk result (kinds.new.ends.items ≡ []) }
 {
     if kinds.ends.is_empty() {

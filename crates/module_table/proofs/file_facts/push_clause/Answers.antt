@@ -1,4 +1,5 @@
 use Rattle.std.proofs.Common.{◌≡◌, List, ℕ, [], Ok, Some, sym, ap, subst, ◌∙◌}
+use Rattle.std.specs.Arc.{arc_value}
 use Rattle.std.proofs.lemmas.Result.{err_from_is_err_and}
 use Rattle.prolog_names.specs.Names.{name_at}
 use Rattle.prolog_terms.specs.Terms.{tree_of, IsOf}
@@ -27,7 +28,7 @@ returns-in_err-push_directive-clause-refused c =
 pub returns-clause-ok : goal.returns-clause-ok
 returns-clause-ok c =
     let names = c.args.names.now in
-    let nodes = c.args.clause.nodes in
+    let nodes = arc_value c.args.clause.nodes in
     let tree = clause_tree names c.args.clause in
     let directive = tree_of c.in-Some.directive in
     let at : List (List ℕ) → Home = λ n. home c.args.file.now (name_at n c.args.owner) in
