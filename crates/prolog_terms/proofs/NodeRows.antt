@@ -1,12 +1,13 @@
 -- What some nodes are as terms: the rows of the definitions of nodes.
-use Rattle.std.proofs.Common.{◌≡◌, ℕ, ◌+◌, ◌-◌, List, [], ◌∷◌, take, refl, codes}
+use Rattle.std.proofs.Common.{◌≡◌, ℕ, ◌+◌, ◌-◌, List, [], ◌∷◌, ◌++◌, fold, take, refl, codes}
 use Rattle.prolog_terms.specs.declared.node.Node.{Node}
 use Rattle.prolog_terms.specs.declared.node.Shape.{Shape}
 use Rattle.prolog_terms.specs.declared.node.Shape.TheVariants as shape
 use Rattle.prolog_terms.specs.declared.term.Span.{Span}
 use Rattle.prolog_terms.specs.declared.term.Form.TheVariants.{Functional, Infix}
-use Rattle.prolog_terms.specs.Tree.{Tree, variable, atom, compound, listed, tailed, none, more}
-use Rattle.prolog_terms.specs.Forest.{before_last, forest, taken}
+use Rattle.prolog_terms.specs.Tree.{Tree, variable, atom, compound, listed, tailed, curly, none, more}
+use Rattle.prolog_terms.specs.Forest.{before_last, forest, step, taken}
+use Rattle.prolog_terms.specs.Sized.{filled}
 use Rattle.prolog_terms.specs.Terms.{tree_in, root_tree, parts_in}
 
 abbrev at : ℕ → Span
@@ -56,3 +57,18 @@ missing_part = refl
 -- more nodes than there are are all of them
 beyond_the_end : tree_in names joined_goals 9 ≡ root_tree names joined_goals
 beyond_the_end = refl
+
+-- a tree that stands before nodes stays as it is, unless a part of them is missing, which it is then
+
+abbrev before : Tree
+before = atom (codes "f") (at 9)
+
+before_whole_nodes : fold (step names) (before ∷ []) joined_goals ≡ forest names joined_goals ++ before ∷ []
+before_whole_nodes = refl
+
+before_a_missing_part : fold (step names) (before ∷ []) (node shape.Curly 0 2 ∷ []) ≡ curly before (at 0) ∷ []
+before_a_missing_part = refl
+
+-- of two trees one is missing
+one_filled_in : filled 2 (before ∷ []) ≡ before ∷ variable (record { from = 0; to = 0 }) ∷ []
+one_filled_in = refl
