@@ -1,4 +1,4 @@
-use Rattle.std.proofs.Common.{false, get_or, take, ap, sym, ◌∙◌, subst, arith}
+use Rattle.std.proofs.Common.{false, get_or, take, sym, ◌∙◌, subst, arith}
 use Rattle.std.proofs.lemmas.List.{length-take-le}
 use Rattle.std.proofs.lemmas.Option.{slice_get-get_or}
 use Rattle.prolog_ops.specs.Table.{ops_of}

@@ -1,4 +1,4 @@
-use Rattle.std.proofs.Common.{◌≤◌, ◌++◌, ◌∷◌, [], length, length-append, ap, sym, refl, ◌∙◌, arith}
+use Rattle.std.proofs.Common.{◌∷◌, [], length, length-append, ap, sym, ◌∙◌, arith}
 use Rattle.prolog_terms.specs.Forest.{forest, last_of}
 use Rattle.prolog_terms.specs.Sized.{filled}
 use Rattle.prolog_terms.proofs.WholeNodes.{filled_enough, filled_one}
