@@ -226,11 +226,7 @@ fn read_on(
 }
 
 /// The clauses that end at these places of the nodes, which they share.
-fn sharing(
-    alloc: Global,
-    nodes: &Arc<NodeList>,
-    ends: &[usize],
-) -> Result<Vec<Clause>, AllocError>
+fn sharing(alloc: Global, nodes: &Arc<NodeList>, ends: &[usize]) -> Result<Vec<Clause>, AllocError>
     ensures { IfOk result (λ clauses. (names : List (List ℕ)) → clause_trees names clauses.items ≡ map (tree_in names (arc_value nodes.now)) ends.now) }
 {
     let mut clauses = Vec::with_capacity(alloc, ends.len())?;

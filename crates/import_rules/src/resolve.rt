@@ -30,7 +30,8 @@ pub const MOST_PREDICATES: usize = 1_048_576;
 /// The predicates of the files, numbered: the places of each.
 fn numbered(alloc: Global, loaded: &Loaded) -> Result<Vec<Places>, AllocError>
     requires { WasLoaded (see_loaded loaded.now) }
-    ensures { IfOk result (λ places. AreNumbers (parts_in (see_loaded loaded.now).files) (names_at loaded.now.files.items places.items) (lists_of places.items)) }
+    ensures { IfOk result (λ places.
+        AreNumbers (parts_in (see_loaded loaded.now).files) (names_at loaded.now.files.items places.items) (lists_of places.items)) }
 {
     let parts = parts_of(alloc, &loaded.files)?;
     number(alloc, &loaded.files, parts)

@@ -7,7 +7,9 @@ use crate::places::place_told;
 use crate::row::bytes_of;
 use crate::terms::{clause_told, parts_told};
 use crate::texts::{count_told, forms_told};
-use crate::tokens::{bare_told, integer_told, less_told, name_text_told, rows_told, slice_told, tokens_told};
+use crate::tokens::{
+    bare_told, integer_told, less_told, name_text_told, rows_told, slice_told, tokens_told,
+};
 use crate::words::{made_told, options_told};
 use prolog_tokens::MOST_BYTES;
 use std::alloc::{AllocError, Global};

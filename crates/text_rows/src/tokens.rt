@@ -66,7 +66,13 @@ fn row_told(alloc: Global, text: &str, span: &Span) -> Result<String, AllocError
     requires span { IsSpan text.now span.now }
 {
     let row = tokens_in(alloc, text, span)?;
-    format!(in alloc; "{}-{}: {} up to {}", span.from, span.to, row.tokens.len(), row.end)
+    format!(in alloc;
+        "{}-{}: {} up to {}",
+        span.from,
+        span.to,
+        row.tokens.len(),
+        row.end
+    )
 }
 
 /// The spans of the text with their rows.
