@@ -1,4 +1,5 @@
 use Rattle.std.proofs.Common.{◌≡◌, ◌++◌, map, take}
+use Rattle.std.specs.Arc.{arc_value}
 use Rattle.prolog_terms.specs.Terms.{tree_in}
 use Rattle.call_edges.specs.Bodies.{see_body, goal_body}
 use Rattle.call_edges.proofs.body.push_goals_in.Given as goal
