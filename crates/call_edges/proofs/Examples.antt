@@ -1,7 +1,8 @@
 -- What is met in bodies, on cases worked out by hand.
 use Rattle.std.specs.Str.{bytes_eq}
 use Rattle.std.specs.Prelude.{◌==◌, ◌&&◌, if◌then◌else◌}
-use Rattle.std.proofs.Common.{◌≡◌, ℕ, ◌+◌, List, [], ◌∷◌, Some, None, true, false, codes, refl}
+use Rattle.std.specs.declared.cmp.Ordering.TheVariants.{Less, Greater}
+use Rattle.std.proofs.Common.{◌≡◌, ℕ, ◌+◌, List, [], ◌∷◌, Option, Some, None, true, false, codes, refl}
 use Rattle.prolog_terms.specs.declared.term.Span.{Span}
 use Rattle.prolog_terms.specs.declared.term.Form.TheVariants.{Functional}
 use Rattle.prolog_terms.specs.declared.term.ConstKind.TheVariants.{Integer, Str, BackStr, Float}
@@ -9,7 +10,11 @@ use Rattle.prolog_terms.specs.Tree.{Tree, variable, constant, atom, compound, li
 use Rattle.module_table.specs.declared.goal_arg.GoalArg.TheVariants.{Plain, Goal, Caret, Grammar}
 use Rattle.call_edges.specs.Goals.{Met, Place, call, fault, place, row, Rows, plain_rows, by_table, as_declared, IsPart, IsMet}
 use Rattle.call_edges.specs.Listed.{mets_in}
+use Rattle.import_rules.specs.Names.{pred_name}
+use Rattle.call_edges.specs.CallPlaces.{CallAt, call_cmp}
 use Rattle.call_edges.specs.Calls.{body_of, IsMetInClause}
+use Rattle.call_edges.specs.KeptCalls.{has_call}
+use Rattle.call_edges.specs.PlacedSeen.{call_to}
 
 -- terms that stand at an offset
 
@@ -317,3 +322,37 @@ declared_body = refl
 -- the table isn't used
 call_as_declared : declared_goals (with (codes "call") (a ∷ b ∷ [])) ≡ calls (codes "call") 2 ∷ alone (codes "a") 0 ∷ []
 call_as_declared = refl
+
+-- calls with the places of their goals
+
+abbrev placed : ℕ → ℕ → ℕ → List ℕ → Option ℕ → CallAt
+placed file offset caller own means = record { file = file; offset = offset; caller = caller; callee = pred_name (codes "user") own 0; means = means }
+
+a_call_placed : call_to (Some 4) 2 0 (call 7 (codes "user") (codes "q") 0) ≡ Some (placed 2 7 0 (codes "q") (Some 4))
+a_call_placed = refl
+
+a_fault_is_no_call : call_to None 2 0 (fault 7) ≡ None
+a_fault_is_no_call = refl
+
+-- by file, offset, caller and name, in this order
+by_file_first : call_cmp (placed 1 9 9 (codes "b") None) (placed 2 3 0 (codes "a") None) ≡ Less
+by_file_first = refl
+
+then_by_offset : call_cmp (placed 1 3 9 (codes "b") None) (placed 1 9 0 (codes "a") None) ≡ Less
+then_by_offset = refl
+
+then_by_caller : call_cmp (placed 1 3 0 (codes "b") None) (placed 1 3 9 (codes "a") None) ≡ Less
+then_by_caller = refl
+
+then_by_name : call_cmp (placed 1 3 0 (codes "b") None) (placed 1 3 0 (codes "a") None) ≡ Greater
+then_by_name = refl
+
+-- a list has a call if one of its calls is the same in all parts
+a_call_there : has_call (placed 1 3 0 (codes "a") None ∷ placed 1 9 0 (codes "b") (Some 2) ∷ []) (placed 1 9 0 (codes "b") (Some 2)) ≡ true
+a_call_there = refl
+
+of_another_callee : has_call (placed 1 9 0 (codes "b") (Some 2) ∷ []) (placed 1 9 0 (codes "b") None) ≡ false
+of_another_callee = refl
+
+at_another_place : has_call (placed 1 9 0 (codes "b") (Some 2) ∷ []) (placed 1 8 0 (codes "b") (Some 2)) ≡ false
+at_another_place = refl
