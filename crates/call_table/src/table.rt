@@ -12,7 +12,7 @@ use call_edges::{PlacedCall, PlacedCallLists, calls_of, in_file_order};
 use import_rules::Program;
 use prolog_tokens::Place;
 use std::alloc::{AllocError, Global};
-use std::thread::{Threads, join};
+use std::thread::Threads;
 
 /// The clauses and the calls of predicates with their places, and which group each predicate of the
 /// program is in.
@@ -80,8 +80,8 @@ fn calls_with_places<'a>(
 }
 
 /// The table of these predicates of the program whose calls these are, and of these groups of its
-/// predicates. Clauses and calls are put together side by side, and predicate by predicate in the order
-/// of the files, so that they mostly come out in order. No clause is walked, and no name looked up.
+/// predicates. Clauses and calls are put together predicate by predicate in the order of the files, so
+/// that they mostly come out in order. No body is walked, and no name looked up.
 pub fn call_table<'a, R: Threads + Sync>(
     rt: &R,
     alloc: Global,
@@ -95,19 +95,8 @@ pub fn call_table<'a, R: Threads + Sync>(
 {
     let program = lists.program();
     let order = in_file_order(rt, alloc, program, nodes)?;
-    let (clauses, calls) = join(
-        rt,
-        || -> Result<(Vec<ClauseAt>, Vec<Place>), AllocError>
-            requires { All (λ p. p < length (see_program program.now).predicates) order.items }
-            ensures { IfOk result (λ found. ArePlacedClauses (see_program program.entry.now) order.items found.0.items found.1.items) }
-        { clauses_with_places(alloc, program, &order) },
-        || -> Result<(Vec<PlacedCall<'_>>, Vec<Place>), AllocError>
-            requires { All (λ p. p < length (see_placed_lists lists.now).predicates) order.items }
-            ensures { IfOk result (λ found. ArePlacedCalls (see_placed_lists lists.entry.now) order.items found.0.items found.1.items) }
-        { calls_with_places(alloc, lists, &order) },
-    );
-    let (clauses, clause_places) = clauses?;
-    let (calls, call_places) = calls?;
+    let (clauses, clause_places) = clauses_with_places(alloc, program, &order)?;
+    let (calls, call_places) = calls_with_places(alloc, lists, &order)?;
     let groups = groups_of(alloc, program.count(), groups)?;
     Ok(CallTable {
         clauses,

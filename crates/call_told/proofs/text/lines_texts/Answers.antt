@@ -26,7 +26,7 @@ returns g c =
       table = table;
       is_table = c.in_ok-table.ensures;
       is =
-          lines_joined c.in_ok-texts.texts.items c.in_ok-clauses.clauses.items c.in_ok-calls.calls.items c.append.new.self.items c.append-2.new.self.items
+          lines_joined c.in_ok-texts.texts.items c.in_ok-clauses.clauses.items c.in_ok-lines.lines.items c.append.new.self.items c.append-2.new.self.items
           c.in_ok-append.ensures.items c.in_ok-append-2.ensures.items
-          ∙ (λ i. predicates i ++ (c.in_ok-clauses.ensures i ++ c.in_ok-calls.ensures i));
+          ∙ (λ i. predicates i ++ (c.in_ok-clauses.ensures i ++ c.in_ok-lines.ensures i));
     }
