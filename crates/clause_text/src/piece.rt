@@ -1,6 +1,6 @@
 //! Clauses that stand side by side in a text, read under one table of operators.
 
-ghost use Rattle.std.specs.Prelude.{◌≡◌, ◌≢◌, ◌≤◌, ◌<◌, ◌++◌, [], ℕ, List, length, map, All, IfOk, IfErr, OnOk};
+ghost use Rattle.std.specs.Prelude.{◌≡◌, ◌≢◌, ◌≤◌, ◌<◌, ◌++◌, ℕ, List, length, map, All, IfOk, IfErr, OnOk};
 ghost use Rattle.std.specs.Arc.{arc_value};
 ghost use Rattle.prolog_tokens.specs.declared.limits.TheConstants.{MOST_BYTES};
 ghost use Rattle.prolog_tokens.specs.declared.token.Token.{Token as TokenOf};
@@ -175,7 +175,7 @@ struct ReadStretch {
 }
 
 /// What the stretch is read as under the table, up to a clause that sets operators or a fault. Its nodes
-/// are added to `nodes`, which are none yet.
+/// are added to `nodes`.
 fn read_on(
     alloc: Global,
     table: &OpTable,
@@ -189,7 +189,6 @@ fn read_on(
     requires cut { IsCut text.now tokens.now }
     requires numbered { AreNumbered text.now numbered.now.names tokens.now numbered.now.numbers.items }
     requires stretch { IsStretch tokens.now stretch.now }
-    requires empty { nodes ≡ [] }
     ensures { IsRead numbered.now.names (ops_of table.now) text.now tokens.now stretch.now.from stretch.now.to result }
 {
     numbered_part();
