@@ -33,8 +33,8 @@ const SIZE: usize = 4096;
 /// How few stretches are worth a thread of their own.
 const FEWEST: usize = 4;
 
-/// Nodes stay where they were read if they take at least this part of the room there.
-const LEAST_FILLED: usize = 4;
+/// Nodes stay where they were read if they take at least three quarters of the room there.
+const LEAST_QUARTERS: usize = 3;
 
 /// Clauses side by side: from the place of a token up to another.
 #[derive(Clone, Copy)]
@@ -257,11 +257,11 @@ fn piece_end(nodes: Arc<NodeList>, end: ReadEnd) -> PieceEnd
 }
 
 /// The nodes as they are kept, where there was room for so many: as they are, or moved to where they
-/// have just their room, where they take little of it, as they do before a clause that sets operators.
+/// have just their room, as those before a clause that sets operators, which mostly take little of it.
 fn kept(alloc: Global, nodes: NodeList, room: usize) -> Result<NodeList, AllocError>
     ensures { IfOk result (λ kept. kept ≡ nodes) }
 {
-    if nodes.len() >= room / LEAST_FILLED {
+    if nodes.len() >= room / 4 * LEAST_QUARTERS {
         return Ok(nodes);
     }
     nodes.copied(alloc)
