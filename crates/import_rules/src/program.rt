@@ -156,14 +156,7 @@ impl Program {
 
     /// The number of the predicate of a file's own module that is kept of the name of a number of the
     /// file, where it is the predicate of that name.
-    fn find_kept(
-        &self,
-        file: u32,
-        number: u32,
-        module: &str,
-        name: &str,
-        arity: u32,
-    ) -> Option<u32>
+    fn find_kept(&self, file: u32, number: u32, module: &str, name: &str, arity: u32) -> Option<u32>
         ensures { IfSome result (λ node. found (see_program self.now) module.now name.now arity ≡ Some node) }
     {
         let facts = self.loaded.files.get(file as usize)?;
