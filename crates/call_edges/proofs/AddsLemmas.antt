@@ -15,6 +15,15 @@ option_has (Some x) m = (
   λ is. subst (λ y. Contains (x ∷ []) y) (same_Some x m is) (Contains-push [] x),
 )
 
+-- a list put behind another
+pub adds_append : {M : Type 0} (old more : List M) → Adds (Contains more) old (old ++ more)
+adds_append old more = record {
+  each = λ m. (
+    Contains-append_cases old more m,
+    λ either. elim either [ inl before ↦ Contains-append_left old more m before | inr later ↦ Contains-append_right old more m later ],
+  );
+}
+
 module _ {M : Type 0} where
   -- what is true of the same elements
   pub adds_as : (P Q : M → Type 0) (old new : List M) → ((m : M) → P m → Q m) → ((m : M) → Q m → P m) → Adds P old new → Adds Q old new

@@ -1,10 +1,11 @@
 -- The places of all goals that aren't callable, from those of predicates and of directives.
-use Rattle.std.proofs.Common.{◌≡◌, ◌⊎◌, ◌↔◌, inl, inr, ℕ, ◌*◌, ◌/◌, ◌<◌, Bool, true, ◌&&◌, nat_eq, List, [], ◌++◌, Option, Some, Result, Ok, IfOk, AllPairs, length, map, get_or, slice_get, ap, sym, ◌∙◌, subst, refl, arith}
+use Rattle.std.proofs.Common.{◌≡◌, ◌⊎◌, ◌↔◌, inl, inr, ℕ, ◌*◌, ◌/◌, ◌<◌, Bool, true, ◌&&◌, nat_eq, List, [], ◌++◌, Option, Some, None, Result, Ok, IfOk, AllPairs, length, map, get_or, slice_get, ap, sym, ◌∙◌, subst, refl, arith}
 use Rattle.std.specs.Prelude.{Contains}
 use Rattle.std.specs.List.{AllZip, range_with_len, enumerate_from, dedup}
 use Rattle.std.specs.List.Retain.{IsFiltered, DiffersFromLast}
 use Rattle.std.specs.List.Sorted.{IsSorted, IsPermutation}
 use Rattle.std.specs.Cmp.{IsTotalOrder, IsEquivalence, both_tied, unsigned_ties}
+use Rattle.std.specs.Option.{option_map}
 use Rattle.std.specs.Ordering.{eq_by_cmp}
 use Rattle.std.specs.declared.alloc.AllocError.{AllocError}
 use Rattle.std.specs.declared.cmp.Ordering.TheVariants.{Less}
@@ -17,7 +18,7 @@ use Rattle.std.proofs.lemmas.List.FromFn.{length-range_with_len, get_or-range_wi
 use Rattle.std.proofs.lemmas.List.Kept.{Contains-dedup, Contains-from_dedup, IsStrictlySortedBy-dedup}
 use Rattle.std.proofs.lemmas.List.Sorted.{Contains-permutation, IsPermutation-sym}
 use Rattle.std.proofs.lemmas.Map.Keys.{Less-from_sorted}
-use Rattle.std.proofs.lemmas.Option.{slice_get-get_or, slice_get_within, get_or_from_slice_get}
+use Rattle.std.proofs.lemmas.Option.{none-some, same_Some, slice_get-get_or, slice_get-map, slice_get_within, get_or_from_slice_get}
 use Rattle.list_laws.proofs.Members.{stands_in}
 use Rattle.module_table.specs.Defined.{Predicate}
 use Rattle.module_table.specs.Facts.{Facts}
@@ -26,26 +27,23 @@ use Rattle.import_rules.specs.Files.{pair_cmp, name_in, defined_in, all_defined,
 use Rattle.import_rules.specs.Numbers.{places_for, parts_in}
 use Rattle.import_rules.specs.Program.{Seen, places_in, places_at, IsKnown}
 use Rattle.import_rules.proofs.PartsSoFar.{element_at}
+use Rattle.call_edges.specs.declared.kept_calls.PieceCalls.{PieceCalls}
+use Rattle.call_edges.specs.declared.piece.OpenedPiece.{OpenedPiece}
 use Rattle.call_edges.specs.declared.piece.Piece.{Piece}
 use Rattle.module_table.specs.declared.goal_arg.GoalArg.TheVariants.{Goal}
 use Rattle.call_edges.specs.Goals.{fault, place, Rows, IsMet, Adds}
 use Rattle.call_edges.specs.ProgramRows.{rows_of}
 use Rattle.call_edges.specs.Calls.{IsAmong, IsMetInClause, IsMetAt}
 use Rattle.call_edges.specs.Bodies.{body_in, bodies_at, bodies_in, goals_of_file, goals_in}
-use Rattle.call_edges.specs.CallLists.{IsPiece, AreOpened, ArePieces}
+use Rattle.call_edges.specs.CallLists.{IsPiece, ArePieces}
+use Rattle.call_edges.specs.KeptCalls.{AreCallsIn, AreKept}
+use Rattle.call_edges.specs.OpenedPieces.{IsOpenedPiece, AreOpened, AreOpenedPieces, pieces_of, kept_of}
 use Rattle.call_edges.specs.FaultPlaces.{HasPlace, IsFaultIn, AreFaultsIn, IsFaultPlace, AreFaultPlaces}
+use Rattle.call_edges.proofs.AddsLemmas.{adds_append}
 use Rattle.call_edges.proofs.AmongLemmas.{among_flat, among_map, flat_has, map_has}
 use Rattle.call_edges.proofs.PlaceLemmas.{enumerated, numbered, stands_place}
 use Rattle.call_edges.proofs.BodyLemmas.{place_met, body_file}
 use Rattle.list_laws.proofs.Zips.{zip_at, zip_count}
-
-pub adds_append : {M : Type 0} (old more : List M) → Adds (Contains more) old (old ++ more)
-adds_append old more = record {
-  each = λ m. (
-    Contains-append_cases old more m,
-    λ either. elim either [ inl before ↦ Contains-append_left old more m before | inr later ↦ Contains-append_right old more m later ],
-  );
-}
 
 pub place_adds : (piece : Piece) (old new : List (ℕ × ℕ)) → new ≡ old ++ piece.faults.items → Adds (HasPlace piece) old new
 place_adds piece old new same =
@@ -59,38 +57,68 @@ place_in xs x (k, lt, is) = (k, slice_get-get_or xs k x lt ∙ ap (λ y. Some y)
 
 -- the pieces, where memory was wanting for none
 
-pub opened_of : (seen : Seen) (each : List (Result Piece AllocError)) (count : ℕ) → ((number : ℕ) → number < count ↔ number * 512 < length seen.predicates)
-    → AllZip (λ number one. IfOk one (IsPiece seen number)) (range_with_len 0 count) each → AreOpened seen each
-opened_of seen each count so_many zip =
-    let R : ℕ → Result Piece AllocError → Type 0 = λ number one. IfOk one (IsPiece seen number) in
+pub opened_of : (keep : Bool) (seen : Seen) (each : List (Result OpenedPiece AllocError)) (count : ℕ)
+    → ((number : ℕ) → number < count ↔ number * 512 < length seen.predicates)
+    → AllZip (λ number one. IfOk one (IsOpenedPiece keep seen number)) (range_with_len 0 count) each → AreOpened keep seen each
+opened_of keep seen each count so_many zip =
+    let R : ℕ → Result OpenedPiece AllocError → Type 0 = λ number one. IfOk one (IsOpenedPiece keep seen number) in
     let as_long : count ≡ length each = sym (length-range_with_len 0 count) ∙ zip_count R (range_with_len 0 count) each zip in
     record {
       as_many = λ number inside. omega (arith, (so_many number).1 inside, as_long);
       each = subst (λ (n : ℕ). AllZip R (range_with_len 0 n) each) as_long zip;
     }
 
-one_piece : (seen : Seen) (number : ℕ) (one : Result Piece AllocError) (piece : Piece) → one ≡ Ok piece → IfOk one (IsPiece seen number) → IsPiece seen number piece
-one_piece seen number one piece is if_ok = let P : Result Piece AllocError → Type 0 = λ one. IfOk one (IsPiece seen number) in subst P is if_ok
+one_piece : (keep : Bool) (seen : Seen) (number : ℕ) (one : Result OpenedPiece AllocError) (piece : OpenedPiece) → one ≡ Ok piece
+    → IfOk one (IsOpenedPiece keep seen number) → IsOpenedPiece keep seen number piece
+one_piece keep seen number one piece is if_ok =
+    let P : Result OpenedPiece AllocError → Type 0 = λ one. IfOk one (IsOpenedPiece keep seen number) in subst P is if_ok
 
-pub all_opened : (seen : Seen) (each : List (Result Piece AllocError)) (pieces : List Piece) → AreOpened seen each → each ≡ map (λ piece. Ok piece) pieces → ArePieces seen pieces
-all_opened seen each pieces opened are =
+pub all_opened : (keep : Bool) (seen : Seen) (each : List (Result OpenedPiece AllocError)) (pieces : List OpenedPiece) → AreOpened keep seen each
+    → each ≡ map (λ piece. Ok piece) pieces → AreOpenedPieces keep seen pieces
+all_opened keep seen each pieces opened are =
     let as_long : length each ≡ length pieces = ap length are ∙ length-map pieces (λ piece. Ok piece) in
     record {
       as_many = λ number inside. omega (arith, opened.as_many number inside, as_long);
       each = λ number piece is.
           let lt : number < length pieces = slice_get_within pieces number piece is in
           let within : number < length each = omega (arith, lt, as_long) in
-          let one : Result Piece AllocError = get_or each number (Ok piece) in
+          let one : Result OpenedPiece AllocError = get_or each number (Ok piece) in
           let here : get_or (range_with_len 0 (length each)) number 0 ≡ number = omega (arith, get_or-range_with_len 0 (length each) number 0 within) in
-          let R : ℕ → Result Piece AllocError → Type 0 = λ number one. IfOk one (IsPiece seen number) in
+          let R : ℕ → Result OpenedPiece AllocError → Type 0 = λ number one. IfOk one (IsOpenedPiece keep seen number) in
           let found : R number one =
           subst (λ (n : ℕ). R n one) here (zip_at R (range_with_len 0 (length each)) each number 0 (Ok piece) opened.each (omega (arith, within, length-range_with_len 0 (length each)))) in
           let read : one ≡ Ok piece =
-          ap (λ (xs : List (Result Piece AllocError)). get_or xs number (Ok piece)) are
+          ap (λ (xs : List (Result OpenedPiece AllocError)). get_or xs number (Ok piece)) are
           ∙ get_or-map (λ piece. Ok piece) pieces number piece (Ok piece) lt
           ∙ ap (λ x. Ok x) (get_or_from_slice_get pieces number piece piece is) in
-          one_piece seen number one piece read found;
+          one_piece keep seen number one piece read found;
     }
+
+-- the lists of the pieces, and the calls that are kept of them
+
+mapped_there : {X Y : Type 0} (f : X → Y) (xs : List X) (number : ℕ) (y : Y) → slice_get (map f xs) number ≡ Some y
+    → (x : X) × (slice_get xs number ≡ Some x) × (f x ≡ y)
+mapped_there {X} {Y} f xs number y is = by_read (slice_get xs number) refl (sym (slice_get-map f xs number) ∙ is)
+  where
+    by_read : (o : Option X) → slice_get xs number ≡ o → option_map f o ≡ Some y → (x : X) × (slice_get xs number ≡ Some x) × (f x ≡ y)
+    by_read None read given = absurd (none-some y given)
+    by_read (Some x) read given = (x, read, same_Some (f x) y given)
+
+pub pieces_there : (keep : Bool) (seen : Seen) (opened : List OpenedPiece) → AreOpenedPieces keep seen opened → ArePieces seen (pieces_of opened)
+pieces_there keep seen opened are = record {
+  as_many = λ number inside. omega (arith, are.as_many number inside, length-map opened (λ (one : OpenedPiece). one.piece));
+  each = λ number piece is.
+      let one = mapped_there (λ (one : OpenedPiece). one.piece) opened number piece is in
+      subst (IsPiece seen number) one.2 (are.each number one.0 one.1).piece;
+}
+
+pub kept_pieces : (keep : Bool) (seen : Seen) (opened : List OpenedPiece) → AreOpenedPieces keep seen opened → keep ≡ true → AreKept seen (kept_of opened)
+kept_pieces keep seen opened are kept = record {
+  as_many = λ number inside. omega (arith, are.as_many number inside, length-map opened (λ (one : OpenedPiece). one.kept));
+  each = λ number piece is.
+      let one = mapped_there (λ (one : OpenedPiece). one.kept) opened number piece is in
+      subst (AreCallsIn seen number) one.2 ((are.each number one.0 one.1).kept kept);
+}
 
 -- a goal of a predicate isn't callable, there
 pub record IsNodeFault (seen : Seen) (p : ℕ × ℕ) : Type 0 where

@@ -29,6 +29,7 @@ pub mod PlacedLemmas
 pub mod GoalFaultLemmas
 pub mod UnresolvedLemmas
 pub mod PlacedCallLemmas
+pub mod KeptCallLemmas
 pub mod CallOffsets
 pub mod SpreadLemmas
 pub mod JoinedLemmas

@@ -1,9 +1,7 @@
 -- What is found at predicates, and lists that stand one behind the other.
-use Rattle.std.specs.Prelude.{ℕ, ◌≡◌, ◌<◌, ◌≤◌, ◌+◌, ◌*◌, ◌/◌, ◌↔◌, List, [], Some, Contains, Result, IfOk, length, take, drop, slice_get, slice_index_or}
+use Rattle.std.specs.Prelude.{ℕ, ◌≡◌, ◌<◌, ◌≤◌, ◌+◌, ◌*◌, ◌/◌, ◌↔◌, List, [], Some, Contains, length, take, drop, slice_get, slice_index_or}
 use Rattle.std.specs.Prelude.{slice_range}
-use Rattle.std.specs.List.{AllZip, range_with_len}
 use Rattle.std.specs.List.Sorted.{IsStrictlyIncreasing}
-use Rattle.std.specs.declared.alloc.AllocError.{AllocError}
 use Rattle.import_rules.specs.Program.{Seen}
 use Rattle.call_edges.specs.declared.piece.TheConstants.{PIECE_SIZE}
 use Rattle.call_edges.specs.declared.piece.Piece.{Piece}
@@ -44,11 +42,6 @@ pub record IsPieceFault (seen : Seen) (number : ℕ) (p : ℕ × ℕ) : Type 0 w
 pub record IsPiece (seen : Seen) (number : ℕ) (piece : Piece) : Type 0 where
   pub laid_out : AreLaidOut (piece_lists (successor_lists seen) number) piece.starts.items piece.callees.items
   pub faults : (p : ℕ × ℕ) → Contains piece.faults.items p ↔ IsPieceFault seen number p
-
--- what is found in each piece, in the order of their numbers: so many that no predicate is left out
-pub record AreOpened (seen : Seen) (found : List (Result Piece AllocError)) : Type 0 where
-  pub as_many : (number : ℕ) → number * PIECE_SIZE < length seen.predicates → number < length found
-  pub each : AllZip (λ number one. IfOk one (IsPiece seen number)) (range_with_len 0 (length found)) found
 
 -- the pieces of all predicates
 pub record ArePieces (seen : Seen) (pieces : List Piece) : Type 0 where

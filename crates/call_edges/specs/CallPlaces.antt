@@ -1,36 +1,39 @@
 -- Calls with the places of their goals.
-use Rattle.std.specs.Prelude.{ℕ, ◌≡◌, ◌↔◌, List, AllPairs, Contains}
+use Rattle.std.specs.Prelude.{ℕ, ◌≡◌, ◌↔◌, List, Option, AllPairs, Contains}
 use Rattle.std.specs.declared.cmp.Ordering.{Ordering}
 use Rattle.std.specs.declared.cmp.Ordering.TheVariants.{Less}
 use Rattle.std.specs.Ordering.{ordering_then, nat_cmp}
 use Rattle.import_rules.specs.declared.names.PredName.{PredName}
 use Rattle.import_rules.specs.Names.{pred_cmp}
-use Rattle.import_rules.specs.Program.{Seen}
-use Rattle.call_edges.specs.Goals.{Met, call, Rows}
+use Rattle.import_rules.specs.Program.{Seen, found}
+use Rattle.call_edges.specs.Goals.{Met, call}
 use Rattle.call_edges.specs.ProgramRows.{rows_of}
 use Rattle.call_edges.specs.Calls.{IsAmong}
 use Rattle.call_edges.specs.Bodies.{Body, bodies_in, IsMetInBody}
 
--- a call: the place of its file, the offset at which its goal starts, the number of the predicate that calls, and the name that it calls
+-- a call: the place of its file, the offset at which its goal starts, the number of the predicate that calls, the name that it calls, and the number of
+-- the predicate that the name means, if any
 pub record CallAt : Type 0 where
   pub file : ℕ
   pub offset : ℕ
   pub caller : ℕ
   pub callee : PredName
+  pub means : Option ℕ
 
--- a call in that file, by that predicate, such that this is true of what is met where its goal starts
-pub record IsCallBy (file caller : ℕ) (P : Met → Type 0) (c : CallAt) : Type 0 where
+-- a call in that file, by that predicate, of what its name means, such that this is true of what is met where its goal starts
+pub record IsCallBy (seen : Seen) (file caller : ℕ) (P : Met → Type 0) (c : CallAt) : Type 0 where
   pub in_file : c.file ≡ file
   pub caller_is : c.caller ≡ caller
+  pub means_is : c.means ≡ found seen c.callee.module c.callee.name c.callee.arity
   pub met : P (call c.offset c.callee.module c.callee.name c.callee.arity)
 
 -- the call stands in the body of a clause of that predicate
-abbrev pub IsCalledIn : Rows → ℕ → Body → CallAt → Type 0
-IsCalledIn T caller body c = IsCallBy body.file caller (IsMetInBody T body) c
+abbrev pub IsCalledIn : Seen → ℕ → Body → CallAt → Type 0
+IsCalledIn seen caller body c = IsCallBy seen body.file caller (IsMetInBody (rows_of seen) body) c
 
 -- the call stands in a clause of the predicate of that number
 abbrev pub IsCallOf : Seen → ℕ → CallAt → Type 0
-IsCallOf seen caller c = IsAmong (IsCalledIn (rows_of seen) caller) (bodies_in seen caller) c
+IsCallOf seen caller c = IsAmong (IsCalledIn seen caller) (bodies_in seen caller) c
 
 -- by file, then by offset, then by the caller and the name that is called
 abbrev pub call_cmp : CallAt → CallAt → Ordering

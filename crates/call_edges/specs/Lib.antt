@@ -15,4 +15,7 @@ pub mod Called
 pub mod CallLists
 pub mod CallPlaces
 pub mod PlacedSeen
+pub mod KeptCalls
+pub mod OpenedPieces
+pub mod PlacedLists
 pub mod FileOrder

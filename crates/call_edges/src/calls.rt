@@ -18,7 +18,7 @@ use import_rules::Program;
 use std::alloc::AllocError;
 
 /// The predicate that a call goes to. Its name is looked up where it wasn't yet.
-fn target(program: &Program, met: Met) -> Option<u32>
+pub fn target(program: &Program, met: Met) -> Option<u32>
     requires { IsMeant (see_program program.now) met }
     ensures { result ≡ target (see_program program.now) (see_met met.entry) }
 {

@@ -1,19 +1,24 @@
 //! Whether every goal of a program is callable, and what its predicates call.
 
-ghost use Rattle.std.specs.Prelude.{[], ◌≡◌, ◌*◌, ◌<◌, ◌↔◌, ℕ, Ok, Contains, length, map, IfOk, OnOk, IfErr};
+ghost use Rattle.std.specs.Prelude.{[], ◌≡◌, ◌*◌, ◌<◌, ◌↔◌, true, ℕ, Ok, Contains, length, map, IfOk, OnOk, IfErr};
 ghost use Rattle.import_rules.specs.Program.{see_program};
 ghost use Rattle.call_edges.specs.Calls.{IsAmong};
 ghost use Rattle.call_edges.specs.declared.piece.TheConstants.{PIECE_SIZE};
-ghost use Rattle.call_edges.specs.CallLists.{IsPiece, AreOpened, ArePieces};
+ghost use Rattle.call_edges.specs.CallLists.{ArePieces};
 ghost use Rattle.call_edges.specs.FaultPlaces.{AreFaultPlaces, HasPlace};
 ghost use Rattle.call_edges.specs.GoalFaults.{AreGoalFaults, IsGoalStop};
+ghost use Rattle.call_edges.specs.KeptCalls.{AreKept};
 ghost use Rattle.call_edges.specs.Opened.{see_call_lists};
+ghost use Rattle.call_edges.specs.OpenedPieces.{AreOpened, AreOpenedPieces, IsOpenedPiece, pieces_of, kept_of};
+ghost use Rattle.call_edges.specs.PlacedLists.{see_placed_lists};
 
 use crate::faults::directive_faults;
 use crate::goal_stop::GoalStop;
+use crate::kept_calls::PieceCalls;
 use crate::laid_out::CallLists;
-use crate::piece::{Piece, open_piece, piece_count};
+use crate::piece::{OpenedPiece, Piece, open_piece, piece_count};
 use crate::placed::placed;
+use crate::placed_lists::PlacedCallLists;
 use import_rules::Program;
 use rayon::prelude::*;
 use std::alloc::{AllocError, Global};
@@ -23,50 +28,78 @@ use std::thread::Threads;
 const FEWEST: usize = 2;
 
 /// What is found in each piece, in the order of their numbers. They are walked side by side.
-fn open_each<R: Threads + Sync>(
+fn open_each<'a, R: Threads + Sync>(
     rt: &R,
     alloc: Global,
-    program: &Program,
-) -> Result<Vec<Result<Piece, AllocError>>, AllocError>
-    ensures { IfOk result (λ each. AreOpened (see_program program.now) each.items) }
+    program: &'a Program,
+    keep: bool,
+) -> Result<Vec<Result<OpenedPiece<'a>, AllocError>>, AllocError>
+    ensures { IfOk result (λ each. AreOpened keep (see_program program.now) each.items) }
 {
     (0..piece_count(program.count()))
         .into_par_iter()
         .with_min_len(FEWEST)
         .map(
-            |number: u32| -> Result<Piece, AllocError>
+            |number: u32| -> Result<OpenedPiece<'_>, AllocError>
                 requires { number * PIECE_SIZE < length (see_program program.now).predicates }
-                ensures { IfOk result (IsPiece (see_program program.entry.now) number) }
-            { open_piece(alloc, program, number) },
+                ensures { IfOk result (IsOpenedPiece keep (see_program program.entry.now) number) }
+            { open_piece(alloc, program, keep, number) },
         )
         .collect(rt, alloc)
 }
 
 /// The pieces, where memory was wanting for none.
-fn whole(alloc: Global, each: Vec<Result<Piece, AllocError>>) -> Result<Vec<Piece>, AllocError>
-    ensures { IfOk result (λ pieces. each.items ≡ map (λ piece. Ok piece) pieces.items) }
+fn whole<'a>(
+    alloc: Global,
+    each: Vec<Result<OpenedPiece<'a>, AllocError>>,
+) -> Result<Vec<OpenedPiece<'a>>, AllocError>
+    ensures { IfOk result (λ opened. each.entry.items ≡ map (λ one. Ok one) opened.items) }
 {
-    let mut pieces = Vec::with_capacity(alloc, each.len())?;
+    let mut opened = Vec::with_capacity(alloc, each.len())?;
     for one in each {
         match one {
-            Ok(piece) => pieces.push(piece)?,
+            Ok(piece) => opened.push(piece)?,
             Err(error) => return Err(error),
         }
     }
-    Ok(pieces)
+    Ok(opened)
 }
 
-/// The pieces of a program.
-fn open_all<R: Threads + Sync>(
+/// The lists of the pieces, and apart from them the calls that are kept.
+fn split<'a>(
+    alloc: Global,
+    opened: Vec<OpenedPiece<'a>>,
+) -> Result<(Vec<Piece>, Vec<PieceCalls<'a>>), AllocError>
+    ensures pieces { IfOk result (λ found. found.0.items ≡ pieces_of opened.entry.items) }
+    ensures kept { IfOk result (λ found. found.1.items ≡ kept_of opened.entry.items) }
+{
+    let mut pieces = Vec::with_capacity(alloc, opened.len())?;
+    let mut kept = Vec::with_capacity(alloc, opened.len())?;
+    for one in opened {
+        let OpenedPiece {
+            piece,
+            kept: calls,
+        } = one;
+        pieces.push(piece)?;
+        kept.push(calls)?;
+    }
+    Ok((pieces, kept))
+}
+
+/// The pieces of a program, and their calls, where they are kept.
+fn open_all<'a, R: Threads + Sync>(
     rt: &R,
     alloc: Global,
-    program: &Program,
-) -> Result<Vec<Piece>, AllocError>
-    ensures { IfOk result (λ pieces. ArePieces (see_program program.now) pieces.items) }
+    program: &'a Program,
+    keep: bool,
+) -> Result<(Vec<Piece>, Vec<PieceCalls<'a>>), AllocError>
+    ensures pieces { IfOk result (λ found. ArePieces (see_program program.now) found.0.items) }
+    ensures kept { IfOk result (λ found. keep ≡ true → AreKept (see_program program.now) found.1.items) }
 {
-    let each = open_each(rt, alloc, program)?;
-    let pieces = whole(alloc, each)?;
-    Ok(pieces)
+    let each = open_each(rt, alloc, program, keep)?;
+    let opened = whole(alloc, each)?;
+    let found = split(alloc, opened)?;
+    Ok(found)
 }
 
 /// The places of goals that aren't callable, of all pieces.
@@ -98,6 +131,28 @@ fn fault_places(
     Ok(faults)
 }
 
+/// The pieces of a program, and their calls, where they are kept; where every goal is callable
+/// (ISO/IEC 13211-1, 7.6.2): a number never is, nor is a text but in a grammar body.
+fn all_callable<'a, R: Threads + Sync>(
+    rt: &R,
+    alloc: Global,
+    program: &'a Program,
+    keep: bool,
+) -> Result<(Vec<Piece>, Vec<PieceCalls<'a>>), GoalStop>
+    ensures pieces { IfOk result (λ found. ArePieces (see_program program.now) found.0.items) }
+    ensures kept { IfOk result (λ found. keep ≡ true → AreKept (see_program program.now) found.1.items) }
+    ensures callable { OnOk result (AreGoalFaults (see_program program.now) []) }
+    ensures refused { IfErr result (IsGoalStop (see_program program.now)) }
+{
+    program.is_known();
+    let found = open_all(rt, alloc, program, keep)?;
+    let faults = fault_places(alloc, program, &found.0)?;
+    if faults.is_empty() {
+        return Ok(found);
+    }
+    Err(GoalStop::Faults(placed(alloc, program, &faults)?))
+}
+
 /// What the predicates of a program call, where every goal is callable (ISO/IEC 13211-1, 7.6.2): a
 /// number never is, nor is a text but in a grammar body. Each predicate is walked once, side by side
 /// with others.
@@ -110,13 +165,24 @@ pub fn call_lists<'a, R: Threads + Sync>(
     ensures callable { OnOk result (AreGoalFaults (see_program program.now) []) }
     ensures refused { IfErr result (IsGoalStop (see_program program.now)) }
 {
-    program.is_known();
-    let pieces = open_all(rt, alloc, program)?;
-    let faults = fault_places(alloc, program, &pieces)?;
-    if faults.is_empty() {
-        return Ok(CallLists::of_pieces(program, pieces));
-    }
-    Err(GoalStop::Faults(placed(alloc, program, &faults)?))
+    let (pieces, _kept) = all_callable(rt, alloc, program, false)?;
+    Ok(CallLists::of_pieces(program, pieces))
+}
+
+/// What the predicates of a program call, as `call_lists` answers it, and all their calls with the
+/// places of their goals. They are found by the same walk, in which each name is looked up once.
+pub fn placed_call_lists<'a, R: Threads + Sync>(
+    rt: &R,
+    alloc: Global,
+    program: &'a Program,
+) -> Result<PlacedCallLists<'a>, GoalStop>
+    ensures calls { IfOk result (λ calls. see_placed_lists calls ≡ see_program program.now) }
+    ensures callable { OnOk result (AreGoalFaults (see_program program.now) []) }
+    ensures refused { IfErr result (IsGoalStop (see_program program.now)) }
+{
+    let (pieces, kept) = all_callable(rt, alloc, program, true)?;
+    let lists = CallLists::of_pieces(program, pieces);
+    Ok(PlacedCallLists::of_pieces(lists, kept))
 }
 
 /// Whether every goal of a program is callable, as `call_lists` finds it.

@@ -1,11 +1,12 @@
 //! What all predicates of a program call, in memory.
 
-ghost use Rattle.std.specs.Prelude.{◌≡◌, ◌<◌, ◌≤◌, [], length, slice_index_or, slice_range};
+ghost use Rattle.std.specs.Prelude.{◌≡◌, ◌<◌, [], length, slice_index_or};
 ghost use Rattle.std.proofs.Props.{props};
 ghost use Rattle.import_rules.specs.Program.{see_program};
 ghost use Rattle.call_edges.specs.CallLists.{ArePieces, AreListed};
 ghost use Rattle.call_edges.specs.Successors.{successor_lists};
 
+use crate::lists::between;
 use crate::piece::{PIECE_SIZE, Piece};
 use graph_law::Opener;
 use import_rules::Program;
@@ -32,6 +33,13 @@ impl<'a> CallLists<'a> {
         CallLists { program, pieces }
     }
 
+    /// The program whose calls they are.
+    pub(crate) fn program(&self) -> &'a Program
+        ensures { see_program result.now ≡ see_call_lists self.now }
+    {
+        self.program
+    }
+
     /// What a predicate calls, ascending and each once.
     fn list(&self, node: u32) -> &[u32]
         requires { node < length (successor_lists (see_call_lists self.now)) }
@@ -41,15 +49,6 @@ impl<'a> CallLists<'a> {
         let at = (node % PIECE_SIZE) as usize;
         between(&piece.callees, piece.starts[at], piece.starts[at + 1])
     }
-}
-
-/// What stands from one place up to another.
-fn between(all: &[u32], from: usize, to: usize) -> &[u32]
-    requires ordered { from ≤ to }
-    requires within { to ≤ length all.now }
-    ensures { result.now ≡ slice_range all.now from to }
-{
-    &all[from..to]
 }
 
 impl Opener for CallLists<'_> {

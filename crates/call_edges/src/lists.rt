@@ -1,6 +1,6 @@
-//! Lists one behind the other.
+//! Lists one behind the other, and stretches of a list.
 
-ghost use Rattle.std.specs.Prelude.{◌≡◌, flat_map, IfOk};
+ghost use Rattle.std.specs.Prelude.{◌≡◌, ◌≤◌, flat_map, length, slice_range, IfOk};
 
 use std::alloc::{AllocError, Global};
 
@@ -13,4 +13,13 @@ pub fn joined<T: Copy>(alloc: Global, each: &[Vec<T>]) -> Result<Vec<T>, AllocEr
         all.extend_from_slice(list)?;
     }
     Ok(all)
+}
+
+/// What stands from one place up to another.
+pub fn between<T>(all: &[T], from: usize, to: usize) -> &[T]
+    requires ordered { from ≤ to }
+    requires within { to ≤ length all.now }
+    ensures { result.now ≡ slice_range all.now from to }
+{
+    &all[from..to]
 }

@@ -1,6 +1,6 @@
 //! What is found in the clauses of one predicate.
 
-ghost use Rattle.std.specs.Prelude.{◌<◌, All, length, map, OnOk};
+ghost use Rattle.std.specs.Prelude.{◌≡◌, ◌<◌, ◌↔◌, true, All, Contains, length, map, OnOk};
 ghost use Rattle.import_rules.specs.Program.{see_program};
 ghost use Rattle.call_edges.specs.ProgramRows.{rows_of};
 ghost use Rattle.call_edges.specs.Goals.{Adds};
@@ -8,10 +8,12 @@ ghost use Rattle.call_edges.specs.Calls.{GoesTo, IsAmong};
 ghost use Rattle.call_edges.specs.Bodies.{see_body, bodies_in, IsLight, IsMetInBody};
 ghost use Rattle.call_edges.specs.FaultPlaces.{IsFaultIn};
 ghost use Rattle.call_edges.specs.CallLists.{IsOpened};
+ghost use Rattle.call_edges.specs.CallPlaces.{CallAt, IsCalledIn, IsCallOf};
+ghost use Rattle.call_edges.specs.PlacedSeen.{see_calls};
 
 use crate::body::{Body, push_bodies_of};
-use crate::calls::push_targets;
 use crate::faults::push_places;
+use crate::found::{Found, Opening, push_found};
 use crate::role::Met;
 use crate::walking::walk;
 use import_rules::Program;
@@ -34,58 +36,66 @@ impl<'a> Buffers<'a> {
     }
 }
 
-/// Adds what bodies call, in their order, and where goals in them aren't callable.
+/// Adds what bodies of the predicate call, in their order, and where goals in them aren't callable.
 fn found_in<'a>(
     alloc: Global,
     program: &'a Program,
+    opening: Opening,
     bodies: &[Body<'a>],
     met: &mut Vec<Met<'a>>,
-    callees: &mut Vec<u32>,
+    found: &mut Found<'a>,
     faults: &mut Vec<(u32, u32)>,
 ) -> Result<(), AllocError>
     requires { All IsLight (map see_body bodies.now) }
     ensures callees { OnOk result (Adds
         (GoesTo (see_program program.now) (IsAmong (IsMetInBody (rows_of (see_program program.now))) (map see_body bodies.now)))
-        callees.old.items callees.new.items) }
+        found.old.callees.items found.new.callees.items) }
+    ensures calls { OnOk result (opening.keep ≡ true → Adds (IsAmong (IsCalledIn (see_program program.now) opening.node) (map see_body bodies.now))
+        (see_calls found.old.calls.items) (see_calls found.new.calls.items)) }
     ensures faults { OnOk result (Adds (IsAmong (IsFaultIn (rows_of (see_program program.now))) (map see_body bodies.now)) faults.old.items faults.new.items) }
 {
     for body in bodies {
         met.clear();
         walk(alloc, program, &body.term, body.owner, body.role, met)?;
-        push_targets(program, met, callees)?;
+        push_found(program, opening, body.file, met, found)?;
         push_places(body.file, met, faults)?;
     }
     Ok(())
 }
 
-/// What is found in the clauses of the predicate of that number, by one walk: `callees` is what it
-/// calls, ascending and each once, and to `faults` is added where its goals aren't callable.
+/// What is found in the clauses of a predicate, by one walk: `found.callees` is what it calls, ascending
+/// and each once, and `found.calls` are its calls, where they are kept; to `faults` is added where its
+/// goals aren't callable.
 pub fn open<'a>(
     alloc: Global,
     program: &'a Program,
-    node: u32,
+    opening: Opening,
     buffers: &mut Buffers<'a>,
-    callees: &mut Vec<u32>,
+    found: &mut Found<'a>,
     faults: &mut Vec<(u32, u32)>,
 ) -> Result<(), AllocError>
-    requires { node < length (see_program program.now).predicates }
-    ensures callees { OnOk result (IsOpened (see_program program.now) node callees.new.items) }
-    ensures faults { OnOk result (Adds (IsAmong (IsFaultIn (rows_of (see_program program.now))) (bodies_in (see_program program.now) node))
+    requires { opening.node < length (see_program program.now).predicates }
+    ensures callees { OnOk result (IsOpened (see_program program.now) opening.node found.new.callees.items) }
+    ensures calls { OnOk result (opening.keep ≡ true → (c : CallAt)
+        → Contains (see_calls found.new.calls.items) c ↔ IsCallOf (see_program program.now) opening.node c) }
+    ensures faults { OnOk result (Adds (IsAmong (IsFaultIn (rows_of (see_program program.now))) (bodies_in (see_program program.now) opening.node))
         faults.old.items faults.new.items) }
 {
     program.is_known();
-    callees.clear();
+    found.callees.clear();
+    found.calls.clear();
     buffers.bodies.clear();
-    push_bodies_of(program, node, &mut buffers.bodies)?;
+    push_bodies_of(program, opening.node, &mut buffers.bodies)?;
     found_in(
         alloc,
         program,
+        opening,
         &buffers.bodies,
         &mut buffers.met,
-        callees,
+        found,
         faults,
     )?;
-    callees.sort_unstable();
-    callees.dedup();
+    found.callees.sort_unstable();
+    found.callees.dedup();
     Ok(())
 }

@@ -3,8 +3,10 @@
 ghost use Rattle.std.specs.Prelude.{◌≡◌, ◌∷◌, ◌++◌, ◌+◌, ◌*◌, ◌<◌, ◌↔◌, ℕ, [], length, IfOk, OnOk};
 ghost use Rattle.import_rules.specs.Program.{see_program};
 ghost use Rattle.call_edges.specs.declared.piece.TheConstants.{PIECE_SIZE};
-ghost use Rattle.call_edges.specs.CallLists.{IsPiece};
+ghost use Rattle.call_edges.specs.OpenedPieces.{IsOpenedPiece};
 
+use crate::found::{Found, Opening};
+use crate::kept_calls::PieceCalls;
 use crate::opened::{Buffers, open};
 use import_rules::Program;
 use std::alloc::{AllocError, Global};
@@ -61,27 +63,43 @@ pub fn piece_count(count: u32) -> u32
     count / PIECE_SIZE + 1
 }
 
-/// What is found in the predicates of the piece of that number.
-pub fn open_piece(alloc: Global, program: &Program, number: u32) -> Result<Piece, AllocError>
+/// What is found in the predicates of a piece.
+#[derive(Drop)]
+pub struct OpenedPiece<'a> {
+    pub piece: Piece,
+    /// Their calls, where they are kept.
+    pub kept: PieceCalls<'a>,
+}
+
+/// What is found in the predicates of the piece of that number. Their calls are kept where `keep` is
+/// set.
+pub fn open_piece<'a>(
+    alloc: Global,
+    program: &'a Program,
+    keep: bool,
+    number: u32,
+) -> Result<OpenedPiece<'a>, AllocError>
     requires { number * PIECE_SIZE < length (see_program program.now).predicates }
-    ensures { IfOk result (IsPiece (see_program program.now) number) }
+    ensures { IfOk result (IsOpenedPiece keep (see_program program.now) number) }
 {
     let count = program.count();
     let from = number * PIECE_SIZE;
     let to = from + (count - from).min(PIECE_SIZE);
     let mut piece = Piece::none(alloc)?;
+    let mut kept = PieceCalls::none(alloc);
     let mut buffers = Buffers::new(alloc);
-    let mut callees = Vec::new(alloc);
+    let mut found = Found::new(alloc);
     for node in from..to {
         open(
             alloc,
             program,
-            node,
+            Opening { node, keep },
             &mut buffers,
-            &mut callees,
+            &mut found,
             &mut piece.faults,
         )?;
-        piece.push(&callees)?;
+        piece.push(&found.callees)?;
+        kept.push(keep, &found.calls)?;
     }
-    Ok(piece)
+    Ok(OpenedPiece { piece, kept })
 }

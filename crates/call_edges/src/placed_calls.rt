@@ -1,24 +1,23 @@
 //! All calls of predicates, each with the place of its goal.
 
-ghost use Rattle.std.specs.Prelude.{◌≡◌, ◌<◌, All, Contains, length, map, option_map, IfOk, OnOk};
+ghost use Rattle.std.specs.Prelude.{◌≡◌, ◌<◌, ◌↔◌, ◌++◌, true, All, Contains, length, map, option_map, IfOk, OnOk};
+ghost use Rattle.std.specs.Option.{option_to_list};
 ghost use Rattle.file_library.specs.Spots.{StandsInText};
-ghost use Rattle.call_edges.specs.CallPlaces.{AreCallsOf, CallAt, IsCallBy};
-ghost use Rattle.call_edges.specs.Goals.{Adds};
-ghost use Rattle.call_edges.specs.PlacedSeen.{call_met, see_call, see_calls};
-ghost use Rattle.call_edges.specs.Seen.{see_met, see_mets};
-ghost use Rattle.import_rules.specs.Program.{see_program};
+ghost use Rattle.call_edges.specs.CallPlaces.{AreCallsOf, CallAt, IsCallOf};
+ghost use Rattle.call_edges.specs.Calls.{IsAmong};
+ghost use Rattle.call_edges.specs.PlacedLists.{see_placed_lists};
+ghost use Rattle.call_edges.specs.PlacedSeen.{call_to, see_call, see_calls};
+ghost use Rattle.call_edges.specs.Seen.{see_met};
 
+use crate::placed_lists::PlacedCallLists;
 use crate::role::Met;
-use crate::spread_calls::spread_calls;
-use import_rules::Program;
 use std::alloc::{AllocError, Global};
-use std::thread::Threads;
 
-/// A call in a clause: the place of its file among the files, the byte offset at which its goal
-/// starts, the number of the predicate that calls, and the name that it calls in a module. Calls are
-/// ordered by their parts in this order.
+/// A name that is called in a module, by a goal of a clause: the place of the clause's file among the
+/// files, the byte offset at which the goal starts, and the number of the predicate that calls. They
+/// are ordered by their parts in this order.
 #[derive(Clone, Copy, Debug, PartialEq, Eq, PartialOrd, Ord)]
-pub struct PlacedCall<'a> {
+pub struct NamedCall<'a> {
     pub file: u32,
     pub offset: u32,
     pub caller: u32,
@@ -27,9 +26,17 @@ pub struct PlacedCall<'a> {
     pub arity: u32,
 }
 
-/// The call in that file and by that predicate, where what is met is one.
-fn call_met<'a>(file: u32, node: u32, met: Met<'a>) -> Option<PlacedCall<'a>>
-    ensures { option_map see_call result ≡ call_met file node (see_met met.entry) }
+/// A call in a clause, and the number of the predicate that its name means in the module; `None` where
+/// it means none.
+#[derive(Clone, Copy, Debug, PartialEq, Eq, PartialOrd, Ord)]
+pub struct PlacedCall<'a> {
+    pub named: NamedCall<'a>,
+    pub callee: Option<u32>,
+}
+
+/// The call in that file and by that predicate to what its name means, where what is met is one.
+fn call_to<'a>(callee: Option<u32>, file: u32, caller: u32, met: Met<'a>) -> Option<PlacedCall<'a>>
+    ensures { option_map see_call result ≡ call_to callee file caller (see_met met.entry) }
 {
     let Met::Call {
         at,
@@ -42,49 +49,73 @@ fn call_met<'a>(file: u32, node: u32, met: Met<'a>) -> Option<PlacedCall<'a>>
         return None;
     };
     Some(PlacedCall {
-        file,
-        offset: at,
-        caller: node,
-        module,
-        name,
-        arity,
+        named: NamedCall {
+            file,
+            offset: at,
+            caller,
+            module,
+            name,
+            arity,
+        },
+        callee,
     })
 }
 
-/// Adds the calls of what is met in a body of that file, of a clause of that predicate.
-pub(crate) fn push_calls<'a>(
+/// Adds the call in that file and by that predicate to what its name means, where what is met is one
+/// and calls are kept.
+pub(crate) fn push_call<'a>(
+    keep: bool,
+    callee: Option<u32>,
     file: u32,
-    node: u32,
-    met: &[Met<'a>],
+    caller: u32,
+    met: Met<'a>,
     calls: &mut Vec<PlacedCall<'a>>,
 ) -> Result<(), AllocError>
-    ensures { OnOk result (Adds (IsCallBy file node (Contains (see_mets met.now))) (see_calls calls.old.items) (see_calls calls.new.items)) }
+    ensures { OnOk result (keep ≡ true → see_calls calls.new.items ≡ see_calls calls.old.items ++ option_to_list (call_to callee file caller (see_met met.entry))) }
 {
-    for one in met {
-        let Some(call) = call_met(file, node, *one) else {
-            continue;
-        };
-        calls.push(call)?;
+    if !keep {
+        return Ok(());
     }
-    Ok(())
+    match call_to(callee, file, caller, met) {
+        None => Ok(()),
+        Some(call) => {
+            calls.push(call)?;
+            Ok(())
+        }
+    }
+}
+
+/// The calls of these predicates, one predicate after another.
+fn gathered<'a>(
+    alloc: Global,
+    lists: &PlacedCallLists<'a>,
+    callers: &[u32],
+) -> Result<Vec<PlacedCall<'a>>, AllocError>
+    requires { All (λ p. p < length (see_placed_lists lists.now).predicates) callers.now }
+    ensures { IfOk result (λ calls. (c : CallAt) → Contains (see_calls calls.items) c ↔ IsAmong (IsCallOf (see_placed_lists lists.now)) callers.now c) }
+{
+    let mut calls = Vec::new(alloc);
+    for caller in callers {
+        calls.extend_from_slice(lists.calls_by(*caller))?;
+    }
+    Ok(calls)
 }
 
 /// All calls of these predicates, by file and offset and each once: where each goal starts, who calls,
-/// and the name that is called in a module, whether or not it means a predicate there. The files are
-/// given by their places among those of the program, the offsets are of their bytes. The predicates are
-/// walked side by side.
-pub fn calls_of<'a, R: Threads + Sync>(
-    rt: &R,
+/// the name that is called in a module, and the predicate that it means there, if any. The files are
+/// given by their places among those of the program, the offsets are of their bytes. Nothing is walked
+/// or looked up for it.
+pub fn calls_of<'a>(
     alloc: Global,
-    program: &'a Program,
+    lists: &PlacedCallLists<'a>,
     callers: &[u32],
 ) -> Result<Vec<PlacedCall<'a>>, AllocError>
-    requires { All (λ p. p < length (see_program program.now).predicates) callers.now }
-    ensures calls { IfOk result (λ calls. AreCallsOf (see_program program.now) callers.now (see_calls calls.items)) }
-    ensures stand { IfOk result (λ calls. All (λ (c : CallAt). StandsInText (see_program program.now).loaded.texts c.file c.offset) (see_calls calls.items)) }
+    requires { All (λ p. p < length (see_placed_lists lists.now).predicates) callers.now }
+    ensures calls { IfOk result (λ calls. AreCallsOf (see_placed_lists lists.now) callers.now (see_calls calls.items)) }
+    ensures stand { IfOk result (λ calls. All (λ (c : CallAt). StandsInText (see_placed_lists lists.now).loaded.texts c.file c.offset) (see_calls calls.items)) }
 {
-    program.is_known();
-    let mut calls = spread_calls(rt, alloc, program, callers)?;
+    lists.is_known();
+    let mut calls = gathered(alloc, lists, callers)?;
     // Mostly they are in order already, which takes one look at each.
     calls.sort_unstable();
     calls.dedup();

@@ -22,7 +22,7 @@ call_spot c = (c.file, c.offset)
 
 -- the same of a call that is kept
 abbrev pub kept_spot : PlacedCall → ℕ × ℕ
-kept_spot c = (c.file, c.offset)
+kept_spot c = (c.named.file, c.named.offset)
 
 -- all clauses of the predicates, with their lines and columns
 pub record ArePlacedClauses (seen : Seen) (nodes : List ℕ) (clauses : List ClauseAt) (places : List Place) : Type 0 where

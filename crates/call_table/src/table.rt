@@ -1,13 +1,14 @@
 //! The table of a program's calls.
 
 ghost use Rattle.std.specs.Prelude.{◌≡◌, ◌<◌, All, IfOk, length, map};
+ghost use Rattle.call_edges.specs.PlacedLists.{see_placed_lists};
 ghost use Rattle.call_table.specs.Table.{ArePlacedCalls, ArePlacedClauses, IsTable, clause_spot, kept_spot};
 ghost use Rattle.graph_law.specs.Graph.{lists_of};
 ghost use Rattle.import_rules.specs.Program.{see_program};
 
 use crate::clauses::{ClauseAt, clauses_of};
 use crate::memberships::groups_of;
-use call_edges::{PlacedCall, calls_of, in_file_order};
+use call_edges::{PlacedCall, PlacedCallLists, calls_of, in_file_order};
 use import_rules::Program;
 use prolog_tokens::Place;
 use std::alloc::{AllocError, Global};
@@ -44,7 +45,7 @@ fn call_spots(alloc: Global, calls: &[PlacedCall<'_>]) -> Result<Vec<(u32, u32)>
 {
     calls
         .iter()
-        .map(|call| (call.file, call.offset))
+        .map(|call| (call.named.file, call.named.offset))
         .collect(alloc)
 }
 
@@ -64,35 +65,35 @@ fn clauses_with_places(
 }
 
 /// The calls of these predicates, and the line and the column of each.
-fn calls_with_places<'a, R: Threads + Sync>(
-    rt: &R,
+fn calls_with_places<'a>(
     alloc: Global,
-    program: &'a Program,
+    lists: &PlacedCallLists<'a>,
     nodes: &[u32],
 ) -> Result<(Vec<PlacedCall<'a>>, Vec<Place>), AllocError>
-    requires { All (λ p. p < length (see_program program.now).predicates) nodes.now }
-    ensures { IfOk result (λ found. ArePlacedCalls (see_program program.now) nodes.now found.0.items found.1.items) }
+    requires { All (λ p. p < length (see_placed_lists lists.now).predicates) nodes.now }
+    ensures { IfOk result (λ found. ArePlacedCalls (see_placed_lists lists.now) nodes.now found.0.items found.1.items) }
 {
-    let calls = calls_of(rt, alloc, program, nodes)?;
+    let calls = calls_of(alloc, lists, nodes)?;
     let spots = call_spots(alloc, &calls)?;
-    let places = program.places_of_spots(alloc, &spots)?;
+    let places = lists.program().places_of_spots(alloc, &spots)?;
     Ok((calls, places))
 }
 
-/// The table of these predicates of the program, and of these groups of its predicates. Clauses and calls
-/// are found side by side, and predicate by predicate in the order of the files, so that they mostly come
-/// out in order.
+/// The table of these predicates of the program whose calls these are, and of these groups of its
+/// predicates. Clauses and calls are put together side by side, and predicate by predicate in the order
+/// of the files, so that they mostly come out in order. No clause is walked, and no name looked up.
 pub fn call_table<'a, R: Threads + Sync>(
     rt: &R,
     alloc: Global,
-    program: &'a Program,
+    lists: &PlacedCallLists<'a>,
     nodes: &[u32],
     groups: &[Vec<u32>],
 ) -> Result<CallTable<'a>, AllocError>
-    requires below { All (λ p. p < length (see_program program.now).predicates) nodes.now }
-    requires members { All (All (λ member. member < length (see_program program.now).predicates)) (lists_of groups.now) }
-    ensures { IfOk result (IsTable (see_program program.now) nodes.now (lists_of groups.now)) }
+    requires below { All (λ p. p < length (see_placed_lists lists.now).predicates) nodes.now }
+    requires members { All (All (λ member. member < length (see_placed_lists lists.now).predicates)) (lists_of groups.now) }
+    ensures { IfOk result (IsTable (see_placed_lists lists.now) nodes.now (lists_of groups.now)) }
 {
+    let program = lists.program();
     let order = in_file_order(rt, alloc, program, nodes)?;
     let (clauses, calls) = join(
         rt,
@@ -101,9 +102,9 @@ pub fn call_table<'a, R: Threads + Sync>(
             ensures { IfOk result (λ found. ArePlacedClauses (see_program program.entry.now) order.items found.0.items found.1.items) }
         { clauses_with_places(alloc, program, &order) },
         || -> Result<(Vec<PlacedCall<'_>>, Vec<Place>), AllocError>
-            requires { All (λ p. p < length (see_program program.now).predicates) order.items }
-            ensures { IfOk result (λ found. ArePlacedCalls (see_program program.entry.now) order.items found.0.items found.1.items) }
-        { calls_with_places(rt, alloc, program, &order) },
+            requires { All (λ p. p < length (see_placed_lists lists.now).predicates) order.items }
+            ensures { IfOk result (λ found. ArePlacedCalls (see_placed_lists lists.entry.now) order.items found.0.items found.1.items) }
+        { calls_with_places(alloc, lists, &order) },
     );
     let (clauses, clause_places) = clauses?;
     let (calls, call_places) = calls?;

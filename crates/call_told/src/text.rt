@@ -4,6 +4,7 @@ ghost use Rattle.std.specs.Prelude.{◌≡◌, ◌<◌, ◌++◌, [], All, IfOk,
 ghost use Rattle.std.specs.List.{flat_map};
 ghost use Rattle.std.specs.String.{string_bytes};
 ghost use Rattle.call_edges.specs.Opened.{see_call_lists};
+ghost use Rattle.call_edges.specs.PlacedLists.{see_placed_lists};
 ghost use Rattle.call_edges.specs.Successors.{successor_lists};
 ghost use Rattle.call_table.specs.Table.{IsTable};
 ghost use Rattle.call_writer.specs.Dot.{cluster, edge_line};
@@ -18,7 +19,7 @@ use crate::predicate_texts::predicate_texts;
 use crate::stretches::{call_texts, clause_texts};
 use crate::told::{Told, make_told};
 use crate::words::{Form, Wanted};
-use call_edges::CallLists;
+use call_edges::{CallLists, PlacedCallLists};
 use call_table::{CallTable, call_table};
 use call_writer::{push_cluster, push_edges, push_node};
 use graph_law::Opener;
@@ -31,12 +32,14 @@ use std::thread::Threads;
 fn table_of<'a, R: Threads + Sync>(
     rt: &R,
     alloc: Global,
-    told: &Told<'a>,
+    told: &Told<'_>,
+    calls: &PlacedCallLists<'a>,
 ) -> Result<CallTable<'a>, AllocError>
-    requires { IsTold told.now }
+    requires told { IsTold told.now }
+    requires calls { see_placed_lists calls.now ≡ see_program told.now.program.now }
     ensures { IfOk result (IsTable (see_program told.now.program.now) told.now.nodes.items (lists_of told.now.groups.items)) }
 {
-    call_table(rt, alloc, told.program, &told.nodes, &told.groups)
+    call_table(rt, alloc, calls, &told.nodes, &told.groups)
 }
 
 /// All lines, of predicates, clauses and calls, in texts one behind the other.
@@ -44,17 +47,19 @@ fn lines_texts<R: Threads + Sync>(
     rt: &R,
     alloc: Global,
     told: &Told<'_>,
+    calls: &PlacedCallLists<'_>,
 ) -> Result<Vec<String>, AllocError>
-    requires { IsTold told.now }
+    requires told { IsTold told.now }
+    requires calls { see_placed_lists calls.now ≡ see_program told.now.program.now }
     ensures { IfOk result (λ texts. TellsForm Lines (see_program told.now.program.now) (lists_of told.now.groups.items) told.now.levels.items
         told.now.places.items told.now.nodes.items (joined texts.items)) }
 {
-    let table = table_of(rt, alloc, told)?;
+    let table = table_of(rt, alloc, told, calls)?;
     let mut texts = predicate_texts(rt, alloc, told, &told.nodes)?;
     let mut clauses = clause_texts(rt, alloc, told.program, &table)?;
-    let mut calls = call_texts(rt, alloc, told.program, &table, false)?;
+    let mut lines = call_texts(rt, alloc, told.program, &table, false)?;
     texts.append(&mut clauses)?;
-    texts.append(&mut calls)?;
+    texts.append(&mut lines)?;
     forget(table);
     Ok(texts)
 }
@@ -64,12 +69,14 @@ fn undefined_texts<R: Threads + Sync>(
     rt: &R,
     alloc: Global,
     told: &Told<'_>,
+    calls: &PlacedCallLists<'_>,
 ) -> Result<Vec<String>, AllocError>
-    requires { IsTold told.now }
+    requires told { IsTold told.now }
+    requires calls { see_placed_lists calls.now ≡ see_program told.now.program.now }
     ensures { IfOk result (λ texts. TellsForm Undefined (see_program told.now.program.now) (lists_of told.now.groups.items) told.now.levels.items
         told.now.places.items told.now.nodes.items (joined texts.items)) }
 {
-    let table = table_of(rt, alloc, told)?;
+    let table = table_of(rt, alloc, told, calls)?;
     let texts = call_texts(rt, alloc, told.program, &table, true)?;
     forget(table);
     Ok(texts)
@@ -197,17 +204,17 @@ fn texts_of<R: Threads + Sync>(
     alloc: Global,
     form: Form,
     told: &Told<'_>,
-    calls: &CallLists<'_>,
+    calls: &PlacedCallLists<'_>,
 ) -> Result<Vec<String>, AllocError>
     requires told { IsTold told.now }
-    requires calls { see_call_lists calls.now ≡ see_program told.now.program.now }
+    requires calls { see_placed_lists calls.now ≡ see_program told.now.program.now }
     ensures { IfOk result (λ texts. TellsForm form (see_program told.now.program.now) (lists_of told.now.groups.items) told.now.levels.items
         told.now.places.items told.now.nodes.items (joined texts.items)) }
 {
     match form {
-        Form::Lines => lines_texts(rt, alloc, told),
-        Form::Undefined => undefined_texts(rt, alloc, told),
-        Form::Dot => dot_texts(alloc, told, calls),
+        Form::Lines => lines_texts(rt, alloc, told, calls),
+        Form::Undefined => undefined_texts(rt, alloc, told, calls),
+        Form::Dot => dot_texts(alloc, told, calls.lists()),
     }
 }
 
@@ -218,14 +225,14 @@ pub fn told_texts<R: Threads + Sync>(
     alloc: Global,
     wanted: &Wanted,
     program: &Program,
-    calls: &CallLists<'_>,
+    calls: &PlacedCallLists<'_>,
     roots: &[u32],
 ) -> Result<Vec<String>, AllocError>
-    requires calls { see_call_lists calls.now ≡ see_program program.now }
+    requires calls { see_placed_lists calls.now ≡ see_program program.now }
     requires below { All (λ q. q < length (see_program program.now).predicates) roots.now }
     ensures { IfOk result (λ texts. TellsFrom (see_wanted wanted.now) (see_program program.now) roots.now (joined texts.items)) }
 {
-    let told = make_told(alloc, wanted, program, calls, roots)?;
+    let told = make_told(alloc, wanted, program, calls.lists(), roots)?;
     let texts = texts_of(rt, alloc, wanted.form, &told, calls)?;
     forget(told);
     Ok(texts)

@@ -7,7 +7,7 @@ use Rattle.graph_law.specs.Classes.{group_at, least_member}
 use Rattle.group_release.specs.declared.level.Level.{Level}
 use Rattle.group_release.specs.Level.{level_at}
 use Rattle.import_rules.specs.declared.names.PredName.{PredName}
-use Rattle.import_rules.specs.Program.{Seen, found}
+use Rattle.import_rules.specs.Program.{Seen}
 use Rattle.call_edges.specs.CallPlaces.{CallAt}
 use Rattle.call_table.specs.declared.clauses.ClauseAt.{ClauseAt}
 use Rattle.call_writer.specs.Json.{json_string}
@@ -47,19 +47,16 @@ number_or_null None = codes "null"
 abbrev pub call_head : ℕ → Option ℕ → List ℕ
 call_head caller callee = codes "{\"is\":\"call\",\"caller\":" ++ (decimal caller ++ (codes ",\"callee\":" ++ number_or_null callee))
 
+-- the line of a call, with the predicate that its name means, as
 -- `{"is":"call","caller":0,"callee":1,"module":"user","name":"q","arity":0,"file":"f.pl","line":1,"column":6}`
-abbrev pub call_line_to : Option ℕ → Seen → CallAt → Place → List ℕ
-call_line_to callee seen c place =
-    call_head c.caller callee ++ (codes "," ++ (name_fields c.callee ++ (codes "," ++ (spot_fields seen c.file place ++ codes "}\n"))))
-
--- the line of a call of what its name means
 abbrev pub call_line : Seen → CallAt → Place → List ℕ
-call_line seen c place = call_line_to (found seen c.callee.module c.callee.name c.callee.arity) seen c place
+call_line seen c place =
+    call_head c.caller c.means ++ (codes "," ++ (name_fields c.callee ++ (codes "," ++ (spot_fields seen c.file place ++ codes "}\n"))))
 
 -- a call has a line, unless only those are told whose name means no predicate, and it means one
 abbrev pub call_line_if : Bool → Seen → CallAt → Place → List ℕ
 call_line_if undefined seen c place =
-    if undefined && is_some (found seen c.callee.module c.callee.name c.callee.arity) then [] else call_line seen c place
+    if undefined && is_some c.means then [] else call_line seen c place
 
 -- `{"is":"clause","predicate":0,"file":"f.pl","line":1,"column":1}`
 abbrev pub clause_line : Seen → ClauseAt → Place → List ℕ

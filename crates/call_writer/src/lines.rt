@@ -5,14 +5,14 @@ ghost use Rattle.std.specs.Fmt.{decimal};
 ghost use Rattle.std.specs.List.{flat_map, zip};
 ghost use Rattle.std.specs.String.{string_bytes};
 ghost use Rattle.call_edges.specs.PlacedSeen.{see_call, see_calls};
-ghost use Rattle.call_writer.specs.Lines.{call_head, call_line_if, call_line_to, clause_line, group_fields, level_fields};
+ghost use Rattle.call_writer.specs.Lines.{call_head, call_line, call_line_if, clause_line, group_fields, level_fields};
 ghost use Rattle.call_writer.specs.Lines.{name_fields, number_or_null, predicate_head, predicate_line, predicate_line_of};
 ghost use Rattle.call_writer.specs.Lines.{spot_fields, truth};
 ghost use Rattle.graph_law.specs.Classes.{group_at, least_member};
 ghost use Rattle.graph_law.specs.Graph.{lists_of};
 ghost use Rattle.import_rules.specs.Names.{pred_name};
 ghost use Rattle.import_rules.specs.Parts.{see_name};
-ghost use Rattle.import_rules.specs.Program.{found, see_program};
+ghost use Rattle.import_rules.specs.Program.{see_program};
 
 use crate::json::{push_inner, push_json_string, push_number};
 use crate::last::{Last, LastFile, LastModule};
@@ -131,21 +131,27 @@ fn push_call_head(text: &mut String, caller: u32, callee: Option<u32>) -> Result
     push_callee(text, callee)
 }
 
-/// Adds the line of a call that means that predicate, or none.
-fn push_call_to<'a, 'b>(
+/// Adds the line of a call.
+fn push_call_line<'a, 'b>(
     text: &mut String,
     last: &mut Last<'a, 'b>,
     call: &PlacedCall<'b>,
-    callee: Option<u32>,
     place: Place,
 ) -> Result<(), AllocError>
     ensures text { OnOk result (string_bytes text.new
-        ≡ string_bytes text.old ++ call_line_to callee (see_program last.old.file.program.now) (see_call call.now) place) }
+        ≡ string_bytes text.old ++ call_line (see_program last.old.file.program.now) (see_call call.now) place) }
     ensures program { OnOk result (see_program last.new.file.program.now ≡ see_program last.old.file.program.now) }
 {
-    push_call_head(text, call.caller, callee)?;
-    push_name_after(text, &mut last.module, call.module, call.name, call.arity)?;
-    push_spot(text, &mut last.file, call.file, place)?;
+    let named = call.named;
+    push_call_head(text, named.caller, call.callee)?;
+    push_name_after(
+        text,
+        &mut last.module,
+        named.module,
+        named.name,
+        named.arity,
+    )?;
+    push_spot(text, &mut last.file, named.file, place)?;
     text.push_str("}\n")?;
     Ok(())
 }
@@ -163,11 +169,10 @@ fn push_call<'a, 'b>(
         ≡ string_bytes text.old ++ call_line_if undefined (see_program last.old.file.program.now) (see_call call.now) place) }
     ensures program { OnOk result (see_program last.new.file.program.now ≡ see_program last.old.file.program.now) }
 {
-    let callee = last.file.program.find(call.module, call.name, call.arity);
-    if is_hidden(undefined, callee) {
+    if is_hidden(undefined, call.callee) {
         return Ok(());
     }
-    push_call_to(text, last, call, callee, place)
+    push_call_line(text, last, call, place)
 }
 
 /// Adds the lines of calls with their lines and columns; where only undefined names are wanted, those

@@ -16,7 +16,7 @@ use crate::lines::{fault_lines, limit_line, missing_line, unread_line};
 use crate::loading::load_files;
 use crate::say::{say, say_texts};
 use crate::stop::Stop;
-use call_edges::call_lists;
+use call_edges::placed_call_lists;
 use call_told::{Wanted, read_wanted, told_texts};
 use file_library::Library;
 use group_tool::{Sink, roots_by};
@@ -39,7 +39,7 @@ fn tell_program<R: Threads + Sync>(
 ) -> Result<Vec<String>, Stop>
     ensures { ProgramComesTo (see_wanted wanted.now) (see_program program.now) (end_of result) }
 {
-    let calls = call_lists(rt, alloc, program)?;
+    let calls = placed_call_lists(rt, alloc, program)?;
     let roots = roots_by(alloc, program, &wanted.options)?;
     let texts = told_texts(rt, alloc, wanted, program, &calls, &roots)?;
     forget(calls);

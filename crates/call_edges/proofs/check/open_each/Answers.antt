@@ -1,10 +1,13 @@
-use Rattle.std.proofs.Common.{◌≡◌, ℕ, ◌*◌, ◌<◌, ◌-◌, ◌↔◌, ◌∙◌, List, length, ap, subst, arith, IfOk}
+use Rattle.std.proofs.Common.{◌≡◌, ℕ, ◌*◌, ◌<◌, ◌-◌, ◌↔◌, ◌∙◌, List, Result, length, ap, sym, subst, arith, IfOk}
 use Rattle.std.specs.List.{AllZip, range_with_len}
+use Rattle.std.specs.declared.alloc.AllocError.{AllocError}
+use Rattle.rayon.specs.Lists.{min_len_base, range_start, range_end}
 use Rattle.rayon.specs.Numbers.{nat_range}
 use Rattle.rayon.proofs.ListFacts.{IfOk-then}
 use Rattle.rayon.proofs.ToStd.{nat_range-All}
 use Rattle.import_rules.specs.Program.{Seen, see_program}
-use Rattle.call_edges.specs.CallLists.{IsPiece}
+use Rattle.call_edges.specs.declared.piece.OpenedPiece.{OpenedPiece}
+use Rattle.call_edges.specs.OpenedPieces.{AreOpened, IsOpenedPiece}
 use Rattle.call_edges.proofs.CheckLemmas.{opened_of}
 use Rattle.call_edges.proofs.check.open_each.Goals as goal
 
@@ -17,14 +20,22 @@ pub returns : goal.returns
 returns g c =
     let ends = c.into_par_iter.ensures in
     let seen = see_program c.args.program.now in
+    let keep = c.args.keep in
     let pieces = c.piece_count.result in
     let whole : pieces - 0 ≡ pieces = omega arith in
     IfOk-then c.collect.result _ _ c.collect.ensures (λ v h.
-    let chain = rw (c.map.ensures.base, c.map.ensures.f, c.with_min_len.ensures.base) at h.1 in
-    let places = chain.1 ∙ (λ i. nat_range (ends.0 i) (ends.1 i)) ∙ ap (range_with_len 0) whole in
-    rw h.2
-    (opened_of seen h.0 pieces (so_many seen c.count.result pieces c.count.ensures c.piece_count.ensures)
-    (subst (λ (xs : List ℕ). AllZip (λ number one. IfOk one (IsPiece seen number)) xs h.0) places chain.2)))
+    let chain = h.1 in
+    let places =
+    chain.1
+    ∙ (ap (λ it. nat_range (range_start (min_len_base it)) (range_end (min_len_base it))) c.map.ensures.base
+    ∙ (ap (λ it. nat_range (range_start it) (range_end it)) c.with_min_len.ensures.base
+    ∙ ((λ i. nat_range (ends.0 i) (ends.1 i)) ∙ ap (range_with_len 0) whole))) in
+    let Found : ℕ → Result OpenedPiece AllocError → Type 0 = λ number one. IfOk one (IsOpenedPiece keep seen number) in
+    let made : AllZip Found chain.0 h.0 =
+    subst (λ f. AllZip (λ (number : ℕ) (one : Result OpenedPiece AllocError). IfOk one (IsOpenedPiece f.2.now (see_program f.1.now) number)) chain.0 h.0) c.map.ensures.f chain.2 in
+    subst (λ (xs : List (Result OpenedPiece AllocError)). AreOpened keep seen xs) (sym h.2)
+    (opened_of keep seen h.0 pieces (so_many seen c.count.result pieces c.count.ensures c.piece_count.ensures)
+    (subst (λ (xs : List ℕ). AllZip Found xs h.0) places made)))
 
 pub collect-requires-clause-ready : goal.collect-requires-clause-ready
 collect-requires-clause-ready g c κs within =

@@ -4,7 +4,7 @@ use Rattle.std.proofs.lemmas.List.{nil_from_length}
 use Rattle.import_rules.specs.Program.{see_program}
 use Rattle.call_edges.specs.FaultPlaces.{AreFaultPlaces}
 use Rattle.call_edges.proofs.GoalFaultLemmas.{goal_faults, some_faults}
-use Rattle.call_edges.proofs.check.call_lists.Goals as goal
+use Rattle.call_edges.proofs.check.all_callable.Goals as goal
 
 pub returns-then-is_empty-clause-callable : goal.returns-then-is_empty-clause-callable
 returns-then-is_empty-clause-callable g c =

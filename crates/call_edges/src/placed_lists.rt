@@ -1,0 +1,73 @@
+//! What all predicates of a program call, in memory, and their calls with the places of goals.
+
+ghost use Rattle.std.specs.Prelude.{◌≡◌};
+ghost use Rattle.std.proofs.Props.{props};
+ghost use Rattle.call_edges.specs.KeptCalls.{AreKept};
+ghost use Rattle.call_edges.specs.Opened.{see_call_lists};
+
+use crate::kept_calls::PieceCalls;
+use crate::laid_out::CallLists;
+use crate::lists::between;
+use crate::piece::PIECE_SIZE;
+use crate::placed_calls::PlacedCall;
+use import_rules::Program;
+
+/// What the predicates of a program call, as `CallLists`, and all their calls, each with the place of
+/// its goal and with what its name means. `calls_of` gives those of some predicates.
+#[derive(Drop)]
+pub struct PlacedCallLists<'a> {
+    lists: CallLists<'a>,
+    /// The calls, piece by piece.
+    pieces: Vec<PieceCalls<'a>>,
+    pub ghost kept: { AreKept (see_call_lists lists) pieces.items } by { Prim.hlevel props },
+}
+
+impl<'a> PlacedCallLists<'a> {
+    ghost use Rattle.std.specs.Prelude.{◌<◌, ◌↔◌, Contains, length};
+    ghost use Rattle.call_edges.specs.CallPlaces.{CallAt, IsCallOf};
+    ghost use Rattle.call_edges.specs.PlacedLists.{see_placed_lists};
+    ghost use Rattle.call_edges.specs.PlacedSeen.{see_calls};
+    ghost use Rattle.import_rules.specs.Program.{IsKnown, see_program};
+
+    /// These lists, and the calls of all pieces. It takes no memory.
+    pub(crate) fn of_pieces(
+        lists: CallLists<'a>,
+        pieces: Vec<PieceCalls<'a>>,
+    ) -> PlacedCallLists<'a>
+        requires { AreKept (see_call_lists lists) pieces.items }
+        ensures { see_placed_lists result ≡ see_call_lists lists.entry }
+    {
+        PlacedCallLists { lists, pieces }
+    }
+
+    /// What the predicates call, as a graph.
+    pub fn lists(&self) -> &CallLists<'a>
+        ensures { see_call_lists result.now ≡ see_placed_lists self.now }
+    {
+        &self.lists
+    }
+
+    /// The program whose calls they are.
+    pub fn program(&self) -> &'a Program
+        ensures { see_program result.now ≡ see_placed_lists self.now }
+    {
+        self.lists.program()
+    }
+
+    /// A program is known, as its `is_known` says. It does nothing, and is called for this.
+    pub(crate) fn is_known(&self)
+        ensures { IsKnown (see_placed_lists self.now) }
+    {
+        self.program().is_known()
+    }
+
+    /// The calls in the clauses of a predicate, of which some may stand there twice.
+    pub(crate) fn calls_by(&self, node: u32) -> &[PlacedCall<'a>]
+        requires { node < length (see_placed_lists self.now).predicates }
+        ensures { (c : CallAt) → Contains (see_calls result.now) c ↔ IsCallOf (see_placed_lists self.now) node c }
+    {
+        let piece = &self.pieces[(node / PIECE_SIZE) as usize];
+        let span = piece.spans[(node % PIECE_SIZE) as usize];
+        between(&piece.calls, span.0, span.1)
+    }
+}
