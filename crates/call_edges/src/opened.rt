@@ -52,7 +52,7 @@ fn found_in<'a>(
     for body in bodies {
         met.clear();
         walk(alloc, program, &body.term, body.owner, body.role, met)?;
-        push_targets(program, met, callees)?;
+        push_targets(program, body.file, met, callees)?;
         push_places(body.file, met, faults)?;
     }
     Ok(())

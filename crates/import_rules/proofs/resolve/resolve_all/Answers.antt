@@ -108,12 +108,12 @@ meta_places-requires-clause-in_order c =
     λ i. names_at (c.deref-3.ensures.value i) (c.deref-4.ensures.value i) in
     subst (λ (ps : List PredName). AllPairs (λ p q. pred_cmp p q ≡ Less) ps) (sym same) c.in_ok-places.ensures.in_order
 
-pub make-requires-clause-few : goal.make-requires-clause-few
-make-requires-clause-few c =
+pub make-requires-2-clause-few : goal.make-requires-2-clause-few
+make-requires-2-clause-few c =
     omega (arith, c.if-len-gt-MOST_PREDICATES.false, c.len.ensures, c.in_ok-places.places.ok.0, ap length c.deref-7.ensures.value)
 
-pub make-requires-clause-in_order : goal.make-requires-clause-in_order
-make-requires-clause-in_order c =
+pub make-requires-2-clause-in_order : goal.make-requires-2-clause-in_order
+make-requires-2-clause-in_order c =
     let same : names_at c.deref-6.result.now c.deref-7.result.now ≡ names_at c.args.loaded.files.items c.in_ok-places.places.items =
     λ i. names_at (c.deref-6.ensures.value i) (c.deref-7.ensures.value i) in
     subst (λ (ps : List PredName). AllPairs (λ p q. pred_cmp p q ≡ Less) ps) (sym same) c.in_ok-places.ensures.in_order
