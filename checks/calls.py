@@ -4,7 +4,7 @@
 The examples and two hundred random programs are told, with names of any characters, over one file and over modules. Of each, the predicates,
 groups and heights are those of the report of `groups`, the clauses and the calls of a random program are those that it was made of, each at its
 place, and the graph has a node for each predicate and an edge for each pair of a caller and a callee. Names with each code point are told
-and read back. Needs `calls` and `groups`; where `dot` isn't installed it says so, and reads no graph back. Ends with status 1 at the first difference.
+and read back. The cases of checks/rows/calls/ are held against answers that are written by hand. Needs `calls` and `groups`; where `dot` isn't installed it says so, and reads no graph back. Ends with status 1 at the first difference.
 
 --xref N takes each Nth `.pl` file of the Prolog packages that are installed, and sets the pairs of a caller and a callee inside its module beside
 those that SWI-Prolog's prolog_xref tells, where `calls` reads it: how many are told by both, and each that is told by one alone (docs/calls.md has the
@@ -24,6 +24,7 @@ import tempfile
 
 import bridge
 import real_programs
+import rows
 
 ROOT = pathlib.Path(__file__).resolve().parent.parent
 CALLS = str(ROOT / "calls")
@@ -174,12 +175,21 @@ def beside_xref(every):
     print(", ".join(f"{what} {count}" for what, count in counts.items()))
 
 
+def as_the_cases_say():
+    """How many runs of the cases by hand answered as they should; ends where one did not."""
+    runs = [(path.name, title, files, run) for path in sorted((rows.ROWS / "calls").glob("*.txt")) for title, files, tried in rows.cases(path) for run in tried]
+    if not all([rows.tried(CALLS, *it) for it in runs]):
+        sys.exit("calls answers otherwise than checks/rows/calls/ says")
+    return len(runs)
+
+
 def main():
     parser = argparse.ArgumentParser()
     parser.add_argument("--xref", type=int, metavar="N")
     every = parser.parse_args().xref
     if every is not None:
         return beside_xref(every)
+    by_hand = as_the_cases_say()
     with tempfile.TemporaryDirectory() as name:
         folder = pathlib.Path(name)
         for number in range(200):
@@ -192,7 +202,7 @@ def main():
             beside_graph([path.name], path.parent, predicates, goals)
     if not HAS_DOT:
         print("dot isn't installed: no graph is read back")
-    print(f"200 random programs, each code point and {len(examples)} examples are read back")
+    print(f"{by_hand} runs by hand, 200 random programs, each code point and {len(examples)} examples are read back")
 
 
 if __name__ == "__main__":

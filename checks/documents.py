@@ -13,7 +13,7 @@ ROOT = pathlib.Path(__file__).resolve().parent.parent
 WORD = re.compile(r"[A-Za-z_][A-Za-z_0-9-]*")
 CODE = re.compile(r"`([^`]+)`")
 # Where titles of rows and names of tests stand beside the crates.
-ROW_FILES = [*(ROOT / "checks" / "rows").glob("*.txt"), *ROOT.glob("crates/*/src/*.rt"), *ROOT.glob("crates/*/stdin")]
+ROW_FILES = [*(ROOT / "checks" / "rows").glob("**/*.txt"), *ROOT.glob("crates/*/src/*.rt"), *ROOT.glob("crates/*/stdin")]
 
 
 def words_of(paths):

@@ -8,7 +8,7 @@ use Rattle.call_edges.specs.declared.role.Taken.{Taken as TakenKept}
 use Rattle.call_edges.specs.Goals.{Met, call, fault, Standing, no_goals, by_row, as_declared, Taken}
 
 abbrev pub see_met : MetKept → Met
-see_met (kept.Call at owner name arity meant) = call at owner.now name.now arity
+see_met (kept.Call at owner name number arity meant) = call at owner.now name.now arity
 see_met (kept.Fault at) = fault at
 
 abbrev pub see_mets : List MetKept → List Met

@@ -168,13 +168,14 @@ fn standing_by<'a>(declared: &'a [GoalArg], name: &str, arity: u32) -> Standing<
 }
 
 /// What is met at a compound that starts at this byte offset and stands so in a body of the module
-/// `owner`, and how its arguments stand.
+/// `owner`, and how its arguments stand. `number` is that of its name in the names of its text.
 pub fn take_apart<'a>(
     program: &'a Program,
     at: u32,
     owner: &'a str,
     role: GoalArg,
     name: &'a str,
+    number: u32,
     args: &Parts<'a>,
 ) -> Taken<'a>
     requires { count (trees_of args.now) + added role ≤ 4294967295 }
@@ -206,6 +207,7 @@ pub fn take_apart<'a>(
                     at,
                     module: owner,
                     name,
+                    number,
                     arity,
                     meant: meaning.meant,
                 }),

@@ -17,14 +17,15 @@ use graph_law::Opener;
 use import_rules::Program;
 use std::alloc::AllocError;
 
-/// The predicate that a call goes to. Its name is looked up where it wasn't yet.
-pub fn target(program: &Program, met: Met) -> Option<u32>
+/// The predicate that a call in that file goes to. Its name is looked up where it wasn't yet.
+pub fn target(program: &Program, file: u32, met: Met) -> Option<u32>
     requires { IsMeant (see_program program.now) met }
     ensures { result ≡ target (see_program program.now) (see_met met.entry) }
 {
     let Met::Call {
         module,
         name,
+        number,
         arity,
         meant,
         ..
@@ -33,19 +34,24 @@ pub fn target(program: &Program, met: Met) -> Option<u32>
         return None;
     };
     match meant {
-        Meant::Unasked => program.find(module, name, arity),
+        Meant::Unasked => program.find_numbered(file, number, module, name, arity),
         Meant::Predicate(node) => Some(node),
         Meant::Nothing => None,
     }
 }
 
-/// Adds the predicates that calls go to.
-pub fn push_targets(program: &Program, met: &[Met], out: &mut Vec<u32>) -> Result<(), AllocError>
+/// Adds the predicates that calls go to that are met in the file of that place.
+pub fn push_targets(
+    program: &Program,
+    file: u32,
+    met: &[Met],
+    out: &mut Vec<u32>,
+) -> Result<(), AllocError>
     requires { AreMeant (see_program program.now) met.now }
     ensures { OnOk result (Adds (GoesTo (see_program program.now) (Contains (see_mets met.now))) out.old.items out.new.items) }
 {
     for one in met {
-        let Some(callee) = target(program, *one) else {
+        let Some(callee) = target(program, file, *one) else {
             continue;
         };
         out.push(callee)?;
@@ -69,7 +75,7 @@ pub fn push_called<'a>(
     for body in bodies {
         met.clear();
         walk(alloc, program, &body.term, body.owner, body.role, &mut met)?;
-        push_targets(program, &met, out)?;
+        push_targets(program, body.file, &met, out)?;
     }
     Ok(())
 }

@@ -76,10 +76,7 @@ fn split<'a>(
     let mut pieces = Vec::with_capacity(alloc, opened.len())?;
     let mut kept = Vec::with_capacity(alloc, opened.len())?;
     for one in opened {
-        let OpenedPiece {
-            piece,
-            kept: calls,
-        } = one;
+        let OpenedPiece { piece, kept: calls } = one;
         pieces.push(piece)?;
         kept.push(calls)?;
     }

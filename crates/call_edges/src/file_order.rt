@@ -1,8 +1,10 @@
 //! Predicates in the order in which they stand in the files.
 
 ghost use Rattle.std.specs.Prelude.{◌≡◌, ◌<◌, ◌↔◌, ℕ, All, Contains, length, map, IfOk};
+ghost use Rattle.std.specs.List.Sorted.{IsNonDecreasingBy};
+ghost use Rattle.clause_text.specs.Clauses.{clause_trees};
 ghost use Rattle.call_edges.specs.Calls.{IsAmong};
-ghost use Rattle.call_edges.specs.FileOrder.{HasNode, IsNode, node_of};
+ghost use Rattle.call_edges.specs.FileOrder.{AreStarts, HasStart, IsStart, first_offset, node_of, start_place};
 ghost use Rattle.import_rules.specs.Program.{see_program};
 
 use crate::lists::joined;
@@ -28,7 +30,9 @@ pub struct Start {
 }
 
 /// The offset at which the first of the clauses starts, or 0 where there is none.
-fn first_offset(names: &Names, clauses: &[Clause]) -> u32 {
+fn first_offset(names: &Names, clauses: &[Clause]) -> u32
+    ensures { result ≡ first_offset (clause_trees names.now clauses.now) }
+{
     match clauses.first() {
         Some(clause) => start_of(&clause.term(names)),
         None => 0,
@@ -39,22 +43,21 @@ fn first_offset(names: &Names, clauses: &[Clause]) -> u32 {
 /// offset.
 fn first_place(program: &Program, node: u32) -> u64
     requires { node < length (see_program program.now).predicates }
+    ensures { result ≡ start_place (see_program program.now) node }
 {
     let Some(place) = program.places_of(node).first() else {
         return 0;
     };
     let file = &program.loaded().files[place.0 as usize];
-    let offset = first_offset(
-        &file.names,
-        file.defined[place.1 as usize].clauses.as_slice(),
-    );
+    let predicate = &file.defined[place.1 as usize];
+    let offset = first_offset(&file.names, predicate.clauses.as_slice());
     u64::from(place.0) * 4_294_967_296 + u64::from(offset)
 }
 
 /// These predicates, with their places.
 fn starts_from(alloc: Global, program: &Program, nodes: &[u32]) -> Result<Vec<Start>, AllocError>
     requires { All (λ p. p < length (see_program program.now).predicates) nodes.now }
-    ensures { IfOk result (λ starts. (q : ℕ) → Contains (map node_of starts.items) q ↔ IsAmong IsNode nodes.now q) }
+    ensures { IfOk result (λ starts. AreStarts (see_program program.now) nodes.now starts.items) }
 {
     let mut starts = Vec::with_capacity(alloc, nodes.len())?;
     for node in nodes {
@@ -74,7 +77,7 @@ fn starts_of_each<R: Threads + Sync>(
     nodes: &[u32],
 ) -> Result<Vec<Vec<Start>>, AllocError>
     requires { All (λ p. p < length (see_program program.now).predicates) nodes.now }
-    ensures { IfOk result (λ each. (q : ℕ) → IsAmong HasNode each.items q ↔ IsAmong IsNode nodes.now q) }
+    ensures { IfOk result (λ each. (x : ℕ × ℕ) → IsAmong HasStart each.items x ↔ IsAmong (IsStart (see_program program.now)) nodes.now x) }
 {
     nodes
         .par_chunks(SIZE)
@@ -82,7 +85,7 @@ fn starts_of_each<R: Threads + Sync>(
         .map(
             |part: &[u32]| -> Result<Vec<Start>, AllocError>
                 requires { All (λ p. p < length (see_program program.now).predicates) part.now }
-                ensures { IfOk result (λ starts. (q : ℕ) → Contains (map node_of starts.items) q ↔ IsAmong IsNode part.now q) }
+                ensures { IfOk result (λ starts. AreStarts (see_program program.entry.now) part.now starts.items) }
             { starts_from(alloc, program, part) },
         )
         .collect::<Result<Vec<Vec<Start>>, AllocError>>(rt, alloc)?
@@ -96,11 +99,18 @@ fn starts_in_order<R: Threads + Sync>(
     nodes: &[u32],
 ) -> Result<Vec<Start>, AllocError>
     requires { All (λ p. p < length (see_program program.now).predicates) nodes.now }
-    ensures { IfOk result (λ starts. (q : ℕ) → Contains (map node_of starts.items) q ↔ Contains nodes.now q) }
+    ensures starts { IfOk result (λ starts. AreStarts (see_program program.now) nodes.now starts.items) }
+    ensures ascending { IfOk result (λ starts. IsNonDecreasingBy (λ s. s.place) starts.items) }
 {
     let each = starts_of_each(rt, alloc, program, nodes)?;
     let mut starts = joined(alloc, &each)?;
-    par_sort_unstable_by_key(rt, &mut starts, |one: &Start| -> u64 { one.place });
+    par_sort_unstable_by_key(
+        rt,
+        &mut starts,
+        |one: &Start| -> u64
+            ensures { result ≡ one.now.place }
+        { one.place },
+    );
     Ok(starts)
 }
 
@@ -119,7 +129,8 @@ pub fn in_file_order<R: Threads + Sync>(
     nodes: &[u32],
 ) -> Result<Vec<u32>, AllocError>
     requires { All (λ p. p < length (see_program program.now).predicates) nodes.now }
-    ensures { IfOk result (λ order. (q : ℕ) → Contains order.items q ↔ Contains nodes.now q) }
+    ensures same { IfOk result (λ order. (q : ℕ) → Contains order.items q ↔ Contains nodes.now q) }
+    ensures in_order { IfOk result (λ order. IsNonDecreasingBy (start_place (see_program program.now)) order.items) }
 {
     let starts = starts_in_order(rt, alloc, program, nodes)?;
     let order = nodes_of(alloc, &starts)?;

@@ -54,7 +54,7 @@ pub fn push_found<'a>(
         (see_calls found.old.calls.items) (see_calls found.new.calls.items)) }
 {
     for one in met {
-        let callee = target(program, *one);
+        let callee = target(program, file, *one);
         push_call(
             opening.keep,
             callee,

@@ -71,7 +71,8 @@ pub(crate) fn push_call<'a>(
     met: Met<'a>,
     calls: &mut Vec<PlacedCall<'a>>,
 ) -> Result<(), AllocError>
-    ensures { OnOk result (keep ≡ true → see_calls calls.new.items ≡ see_calls calls.old.items ++ option_to_list (call_to callee file caller (see_met met.entry))) }
+    ensures { OnOk result (keep ≡ true → see_calls calls.new.items
+        ≡ see_calls calls.old.items ++ option_to_list (call_to callee file caller (see_met met.entry))) }
 {
     if !keep {
         return Ok(());
@@ -112,7 +113,8 @@ pub fn calls_of<'a>(
 ) -> Result<Vec<PlacedCall<'a>>, AllocError>
     requires { All (λ p. p < length (see_placed_lists lists.now).predicates) callers.now }
     ensures calls { IfOk result (λ calls. AreCallsOf (see_placed_lists lists.now) callers.now (see_calls calls.items)) }
-    ensures stand { IfOk result (λ calls. All (λ (c : CallAt). StandsInText (see_placed_lists lists.now).loaded.texts c.file c.offset) (see_calls calls.items)) }
+    ensures stand { IfOk result (λ calls. All (λ (c : CallAt). StandsInText (see_placed_lists lists.now).loaded.texts c.file c.offset)
+        (see_calls calls.items)) }
 {
     lists.is_known();
     let mut calls = gathered(alloc, lists, callers)?;

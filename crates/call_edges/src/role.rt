@@ -37,13 +37,15 @@ pub enum Meant {
 }
 
 /// What is met at a place of a body: a call, with the byte offset at which its goal starts, or the
-/// byte offset of a goal that isn't callable.
+/// byte offset of a goal that isn't callable. A call also has the number of its name in the names of
+/// its text, by which it is looked up faster.
 #[derive(Clone, Copy, Debug)]
 pub enum Met<'a> {
     Call {
         at: u32,
         module: &'a str,
         name: &'a str,
+        number: u32,
         arity: u32,
         meant: Meant,
     },

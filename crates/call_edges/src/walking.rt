@@ -16,7 +16,7 @@ use crate::role::{Meant, Met, Row, Standing};
 use crate::table::is_one_of;
 use import_rules::Program;
 use module_table::GoalArg;
-use prolog_terms::{ConstKind, Term, TermKind};
+use prolog_terms::{ConstKind, Term, TermKind, number_and_arity};
 use std::alloc::{AllocError, Global};
 
 /// What is met at a constant that stands so, at this byte offset. No constant is callable, but texts
@@ -40,7 +40,13 @@ fn constant_met<'a>(role: GoalArg, kind: ConstKind, at: u32) -> Option<Met<'a>>
 
 /// What is met at an atom that stands so, at this byte offset. `[]`, `{}` and `!` call nothing in a
 /// grammar body.
-fn atom_met<'a>(at: u32, owner: &'a str, role: GoalArg, name: &'a str) -> Option<Met<'a>>
+fn atom_met<'a>(
+    at: u32,
+    owner: &'a str,
+    role: GoalArg,
+    name: &'a str,
+    number: u32,
+) -> Option<Met<'a>>
     ensures met { option_map see_met result ≡ atom_met at owner.now role name.now }
     ensures meant { (seen : Seen) → IfSome result (IsMeant seen) }
 {
@@ -59,6 +65,7 @@ fn atom_met<'a>(at: u32, owner: &'a str, role: GoalArg, name: &'a str) -> Option
         at,
         module: owner,
         name,
+        number,
         arity,
         meant: Meant::Unasked,
     })
@@ -113,6 +120,14 @@ fn is_silent(standing: Standing) -> bool
     }
 }
 
+/// The number of the name of an atom or a compound in the names of its text; of another term 0.
+fn name_number(term: &Term) -> u32 {
+    match number_and_arity(term) {
+        Some((number, _arity)) => number,
+        None => 0,
+    }
+}
+
 fn push_met<'a>(met: &mut Vec<Met<'a>>, one: Option<Met<'a>>) -> Result<(), AllocError>
     ensures mets { OnOk result (see_mets met.new.items ≡ see_mets met.old.items ++ option_to_list (option_map see_met one.entry)) }
     ensures kept { OnOk result (met.new.items ≡ met.old.items ++ option_to_list one.entry) }
@@ -145,10 +160,14 @@ pub fn walk<'a>(
     match term.kind() {
         TermKind::Var => Ok(()),
         TermKind::Const { kind, .. } => push_met(met, constant_met(role, kind, term.span().from)),
-        TermKind::Atom { name } => push_met(met, atom_met(term.span().from, owner, role, name)),
+        TermKind::Atom { name } => {
+            let number = name_number(term);
+            push_met(met, atom_met(term.span().from, owner, role, name, number))
+        }
         TermKind::Compound { name, args, .. } => {
             program.is_known();
-            let taken = take_apart(program, term.span().from, owner, role, name, &args);
+            let number = name_number(term);
+            let taken = take_apart(program, term.span().from, owner, role, name, number, &args);
             push_met(met, taken.met)?;
             if is_silent(taken.standing) {
                 return Ok(());

@@ -33,6 +33,9 @@ const SIZE: usize = 4096;
 /// How few stretches are worth a thread of their own.
 const FEWEST: usize = 4;
 
+/// Nodes stay where they were read if they take at least three quarters of the room there.
+const LEAST_QUARTERS: usize = 3;
+
 /// Clauses side by side: from the place of a token up to another.
 #[derive(Clone, Copy)]
 pub struct Stretch {
@@ -171,7 +174,8 @@ struct ReadStretch {
     end: ReadEnd,
 }
 
-/// What the stretch is read as under the table, up to a clause that sets operators or a fault.
+/// What the stretch is read as under the table, up to a clause that sets operators or a fault. Its nodes
+/// are added to `nodes`.
 fn read_on(
     alloc: Global,
     table: &OpTable,
@@ -179,6 +183,7 @@ fn read_on(
     tokens: &[Token],
     numbered: &Numbered,
     stretch: &Stretch,
+    mut nodes: NodeList,
 ) -> ReadStretch
     requires small { length text.now ≤ MOST_BYTES }
     requires cut { IsCut text.now tokens.now }
@@ -190,7 +195,6 @@ fn read_on(
     let names = &numbered.names;
     let numbers = numbered.numbers.as_slice();
     let mut reader = Reader::new(alloc);
-    let mut nodes = NodeList::new(alloc);
     let mut ends = Vec::new(alloc);
     let mut at = stretch.from;
     while at < stretch.to {
@@ -252,19 +256,64 @@ fn piece_end(nodes: Arc<NodeList>, end: ReadEnd) -> PieceEnd
     }
 }
 
-/// What was read of a stretch up to a place, as clauses that share their nodes.
-fn shared(alloc: Global, read: ReadStretch, to: usize) -> Result<Piece, AllocError>
+/// The nodes as they are kept, where there was room for so many: as they are, or moved to where they
+/// have just their room, as those before a clause that sets operators, which mostly take little of it.
+fn kept(alloc: Global, nodes: NodeList, room: usize) -> Result<NodeList, AllocError>
+    ensures { IfOk result (λ kept. kept ≡ nodes) }
+{
+    if nodes.len() >= room / 4 * LEAST_QUARTERS {
+        return Ok(nodes);
+    }
+    nodes.copied(alloc)
+}
+
+/// What was read of a stretch up to a place, as clauses that share their nodes, for which there was so
+/// much room.
+fn shared(alloc: Global, read: ReadStretch, to: usize, room: usize) -> Result<Piece, AllocError>
     ensures { IfOk result (λ piece. (names : List (List ℕ)) (table : Ops) (text : List ℕ) (ts : List TokenOf) (from : ℕ)
         → IsRead names table text ts from to read → IsPiece names table text ts from to piece) }
 {
-    let nodes = Arc::new(alloc, read.nodes.copied(alloc)?)?;
+    let nodes = Arc::new(alloc, kept(alloc, read.nodes, room)?)?;
     let clauses = sharing(alloc, &nodes, &read.ends)?;
     let end = piece_end(nodes, read.end);
     Ok(Piece { clauses, to, end })
 }
 
-/// What the stretch is read as under the table.
+/// What the stretch is read as under the table. A clause has no more nodes than tokens.
 fn read_stretch(
+    alloc: Global,
+    table: &OpTable,
+    text: &str,
+    tokens: &[Token],
+    numbered: &Numbered,
+    stretch: &Stretch,
+) -> Result<Piece, AllocError>
+    requires small { length text.now ≤ MOST_BYTES }
+    requires cut { IsCut text.now tokens.now }
+    requires numbered { AreNumbered text.now numbered.now.names tokens.now numbered.now.numbers.items }
+    requires stretch { IsStretch tokens.now stretch.now }
+    ensures { IfOk result (IsPiece numbered.now.names (ops_of table.now) text.now tokens.now stretch.now.from stretch.now.to) }
+{
+    let room = stretch.to - stretch.from;
+    let nodes = NodeList::with_room(alloc, room)?;
+    let read = read_on(alloc, table, text, tokens, numbered, stretch, nodes);
+    shared(alloc, read, stretch.to, room)
+}
+
+/// A piece of a stretch up to that place for which there is no memory.
+fn unread(alloc: Global, to: usize) -> Piece
+    ensures { (names : List (List ℕ)) (table : Ops) (text : List ℕ) (ts : List TokenOf) (from : ℕ)
+        → from < to → IsBehindClause ts to → IsPiece names table text ts from to result }
+{
+    Piece {
+        clauses: Vec::new(alloc),
+        to,
+        end: PieceEnd::Refused(TextFault::NoMemory),
+    }
+}
+
+/// What the stretch is read as under the table, or that there is no memory for it.
+fn piece_of(
     alloc: Global,
     table: &OpTable,
     text: &str,
@@ -278,14 +327,9 @@ fn read_stretch(
     requires stretch { IsStretch tokens.now stretch.now }
     ensures { IsPiece numbered.now.names (ops_of table.now) text.now tokens.now stretch.now.from stretch.now.to result }
 {
-    let read = read_on(alloc, table, text, tokens, numbered, stretch);
-    match shared(alloc, read, stretch.to) {
+    match read_stretch(alloc, table, text, tokens, numbered, stretch) {
         Ok(piece) => piece,
-        Err(_) => Piece {
-            clauses: Vec::new(alloc),
-            to: stretch.to,
-            end: PieceEnd::Refused(TextFault::NoMemory),
-        },
+        Err(_) => unread(alloc, stretch.to),
     }
 }
 
@@ -315,7 +359,7 @@ pub fn read_each<R: Threads + Sync>(
                     × AreNumbered text.now numbered.now.names tokens.now numbered.now.numbers.items × IsStretch tokens.now stretch.now }
                 ensures { IsPiece numbered.entry.now.names (ops_of table.entry.now) text.entry.now tokens.entry.now
                     stretch.entry.now.from stretch.entry.now.to result }
-            { read_stretch(alloc, table, text, tokens, numbered, stretch) },
+            { piece_of(alloc, table, text, tokens, numbered, stretch) },
         )
         .collect(rt, alloc)
 }

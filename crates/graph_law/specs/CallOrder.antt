@@ -1,6 +1,6 @@
 -- What the heights are computed by: the groups in an order with callees first, and the place of each node's group.
 use Rattle.std.specs.Prelude.{◌≡◌, ℕ, ◌+◌, ◌<◌, ◌⊎◌, Bool, List, [], length, count_by, slice_index, slice_index_or, All, Contains}
-use Rattle.graph_law.specs.Classes.{group_at, GroupCalls}
+use Rattle.graph_law.specs.Classes.{group_at, GroupCalls, HasMember}
 use Rattle.graph_law.specs.Reached.{AreReached}
 
 -- the members are below the count, and no node is in two groups
@@ -27,6 +27,10 @@ pub record IsCalleesFirst (calls : ℕ → ℕ → Type 0) (groups : List (List 
 pub record AreGroupPlaces (count : ℕ) (groups : List (List ℕ)) (places : List ℕ) : Type 0 where
   pub each : length places ≡ count
   pub at : (i p : ℕ) → i < length groups → Contains (group_at groups i) p → slice_index places p ≡ i
+
+-- a node that is in no group has the place 0
+abbrev pub AreZeroElsewhere : List (List ℕ) → List ℕ → Type 0
+AreZeroElsewhere groups places = (p : ℕ) → HasMember groups p ⊎ (slice_index places p ≡ 0)
 
 -- one of the callees is in the group at j, which is another group
 pub record LeadsTo (places : List ℕ) (place : ℕ) (callees : List ℕ) (j : ℕ) : Type 0 where

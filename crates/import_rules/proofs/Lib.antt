@@ -34,3 +34,4 @@ pub mod FlawsStand
 pub mod AllFound
 pub mod OneFlaws
 pub mod OwnLemmas
+pub mod OwnSteps

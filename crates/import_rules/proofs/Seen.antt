@@ -1,16 +1,19 @@
 -- What a program is seen as, by its fields.
-use Rattle.std.proofs.Common.{◌≡◌, ℕ, ◌<◌, ◌≤◌, List, [], Some, None, false, length, get_or, refl, sym, ap, ◌∙◌, arith}
+use Rattle.std.proofs.Common.{◌≡◌, ℕ, ◌+◌, ◌<◌, ◌≤◌, List, [], Some, None, false, length, get_or, refl, sym, ap, ◌∙◌, arith}
 use Rattle.std.specs.Prelude.{slice_get}
 use Rattle.std.specs.List.{list_any}
 use Rattle.std.proofs.lemmas.List.{length-map, get_or-map}
 use Rattle.std.proofs.lemmas.Option.{slice_get-get_or, slice_get_within, get_or_from_slice_get}
+use Rattle.prolog_names.specs.Names.{name_at}
+use Rattle.module_table.specs.declared.file_facts.FileFacts.{FileFacts}
 use Rattle.file_library.specs.SortedOut.{see_loaded}
 use Rattle.import_rules.specs.declared.names.PredName.{PredName}
 use Rattle.import_rules.specs.declared.places.Places.{Places}
 use Rattle.import_rules.specs.declared.program.Program.{Program}
 use Rattle.import_rules.specs.Names.{is_same, pred_name}
-use Rattle.import_rules.specs.Find.{found_in}
+use Rattle.import_rules.specs.Find.{found_in, first_source, number_of, or_found}
 use Rattle.import_rules.specs.Numbers.{places_for, parts_in, see_places}
+use Rattle.import_rules.specs.OwnNames.{kept_at, own_name}
 use Rattle.import_rules.specs.Parts.{name_of_places, names_at}
 use Rattle.import_rules.specs.declared.resolve.TheConstants.{MOST_PREDICATES}
 use Rattle.import_rules.specs.Files.{AreNumbered}
@@ -41,6 +44,18 @@ found_at p owner name arity at is =
     let wanted = pred_name owner name arity in
     ap (found_in (see_loaded p.loaded).files (names_at p.loaded.files.items p.places.items)) (sym (get_or_from_slice_get p.imported at wanted wanted is))
     ∙ p.meant.named at wanted (slice_get_within p.imported at wanted is)
+
+-- what is kept of a name is what is found of it
+pub kept_found : (p : Program) (place number node arity : ℕ) (file : FileFacts) (owner name : List ℕ) → slice_get p.loaded.files.items place ≡ Some file
+    → (kept_at p.own_names.lists.items place number).after ≡ node + 1 → (kept_at p.own_names.lists.items place number).arity ≡ arity
+    → name_at file.names number ≡ name → owner ≡ file.module → found (see_program p) owner name arity ≡ Some node
+unfolding found see_program
+kept_found p place number node arity file owner name at_place after many spelled home =
+    let wanted : own_name file number (kept_at p.own_names.lists.items place number).arity ≡ pred_name owner name arity =
+    λ i. pred_name (sym home i) (spelled i) (many i) in
+    let predicates = names_at p.loaded.files.items p.places.items in
+    ap (λ own. or_found predicates own (first_source (see_loaded p.loaded).files (pred_name owner name arity)))
+    (ap (number_of predicates) (sym wanted) ∙ p.own_kept place number node file at_place after)
 
 -- the name that is read of the predicate of a number
 pub name_there : (p : Program) (node : ℕ) (v : Places) (name : PredName) → node < length (see_program p).predicates → v ≡ get_or p.places.items node v

@@ -11,6 +11,7 @@ pub mod Numbers
 pub mod Parts
 pub mod NameTable
 pub mod Chained
+pub mod OwnNames
 pub mod Program
 pub mod Findings
 pub mod KnownFiles

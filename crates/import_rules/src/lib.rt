@@ -28,6 +28,7 @@ mod name_table;
 mod names;
 mod number;
 mod own;
+mod own_names;
 mod part;
 mod placed;
 mod places;

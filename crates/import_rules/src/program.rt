@@ -1,4 +1,4 @@
-ghost use Rattle.std.specs.Prelude.{◌≡◌, ◌<◌, ◌≤◌, ℕ, List, [], true, Some, length, map, slice_get};
+ghost use Rattle.std.specs.Prelude.{◌≡◌, ◌<◌, ◌≤◌, ℕ, List, [], true, Some, IfSome, length, map, slice_get};
 ghost use Rattle.std.proofs.Props.{props};
 ghost use Rattle.file_library.specs.SortedOut.{see_loaded};
 ghost use Rattle.import_rules.specs.declared.resolve.TheConstants.{MOST_PREDICATES};
@@ -9,10 +9,12 @@ ghost use Rattle.file_library.specs.Loaded.{WasLoaded};
 ghost use Rattle.import_rules.specs.Meanings.{AreTargets};
 ghost use Rattle.import_rules.specs.Metas.{AreDeclared, metas_in};
 ghost use Rattle.import_rules.specs.Numbers.{lists_of, places_for, parts_in};
+ghost use Rattle.import_rules.specs.OwnNames.{AreOwn};
 ghost use Rattle.import_rules.specs.Parts.{names_at};
 
 use crate::name_table::{NameTable, name_hash};
 use crate::names::NameView;
+use crate::own_names::OwnNames;
 use crate::places::Places;
 use crate::predicates::{Chains, Predicates};
 use file_library::Loaded;
@@ -27,6 +29,8 @@ pub struct Program {
     /// stand in the files alone.
     pub(crate) places: Vec<Places>,
     pub(crate) chains: Chains,
+    /// The predicates by the numbers of their names in their files.
+    pub(crate) own_names: OwnNames,
     /// The names that modules import.
     pub(crate) imported: NameTable,
     /// For each imported name the number of the predicate that it means.
@@ -38,6 +42,7 @@ pub struct Program {
     pub ghost few: { length places.items ≤ MOST_PREDICATES },
     pub ghost numbered: { ∥ AreNumbered (see_loaded loaded).files (names_at loaded.files.items places.items) ∥₁ },
     pub ghost chained: { AreChained (names_at loaded.files.items places.items) chains } by { Prim.hlevel props },
+    pub ghost own_kept: { AreOwn loaded.files.items (names_at loaded.files.items places.items) own_names } by { Prim.hlevel props },
     pub ghost faultless: { ∥ AreFlaws (see_loaded loaded).files (see_loaded loaded).absent [] ∥₁ },
     pub ghost meant: { AreTargets (see_loaded loaded).files (names_at loaded.files.items places.items) imported targets.items } by { Prim.hlevel props },
     pub ghost placed: { lists_of places.items ≡ map (places_for (parts_in (see_loaded loaded).files)) (names_at loaded.files.items places.items) },
@@ -147,5 +152,46 @@ impl Program {
             return None;
         };
         Some(self.targets[at])
+    }
+
+    /// The number of the predicate of a file's own module that is kept of the name of a number of the
+    /// file, where it is the predicate of that name.
+    fn find_kept(&self, file: u32, number: u32, module: &str, name: &str, arity: u32) -> Option<u32>
+        ensures { IfSome result (λ node. found (see_program self.now) module.now name.now arity ≡ Some node) }
+    {
+        let facts = self.loaded.files.get(file as usize)?;
+        let kept = self.own_names.get(file, number);
+        if kept.after == 0 {
+            return None;
+        }
+        if kept.arity != arity {
+            return None;
+        }
+        if !facts.names.is(number, name) {
+            return None;
+        }
+        if module != facts.module.as_str() {
+            return None;
+        }
+        Some(kept.after - 1)
+    }
+
+    /// What `find` answers, mostly without a look-up of the texts: where the name is that of the number
+    /// in the names of the file of that place, and the file is one of the module and defines the
+    /// predicate, as in most calls. Any other number serves too, and then the texts are looked up.
+    pub fn find_numbered(
+        &self,
+        file: u32,
+        number: u32,
+        module: &str,
+        name: &str,
+        arity: u32,
+    ) -> Option<u32>
+        ensures { result ≡ found (see_program self.now) module.now name.now arity }
+    {
+        if let Some(node) = self.find_kept(file, number, module, name, arity) {
+            return Some(node);
+        }
+        self.find(module, name, arity)
     }
 }

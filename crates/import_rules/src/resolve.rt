@@ -16,6 +16,7 @@ use crate::check::{Checked, check_imports};
 use crate::meanings::{Meanings, find_meanings};
 use crate::meta_places::meta_places;
 use crate::number::number;
+use crate::own_names::OwnNames;
 use crate::part::parts_of;
 use crate::places::Places;
 use crate::predicates::{Chains, Predicates};
@@ -75,6 +76,7 @@ pub fn resolve_all(alloc: Global, loaded: Loaded) -> Result<Program, ImportStop>
         chains: &chains,
     };
     let meta_places = meta_places(alloc, &loaded.files, &predicates)?;
+    let own_names = OwnNames::make(alloc, &loaded.files, &places)?;
     let Meanings { names, targets } = match meanings(alloc, &loaded, &predicates) {
         Ok(found) => found,
         Err(stop) => return Err(stop),
@@ -83,6 +85,7 @@ pub fn resolve_all(alloc: Global, loaded: Loaded) -> Result<Program, ImportStop>
         loaded,
         places,
         chains,
+        own_names,
         imported: names,
         targets,
         meta_places,

@@ -51,6 +51,14 @@ impl NodeList {
         }
     }
 
+    /// No nodes yet, with room for so many, so that they needn't be moved while they come.
+    pub fn with_room(alloc: Global, count: usize) -> Result<NodeList, AllocError>
+        ensures { IfOk result (λ nodes. nodes ≡ []) }
+    {
+        let list = Vec::with_capacity(alloc, count)?;
+        Ok(NodeList { list, terms: 0 })
+    }
+
     /// How many nodes there are.
     pub fn len(&self) -> usize
         ensures { result ≡ length self.now }

@@ -1,23 +1,29 @@
-use Rattle.std.proofs.Common.{◌↔◌, ◌++◌, ◌∷◌, [], ℕ, List, map, get_or, ap, sym, ◌∙◌, subst}
+use Rattle.std.proofs.Common.{◌↔◌, ◌++◌, ◌∷◌, [], ℕ, List, map, take, get_or, ap, sym, ◌∙◌, subst}
 use Rattle.std.specs.Prelude.{Contains}
 use Rattle.std.proofs.lemmas.List.{map-append, take_all, take_more}
+use Rattle.import_rules.specs.Program.{see_program}
 use Rattle.call_edges.specs.Calls.{IsAmong}
-use Rattle.call_edges.specs.FileOrder.{IsNode, node_of}
-use Rattle.call_edges.proofs.FileOrderLemmas.{among_nodes}
+use Rattle.call_edges.specs.FileOrder.{IsStart, see_start, start_in}
+use Rattle.call_edges.proofs.AmongLemmas.{map_has}
 use Rattle.call_edges.proofs.file_order.starts_from.Goals as goal
 
 pub loop-node-preserved : goal.loop-node-preserved
 loop-node-preserved c =
+    let seen = see_program c.args.program.now in
     let nodes = c.args.nodes.now in
     let k = c.loop-node.node-index in
     let node = get_or nodes k 0 in
-    ap (map node_of) c.in_ok-push.ensures.items
-    ∙ (map-append node_of c.loop-node.starts.items _
-    ∙ (ap (λ xs. xs ++ node ∷ []) c.loop-node.invariant ∙ sym (take_more nodes k 0 c.loop-node-test.true)))
+    let before = take k nodes in
+    ap (map see_start) c.in_ok-push.ensures.items
+    ∙ (map-append see_start c.loop-node.starts.items _
+    ∙ (ap (λ xs. xs ++ (node, c.first_place.result) ∷ []) c.loop-node.invariant
+    ∙ (ap (λ place. map (start_in seen) before ++ (node, place) ∷ []) c.first_place.ensures
+    ∙ (sym (map-append (start_in seen) before (node ∷ [])) ∙ ap (map (start_in seen)) (sym (take_more nodes k 0 c.loop-node-test.true))))))
 
 pub returns : goal.returns
 returns c =
+    let seen = see_program c.args.program.now in
     let nodes = c.args.nodes.now in
-    let all = c.loop-node.invariant ∙ take_all c.loop-node.node-index nodes c.loop-node-test.false in
-    let P : List ℕ → Type 0 = λ xs. (q : ℕ) → Contains xs q ↔ IsAmong IsNode nodes q in
-    subst P (sym all) (λ q. among_nodes nodes q)
+    let all = c.loop-node.invariant ∙ ap (map (start_in seen)) (take_all c.loop-node.node-index nodes c.loop-node-test.false) in
+    let P : List (ℕ × ℕ) → Type 0 = λ xs. (x : ℕ × ℕ) → Contains xs x ↔ IsAmong (IsStart seen) nodes x in
+    subst P (sym all) (λ x. map_has (start_in seen) nodes x)

@@ -9,7 +9,7 @@ pub returns : goal.returns
 returns c = λ names table text ts from is.
     let read = c.args.read in
     let shared = arc_value c.in_ok-nodes.nodes in
-    let nodes : shared ≡ read.nodes = c.in_ok-nodes.ensures.ok ∙ c.in_ok-copied.ensures in
+    let nodes : shared ≡ read.nodes = c.in_ok-nodes.ensures.ok ∙ c.in_ok-kept.ensures in
     let trees : clause_trees names c.in_ok-clauses.clauses.items ≡ read_trees names read =
     c.in_ok-clauses.ensures names ∙ (ap (map (tree_in names shared)) c.deref.ensures.value ∙ ap (λ ns. map (tree_in names ns) read.ends.items) nodes) in
     record {

@@ -39,7 +39,7 @@ height_of-requires-clause-known c = λ p q member call.
     let of_caller : HasMember groups p =
     record { place = get_or places n 0; within = order.within n 0 c.loop-place-test.true; member = subst P is member } in
     let has : HasMember groups q = HasMember-call c.requires p q of_caller call in
-    let at : get_or c.in_ok-places.places.items q 0 ≡ has.place = c.in_ok-places.ensures.at has.place q has.within has.member in
+    let at : get_or c.in_ok-places.places.items q 0 ≡ has.place = c.in_ok-places.ensures.members.at has.place q has.within has.member in
     rw (c.deref-in-loop-place.ensures.value, c.deref-in-loop-place-2.ensures.value)
     (omega (arith, at, has.within, c.loop-place.invariant.each))
 
@@ -70,7 +70,7 @@ loop-place-preserved c =
     rw (is, c.deref-in-loop-place.ensures.value, c.deref-in-loop-place-2.ensures.value) at c.height_of.ensures in
     heights_more n heights place c.height_of.result order c.loop-place-test.true refl c.loop-place.invariant
     (just_above_same leads (GroupCalls calls groups place) heights c.height_of.result
-    (call_from_lead c.requires c.in_ok-places.ensures place lt) (lead_from_call c.in_ok-places.ensures place) over)
+    (call_from_lead c.requires c.in_ok-places.ensures.members place lt) (lead_from_call c.in_ok-places.ensures.members place) over)
 
 pub returns : goal.returns
 returns c =

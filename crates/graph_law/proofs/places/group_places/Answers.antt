@@ -5,7 +5,7 @@ use Rattle.graph_law.specs.Graph.{lists_of}
 use Rattle.graph_law.specs.Classes.{group_at}
 use Rattle.graph_law.specs.Stamp.{IsStamped}
 use Rattle.graph_law.proofs.GraphLaws.{group_read, within_lists}
-use Rattle.graph_law.proofs.PlaceSteps.{places_push, all_below_from_apart}
+use Rattle.graph_law.proofs.PlaceSteps.{places_push, others_push, all_below_from_apart}
 use Rattle.graph_law.proofs.places.group_places.Goals as goal
 
 pub stamp-requires : goal.stamp-requires
@@ -14,7 +14,7 @@ stamp-requires c =
     let is : c.deref.result.now ≡ group_at (lists_of c.args.groups.now) n =
     group_read c.args.groups.now n c.index-groups-place.result c.deref.result.now c.loop-place-test.true c.index-groups-place.is
     c.deref.ensures.value in
-    rw (c.deref_mut.ensures.value, c.loop-place.invariant.each)
+    rw (c.deref_mut.ensures.value, c.loop-place.invariant.0.each)
     (all_below_from_apart c.args.count (lists_of c.args.groups.now) n c.deref.result.now is
     (within_lists c.args.groups.now n c.loop-place-test.true) c.requires)
 
@@ -37,5 +37,7 @@ loop-place-preserved c =
     let first : i < n = omega (arith, within, long) in
     let same : i ≡ n = c.requires.once i n p (omega (arith, first, lt)) lt (subst P (get_or-take n groups i [] first) here) there in
     omega (arith, same, first) in
-    rw (take_at new (drop (length new) c.loop-place.places.items) c.loop-place.places.len whole, take_more groups n [] lt)
-    (places_push c.args.count before (group_at groups n) c.loop-place.places.items new n (sym long) apart c.loop-place.invariant stamped)
+    rw (take_at new (drop (length new) c.loop-place.places.items) c.loop-place.places.len whole, take_more groups n [] lt) (
+      places_push c.args.count before (group_at groups n) c.loop-place.places.items new n (sym long) apart c.loop-place.invariant.0 stamped,
+      others_push before (group_at groups n) c.loop-place.places.items new n c.loop-place.invariant.1 stamped,
+    )

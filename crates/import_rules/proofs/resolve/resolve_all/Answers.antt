@@ -11,6 +11,7 @@ use Rattle.import_rules.specs.Meanings.{AreTargets}
 use Rattle.import_rules.specs.Metas.{AreDeclared, HasFewMetas, metas_in}
 use Rattle.import_rules.specs.Names.{pred_cmp}
 use Rattle.import_rules.specs.Numbers.{lists_of}
+use Rattle.import_rules.specs.OwnNames.{AreOwn}
 use Rattle.import_rules.specs.Parts.{name_of_places, names_at}
 use Rattle.import_rules.proofs.Loaded.{few_files, few_metas_in_each}
 use Rattle.import_rules.proofs.NumberLemmas.{numbered_by}
@@ -65,11 +66,16 @@ invariant_of-result c =
     let found = c.in-Ok.found in
     let made : names_at c.deref.result.now c.deref-2.result.now ≡ predicates = λ i. names_at (c.deref.ensures.value i) (c.deref-2.ensures.value i) in
     let same : names_at c.deref-3.result.now c.deref-4.result.now ≡ predicates = λ i. names_at (c.deref-3.ensures.value i) (c.deref-4.ensures.value i) in
+    let owned : names_at c.deref-6.result.now c.deref-7.result.now ≡ predicates = λ i. names_at (c.deref-6.ensures.value i) (c.deref-7.ensures.value i) in
     record {
       was_loaded = ∣ c.requires ∣₁;
       few = omega (arith, c.if-len-gt-MOST_PREDICATES.false, c.len.ensures, places.ok.0);
       numbered = ∣ numbered_by files predicates (lists_of places.items) numbers ∣₁;
       chained = subst (λ names. AreChained names c.in_ok-chains.chains) made c.in_ok-chains.ensures;
+      own_kept =
+          subst (λ (ps : List PredName). AreOwn loaded.files.items ps c.in_ok-own_names.own_names) owned
+          (subst (λ (fs : List FileFacts). AreOwn fs (names_at c.deref-6.result.now c.deref-7.result.now) c.in_ok-own_names.own_names) c.deref-6.ensures.value
+          c.in_ok-own_names.ensures);
       faultless = ∣ c.in-Ok.ensures.faultless ∣₁;
       meant = subst (λ ps. AreTargets files ps found.names found.targets.items) same c.in-Ok.ensures.targets;
       placed = numbers.placed;
@@ -100,4 +106,14 @@ pub meta_places-requires-clause-in_order : goal.meta_places-requires-clause-in_o
 meta_places-requires-clause-in_order c =
     let same : names_at c.deref-3.result.now c.deref-4.result.now ≡ names_at c.args.loaded.files.items c.in_ok-places.places.items =
     λ i. names_at (c.deref-3.ensures.value i) (c.deref-4.ensures.value i) in
+    subst (λ (ps : List PredName). AllPairs (λ p q. pred_cmp p q ≡ Less) ps) (sym same) c.in_ok-places.ensures.in_order
+
+pub make-requires-2-clause-few : goal.make-requires-2-clause-few
+make-requires-2-clause-few c =
+    omega (arith, c.if-len-gt-MOST_PREDICATES.false, c.len.ensures, c.in_ok-places.places.ok.0, ap length c.deref-7.ensures.value)
+
+pub make-requires-2-clause-in_order : goal.make-requires-2-clause-in_order
+make-requires-2-clause-in_order c =
+    let same : names_at c.deref-6.result.now c.deref-7.result.now ≡ names_at c.args.loaded.files.items c.in_ok-places.places.items =
+    λ i. names_at (c.deref-6.ensures.value i) (c.deref-7.ensures.value i) in
     subst (λ (ps : List PredName). AllPairs (λ p q. pred_cmp p q ≡ Less) ps) (sym same) c.in_ok-places.ensures.in_order

@@ -25,6 +25,6 @@ returns g c =
     let lists = g.O.Opener.lists c.args.opener.now in
     let groups = lists_of c.args.groups.now in
     let placed : AreGroupPlaces (length lists) groups c.deref.result.now =
-    rw c.deref.ensures.value (rw c.count-count.ensures.count at c.in_ok-places.ensures) in
+    rw c.deref.ensures.value (rw c.count-count.ensures.count at c.in_ok-places.ensures.members) in
     circuits_from_returns lists groups c.deref.result.now (circuits_of c.in_ok-found.found.items) c.requires.legal c.requires.nodes placed
     (rw (length-lists_of c.args.groups.now) c.in_ok-found.ensures)

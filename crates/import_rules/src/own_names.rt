@@ -1,0 +1,137 @@
+//! The predicates of files by the numbers of their names: what a name means in the module of its own
+//! file is mostly found without a look at any text.
+
+ghost use Rattle.std.specs.Prelude.{◌≡◌, ◌<◌, ◌≤◌, ◌⊎◌, ◌+◌, ℕ, List, Some, AllPairs, length, IfOk};
+ghost use Rattle.std.specs.declared.cmp.Ordering.TheVariants.{Less};
+ghost use Rattle.import_rules.specs.declared.resolve.TheConstants.{MOST_PREDICATES};
+ghost use Rattle.import_rules.specs.declared.names.PredName.{PredName};
+ghost use Rattle.import_rules.specs.Find.{number_of};
+ghost use Rattle.import_rules.specs.Names.{pred_cmp};
+ghost use Rattle.import_rules.specs.OwnNames.{AreKept, AreOwn, AreNothing, kept_at, kept_in};
+ghost use Rattle.import_rules.specs.Parts.{name_of_part, names_at, part_at};
+
+use crate::places::Places;
+use module_table::FileFacts;
+use std::alloc::{AllocError, Global};
+
+/// What is kept of a name of a file: how many arguments a predicate of the file's module has that has
+/// this name, and one more than the predicate's number; both 0 where none is kept.
+#[derive(Clone, Copy)]
+pub(crate) struct OwnName {
+    pub arity: u32,
+    pub after: u32,
+}
+
+/// What is kept where there is nothing.
+const NOTHING: OwnName = OwnName { arity: 0, after: 0 };
+
+/// For each file, by the numbers of its names, the predicates of its own module that it defines. Of
+/// those of one name the first is kept.
+#[derive(Drop)]
+pub(crate) struct OwnNames {
+    lists: Vec<Vec<OwnName>>,
+}
+
+/// How many names of a file are counted: those up to the last one of a predicate that it defines.
+fn name_count(file: &FileFacts) -> usize {
+    let mut count: usize = 0;
+    for defined in &file.defined {
+        count = count.max(defined.name as usize + 1);
+    }
+    count
+}
+
+/// For each file a list in which nothing is kept yet.
+fn empty_lists(alloc: Global, files: &[FileFacts]) -> Result<Vec<Vec<OwnName>>, AllocError>
+    ensures { IfOk result (λ lists. AreNothing lists.items) }
+{
+    let mut lists = Vec::with_capacity(alloc, files.len())?;
+    for file in files {
+        lists.push(vec![in alloc; NOTHING; name_count(file)]?)?;
+    }
+    Ok(lists)
+}
+
+/// Keeps it for the name of that number, where nothing is kept for that yet.
+fn keep(list: &mut [OwnName], number: usize, own: OwnName)
+    ensures long { length list.new ≡ length list.old }
+    ensures kept { (n : ℕ) → (kept_in list.new n ≡ kept_in list.old n) ⊎ ((n ≡ number) × (kept_in list.new n ≡ own)) }
+{
+    if number >= list.len() {
+        return;
+    }
+    if list[number].after > 0 {
+        return;
+    }
+    list[number] = own;
+}
+
+/// Keeps it for the name of that number in the file of that place, where nothing is kept for it yet.
+fn keep_in(lists: &mut [Vec<OwnName>], file: usize, number: usize, own: OwnName)
+    ensures long { length lists.new ≡ length lists.old }
+    ensures kept { (f n : ℕ) → (kept_at lists.new f n ≡ kept_at lists.old f n)
+        ⊎ ((f ≡ file) × (n ≡ number) × (kept_at lists.new f n ≡ own)) }
+{
+    if file < lists.len() {
+        keep(&mut lists[file], number, own);
+    }
+}
+
+/// Keeps the predicate of that number, which is defined at that place: that of a file, and of the
+/// predicate in the file's `defined`. One of another module than the file's isn't kept.
+fn keep_place(files: &[FileFacts], place: (u32, u32), node: u32, lists: &mut [Vec<OwnName>])
+    requires { node < 4294967295 }
+    ensures long { length lists.new ≡ length lists.old }
+    ensures kept { (predicates : List PredName) → number_of predicates (name_of_part files.now (part_at place.0 place.1)) ≡ Some node
+        → AreKept files.now predicates lists.old → AreKept files.now predicates lists.new }
+{
+    let Some(file) = files.get(place.0 as usize) else {
+        return;
+    };
+    let Some(defined) = file.defined.get(place.1 as usize) else {
+        return;
+    };
+    if file.names.text(defined.module) != file.module.as_str() {
+        return;
+    }
+    let own = OwnName {
+        arity: defined.arity,
+        after: node + 1,
+    };
+    keep_in(lists, place.0 as usize, defined.name as usize, own);
+}
+
+impl OwnNames {
+    /// What is kept of these predicates, which are few and in order.
+    pub(crate) fn make(
+        alloc: Global,
+        files: &[FileFacts],
+        predicates: &[Places],
+    ) -> Result<OwnNames, AllocError>
+        requires few { length predicates.now ≤ MOST_PREDICATES }
+        requires in_order { AllPairs (λ p q. pred_cmp p q ≡ Less) (names_at files.now predicates.now) }
+        ensures { IfOk result (AreOwn files.now (names_at files.now predicates.now)) }
+    {
+        let mut lists = empty_lists(alloc, files)?;
+        for (node, places) in predicates.iter().enumerate() {
+            let Some(first) = places.as_slice().first() else {
+                continue;
+            };
+            keep_place(files, *first, node as u32, &mut lists);
+        }
+        Ok(OwnNames { lists })
+    }
+
+    /// What is kept of the name of that number in the file of that place.
+    pub(crate) fn get(&self, file: u32, number: u32) -> OwnName
+        ensures { result ≡ kept_at self.now.lists.items file number }
+    {
+        let Some(list) = self.lists.get(file as usize) else {
+            return NOTHING;
+        };
+        let Some(own) = list.get(number as usize) else {
+            return NOTHING;
+        };
+        *own
+    }
+}
