@@ -11,7 +11,7 @@ pub clauses_with_places-requires : goal.clauses_with_places-requires
 clauses_with_places-requires g c =
     let seen = see_placed_lists c.args.lists.now in
     let order = c.in_ok-order.order.items in
-    let below = all_same seen order c.args.nodes.now c.in_ok-order.ensures (λ p. p < length seen.predicates) c.requires.below in
+    let below = all_same seen order c.args.nodes.now c.in_ok-order.ensures.same (λ p. p < length seen.predicates) c.requires.below in
     subst (λ (s : Seen). All (λ p. p < length s.predicates) c.deref.result.now) (sym c.program-program.ensures)
     (subst (λ (ps : List ℕ). All (λ p. p < length seen.predicates) ps) (sym c.deref.ensures.value) below)
 
@@ -19,7 +19,7 @@ pub calls_with_places-requires : goal.calls_with_places-requires
 calls_with_places-requires g c =
     let seen = see_placed_lists c.args.lists.now in
     let order = c.in_ok-order.order.items in
-    let below = all_same seen order c.args.nodes.now c.in_ok-order.ensures (λ p. p < length seen.predicates) c.requires.below in
+    let below = all_same seen order c.args.nodes.now c.in_ok-order.ensures.same (λ p. p < length seen.predicates) c.requires.below in
     subst (λ (ps : List ℕ). All (λ p. p < length seen.predicates) ps) (sym c.deref-2.ensures.value) below
 
 pub returns : goal.returns
@@ -30,11 +30,11 @@ returns g c =
     let found = c.in_ok-clauses in
     let Clauses : Seen → List ℕ → Type 0 = λ s ps. ArePlacedClauses s ps found.clauses.items found.clause_places.items in
     let clauses =
-    clauses_same seen order nodes c.in_ok-order.ensures found.clauses.items found.clause_places.items
+    clauses_same seen order nodes c.in_ok-order.ensures.same found.clauses.items found.clause_places.items
     (subst (λ (s : Seen). Clauses s order) c.program-program.ensures (subst (Clauses (see_program c.program-program.result.now)) c.deref.ensures.value found.ensures)) in
     let Calls : List ℕ → Type 0 = λ ps. ArePlacedCalls seen ps c.in_ok-calls.calls.items c.in_ok-calls.call_places.items in
     let calls =
-    calls_same seen order nodes c.in_ok-order.ensures c.in_ok-calls.calls.items c.in_ok-calls.call_places.items
+    calls_same seen order nodes c.in_ok-order.ensures.same c.in_ok-calls.calls.items c.in_ok-calls.call_places.items
     (subst Calls c.deref-2.ensures.value c.in_ok-calls.ensures) in
     record {
       clauses = clauses.are;
