@@ -1,7 +1,7 @@
 #!/usr/bin/env python3
 """Counts the instructions of whole runs of `groups` by layer, on the families of `whole.py`, in millions.
 
-Needs the built program and valgrind. What a function of the allocator, of a list, of a sort or of a thread takes is counted to
+Needs valgrind. What a function of the allocator, of a list, of a sort or of a thread takes is counted to
 those that call it, each in the share that its calls have. A function that the compiler laid into another counts to that one. Instructions
 are the same each time, whatever else the machine does. With `--keep FOLDER` the texts stay there.
 """
@@ -11,8 +11,11 @@ import re
 import subprocess
 import sys
 
-from common import folders
-from whole import FAMILIES, GROUPS, written
+from common import ROOT, folders
+from whole import FAMILIES, written
+
+# The program itself, not the script that starts it: what was built here, or the kept one.
+PROGRAM = next(it for it in (ROOT / "crates" / "groups" / "out" / "groups", ROOT / "release" / "groups") if it.is_file())
 
 # The first pattern that a function's name begins with decides; what fits none is shared among its callers.
 LAYERS = [
@@ -95,7 +98,7 @@ def main():
         for name, (count, shape, spread) in FAMILIES.items():
             names = written(texts, shape(count), spread)
             out = folder / "counted"
-            words = ["valgrind", "--tool=callgrind", f"--callgrind-out-file={out}", str(GROUPS), *names]
+            words = ["valgrind", "--tool=callgrind", f"--callgrind-out-file={out}", str(PROGRAM), *names]
             ran = subprocess.run(words, cwd=texts, stdout=subprocess.DEVNULL, stderr=subprocess.PIPE, text=True)
             if ran.returncode:
                 sys.exit(ran.stderr)
