@@ -3,10 +3,11 @@
 
 Up to 524,288 predicates `--jobs N` is one search, so the factors of the first rows say what the option costs where it
 changes nothing. In the last rows workers search. Needs the built program. Prints a table: the medians of nine runs of
-each, in turns, in milliseconds, and the factors to the run with one worker. It takes five minutes or so. With
+each, in random order, in milliseconds, and the factors to the run with one worker. It takes five minutes or so. With
 `--keep FOLDER` the texts stay there.
 """
 
+import random
 import statistics
 import sys
 
@@ -31,7 +32,8 @@ def medians(names, texts):
     took = {jobs: [] for jobs in JOBS}
     answers = set()
     for _ in range(RUNS):
-        for jobs in JOBS:
+        # (in another order each time, so that what one run leaves behind doesn't always meet the same one)
+        for jobs in random.sample(JOBS, len(JOBS)):
             seconds, _, answer = whole.once([whole.GROUPS, "--jobs", jobs, *names], texts)
             took[jobs].append(1_000 * seconds)
             answers.add(answer)
