@@ -2,6 +2,7 @@ ghost use Rattle.std.specs.Prelude.{◌<◌};
 
 use crate::slow_gate::SlowGate;
 use crate::star_gate::StarGate;
+use crate::starved::Starved;
 use graph_law::Graph;
 use node_claims::Claims;
 use search_pool::{Crew, Ended, Gate, OpenGate, Openings, drive_workers, run_all, split_for};
@@ -127,4 +128,18 @@ fn star(alloc: Global, count: u32) -> Result<Graph, Fail> {
     }
     let graph = Graph::new(succs, roots).ok_or("refused")?;
     Ok(graph)
+}
+
+/// The opening of the node that all others wait for fails while the other worker holds back, which sees it.
+#[test]
+fn a_worker_that_holds_back_sees_a_failure(rt: HostRuntime) -> Result<(), Fail> {
+    let alloc = rt.alloc();
+    let graph = star(alloc, STAR)?;
+    let starved = Starved {
+        graph: &graph,
+        node: 0,
+    };
+    let gate = StarGate::new(STAR / 2, 20_000_000);
+    assert!(rt; drive_workers(&rt, alloc, &starved, graph.roots(), 2, &gate).is_err());
+    Ok(())
 }
