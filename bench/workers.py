@@ -4,14 +4,14 @@
 Needs `rt`, and `strace` and `valgrind` for the counts. Prints three tables.
 
 The first has times, each the best of five runs, in milliseconds: of one plain search, and of 1, 2, 4 and 8
-workers. In the rows of cost 0 a node is opened by a copy of its list: workers are seen to gain nothing and give way
-to one search, so the columns are what it costs to begin with them. In the other rows opening a node takes about two
-or twenty microseconds of arithmetic, as a node does whose calls must first be found, so workers go on and the
-columns are what more of them gain; the plain search opens nodes at the same cost. `one`, `two` and `four` are the
+workers. In the rows of cost 0 a node is opened by a copy of its list: one search tries first, and goes on alone,
+so the columns are what it costs to look at it. In the other rows opening a node takes about two or twenty
+microseconds of arithmetic, as a node does whose calls must first be found, so that search gives way and the
+columns are what more workers gain; the plain search opens nodes at the same cost. `one`, `two` and `four` are the
 times of 1, 2 and 4 workers over that of the plain search.
 
 The second has counts, each of one run under `strace` on 250 times fewer nodes, since `strace` slows what it counts
-and over so few nodes workers never give way:
+and over so few nodes workers search at once, without a try:
 for each number of workers how often a thread slept (until the turn was given back, or because it found nothing to
 do), how often one was woken, how often one let others go on, and all system calls. A turn that is given back while
 nobody sleeps makes none, so where nobody waits the counts stay the same however many groups there are.
@@ -45,7 +45,7 @@ GRAPHS = [
     ("random", 20_000, TWENTY_MICROS),
 ]
 JOBS = [1, 2, 4, 8]
-# Under `strace` and under `valgrind` a graph has so many times fewer nodes, which is too few for workers to give way.
+# Under `strace` and under `valgrind` a graph has so many times fewer nodes, which is too few for one search to be tried first.
 FEWER = 250
 MOST_SECONDS = 20.0
 

@@ -12,7 +12,7 @@ Over few predicates `--jobs N` alone is one search, up to the `FEW_PREDICATES` o
   in time, and so do one without a stream and eight searches that take turns, with the report of one worker, byte
   for byte;
 - more predicates than one search is left to at once: a ring of them, and as many that call nothing, with 4 and 64
-  workers, which give way to one search, and the report is that of one worker, byte for byte.
+  workers, which let one search try first, and the report is that of one worker, byte for byte.
 
 Ends with status 1 where an answer is wrong. The whole takes at most five minutes; `--graphs N` and `--runs N` say
 how many graphs and how many runs of hard shapes there are.

@@ -4,7 +4,7 @@ ghost use Rattle.search_pool.specs.Driving.{IsIdle};
 use crate::feeder::fail_book;
 use graph_law::Opener;
 use node_claims::{Claims, Pass};
-use search_pool::{Crew, Gate, Openings, run_all};
+use search_pool::{Gate, Openings, run_all};
 use std::alloc::Global;
 use std::sync::Wait;
 use std::thread::Threads;
@@ -25,8 +25,7 @@ pub(crate) fn search<R: Threads + Wait + Sync, O: Opener, G: Gate>(
     requires idle { All (IsIdle claims.now) passes.items }
     requires spare { IsIdle claims.now spare }
 {
-    let crew = Crew::new(Openings::Cheap);
-    match run_all(rt, alloc, claims, passes, opener, gate, &crew) {
+    match run_all(rt, alloc, claims, passes, opener, gate, Openings::Cheap) {
         Ok(_ended) => {}
         Err(_) => fail_book(rt, alloc, claims, spare),
     }

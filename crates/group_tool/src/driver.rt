@@ -25,8 +25,7 @@ use std::thread::Threads;
 // predicates call lies in memory by then, so a node is opened by a copy of its list: an opening has nothing
 // that a second worker could take off the first, while claims and turns take about as many instructions as
 // the search, and more time. That was so with 2 and with 4 workers and for graphs of each shape, and the
-// search is some 6 to 11 of 100 instructions of a run. Beyond this workers begin, and give way to one search
-// as soon as they are seen to gain nothing; below it that search is at its end in tens of milliseconds.
+// search is some 6 to 11 of 100 instructions of a run. Beyond this one search is tried first.
 const FEW_PREDICATES: u32 = 524_288;
 
 /// The groups of all that the roots reach, and of nothing else, in a legal order: found by one search,

@@ -5,7 +5,7 @@ use crate::star_gate::StarGate;
 use crate::starved::Starved;
 use graph_law::Graph;
 use node_claims::Claims;
-use search_pool::{Crew, Ended, Gate, OpenGate, Openings, drive_workers, run_all, split_for};
+use search_pool::{Ended, Gate, OpenGate, Openings, drive_workers, run_all, split_for};
 use search_stack::groups_plain;
 use std::alloc::Global;
 use std::sync::Wait;
@@ -32,7 +32,7 @@ fn workers_find_a_giant_group(rt: HostRuntime) -> Result<(), Fail> {
     Ok(())
 }
 
-/// The workers are seen to open nodes nearly always, and go on.
+/// The search that is tried gives way.
 #[test]
 fn workers_find_a_giant_group_that_is_dear_to_open(rt: HostRuntime) -> Result<(), Fail> {
     let alloc = rt.alloc();
@@ -86,8 +86,7 @@ fn groups_of_workers<R: Threads + Wait + Sync, G: Gate>(
 {
     let (claims, pass) = Claims::make(alloc, graph, graph.roots())?;
     let passes = split_for(alloc, &claims, pass, jobs)?;
-    let crew = Crew::new(openings);
-    let mut ended = run_all(rt, alloc, &claims, passes, graph, gate, &crew)?;
+    let mut ended = run_all(rt, alloc, &claims, passes, graph, gate, openings)?;
     let Some(Ended::Finished { pass }) = ended.pop() else {
         return Err("a worker has not finished".into());
     };

@@ -4,8 +4,6 @@
 #[cfg(test)]
 mod agree_tests;
 #[cfg(test)]
-mod crew_tests;
-#[cfg(test)]
 mod crowd;
 #[cfg(test)]
 mod gate_tests;
@@ -29,6 +27,8 @@ mod starved_tests;
 mod told;
 #[cfg(test)]
 mod told_tests;
+#[cfg(test)]
+mod trial_tests;
 #[cfg(test)]
 mod turn_tests;
 #[cfg(test)]

@@ -7,6 +7,7 @@ ghost use Rattle.list_laws.specs.Counts.{times};
 ghost use Rattle.search_pool.specs.Edges.{GoesOn};
 ghost use Rattle.search_pool.specs.Worker.{IsRunning, IsWorking, StopsAt};
 
+use crate::gate::Gate;
 use crate::stopped::Stopped;
 use graph_law::Opener;
 use node_claims::{Claimed, Claims, Pass};
@@ -21,13 +22,14 @@ const MOST_ROOM: u32 = 262_144;
 
 /// Runs a search without the turn until it is ripe, wants a node of another search, or memory is
 /// wanting: it claims the node of each edge, opens those that it wins, and settles the others.
-pub(crate) fn run_free<O: Opener>(
+pub(crate) fn run_free<O: Opener, G: Gate>(
     rt: &impl Wait,
     alloc: Global,
     claims: &Claims,
     pass: &mut Pass,
     search: &mut Search,
     opener: &O,
+    gate: &G,
 ) -> Stopped
     requires made { claims.now.lists ≡ O.lists opener.now }
     requires running { IsRunning claims.now pass.old search.old false }
@@ -46,7 +48,7 @@ pub(crate) fn run_free<O: Opener>(
             search.retreat();
             continue;
         };
-        if let Some(stopped) = settle(alloc, claims, pass, search, opener, node) {
+        if let Some(stopped) = settle(alloc, claims, pass, search, opener, gate, node) {
             return stopped;
         }
     }
@@ -70,12 +72,13 @@ fn room_for(nodes: u32) -> u32
 
 /// Claims the node of the edge that the top has begun last, and settles the edge where that can be
 /// done without the turn. Else it tells why the search stops.
-fn settle<O: Opener>(
+fn settle<O: Opener, G: Gate>(
     alloc: Global,
     claims: &Claims,
     pass: &mut Pass,
     search: &mut Search,
     opener: &O,
+    gate: &G,
     node: u32,
 ) -> Option<Stopped>
     requires made { claims.now.lists ≡ O.lists opener.now }
@@ -87,7 +90,7 @@ fn settle<O: Opener>(
     ensures seen { (x : ℕ) → 0 < times x pass.old.view.seen → 0 < times x pass.new.view.seen }
 {
     match claims.claim(pass, node) {
-        Claimed::Won => match open_node(alloc, claims, pass, search, opener, node) {
+        Claimed::Won => match open_node(alloc, claims, pass, search, opener, gate, node) {
             Ok(()) => None,
             Err(_) => Some(Stopped::Unopened(node)),
         },
@@ -105,12 +108,13 @@ fn settle<O: Opener>(
 }
 
 /// Opens a node that the pass has won, and pushes it. At want of memory nothing has changed.
-pub(crate) fn open_node<O: Opener>(
+pub(crate) fn open_node<O: Opener, G: Gate>(
     alloc: Global,
     claims: &Claims,
     pass: &Pass,
     search: &mut Search,
     opener: &O,
+    gate: &G,
     node: u32,
 ) -> Result<(), AllocError>
     requires made { claims.now.lists ≡ O.lists opener.now }
@@ -124,6 +128,7 @@ pub(crate) fn open_node<O: Opener>(
     ensures unchanged { IfErr result (λ _. search.new ≡ search.old) }
 {
     let mut succs = Vec::new(alloc);
+    gate.opened(node);
     opener.expand(node, &mut succs)?;
     search.push(Opening { node, succs });
     Ok(())

@@ -1,17 +1,16 @@
 //! Workers that search one graph side by side, each with a search of its own, over claims on its nodes.
 #![tactic(auto)]
 
-mod crew;
 mod edges;
 mod ended;
 mod gate;
 mod openings;
 mod pausing;
 mod stopped;
+mod trial;
 mod worker;
 mod workers;
 
-pub use crew::Crew;
 pub use ended::Ended;
 pub use gate::{Gate, MeetGate, OpenGate};
 pub use openings::Openings;

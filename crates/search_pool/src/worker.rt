@@ -2,9 +2,9 @@ ghost use Rattle.std.specs.Prelude.{◌≡◌, []};
 ghost use Rattle.node_claims.specs.Claims.{IsPassOf};
 ghost use Rattle.search_pool.specs.Worker.{EndsWell};
 
-use crate::crew::{Crew, Watched};
 use crate::ended::Ended;
-use crate::gate::{Gate, Gated};
+use crate::gate::Gate;
+use crate::openings::Openings;
 use graph_law::Opener;
 use node_claims::{Claims, Pass};
 use search_stack::Search;
@@ -27,9 +27,8 @@ use stretch::Stretch;
 use went::{Went, Worker};
 
 /// Works until the pass has seen each root finished, or memory is wanting. It calls the gate and then
-/// the opener for each node that it wins, without the turn. What its crew knows of the cost of an opening tells
-/// it whether to go on beginning searches that at once have to wait, and whether to end as if memory were
-/// wanting, since workers gain nothing. The promise holds if the call returns.
+/// the opener for each node that it wins, without the turn. What an opening costs tells it whether to go
+/// on beginning searches that at once have to wait. The promise holds if the call returns.
 pub fn work<O: Opener, G: Gate>(
     rt: &impl Wait,
     alloc: Global,
@@ -37,19 +36,13 @@ pub fn work<O: Opener, G: Gate>(
     pass: Pass,
     opener: &O,
     gate: &G,
-    crew: &Crew,
+    openings: Openings,
 ) -> Ended
     requires made { claims.now.lists ≡ O.lists opener.now }
     requires pass { IsPassOf claims.now pass }
     requires idle { pass.view.nodes ≡ [] }
     ensures { EndsWell claims.now result }
 {
-    let gated = Gated { opener, gate };
-    let mate = crew.mate();
-    let opener = Watched {
-        opener: &gated,
-        mate: &mate,
-    };
     let mut worker = Worker {
         pass,
         search: Search::empty(alloc),
@@ -63,7 +56,7 @@ pub fn work<O: Opener, G: Gate>(
         awaited: 0,
     };
     'turns: for _ in rt.forever() {
-        match go_on(rt, alloc, claims, worker, &opener, &mate) {
+        match go_on(rt, alloc, claims, worker, opener, gate, openings) {
             Went::On(after) => worker = after,
             Went::Ended(ended) => return ended,
         }

@@ -8,8 +8,8 @@ use super::rooting::open_next;
 use super::stopping::stop;
 use super::stretch::Stretch;
 use super::went::{Went, Worker};
-use crate::crew::Mate;
 use crate::ended::Ended;
+use crate::gate::Gate;
 use crate::openings::Openings;
 use crate::pausing::pause;
 use graph_law::Opener;
@@ -31,24 +31,25 @@ const MOST_ROOTS: usize = 256;
 /// Begins at the next root that was handed out to the worker. Where it has claimed all of these, it takes
 /// a ready search, or else is handed more roots. Where there is neither, the worker has finished if each
 /// root is released, and else waits a little.
-pub(crate) fn take_up<O: Opener>(
+pub(crate) fn take_up<O: Opener, G: Gate>(
     rt: &impl Wait,
     alloc: Global,
     claims: &Claims,
     worker: Worker,
     opener: &O,
-    mate: &Mate<'_>,
+    gate: &G,
+    openings: Openings,
 ) -> Went
     requires made { claims.now.lists ≡ O.lists opener.now }
     requires at_work { IsAtWork claims.now worker false }
     requires idle { size worker.search.stack ≡ 0 }
     ensures { GoesWell claims.now result }
 {
-    if are_too_many(worker.vain, mate.openings()) {
-        return hold_back(rt, claims, worker, mate);
+    if are_too_many(worker.vain, openings) {
+        return hold_back(rt, claims, worker);
     }
     if worker.stretch.next < worker.stretch.roots.len() {
-        return open_next(rt, alloc, claims, worker, opener);
+        return open_next(rt, alloc, claims, worker, opener, gate);
     }
     let Worker {
         pass,
@@ -80,7 +81,6 @@ pub(crate) fn take_up<O: Opener>(
     if all {
         return Went::Ended(Ended::Finished { pass: worker.pass });
     }
-    mate.rests();
     pause(rt, waits);
     worker.waits = waits.saturating_add(1);
     Went::On(worker)
@@ -99,7 +99,7 @@ fn are_too_many(vain: u32, openings: Openings) -> bool {
 // Waits a little, where the worker's last searches all had to wait at once, and begins no other until the
 // node is released that the last of them waits for. That node is on a search that runs, or on one that
 // waits for such a search or for a ready one; and a ready one it takes.
-fn hold_back(rt: &impl Wait, claims: &Claims, worker: Worker, mate: &Mate<'_>) -> Went
+fn hold_back(rt: &impl Wait, claims: &Claims, worker: Worker) -> Went
     requires at_work { IsAtWork claims.now worker false }
     requires idle { size worker.search.stack ≡ 0 }
     ensures { GoesWell claims.now result }
@@ -126,7 +126,6 @@ fn hold_back(rt: &impl Wait, claims: &Claims, worker: Worker, mate: &Mate<'_>) -
     if released {
         return Went::On(worker);
     }
-    mate.rests();
     pause(rt, waits);
     worker.waits = waits.saturating_add(1);
     worker.vain = vain;

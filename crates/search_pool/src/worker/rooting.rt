@@ -6,6 +6,7 @@ ghost use Rattle.search_pool.specs.Working.{GoesWell, HasClaimedOn, HasWon, IsAt
 use super::stopping::give_up;
 use super::went::{Went, Worker};
 use crate::edges::open_node;
+use crate::gate::Gate;
 use graph_law::Opener;
 use node_claims::{Claimed, Claims};
 use std::alloc::Global;
@@ -13,12 +14,13 @@ use std::sync::Wait;
 
 /// Claims the next of the roots that were handed out to the worker, without the turn, until one is won,
 /// and begins a search at that. Where others have all of these roots it is idle still.
-pub(crate) fn open_next<O: Opener>(
+pub(crate) fn open_next<O: Opener, G: Gate>(
     rt: &impl Wait,
     alloc: Global,
     claims: &Claims,
     mut worker: Worker,
     opener: &O,
+    gate: &G,
 ) -> Went
     requires made { claims.now.lists ≡ O.lists opener.now }
     requires at_work { IsAtWork claims.now worker false }
@@ -29,7 +31,7 @@ pub(crate) fn open_next<O: Opener>(
 {
     'roots: while worker.stretch.next < worker.stretch.roots.len() {
         if let Some(root) = claim_next(claims, &mut worker) {
-            return open_root(rt, alloc, claims, worker, opener, root);
+            return open_root(rt, alloc, claims, worker, opener, gate, root);
         }
     }
     Went::On(worker)
@@ -57,12 +59,13 @@ fn claim_next(claims: &Claims, worker: &mut Worker) -> Option<u32>
 }
 
 // Begins a search at a root that the worker has won.
-fn open_root<O: Opener>(
+fn open_root<O: Opener, G: Gate>(
     rt: &impl Wait,
     alloc: Global,
     claims: &Claims,
     mut worker: Worker,
     opener: &O,
+    gate: &G,
     root: u32,
 ) -> Went
     requires made { claims.now.lists ≡ O.lists opener.now }
@@ -80,6 +83,7 @@ fn open_root<O: Opener>(
         &worker.pass,
         &mut worker.search,
         opener,
+        gate,
         root,
     );
     match opened {

@@ -7,8 +7,9 @@ use super::releasing::release;
 use super::stopping::give_up;
 use super::suspending::suspend;
 use super::went::{Went, Worker};
-use crate::crew::Mate;
 use crate::edges::run_free;
+use crate::gate::Gate;
+use crate::openings::Openings;
 use crate::stopped::Stopped;
 use graph_law::Opener;
 use node_claims::Claims;
@@ -16,31 +17,33 @@ use std::alloc::Global;
 use std::sync::Wait;
 
 /// Runs the search that the worker has, or takes one up where it is idle, up to the end of a turn.
-pub(crate) fn go_on<O: Opener>(
+pub(crate) fn go_on<O: Opener, G: Gate>(
     rt: &impl Wait,
     alloc: Global,
     claims: &Claims,
     worker: Worker,
     opener: &O,
-    mate: &Mate<'_>,
+    gate: &G,
+    openings: Openings,
 ) -> Went
     requires made { claims.now.lists ≡ O.lists opener.now }
     requires at_work { IsAtWork claims.now worker false }
     ensures { GoesWell claims.now result }
 {
     if worker.search.is_empty() {
-        return take_up(rt, alloc, claims, worker, opener, mate);
+        return take_up(rt, alloc, claims, worker, opener, gate, openings);
     }
-    run(rt, alloc, claims, worker, opener)
+    run(rt, alloc, claims, worker, opener, gate)
 }
 
 // Runs the search without the turn as far as it goes, and then does what needs the turn.
-fn run<O: Opener>(
+fn run<O: Opener, G: Gate>(
     rt: &impl Wait,
     alloc: Global,
     claims: &Claims,
     mut worker: Worker,
     opener: &O,
+    gate: &G,
 ) -> Went
     requires made { claims.now.lists ≡ O.lists opener.now }
     requires at_work { IsAtWork claims.now worker false }
@@ -54,6 +57,7 @@ fn run<O: Opener>(
         &mut worker.pass,
         &mut worker.search,
         opener,
+        gate,
     );
     match stopped {
         Stopped::Ripe => release(rt, claims, worker),
