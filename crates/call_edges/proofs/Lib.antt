@@ -32,5 +32,4 @@ pub mod PlacedCallLemmas
 pub mod KeptCallLemmas
 pub mod CallOffsets
 pub mod SpreadLemmas
-pub mod JoinedLemmas
 pub mod FileOrderLemmas

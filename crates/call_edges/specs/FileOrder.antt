@@ -1,12 +1,10 @@
 -- Predicates in the order in which they stand in the files.
-use Rattle.std.specs.Prelude.{ℕ, ◌≡◌, ◌↔◌, ◌+◌, ◌*◌, List, [], ◌∷◌, Option, Some, None, Vec, Contains, map, slice_get}
-use Rattle.std.specs.declared.alloc.Global.{Global}
+use Rattle.std.specs.Prelude.{ℕ, ◌≡◌, ◌+◌, ◌*◌, List, [], ◌∷◌, Option, Some, None, map, slice_get}
 use Rattle.prolog_terms.specs.Tree.{Tree}
 use Rattle.prolog_terms.specs.Views.{start_of}
 use Rattle.module_table.specs.Defined.{Predicate}
 use Rattle.module_table.specs.Facts.{Facts}
 use Rattle.import_rules.specs.Program.{Seen, places_in}
-use Rattle.call_edges.specs.Calls.{IsAmong}
 use Rattle.call_edges.specs.declared.file_order.Start.{Start}
 
 -- the offset at which the first of the clauses starts; 0 where there is none
@@ -43,13 +41,6 @@ see_start s = (s.node, s.place)
 abbrev pub node_of : Start → ℕ
 node_of s = s.node
 
--- the predicate with that place is one of the list
-abbrev pub HasStart : Vec Start Global → ℕ × ℕ → Type 0
-HasStart starts x = Contains (map see_start starts.items) x
-
-abbrev pub IsStart : Seen → ℕ → ℕ × ℕ → Type 0
-IsStart seen node x = start_in seen node ≡ x
-
--- they are just these predicates, each with its place
+-- they are these predicates in order, each with its place
 abbrev pub AreStarts : Seen → List ℕ → List Start → Type 0
-AreStarts seen nodes starts = (x : ℕ × ℕ) → Contains (map see_start starts) x ↔ IsAmong (IsStart seen) nodes x
+AreStarts seen nodes starts = map see_start starts ≡ map (start_in seen) nodes

@@ -1,10 +1,10 @@
 //! Predicates in the order in which they stand in the files.
 
-ghost use Rattle.std.specs.Prelude.{◌≡◌, ◌<◌, ◌↔◌, ℕ, All, Contains, length, map, IfOk};
-ghost use Rattle.std.specs.List.Sorted.{IsNonDecreasingBy};
+ghost use Rattle.std.specs.Prelude.{◌≡◌, ◌<◌, All, length, map, IfOk};
+ghost use Rattle.std.specs.List.{flat_map};
+ghost use Rattle.std.specs.List.Sorted.{IsNonDecreasingBy, IsPermutation};
 ghost use Rattle.clause_text.specs.Clauses.{clause_trees};
-ghost use Rattle.call_edges.specs.Calls.{IsAmong};
-ghost use Rattle.call_edges.specs.FileOrder.{AreStarts, HasStart, IsStart, first_offset, node_of, start_place};
+ghost use Rattle.call_edges.specs.FileOrder.{AreStarts, first_offset, node_of, see_start, start_in, start_place};
 ghost use Rattle.import_rules.specs.Program.{see_program};
 
 use crate::lists::joined;
@@ -77,7 +77,7 @@ fn starts_of_each<R: Threads + Sync>(
     nodes: &[u32],
 ) -> Result<Vec<Vec<Start>>, AllocError>
     requires { All (λ p. p < length (see_program program.now).predicates) nodes.now }
-    ensures { IfOk result (λ each. (x : ℕ × ℕ) → IsAmong HasStart each.items x ↔ IsAmong (IsStart (see_program program.now)) nodes.now x) }
+    ensures { IfOk result (λ each. AreStarts (see_program program.now) nodes.now (flat_map (λ list. list.items) each.items)) }
 {
     nodes
         .par_chunks(SIZE)
@@ -99,7 +99,7 @@ fn starts_in_order<R: Threads + Sync>(
     nodes: &[u32],
 ) -> Result<Vec<Start>, AllocError>
     requires { All (λ p. p < length (see_program program.now).predicates) nodes.now }
-    ensures starts { IfOk result (λ starts. AreStarts (see_program program.now) nodes.now starts.items) }
+    ensures starts { IfOk result (λ starts. IsPermutation (map (start_in (see_program program.now)) nodes.now) (map see_start starts.items)) }
     ensures ascending { IfOk result (λ starts. IsNonDecreasingBy (λ s. s.place) starts.items) }
 {
     let each = starts_of_each(rt, alloc, program, nodes)?;
@@ -120,8 +120,8 @@ fn nodes_of(alloc: Global, starts: &[Start]) -> Result<Vec<u32>, AllocError>
     starts.iter().map(|one| one.node).collect(alloc)
 }
 
-/// The same predicates in the order of the files and, in a file, of the places at which their first
-/// clauses start.
+/// The same predicates, each as often, in the order of the files and, in a file, of the places at which
+/// their first clauses start.
 pub fn in_file_order<R: Threads + Sync>(
     rt: &R,
     alloc: Global,
@@ -129,7 +129,7 @@ pub fn in_file_order<R: Threads + Sync>(
     nodes: &[u32],
 ) -> Result<Vec<u32>, AllocError>
     requires { All (λ p. p < length (see_program program.now).predicates) nodes.now }
-    ensures same { IfOk result (λ order. (q : ℕ) → Contains order.items q ↔ Contains nodes.now q) }
+    ensures same { IfOk result (λ order. IsPermutation nodes.now order.items) }
     ensures in_order { IfOk result (λ order. IsNonDecreasingBy (start_place (see_program program.now)) order.items) }
 {
     let starts = starts_in_order(rt, alloc, program, nodes)?;

@@ -1,8 +1,7 @@
 -- Clauses and calls of the same predicates in another order.
-use Rattle.std.proofs.Common.{◌↔◌, ℕ, List, All}
+use Rattle.std.proofs.Common.{ℕ, List, All, IsPermutation}
 use Rattle.std.specs.Prelude.{Contains}
-use Rattle.std.proofs.lemmas.List.Elements.{All-contains}
-use Rattle.list_laws.proofs.Members.{all_by}
+use Rattle.std.proofs.lemmas.List.Sorted.{All-permutation, Contains-permutation, IsPermutation-sym}
 use Rattle.prolog_tokens.specs.declared.token.Place.{Place}
 use Rattle.import_rules.specs.Program.{Seen}
 use Rattle.call_edges.specs.Calls.{IsAmong}
@@ -15,9 +14,15 @@ use Rattle.call_table.specs.Table.{ArePlacedCalls, ArePlacedClauses}
 among_same : {X M : Type 0} (P : X → M → Type 0) (xs ys : List X) (m : M) → ((x : X) → Contains xs x → Contains ys x) → IsAmong P xs m → IsAmong P ys m
 among_same P xs ys m to among = record { one = among.one; has = to among.one among.has; is = among.is }
 
-module _ (seen : Seen) (order nodes : List ℕ) (same : (q : ℕ) → Contains order q ↔ Contains nodes q) where
+module _ (seen : Seen) (order nodes : List ℕ) (same : IsPermutation nodes order) where
+  there : (q : ℕ) → Contains nodes q → Contains order q
+  there q = Contains-permutation nodes order q same
+
+  back : (q : ℕ) → Contains order q → Contains nodes q
+  back q = Contains-permutation order nodes q (IsPermutation-sym nodes order same)
+
   pub all_same : (P : ℕ → Type 0) → All P nodes → All P order
-  all_same P all = all_by P order (λ q has. All-contains P nodes q all ((same q).0 has))
+  all_same P all = All-permutation P nodes order same all
 
   pub clauses_same : (clauses : List ClauseAt) (places : List Place) → ArePlacedClauses seen order clauses places → ArePlacedClauses seen nodes clauses places
   clauses_same clauses places are =
@@ -26,8 +31,8 @@ module _ (seen : Seen) (order nodes : List ℕ) (same : (q : ℕ) → Contains o
         are = record {
           ordered = are.are.ordered;
           each = λ c. (
-            λ has. among_same P order nodes c (λ q. (same q).0) ((are.are.each c).0 has),
-            λ among. (are.are.each c).1 (among_same P nodes order c (λ q. (same q).1) among),
+            λ has. among_same P order nodes c back ((are.are.each c).0 has),
+            λ among. (are.are.each c).1 (among_same P nodes order c there among),
           );
         };
         placed = are.placed;
@@ -38,8 +43,8 @@ module _ (seen : Seen) (order nodes : List ℕ) (same : (q : ℕ) → Contains o
     are = record {
       ordered = are.are.ordered;
       each = λ c. (
-        λ has. among_same (IsCallOf seen) order nodes c (λ q. (same q).0) ((are.are.each c).0 has),
-        λ among. (are.are.each c).1 (among_same (IsCallOf seen) nodes order c (λ q. (same q).1) among),
+        λ has. among_same (IsCallOf seen) order nodes c back ((are.are.each c).0 has),
+        λ among. (are.are.each c).1 (among_same (IsCallOf seen) nodes order c there among),
       );
     };
     placed = are.placed;

@@ -1,10 +1,7 @@
-use Rattle.std.proofs.Common.{◌↔◌, ◌++◌, ◌∷◌, [], ℕ, List, map, take, get_or, ap, sym, ◌∙◌, subst}
-use Rattle.std.specs.Prelude.{Contains}
+use Rattle.std.proofs.Common.{◌++◌, ◌∷◌, [], map, take, get_or, ap, sym, ◌∙◌}
 use Rattle.std.proofs.lemmas.List.{map-append, take_all, take_more}
 use Rattle.import_rules.specs.Program.{see_program}
-use Rattle.call_edges.specs.Calls.{IsAmong}
-use Rattle.call_edges.specs.FileOrder.{IsStart, see_start, start_in}
-use Rattle.call_edges.proofs.AmongLemmas.{map_has}
+use Rattle.call_edges.specs.FileOrder.{see_start, start_in}
 use Rattle.call_edges.proofs.file_order.starts_from.Goals as goal
 
 pub loop-node-preserved : goal.loop-node-preserved
@@ -24,6 +21,4 @@ pub returns : goal.returns
 returns c =
     let seen = see_program c.args.program.now in
     let nodes = c.args.nodes.now in
-    let all = c.loop-node.invariant ∙ ap (map (start_in seen)) (take_all c.loop-node.node-index nodes c.loop-node-test.false) in
-    let P : List (ℕ × ℕ) → Type 0 = λ xs. (x : ℕ × ℕ) → Contains xs x ↔ IsAmong (IsStart seen) nodes x in
-    subst P (sym all) (λ x. map_has (start_in seen) nodes x)
+    c.loop-node.invariant ∙ ap (map (start_in seen)) (take_all c.loop-node.node-index nodes c.loop-node-test.false)

@@ -1,14 +1,11 @@
-use Rattle.std.proofs.Common.{◌≡◌, ◌↔◌, ◌++◌, ℕ, List, IsPermutation, drop, length, map, take, ap, sym, ◌∙◌, subst, refl, arith, rules}
-use Rattle.std.specs.Prelude.{Contains}
+use Rattle.std.proofs.Common.{◌≡◌, ◌++◌, List, IsPermutation, drop, length, map, take, ap, sym, ◌∙◌, subst, refl, arith, rules}
 use Rattle.std.specs.List.{flat_map}
 use Rattle.std.specs.List.Sorted.{IsNonDecreasingBy}
 use Rattle.std.proofs.lemmas.List.{take-append-le, take_all}
-use Rattle.std.proofs.lemmas.List.Sorted.{IsNonDecreasingBy-from_sort_by_key}
+use Rattle.std.proofs.lemmas.List.Sorted.{IsNonDecreasingBy-from_sort_by_key, IsPermutation-map}
 use Rattle.import_rules.specs.Program.{see_program}
-use Rattle.call_edges.specs.Calls.{IsAmong}
-use Rattle.call_edges.specs.FileOrder.{AreStarts, HasStart, see_start}
+use Rattle.call_edges.specs.FileOrder.{AreStarts, see_start, start_in}
 use Rattle.call_edges.specs.declared.file_order.Start.{Start}
-use Rattle.call_edges.proofs.JoinedLemmas.{joined_has, moved_has}
 use Rattle.call_edges.proofs.file_order.starts_in_order.Goals as goal
 
 pub returns-clause-starts : goal.returns-clause-starts
@@ -24,13 +21,9 @@ returns-clause-starts g c =
     take-append-le c.in_ok-starts.starts.len sorted (drop (length sorted) starts) (omega (arith, long, count)) ∙ take_all c.in_ok-starts.starts.len sorted (omega (arith, long, count)) in
     let is : starts ≡ flat_map (λ list. list.items) each = c.in_ok-starts.ensures ∙ ap (flat_map (λ list. list.items)) c.deref.ensures.value in
     let moved : IsPermutation starts sorted = subst (λ (xs : List Start). IsPermutation xs sorted) c.deref_mut.ensures.value c.par_sort_unstable_by_key.ensures.permutation in
-    let Q : List Start → Type 0 = λ xs. (x : ℕ × ℕ) → Contains (map see_start xs) x ↔ IsAmong HasStart each x in
-    let has : Q starts = subst Q (sym is) (λ x. joined_has see_start (λ list. list.items) each x) in
-    subst (AreStarts seen nodes) (sym written)
-    (λ x. (
-      λ within. (c.in_ok-each.ensures x).0 ((has x).0 ((moved_has see_start starts sorted moved x).0 within)),
-      λ there. (moved_has see_start starts sorted moved x).1 ((has x).1 ((c.in_ok-each.ensures x).1 there)),
-    ))
+    let are : AreStarts seen nodes starts = subst (AreStarts seen nodes) (sym is) c.in_ok-each.ensures in
+    subst (λ (xs : List Start). IsPermutation (map (start_in seen) nodes) (map see_start xs)) (sym written)
+    (subst (λ ps. IsPermutation ps (map see_start sorted)) are (IsPermutation-map see_start starts sorted moved))
 
 pub returns-clause-ascending : goal.returns-clause-ascending
 returns-clause-ascending g c =

@@ -1,15 +1,15 @@
-use Rattle.std.proofs.Common.{◌≡◌, ℕ, ◌<◌, ◌↔◌, List, All, Vec, Global, Result, IfOk, length, ap, sym, ◌∙◌, subst, arith}
-use Rattle.std.specs.Prelude.{Contains, map, max}
+use Rattle.std.proofs.Common.{◌≡◌, ℕ, ◌<◌, List, All, Vec, Global, Result, IfOk, length, ap, sym, ◌∙◌, subst, arith}
+use Rattle.std.specs.Prelude.{map, max}
 use Rattle.std.specs.Borrow.{Bor}
 use Rattle.std.specs.List.{AllZip}
 use Rattle.std.specs.declared.alloc.AllocError.{AllocError}
 use Rattle.rayon.specs.Lists.{chunks_of, chunks_size, chunks_slice, min_len_base}
 use Rattle.rayon.proofs.ToStd.{slice-AllZip, chunks_of-concat}
 use Rattle.import_rules.specs.Program.{see_program}
-use Rattle.call_edges.specs.Calls.{IsAmong}
-use Rattle.call_edges.specs.FileOrder.{AreStarts, HasStart, IsStart}
+use Rattle.call_edges.specs.FileOrder.{AreStarts}
 use Rattle.call_edges.specs.declared.file_order.Start.{Start}
-use Rattle.call_edges.proofs.SpreadLemmas.{all_in_parts, lists_found}
+use Rattle.call_edges.proofs.FileOrderLemmas.{starts_found}
+use Rattle.call_edges.proofs.SpreadLemmas.{all_in_parts}
 use Rattle.call_edges.proofs.file_order.starts_of_each.Goals as goal
 
 pub returns : goal.returns
@@ -25,7 +25,7 @@ returns g c =
     ∙ (λ i. chunks_of (max (c.par_chunks.ensures.size i) 1) (c.par_chunks.ensures.slice i)))) in
     let R : List ℕ → Result (Vec Start Global) AllocError → Type 0 = λ part one. IfOk one (λ starts. AreStarts seen part starts.items) in
     let made = subst (λ f. AllZip (λ (part : Bor (List ℕ)) (one : Result (Vec Start Global) AllocError). IfOk one (λ starts. AreStarts (see_program f.1.now) part.now starts.items)) chain.0 h.0) c.map.ensures.f chain.2 in
-    lists_found (IsStart seen) HasStart (λ v. v.items) (chunks_of 1024 nodes) nodes h.0 c.in_ok-collect.field-0 (chunks_of-concat 1024 nodes (omega arith))
+    starts_found seen (λ v. v.items) (chunks_of 1024 nodes) nodes h.0 c.in_ok-collect.field-0 (chunks_of-concat 1024 nodes (omega arith))
     (slice-AllZip chain.0 (chunks_of 1024 nodes) shown R h.0 made) h.2
 
 pub collect-requires-clause-ready : goal.collect-requires-clause-ready
