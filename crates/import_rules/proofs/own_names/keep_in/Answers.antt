@@ -1,4 +1,4 @@
-use Rattle.std.proofs.Common.{◌≡◌, ◌⊎◌, ℕ, length, List, get_or, refl, sym, ap, subst, ◌∙◌}
+use Rattle.std.proofs.Common.{◌≡◌, ◌⊎◌, ℕ, length, List, get_or, refl, ap, subst, ◌∙◌}
 use Rattle.import_rules.specs.declared.own_names.OwnName.{OwnName}
 use Rattle.import_rules.specs.OwnNames.{kept_in}
 use Rattle.import_rules.proofs.OwnSteps.{one_kept}
