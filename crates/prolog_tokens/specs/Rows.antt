@@ -1,5 +1,5 @@
 -- Rows of tokens that begin at several places of a text.
-use Rattle.std.specs.Prelude.{◌≡◌, ◌≢◌, ℕ, ◌<◌, ◌≤◌, ◌⊎◌, List, [], ◌∷◌, Option, MatchOption, All, length}
+use Rattle.std.specs.Prelude.{◌≡◌, ◌≢◌, ℕ, ◌+◌, ◌<◌, ◌≤◌, ◌⊎◌, List, [], ◌∷◌, Option, MatchOption, All, length, slice_index}
 use Rattle.prolog_tokens.specs.declared.chars.Class.TheVariants.{Inner}
 use Rattle.prolog_tokens.specs.declared.token.Token.{Token}
 use Rattle.prolog_tokens.specs.declared.token.TokenFault.{TokenFault}
@@ -16,6 +16,14 @@ pub record IsBegin (text : List ℕ) (at : ℕ) : Type 0 where
 
 abbrev pub IsSpan : List ℕ → Span → Type 0
 IsSpan text span = IsBegin text span.from
+
+-- the span begins where the text does, or with a newline
+abbrev pub BeginsWithNewline : List ℕ → Span → Type 0
+BeginsWithNewline text span = (span.from ≡ 0) ⊎ (slice_index text span.from ≡ 10)
+
+-- the span has at least so many bytes, or is the last one of the text
+abbrev pub HasBytes : ℕ → List ℕ → Span → Type 0
+HasBytes least text span = (span.from + least ≤ span.to) ⊎ (span.to ≡ length text)
 
 -- the spans stand side by side, none of them empty, from one place up to another
 abbrev pub StandSideBySide : ℕ → List Span → ℕ → Type 0

@@ -1,11 +1,12 @@
 //! Rows of tokens: a text is cut from several places on, as if a token began at each, and the rows are
 //! joined to the one cut.
 
-ghost use Rattle.std.specs.Prelude.{◌≡◌, ◌≢◌, ◌<◌, ◌≤◌, ℕ, List, [], length, All, IfOk, IfErr, IfSome, OnOk};
+ghost use Rattle.std.specs.Prelude.{◌≡◌, ◌≢◌, ◌+◌, ◌<◌, ◌≤◌, ◌⊎◌, ℕ, List, [], length, slice_index, All, IfOk, IfErr, IfSome, OnOk};
+ghost use Rattle.prolog_tokens.specs.declared.rows.TheConstants.{SPAN_BYTES};
 ghost use Rattle.prolog_tokens.specs.declared.limits.TheConstants.{MOST_BYTES};
 ghost use Rattle.prolog_tokens.specs.Cut.{IsCut, IsWrongNext, HasFault};
 ghost use Rattle.prolog_tokens.specs.Places.{IsOffset, fault_offset};
-ghost use Rattle.prolog_tokens.specs.Rows.{IsBegin, IsSpan, StandSideBySide, StandsFrom, IsRow, IsRowOf, GoesOn, StandsNext};
+ghost use Rattle.prolog_tokens.specs.Rows.{IsBegin, IsSpan, BeginsWithNewline, HasBytes, StandSideBySide, StandsFrom, IsRow, IsRowOf, GoesOn, StandsNext};
 
 use crate::cut::next_token;
 use crate::layout::newline_at;
@@ -38,6 +39,8 @@ pub struct TokenRow {
 fn span_end(text: &str, from: usize) -> usize
     requires { from < length text.now }
     ensures some { from < result }
+    ensures long { (from + SPAN_BYTES ≤ result) ⊎ (result ≡ length text.now) }
+    ensures newline { (result ≡ length text.now) ⊎ (slice_index text.now result ≡ 10) }
     ensures begins { IsBegin text.now result }
 {
     let bytes = text.as_bytes();
@@ -45,10 +48,13 @@ fn span_end(text: &str, from: usize) -> usize
     newline_at(bytes, from + size)
 }
 
-/// The spans of a text, side by side from its beginning to its end. Each but the first begins with a newline.
+/// The spans of a text, side by side from its beginning to its end. Each but the first begins with a newline,
+/// and each but the last has at least 262,144 bytes.
 pub fn spans(alloc: Global, text: &str) -> Result<Vec<Span>, AllocError>
     ensures spans { IfOk result (λ spans. All (IsSpan text.now) spans.items) }
     ensures whole { IfOk result (λ spans. StandSideBySide 0 spans.items (length text.now)) }
+    ensures newlines { IfOk result (λ spans. All (BeginsWithNewline text.now) spans.items) }
+    ensures long { IfOk result (λ spans. All (HasBytes SPAN_BYTES text.now) spans.items) }
 {
     let mut spans = Vec::new(alloc);
     let mut from = 0;
