@@ -14,7 +14,7 @@ ghost use Rattle.import_rules.specs.Names.{pred_name};
 ghost use Rattle.import_rules.specs.Parts.{see_name};
 ghost use Rattle.import_rules.specs.Program.{see_program};
 
-use crate::json::{push_inner, push_json_string, push_number};
+use crate::json::{push_inner, push_number};
 use crate::last::{Last, LastFile, LastModule};
 use call_edges::PlacedCall;
 use call_table::ClauseAt;
@@ -72,16 +72,16 @@ fn push_arity(text: &mut String, arity: u32) -> Result<(), AllocError>
     push_number(text, u64::from(arity))
 }
 
-/// Adds a name in a module.
+/// Adds a comma and a name in a module.
 fn push_name(text: &mut String, owner: &str, name: &str, arity: u32) -> Result<(), AllocError>
-    ensures { OnOk result (string_bytes text.new ≡ string_bytes text.old ++ name_fields (pred_name owner.now name.now arity)) }
+    ensures { OnOk result (string_bytes text.new ≡ string_bytes text.old ++ (codes "," ++ name_fields (pred_name owner.now name.now arity))) }
 {
-    text.push_str("\"module\":")?;
-    push_json_string(text, owner)?;
-    text.push_str(",\"name\":")?;
-    push_json_string(text, name)?;
-    text.push_str(",\"arity\":")?;
-    push_number(text, u64::from(arity))
+    text.push_str(",\"module\":\"")?;
+    push_inner(text, owner)?;
+    text.push_str("\",\"name\":\"")?;
+    push_inner(text, name)?;
+    push_arity(text, arity)?;
+    Ok(())
 }
 
 /// Adds a comma and a name in a module. The module is the last one from then on.
@@ -233,10 +233,15 @@ pub fn push_clause_lines(
     Ok(())
 }
 
-fn truth(holds: bool) -> &'static str
-    ensures { result.now ≡ truth holds }
+/// What stands behind the height of a group in a line.
+fn line_end(recursive: bool) -> &'static str
+    ensures { result.now ≡ codes ",\"recursive\":" ++ (truth recursive ++ codes "}\n") }
 {
-    if holds { "true" } else { "false" }
+    if recursive {
+        ",\"recursive\":true}\n"
+    } else {
+        ",\"recursive\":false}\n"
+    }
 }
 
 /// The least member of the group at that place, which is its first.
@@ -248,21 +253,20 @@ fn least_at(groups: &[Vec<u32>], place: usize) -> u32
     groups[place][0]
 }
 
-/// Adds the least member of a group and the group's level.
+/// Adds a comma, the least member of a group and the group's level, and ends the line.
 fn push_level(text: &mut String, least: u32, level: Level) -> Result<(), AllocError>
-    ensures { OnOk result (string_bytes text.new ≡ string_bytes text.old ++ level_fields least level) }
+    ensures { OnOk result (string_bytes text.new ≡ string_bytes text.old ++ (codes "," ++ (level_fields least level ++ codes "}\n"))) }
 {
-    text.push_str("\"group\":")?;
+    text.push_str(",\"group\":")?;
     push_number(text, u64::from(least))?;
     text.push_str(",\"height\":")?;
     push_number(text, u64::from(level.height))?;
-    text.push_str(",\"recursive\":")?;
-    text.push_str(truth(level.recursive))?;
+    text.push_str(line_end(level.recursive))?;
     Ok(())
 }
 
-/// Adds the group of a predicate, by one more than its place among the groups, or 0 where it is in
-/// none.
+/// Adds a comma and the group of a predicate, by one more than its place among the groups, or 0 where it
+/// is in none, and ends the line.
 fn push_group(
     text: &mut String,
     groups: &[Vec<u32>],
@@ -272,10 +276,12 @@ fn push_group(
     requires one_level_each { length levels.now ≡ length groups.now }
     requires inhabited { All (λ members. 0 < length members) (lists_of groups.now) }
     requires within { place ≤ length groups.now }
-    ensures { OnOk result (string_bytes text.new ≡ string_bytes text.old ++ group_fields (lists_of groups.now) levels.now place) }
+    ensures { OnOk result (string_bytes text.new
+        ≡ string_bytes text.old ++ (codes "," ++ (group_fields (lists_of groups.now) levels.now place ++ codes "}\n"))) }
 {
     if place == 0 {
-        return text.push_str("\"group\":null,\"height\":null,\"recursive\":null");
+        text.push_str(",\"group\":null,\"height\":null,\"recursive\":null}\n")?;
+        return Ok(());
     }
     let least = least_at(groups, place - 1);
     push_level(text, least, levels[place - 1])
@@ -287,7 +293,6 @@ fn push_predicate_head(text: &mut String, node: u32, name: NameView<'_>) -> Resu
 {
     text.push_str("{\"is\":\"predicate\",\"id\":")?;
     push_number(text, u64::from(node))?;
-    text.push_str(",")?;
     push_name(text, name.module, name.name, name.arity)?;
     Ok(())
 }
@@ -307,9 +312,7 @@ fn push_named(
     ensures { OnOk result (string_bytes text.new ≡ string_bytes text.old ++ predicate_line (lists_of groups.now) levels.now node (see_name name.entry) place) }
 {
     push_predicate_head(text, node, name)?;
-    text.push_str(",")?;
     push_group(text, groups, levels, place)?;
-    text.push_str("}\n")?;
     Ok(())
 }
 
