@@ -1,10 +1,8 @@
 //! The table of a program's calls.
 
 ghost use Rattle.std.specs.Prelude.{◌≡◌, ◌<◌, All, IfOk, length, map};
-ghost use Rattle.std.specs.List.{AllZip};
 ghost use Rattle.call_edges.specs.PlacedLists.{see_placed_lists};
-ghost use Rattle.call_table.specs.Table.{ArePlacedClauses, IsTable, clause_spot, kept_spot};
-ghost use Rattle.file_library.specs.Spots.{AreSpots, IsSpotPlace};
+ghost use Rattle.call_table.specs.Table.{ArePlacedCalls, ArePlacedClauses, IsTable, clause_spot, kept_spot};
 ghost use Rattle.graph_law.specs.Graph.{lists_of};
 ghost use Rattle.import_rules.specs.Program.{see_program};
 
@@ -67,33 +65,47 @@ fn clauses_with_places(
     Ok((clauses, places))
 }
 
-/// The clauses of these predicates, and the line and the column of each; and the lines and columns of
-/// these spots. Both are found side by side.
-fn clauses_beside_spots<R: Threads + Sync>(
+/// The calls of these predicates, and the line and the column of each.
+fn calls_with_places<'a>(
+    alloc: Global,
+    lists: &PlacedCallLists<'a>,
+    nodes: &[u32],
+) -> Result<(Vec<PlacedCall<'a>>, Vec<Place>), AllocError>
+    requires { All (λ p. p < length (see_placed_lists lists.now).predicates) nodes.now }
+    ensures { IfOk result (λ found. ArePlacedCalls (see_placed_lists lists.now) nodes.now found.0.items found.1.items) }
+{
+    let calls = calls_of(alloc, lists, nodes)?;
+    let spots = call_spots(alloc, &calls)?;
+    let places = lists.program().places_of_spots(alloc, &spots)?;
+    Ok((calls, places))
+}
+
+/// The clauses of these predicates with their lines and columns, and their calls with theirs. Both are
+/// put together side by side.
+fn clauses_beside_calls<'a, R: Threads + Sync>(
     rt: &R,
     alloc: Global,
-    program: &Program,
+    lists: &PlacedCallLists<'a>,
     nodes: &[u32],
-    spots: &[(u32, u32)],
-) -> Result<(Vec<ClauseAt>, Vec<Place>, Vec<Place>), AllocError>
-    requires below { All (λ p. p < length (see_program program.now).predicates) nodes.now }
-    requires spots { AreSpots (see_program program.now).loaded.texts spots.now }
-    ensures clauses { IfOk result (λ found. ArePlacedClauses (see_program program.now) nodes.now found.0.items found.1.items) }
-    ensures places { IfOk result (λ found. AllZip (IsSpotPlace (see_program program.now).loaded.texts) spots.now found.2.items) }
+) -> Result<(Vec<ClauseAt>, Vec<Place>, Vec<PlacedCall<'a>>, Vec<Place>), AllocError>
+    requires below { All (λ p. p < length (see_placed_lists lists.now).predicates) nodes.now }
+    ensures clauses { IfOk result (λ found. ArePlacedClauses (see_placed_lists lists.now) nodes.now found.0.items found.1.items) }
+    ensures calls { IfOk result (λ found. ArePlacedCalls (see_placed_lists lists.now) nodes.now found.2.items found.3.items) }
 {
-    let (clauses, places) = thread::join(
+    let (clauses, calls) = thread::join_mut(
         rt,
-        || -> Result<(Vec<ClauseAt>, Vec<Place>), AllocError>
-            requires { All (λ p. p < length (see_program program.now).predicates) nodes.now }
-            ensures { IfOk result (λ found. ArePlacedClauses (see_program program.entry.now) nodes.entry.now found.0.items found.1.items) }
-        { clauses_with_places(alloc, program, nodes) },
-        || -> Result<Vec<Place>, AllocError>
-            requires { AreSpots (see_program program.now).loaded.texts spots.now }
-            ensures { IfOk result (λ places. AllZip (IsSpotPlace (see_program program.entry.now).loaded.texts) spots.entry.now places.items) }
-        { program.places_of_spots(alloc, spots) },
+        &mut || -> Result<(Vec<ClauseAt>, Vec<Place>), AllocError>
+            requires { All (λ p. p < length (see_placed_lists lists.now).predicates) nodes.now }
+            ensures { IfOk result (λ found. ArePlacedClauses (see_placed_lists lists.entry.now) nodes.entry.now found.0.items found.1.items) }
+        { clauses_with_places(alloc, lists.program(), nodes) },
+        &mut || -> Result<(Vec<PlacedCall<'_>>, Vec<Place>), AllocError>
+            requires { All (λ p. p < length (see_placed_lists lists.now).predicates) nodes.now }
+            ensures { IfOk result (λ found. ArePlacedCalls (see_placed_lists lists.entry.now) nodes.entry.now found.0.items found.1.items) }
+        { calls_with_places(alloc, lists, nodes) },
     );
     let (clauses, clause_places) = clauses?;
-    Ok((clauses, clause_places, places?))
+    let (calls, call_places) = calls?;
+    Ok((clauses, clause_places, calls, call_places))
 }
 
 /// The table of these predicates of the program whose calls these are, and of these groups of its
@@ -112,10 +124,8 @@ pub fn call_table<'a, R: Threads + Sync>(
 {
     let program = lists.program();
     let order = in_file_order(rt, alloc, program, nodes)?;
-    let calls = calls_of(alloc, lists, &order)?;
-    let spots = call_spots(alloc, &calls)?;
-    let (clauses, clause_places, call_places) = clauses_beside_spots(
-        rt, alloc, program, &order, &spots,
+    let (clauses, clause_places, calls, call_places) = clauses_beside_calls(
+        rt, alloc, lists, &order,
     )?;
     let groups = groups_of(alloc, program.count(), groups)?;
     Ok(CallTable {

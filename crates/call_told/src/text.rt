@@ -8,7 +8,7 @@ ghost use Rattle.call_edges.specs.PlacedLists.{see_placed_lists};
 ghost use Rattle.call_edges.specs.Successors.{successor_lists};
 ghost use Rattle.call_table.specs.Table.{IsTable};
 ghost use Rattle.call_writer.specs.Dot.{cluster, edge_line};
-ghost use Rattle.call_told.specs.Told.{IsTold, TellsForm, TellsFrom, dot_graph, joined, ungrouped_line};
+ghost use Rattle.call_told.specs.Told.{IsTold, TellsForm, TellsFrom, dot_graph, joined, predicate_lines, ungrouped_line};
 ghost use Rattle.call_told.specs.Wanted.{see_wanted};
 ghost use Rattle.call_told.specs.declared.words.Form.TheVariants.{Lines, Undefined};
 ghost use Rattle.graph_law.specs.Classes.{group_at};
@@ -26,6 +26,7 @@ use graph_law::Opener;
 use import_rules::Program;
 use std::alloc::{AllocError, Global};
 use std::mem::forget;
+use std::thread;
 use std::thread::Threads;
 
 /// The clauses and calls of what is told.
@@ -42,6 +43,49 @@ fn table_of<'a, R: Threads + Sync>(
     call_table(rt, alloc, calls, &told.nodes, &told.groups)
 }
 
+/// The lines of the predicates that are told, in texts one behind the other.
+fn told_predicates<R: Threads + Sync>(
+    rt: &R,
+    alloc: Global,
+    told: &Told<'_>,
+) -> Result<Vec<String>, AllocError>
+    requires { IsTold told.now }
+    ensures { IfOk result (λ texts. joined texts.items
+        ≡ predicate_lines (see_program told.now.program.now) (lists_of told.now.groups.items) told.now.levels.items told.now.places.items told.now.nodes.items) }
+{
+    predicate_texts(rt, alloc, told, &told.nodes)
+}
+
+/// The clauses and calls of what is told, and the lines of its predicates. Both are made side by side.
+fn table_beside_predicates<'a, R: Threads + Sync>(
+    rt: &R,
+    alloc: Global,
+    told: &Told<'_>,
+    calls: &PlacedCallLists<'a>,
+) -> Result<(CallTable<'a>, Vec<String>), AllocError>
+    requires told { IsTold told.now }
+    requires calls { see_placed_lists calls.now ≡ see_program told.now.program.now }
+    ensures table { IfOk result (λ found. IsTable (see_program told.now.program.now) told.now.nodes.items (lists_of told.now.groups.items) found.0) }
+    ensures lines { IfOk result (λ found. joined found.1.items
+        ≡ predicate_lines (see_program told.now.program.now) (lists_of told.now.groups.items) told.now.levels.items told.now.places.items told.now.nodes.items) }
+{
+    let (texts, table) = thread::join_mut(
+        rt,
+        &mut || -> Result<Vec<String>, AllocError>
+            requires { IsTold told.now }
+            ensures { IfOk result (λ texts. joined texts.items
+                ≡ predicate_lines (see_program told.entry.now.program.now) (lists_of told.entry.now.groups.items) told.entry.now.levels.items
+                told.entry.now.places.items told.entry.now.nodes.items) }
+        { told_predicates(rt, alloc, told) },
+        &mut || -> Result<CallTable<'_>, AllocError>
+            requires { IsTold told.now × (see_placed_lists calls.now ≡ see_program told.now.program.now) }
+            ensures { IfOk result (IsTable (see_program told.entry.now.program.now) told.entry.now.nodes.items (lists_of told.entry.now.groups.items)) }
+        { table_of(rt, alloc, told, calls) },
+    );
+    let table = table?;
+    Ok((table, texts?))
+}
+
 /// All lines, of predicates, clauses and calls, in texts one behind the other.
 fn lines_texts<R: Threads + Sync>(
     rt: &R,
@@ -54,8 +98,7 @@ fn lines_texts<R: Threads + Sync>(
     ensures { IfOk result (λ texts. TellsForm Lines (see_program told.now.program.now) (lists_of told.now.groups.items) told.now.levels.items
         told.now.places.items told.now.nodes.items (joined texts.items)) }
 {
-    let table = table_of(rt, alloc, told, calls)?;
-    let mut texts = predicate_texts(rt, alloc, told, &told.nodes)?;
+    let (table, mut texts) = table_beside_predicates(rt, alloc, told, calls)?;
     let mut clauses = clause_texts(rt, alloc, told.program, &table)?;
     let mut lines = call_texts(rt, alloc, told.program, &table, false)?;
     texts.append(&mut clauses)?;
