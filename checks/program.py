@@ -19,3 +19,9 @@ def of(options):
         print(f"{found or 'no program'} isn't there: ./prove builds one", file=sys.stderr)
         sys.exit(1)
     return found.resolve()
+
+
+def calls():
+    """The program `calls` that was built here, or the kept one; None where there is neither."""
+    places = (ROOT / "crates" / "calls" / "out" / "calls", ROOT / "release" / "calls")
+    return next((it for it in places if it.is_file()), None)
