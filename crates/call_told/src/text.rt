@@ -51,7 +51,8 @@ fn told_predicates<R: Threads + Sync>(
 ) -> Result<Vec<String>, AllocError>
     requires { IsTold told.now }
     ensures { IfOk result (λ texts. joined texts.items
-        ≡ predicate_lines (see_program told.now.program.now) (lists_of told.now.groups.items) told.now.levels.items told.now.places.items told.now.nodes.items) }
+        ≡ predicate_lines (see_program told.now.program.now) (lists_of told.now.groups.items) told.now.levels.items told.now.places.items
+        told.now.nodes.items) }
 {
     predicate_texts(rt, alloc, told, &told.nodes)
 }
@@ -67,7 +68,8 @@ fn table_beside_predicates<'a, R: Threads + Sync>(
     requires calls { see_placed_lists calls.now ≡ see_program told.now.program.now }
     ensures table { IfOk result (λ found. IsTable (see_program told.now.program.now) told.now.nodes.items (lists_of told.now.groups.items) found.0) }
     ensures lines { IfOk result (λ found. joined found.1.items
-        ≡ predicate_lines (see_program told.now.program.now) (lists_of told.now.groups.items) told.now.levels.items told.now.places.items told.now.nodes.items) }
+        ≡ predicate_lines (see_program told.now.program.now) (lists_of told.now.groups.items) told.now.levels.items told.now.places.items
+        told.now.nodes.items) }
 {
     let (texts, table) = thread::join_mut(
         rt,
