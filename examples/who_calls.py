@@ -1,5 +1,5 @@
 #!/usr/bin/env python3
-"""who_calls.py NAME/ARITY FILE..: where that predicate is called and by whom, a line each. Needs `calls` beside this folder, or its path in CALLS."""
+"""who_calls.py [MODULE:]NAME/ARITY FILE..: where that predicate is called and by whom, a line each. Needs `calls` beside this folder, or its path in CALLS."""
 
 import json
 import os
@@ -11,14 +11,15 @@ CALLS = os.environ.get("CALLS") or str(pathlib.Path(__file__).resolve().parent.p
 
 
 def main():
-    name, _, arity = sys.argv[1].rpartition("/")
-    names = {}
+    if len(sys.argv) < 3 or "/" not in sys.argv[1]:
+        sys.exit("usage: who_calls.py [MODULE:]NAME/ARITY FILE..")
+    wanted, names = sys.argv[1], {None: None}
     with subprocess.Popen([CALLS, "--unreached", *sys.argv[2:]], stdout=subprocess.PIPE, text=True, encoding="utf-8") as run:
         for line in run.stdout:
             told = json.loads(line)
             if told["is"] == "predicate":
                 names[told["id"]] = f"{told['module']}:{told['name']}/{told['arity']}"
-            elif told["is"] == "call" and (told["name"], str(told["arity"])) == (name, arity):
+            elif told["is"] == "call" and wanted in (f"{told['name']}/{told['arity']}", names[told["callee"]]):
                 print(f"{told['file']}:{told['line']}:{told['column']}: {names[told['caller']]}")
     sys.exit(run.returncode)
 
