@@ -19,7 +19,7 @@ use crate::taker::Taker;
 use graph_law::Opener;
 use group_release::Released;
 use node_claims::{Claims, Pass};
-use search_pool::{Gate, split_for};
+use search_pool::{Ended, Gate, split_for};
 use std::alloc::{AllocError, Global};
 use std::marker::Brand;
 use std::sync::Wait;
@@ -184,14 +184,17 @@ fn search_and_feed<N: Graph + Sync, R: Threads + Wait + Sync, O: Opener, G: Gate
     } = all;
     let ((hand, groups), _searched) = thread::join(
         rt,
-        move || -> (LinePass, Result<Vec<Vec<u32>>, AllocError>)
+        move || -> (LinePass, Result<Vec<Vec<u32>>, Pass>)
             requires { (claims.now.lists ≡ N.lists) × (claims.now.roots ≡ roots.now) × IsIdle claims.now feeder × is_line_pass line.now hand
                 × (ruled_capacity line.now ≡ length N.lists + 1) × (view hand ≡ feeding newcomer) × (copies ≡ record { count = length N.lists; groups = [] }) }
             ensures { IfOk result.1 (λ groups. AreFound claims.entry.now line.entry.now result.0 (lists_of groups.items)) }
         { feed::<N, R>(rt, alloc, claims, feeder, roots, line, hand, copies) },
-        move ||
+        move || -> Result<Vec<Ended>, Pass>
             requires { (claims.now.lists ≡ O.lists opener.now) × All (IsIdle claims.now) passes.items × IsIdle claims.now spare }
         { search(rt, alloc, claims, passes, spare, opener, gate) },
     );
-    Ok((hand, groups?))
+    match groups {
+        Ok(groups) => Ok((hand, groups)),
+        Err(_) => Err(AllocError),
+    }
 }

@@ -1,4 +1,4 @@
-ghost use Rattle.std.specs.Prelude.{◌≡◌, ◌≤◌, ◌+◌, ℕ, true, false, [], length, take, All, IfOk, OnOk};
+ghost use Rattle.std.specs.Prelude.{◌≡◌, ◌≤◌, ◌+◌, ℕ, true, false, not, [], length, take, All, MatchResult, OnOk};
 ghost use Rattle.crossbeam_queue.specs.Passes.{view, IsPassOf as is_line_pass, ruled_capacity};
 ghost use Rattle.list_laws.specs.Counts.{IsLonger};
 ghost use Rattle.graph_law.specs.Classes.{HasMember};
@@ -7,7 +7,7 @@ ghost use Rattle.graph_law.specs.Reach.{IsReached};
 ghost use Rattle.search_pool.specs.Driving.{IsIdle};
 ghost use Rattle.group_feed.specs.Copying.{AreSeen, AreWithin};
 ghost use Rattle.group_feed.specs.Driving.{AreFound};
-ghost use Rattle.group_feed.specs.Feeder.{AreFed};
+ghost use Rattle.group_feed.specs.Feeder.{AreFed, HasToldFailure};
 ghost use Rattle.group_feed.specs.Line.{feeding, newcomer};
 ghost use Rattle.group_feed.specs.Ordered.{AreOrdered};
 
@@ -22,9 +22,9 @@ use std::alloc::{AllocError, Global};
 use std::sync::Wait;
 
 /// Puts the released groups on the line as they come, and then the end mark: once each root is in one
-/// of them, which are the answer then, or once the book has failed. Where memory is wanting here, it
-/// marks the book as failed. Between two turns it sleeps longer and longer, so that workers seldom find
-/// the turn taken by it. The promise holds if the call returns.
+/// of them, which are the answer then, or once the book has failed, of which the pass that comes back has
+/// told. Where memory is wanting here, it marks the book as failed. Between two turns it sleeps longer and
+/// longer, so that workers seldom find the turn taken by it. The promise holds if the call returns.
 pub(crate) fn feed<N: Graph, R: Wait>(
     rt: &R,
     alloc: Global,
@@ -34,7 +34,7 @@ pub(crate) fn feed<N: Graph, R: Wait>(
     line: &Line<N>,
     hand: LinePass,
     copies: Released,
-) -> (LinePass, Result<Vec<Vec<u32>>, AllocError>)
+) -> (LinePass, Result<Vec<Vec<u32>>, Pass>)
     requires made { claims.now.lists ≡ N.lists }
     requires roots { claims.now.roots ≡ roots.now }
     requires idle { IsIdle claims.now pass }
@@ -43,7 +43,9 @@ pub(crate) fn feed<N: Graph, R: Wait>(
     requires new { view hand ≡ feeding newcomer }
     requires none { copies ≡ record { count = length N.lists; groups = [] } }
     ensures ended { (view result.0).ended ≡ true }
-    ensures found { IfOk result.1 (λ groups. AreFound claims.now line.now result.0 (lists_of groups.items)) }
+    ensures found { MatchResult result.1
+        (λ groups. AreFound claims.now line.now result.0 (lists_of groups.items))
+        (λ pass. HasToldFailure claims.now pass) }
 {
     let mut pass = pass;
     let mut hand = hand;
@@ -56,12 +58,12 @@ pub(crate) fn feed<N: Graph, R: Wait>(
         pass = after;
         if !goes_on {
             push(rt, line, &mut hand, None);
-            return (hand, Err(AllocError));
+            return (hand, Err(pass));
         }
         if push_from(rt, alloc, line, &mut hand, &copies, sent).is_err() {
-            fail_book(rt, alloc, claims, pass);
+            let failed = fail_book(rt, alloc, claims, pass);
             push(rt, line, &mut hand, None);
-            return (hand, Err(AllocError));
+            return (hand, Err(failed));
         }
         fed_roots = copied_roots(&copies, roots, fed_roots);
         if fed_roots == roots.len() {
@@ -74,7 +76,8 @@ pub(crate) fn feed<N: Graph, R: Wait>(
     unreachable!()
 }
 
-// Copies under the turn what was released and isn't copied yet. It tells whether the book hasn't failed.
+// Copies under the turn what was released and isn't copied yet. It tells whether the book hasn't failed, and
+// the pass that comes back has told of it where it has.
 fn copy_turn(
     rt: &impl Wait,
     alloc: Global,
@@ -90,6 +93,7 @@ fn copy_turn(
     ensures count { copies.new.count ≡ copies.old.count }
     ensures are { AreFed claims.now copies.new.groups }
     ensures seen { AreSeen copies.new.groups result.0.view.seen }
+    ensures told { result.0.view.told ≡ not result.1 }
     ensures longer { IsLonger copies.old.groups copies.new.groups }
 {
     let mut turn = claims.turn(rt, pass);
@@ -104,6 +108,7 @@ fn copy_or_fail(alloc: Global, book: &mut Book, copies: &mut Released) -> bool
     requires within { AreWithin copies.old.groups book.old.groups }
     ensures book { book.new ≡ record book.old { failed = book.new.failed } }
     ensures failed { book.old.failed ≡ true → book.new.failed ≡ true }
+    ensures told { book.new.failed ≡ not result }
     ensures count { copies.new.count ≡ copies.old.count }
     ensures ordered { AreOrdered book.old.lists copies.new.groups }
     ensures within { AreWithin copies.new.groups book.old.groups }
@@ -121,13 +126,14 @@ fn copy_or_fail(alloc: Global, book: &mut Book, copies: &mut Released) -> bool
     true
 }
 
-/// Marks the book as failed under a turn, so that the others end too.
-pub(crate) fn fail_book(rt: &impl Wait, alloc: Global, claims: &Claims, pass: Pass)
+/// Marks the book as failed under a turn, so that the others end too. The pass that comes back has told of it.
+pub(crate) fn fail_book(rt: &impl Wait, alloc: Global, claims: &Claims, pass: Pass) -> Pass
     requires { IsIdle claims.now pass }
+    ensures { HasToldFailure claims.now result }
 {
     let mut turn = claims.turn(rt, pass);
     turn.book().fail();
-    turn.give(&Search::empty(alloc), None);
+    turn.give(&Search::empty(alloc), None)
 }
 
 // Puts the groups from a place on on the line.

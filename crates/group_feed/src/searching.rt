@@ -1,17 +1,19 @@
-ghost use Rattle.std.specs.Prelude.{◌≡◌, All};
+ghost use Rattle.std.specs.Prelude.{◌≡◌, All, MatchResult, length};
 ghost use Rattle.search_pool.specs.Driving.{IsIdle};
+ghost use Rattle.search_pool.specs.Worker.{EndsWell};
+ghost use Rattle.group_feed.specs.Feeder.{HasToldFailure};
 
 use crate::feeder::fail_book;
 use graph_law::Opener;
 use node_claims::{Claims, Pass};
-use search_pool::{Gate, Openings, run_all};
+use search_pool::{Ended, Gate, Openings, run_all};
 use std::alloc::Global;
 use std::sync::Wait;
 use std::thread::Threads;
 
 /// Searches with a worker for each pass, which hold back beside a giant group, since nothing is known of
-/// what an opening costs. Where there is no memory to start them, no worker marks the book
-/// as failed: the spare pass does, so that the feeder ends too.
+/// what an opening costs, and tells how each has ended. Where there is no memory to start them, no worker
+/// marks the book as failed: the spare pass does, so that the feeder ends too, and comes back.
 pub(crate) fn search<R: Threads + Wait + Sync, O: Opener, G: Gate>(
     rt: &R,
     alloc: Global,
@@ -20,13 +22,16 @@ pub(crate) fn search<R: Threads + Wait + Sync, O: Opener, G: Gate>(
     spare: Pass,
     opener: &O,
     gate: &G,
-)
+) -> Result<Vec<Ended>, Pass>
     requires made { claims.now.lists ≡ O.lists opener.now }
     requires idle { All (IsIdle claims.now) passes.items }
     requires spare { IsIdle claims.now spare }
+    ensures { MatchResult result
+        (λ ended. (length ended.items ≡ length passes.items) × All (EndsWell claims.now) ended.items)
+        (λ pass. HasToldFailure claims.now pass) }
 {
     match run_all(rt, alloc, claims, passes, opener, gate, Openings::Cheap) {
-        Ok(_ended) => {}
-        Err(_) => fail_book(rt, alloc, claims, spare),
+        Ok(ended) => Ok(ended),
+        Err(_) => Err(fail_book(rt, alloc, claims, spare)),
     }
 }
