@@ -1,7 +1,7 @@
 -- From a program to the end of a run.
 use Rattle.std.proofs.Common.{◌≡◌, Result, Ok, Err, IsErrAnd, sym, subst}
 use Rattle.import_rules.specs.declared.program.Program.{Program}
-use Rattle.calls_tool.specs.declared.stop.Stop.{Stop}
+use Rattle.group_tool.specs.declared.stop.Stop.{Stop}
 use Rattle.calls_tool.specs.Carrying.{CarriesOn}
 use Rattle.calls_tool.specs.End.{End}
 use Rattle.calls_tool.specs.Stop.{end_of_stop}

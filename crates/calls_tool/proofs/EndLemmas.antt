@@ -18,13 +18,14 @@ use Rattle.file_library.proofs.ToldEnd.{told_end}
 use Rattle.group_tool.specs.Roots.{IsRootStop}
 use Rattle.group_tool.specs.declared.roots.RootStop.{RootStop}
 use Rattle.group_tool.specs.declared.roots.RootStop.TheVariants as of_root
-use Rattle.calls_tool.specs.declared.stop.Stop.{Stop}
-use Rattle.calls_tool.specs.declared.stop.Stop.TheVariants as of_stop
+use Rattle.group_tool.specs.declared.stop.Stop.{Stop}
+use Rattle.group_tool.specs.declared.stop.Stop.TheVariants as of_stop
 use Rattle.call_told.specs.Wanted.{Asked, AreAsked, IsNothingAsked}
 use Rattle.calls_tool.specs.Answer.{LoadEndComesTo, IsLoadedEnd, IsLawfulAnswer}
 use Rattle.calls_tool.specs.End.{End, usage, faults, missing, unread, limit, output, no_memory}
 use Rattle.calls_tool.specs.Run.{IsJust, IsReadEnd, IsLawfulEnd, EndIs, SaidEnd, IsRun}
-use Rattle.calls_tool.specs.Stop.{of_words, of_loading, of_checking, of_roots, end_of_stop, end_of}
+use Rattle.group_tool.specs.Stop.{of_words, of_loading, of_checking, of_roots}
+use Rattle.calls_tool.specs.Stop.{end_of_stop, end_of}
 
 -- over the library's map this is the answer
 pub told_answer : (wanted : Asked → Type 0) (library : Asking) (end : End) (is : IsLawfulEnd wanted library end) (files : Files) → library.0.told ≡ Some files → IsDecided is.load

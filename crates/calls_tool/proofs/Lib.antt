@@ -1,5 +1,4 @@
 pub mod Said
-pub mod LimitLine
 pub mod CarryingLemmas
 pub mod EndLemmas
 pub mod RunLemmas

@@ -8,7 +8,7 @@ use Rattle.import_rules.specs.declared.names.PredName.{PredName}
 use Rattle.import_rules.specs.Program.{Seen}
 use Rattle.group_tool.specs.LoadedEnd.{AreCallable, DefineTooMany, HaveImportFaults, HaveGoalFaults}
 use Rattle.group_tool.specs.Roots.{LacksRoot, HasRoots}
-use Rattle.calls_tool.specs.declared.stop.Limit.TheVariants.{TooManyFiles, FileTooLarge, TooMuchText, TooManyPredicates}
+use Rattle.group_tool.specs.declared.stop.Limit.TheVariants.{TooManyFiles, FileTooLarge, TooMuchText, TooManyPredicates}
 use Rattle.calls_tool.specs.End.{End, usage, faults, missing, unread, limit, output, no_memory}
 use Rattle.calls_tool.specs.Told.{TellsProgram}
 use Rattle.call_told.specs.Wanted.{Asked, IsNothingAsked}

@@ -3,7 +3,7 @@ use Rattle.std.specs.Prelude.{Result, Ok, Err}
 use Rattle.file_library.specs.Loaded.{LoadedFiles}
 use Rattle.import_rules.specs.Program.{Seen, IsProgram, see_program}
 use Rattle.import_rules.specs.declared.program.Program.{Program}
-use Rattle.calls_tool.specs.declared.stop.Stop.{Stop}
+use Rattle.group_tool.specs.declared.stop.Stop.{Stop}
 use Rattle.calls_tool.specs.Answer.{IsLoadedEnd}
 use Rattle.calls_tool.specs.End.{End}
 use Rattle.calls_tool.specs.Stop.{end_of_stop}

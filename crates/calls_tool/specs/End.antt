@@ -2,9 +2,8 @@
 use Rattle.std.specs.Prelude.{ℕ, List, [], codes}
 use Rattle.file_library.specs.declared.fault.Fault.{Fault}
 use Rattle.import_rules.specs.declared.names.PredName.{PredName}
-use Rattle.group_tool.specs.Lines.{fault_lines}
-use Rattle.calls_tool.specs.declared.stop.Limit.{Limit}
-use Rattle.calls_tool.specs.Lines.{missing_line, unread_line, limit_line}
+use Rattle.group_tool.specs.Lines.{fault_lines, missing_line, unread_line, limit_line}
+use Rattle.group_tool.specs.declared.stop.Limit.{Limit}
 
 pub data End : Type 0 where
   usage : End
@@ -39,8 +38,8 @@ out_of end = []
 abbrev pub err_of : End → List ℕ
 err_of usage = usage_line
 err_of (faults found) = fault_lines found
-err_of (missing root) = missing_line root
-err_of (unread name) = unread_line name
-err_of (limit passed) = limit_line passed
+err_of (missing root) = missing_line (codes "calls") root
+err_of (unread name) = unread_line (codes "calls") name
+err_of (limit passed) = limit_line (codes "calls") passed
 err_of (output bytes) = []
 err_of no_memory = memory_line

@@ -1,4 +1,3 @@
-pub mod Lines
 pub mod End
 pub mod Told
 pub mod Answer

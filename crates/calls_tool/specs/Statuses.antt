@@ -1,14 +1,13 @@
 -- What each status of a run says.
-use Rattle.std.specs.Prelude.{◌≡◌, ℕ, List, [], ◌∷◌, ◌++◌}
+use Rattle.std.specs.Prelude.{◌≡◌, ℕ, List, [], ◌∷◌, ◌++◌, codes}
 use Rattle.file_library.specs.Counts.{Rose}
 use Rattle.file_library.specs.declared.fault.Fault.{Fault}
 use Rattle.import_rules.specs.declared.names.PredName.{PredName}
-use Rattle.group_tool.specs.Lines.{fault_lines}
+use Rattle.group_tool.specs.Lines.{fault_lines, missing_line, unread_line, limit_line}
 use Rattle.group_tool.specs.Run.{Asking, IsCutShort, Taking, TookJust, TookNone}
 use Rattle.call_told.specs.Wanted.{Asked, IsNothingAsked}
-use Rattle.calls_tool.specs.declared.stop.Limit.{Limit}
+use Rattle.group_tool.specs.declared.stop.Limit.{Limit}
 use Rattle.calls_tool.specs.End.{End, faults, missing, limit, output, usage_line, err_of}
-use Rattle.calls_tool.specs.Lines.{limit_line, missing_line, unread_line}
 use Rattle.calls_tool.specs.Run.{EndIs, IsLawfulEnd}
 
 -- what is asked for is on `out`, and nothing on `err`
@@ -27,7 +26,7 @@ pub record HasUsage (wanted : Asked → Type 0) (err : Taking) : Type 0 where
 pub record HasNoRoot (wanted : Asked → Type 0) (library : Asking) (err : Taking) : Type 0 where
   pub root : PredName
   pub cause : IsLawfulEnd wanted library (missing root)
-  pub on_err : TookJust (missing_line root) err
+  pub on_err : TookJust (missing_line (codes "calls") root) err
 
 -- nothing is told of the files, and the lines on `err` say why
 pub record HasFaults (wanted : Asked → Type 0) (library : Asking) (err : Taking) : Type 0 where
@@ -39,7 +38,7 @@ pub record HasFaults (wanted : Asked → Type 0) (library : Asking) (err : Takin
 pub record HasPassed (wanted : Asked → Type 0) (library : Asking) (err : Taking) : Type 0 where
   pub passed : Limit
   pub cause : IsLawfulEnd wanted library (limit passed)
-  pub on_err : TookJust (limit_line passed) err
+  pub on_err : TookJust (limit_line (codes "calls") passed) err
 
 -- a read failed, and it is the last that the library was asked for
 pub record IsUnread (wanted : Asked → Type 0) (library : Asking) (name : List ℕ) : Type 0 where
@@ -53,7 +52,7 @@ pub record IsUnread (wanted : Asked → Type 0) (library : Asking) (name : List 
 pub record HasUnread (wanted : Asked → Type 0) (library : Asking) (err : Taking) : Type 0 where
   pub name : List ℕ
   pub cause : IsUnread wanted library name
-  pub on_err : TookJust (unread_line name) err
+  pub on_err : TookJust (unread_line (codes "calls") name) err
 
 -- one sink took a part of the bytes of the end, the other nothing
 abbrev pub CutBy : Taking → Taking → End → Type 0

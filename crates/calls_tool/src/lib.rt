@@ -13,10 +13,8 @@
 //! `Library` and output through a `Sink`, as in `group_tool`.
 #![tactic(auto)]
 
-mod lines;
 mod loading;
 mod run;
 mod say;
-mod stop;
 
 pub use run::run_calls;

@@ -5,8 +5,8 @@ ghost use Rattle.call_told.specs.Wanted.{Asked};
 ghost use Rattle.file_library.specs.Loaded.{WasLoaded};
 ghost use Rattle.file_library.specs.SortedOut.{see_loaded};
 
-use crate::stop::Stop;
 use file_library::{Library, Loaded, load_all};
+use group_tool::Stop;
 use import_rules::{Program, resolve_all};
 use prolog_tokens::Text;
 use std::alloc::Global;

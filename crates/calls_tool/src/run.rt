@@ -12,19 +12,22 @@ ghost use Rattle.file_library.specs.Library.{Files};
 ghost use Rattle.group_tool.specs.Run.{IsSettled, SaidWith, TookNone};
 ghost use Rattle.import_rules.specs.Program.{see_program};
 
-use crate::lines::{fault_lines, limit_line, missing_line, unread_line};
 use crate::loading::load_files;
-use crate::say::{say, say_texts};
-use crate::stop::Stop;
+use crate::say::say_texts;
 use call_edges::placed_call_lists;
 use call_told::{Wanted, read_wanted, told_texts};
 use file_library::Library;
-use group_tool::{Sink, roots_by};
+use group_tool::{
+    Sink, Stop, fault_lines, limit_line, missing_line, roots_by, say_with, unread_line,
+};
 use import_rules::Program;
 use prolog_tokens::Text;
 use std::alloc::{AllocError, Global};
 use std::mem::forget;
 use std::thread::Threads;
+
+/// The name of the program, which begins its lines.
+const PROGRAM: &str = "calls";
 
 const USAGE: &str = "usage: calls [--roots LIST] [--unreached] [--undefined | --dot] FILE...\n";
 
@@ -62,16 +65,6 @@ fn tell<R: Threads + Sync, L: Library>(
     told
 }
 
-/// Says the bytes and answers the status, or 5 where the sink failed.
-fn say_with<S: Sink>(sink: &mut S, bytes: &[u8], status: u8) -> u8
-    ensures { SaidWith bytes.now status result (S.seen sink.old, S.seen sink.new) }
-{
-    if say(sink, bytes) {
-        return status;
-    }
-    5
-}
-
 /// Says what is told and answers 0, or 5 where the sink failed.
 fn say_told<S: Sink>(sink: &mut S, texts: &[String]) -> u8
     ensures { SaidWith (joined texts.now) 0 result (S.seen sink.old, S.seen sink.new) }
@@ -101,9 +94,9 @@ fn say_stop<S: Sink>(alloc: Global, sink: &mut S, stop: &Stop) -> u8
     match stop {
         Stop::Usage => say_with(sink, USAGE.as_bytes(), 2),
         Stop::Faults(faults) => say_lines(sink, fault_lines(alloc, faults), 3),
-        Stop::NoPredicate(root) => say_lines(sink, missing_line(alloc, root), 2),
-        Stop::ReadFault(name) => say_lines(sink, unread_line(alloc, name), 4),
-        Stop::Passed(limit) => say_lines(sink, limit_line(alloc, limit), 6),
+        Stop::NoPredicate(root) => say_lines(sink, missing_line(alloc, PROGRAM, root), 2),
+        Stop::ReadFault(name) => say_lines(sink, unread_line(alloc, PROGRAM, name), 4),
+        Stop::Passed(limit) => say_lines(sink, limit_line(alloc, PROGRAM, limit), 6),
         Stop::NoMemory => say_with(sink, OUT_OF_MEMORY.as_bytes(), 7),
     }
 }

@@ -4,27 +4,7 @@ ghost use Rattle.call_told.specs.Told.{joined};
 ghost use Rattle.group_tool.specs.Say.{SaidIs, TookPart};
 ghost use Rattle.group_tool.specs.Sink.{more_taken};
 
-use group_tool::{Flushed, Put, Sink};
-
-/// The most bytes of one put.
-const PIECE: usize = 65_536;
-
-/// Puts all of the bytes, each piece again from where it was cut. Whether all were taken.
-fn put_all<S: Sink>(sink: &mut S, bytes: &[u8]) -> bool
-    ensures all { OnTrue result ((S.seen sink.new).taken ≡ more_taken (S.seen sink.old).taken bytes.now) }
-    ensures part { OnFalse result (TookPart bytes.now (S.seen sink.old) (S.seen sink.new)) }
-    ensures faults_kept { (S.seen sink.old).faults ≤ (S.seen sink.new).faults }
-{
-    let mut at = 0;
-    while at < bytes.len() {
-        let end = at + (bytes.len() - at).min(PIECE);
-        match sink.put(&bytes[at..end]) {
-            Put::Took(count) => at += count as usize,
-            Put::Failed => return false,
-        }
-    }
-    true
-}
+use group_tool::{Flushed, Sink, put_all};
 
 /// Puts all of the texts, one behind the other. Whether all were taken.
 fn put_texts<S: Sink>(sink: &mut S, texts: &[String]) -> bool
@@ -38,21 +18,6 @@ fn put_texts<S: Sink>(sink: &mut S, texts: &[String]) -> bool
         }
     }
     true
-}
-
-/// Puts all of the bytes and flushes the sink. Whether both were done.
-#[tactic(auto, using(crate::proofs::Said::taken_unflushed))]
-pub fn say<S: Sink>(sink: &mut S, bytes: &[u8]) -> bool
-    ensures said { SaidIs bytes.now (S.seen sink.old) (S.seen sink.new) result }
-    ensures faults_kept { (S.seen sink.old).faults ≤ (S.seen sink.new).faults }
-{
-    if !put_all(sink, bytes) {
-        return false;
-    }
-    match sink.flush() {
-        Flushed::Done => true,
-        Flushed::Failed => false,
-    }
 }
 
 /// Puts all of the texts, one behind the other, and flushes the sink. Whether both were done.

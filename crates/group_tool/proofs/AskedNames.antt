@@ -9,7 +9,6 @@ use Rattle.group_words.specs.Settings.{Settings}
 use Rattle.group_tool.specs.Answer.{LoadEndComesTo}
 use Rattle.group_tool.specs.End as of_run
 use Rattle.group_tool.specs.End.{End, usage, missing, limit, report, memory_line}
-use Rattle.group_tool.specs.Lines.{unread_line, limit_line}
 use Rattle.group_tool.specs.declared.stop.Limit.{Limit}
 use Rattle.group_tool.specs.Run.{Asking, EndsAsking, EndsReading, IsLawfulEnd, EndIs, EndsBy, Taking, IsRun, SaidWith, AreAskedFor}
 use Rattle.file_library.proofs.ToldWaves.{waves_once}
@@ -115,9 +114,9 @@ module _ (wanted : Settings → Type 0) (one : (settings other : Settings) → w
   asked_by out err result (of_run.faults found) cause written = decided_for result (of_run.faults found) cause (λ name e. cc) (λ e. cc) (λ passed e. cc)
   asked_by out err result (missing root) cause written = decided_for result (missing root) cause (λ name e. cc) (λ e. cc) (λ passed e. cc)
   asked_by out err result (of_run.unread name) cause written =
-      lawful_asked_for result (of_run.unread name) cause (λ status files names ends. absurd (not_these (unread_line name) 4 result err written.0 (omega arith) status))
+      lawful_asked_for result (of_run.unread name) cause (λ status files names ends. absurd (not_these (of_run.err_of (of_run.unread name)) 4 result err written.0 (omega arith) status))
   asked_by out err result (limit passed) cause written =
-      lawful_asked_for result (limit passed) cause (λ status files names ends. absurd (not_these (limit_line passed) 6 result err written.0 (omega arith) status))
+      lawful_asked_for result (limit passed) cause (λ status files names ends. absurd (not_these (of_run.err_of (limit passed)) 6 result err written.0 (omega arith) status))
   asked_by out err result (report bytes) cause written = decided_for result (report bytes) cause (λ name e. cc) (λ e. cc) (λ passed e. cc)
   asked_by out err result of_run.no_memory cause written =
       let asked = cause.lawful settings lawful in

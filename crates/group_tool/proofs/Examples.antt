@@ -134,10 +134,10 @@ with_its_place = refl
 without_place : fault_lines (record { file = codes "f.pl"; offset = 0; place = record { line = 0; column = 0 }; cause = NoRoot } ∷ []) ≡ codes "f.pl: no such file\n"
 without_place = refl
 
-too_large_line : limit_line (FileTooLarge (codes "f.pl")) ≡ codes "groups: f.pl is larger than 8388608 bytes\n"
+too_large_line : limit_line (codes "groups") (FileTooLarge (codes "f.pl")) ≡ codes "groups: f.pl is larger than 8388608 bytes\n"
 too_large_line = refl
 
-missing_root_line : missing_line (named 2) ≡ codes "groups: no predicate a:p/2\n"
+missing_root_line : missing_line (codes "calls") (named 2) ≡ codes "calls: no predicate a:p/2\n"
 unfolding digits spelled_name
 missing_root_line = refl
 

@@ -1,6 +1,5 @@
 pub mod Said
 pub mod Examples
-pub mod LimitLine
 mod OneCircuits
 mod OneParts
 pub mod OneLoaded

@@ -39,8 +39,8 @@ out_of end = []
 abbrev pub err_of : End → List ℕ
 err_of usage = usage_line
 err_of (faults found) = fault_lines found
-err_of (missing root) = missing_line root
-err_of (unread name) = unread_line name
-err_of (limit passed) = limit_line passed
+err_of (missing root) = missing_line (codes "groups") root
+err_of (unread name) = unread_line (codes "groups") name
+err_of (limit passed) = limit_line (codes "groups") passed
 err_of (report bytes) = []
 err_of no_memory = memory_line

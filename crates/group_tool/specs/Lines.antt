@@ -1,4 +1,4 @@
--- The lines that say why there is no report.
+-- The lines that say why a run tells nothing: those of faults, and those that begin with the name of the program that runs.
 use Rattle.std.specs.Prelude.{ℕ, List, [], ◌++◌, ◌==◌, if◌then◌else◌, codes}
 use Rattle.std.specs.Fmt.{decimal}
 use Rattle.std.specs.List.{flat_map}
@@ -23,15 +23,15 @@ fault_line fault = fault.file ++ (place_text fault.place ++ (codes ": " ++ (caus
 abbrev pub fault_lines : List Fault → List ℕ
 fault_lines faults = flat_map fault_line faults
 
--- a name of the words that is no predicate of the program
-abbrev pub missing_line : PredName → List ℕ
-missing_line root = codes "groups: no predicate " ++ (name_text root ++ codes "\n")
+-- a name of the words that is no predicate of the files, as the program of this name says it
+abbrev pub missing_line : List ℕ → PredName → List ℕ
+missing_line program root = program ++ (codes ": no predicate " ++ (name_text root ++ codes "\n"))
 
-abbrev pub unread_line : List ℕ → List ℕ
-unread_line name = codes "groups: cannot read " ++ (name ++ codes "\n")
+abbrev pub unread_line : List ℕ → List ℕ → List ℕ
+unread_line program name = program ++ (codes ": cannot read " ++ (name ++ codes "\n"))
 
-abbrev pub limit_line : Limit → List ℕ
-limit_line TooManyFiles = codes "groups: more than 1024 files\n"
-limit_line (FileTooLarge name) = codes "groups: " ++ (name ++ codes " is larger than 8388608 bytes\n")
-limit_line TooMuchText = codes "groups: more than 33554432 bytes of text\n"
-limit_line TooManyPredicates = codes "groups: more than " ++ (decimal MOST_PREDICATES ++ codes " predicates\n")
+abbrev pub limit_line : List ℕ → Limit → List ℕ
+limit_line program TooManyFiles = program ++ codes ": more than 1024 files\n"
+limit_line program (FileTooLarge name) = program ++ (codes ": " ++ (name ++ codes " is larger than 8388608 bytes\n"))
+limit_line program TooMuchText = program ++ codes ": more than 33554432 bytes of text\n"
+limit_line program TooManyPredicates = program ++ (codes ": more than " ++ (decimal MOST_PREDICATES ++ codes " predicates\n"))

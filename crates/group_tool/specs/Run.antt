@@ -1,5 +1,5 @@
 -- How a run ends over any library, and what its sinks have taken.
-use Rattle.std.specs.Prelude.{◌≡◌, ◌≢◌, ℕ, ◌⊎◌, List, [], ◌∷◌, ◌++◌, Option, Some, None, true, AllPairs}
+use Rattle.std.specs.Prelude.{◌≡◌, ◌≢◌, ℕ, ◌⊎◌, List, [], ◌∷◌, ◌++◌, Option, Some, None, true, AllPairs, codes}
 use Rattle.import_rules.specs.declared.names.PredName.{PredName}
 use Rattle.file_library.specs.declared.fault.Fault.{Fault}
 use Rattle.file_library.specs.Counts.{Rose}
@@ -151,7 +151,7 @@ pub record HasUsage (wanted : Settings → Type 0) (err : Taking) : Type 0 where
 pub record HasNoRoot (wanted : Settings → Type 0) (library : Asking) (err : Taking) : Type 0 where
   pub root : PredName
   pub cause : IsLawfulEnd wanted library (missing root)
-  pub on_err : TookJust (missing_line root) err
+  pub on_err : TookJust (missing_line (codes "groups") root) err
 
 -- the files have no report, and the lines on `err` say why
 pub record HasFaults (wanted : Settings → Type 0) (library : Asking) (err : Taking) : Type 0 where
@@ -163,7 +163,7 @@ pub record HasFaults (wanted : Settings → Type 0) (library : Asking) (err : Ta
 pub record HasPassed (wanted : Settings → Type 0) (library : Asking) (err : Taking) : Type 0 where
   pub passed : Limit
   pub cause : IsLawfulEnd wanted library (limit passed)
-  pub on_err : TookJust (limit_line passed) err
+  pub on_err : TookJust (limit_line (codes "groups") passed) err
 
 -- a read failed, and it is the last that the library was asked for
 pub record IsUnread (wanted : Settings → Type 0) (library : Asking) (name : List ℕ) : Type 0 where
@@ -177,7 +177,7 @@ pub record IsUnread (wanted : Settings → Type 0) (library : Asking) (name : Li
 pub record HasUnread (wanted : Settings → Type 0) (library : Asking) (err : Taking) : Type 0 where
   pub name : List ℕ
   pub cause : IsUnread wanted library name
-  pub on_err : TookJust (unread_line name) err
+  pub on_err : TookJust (unread_line (codes "groups") name) err
 
 -- the sink to which the run's bytes go took a part of them, and its count of faults rose; the other took nothing
 pub record IsCutOff (wanted : Settings → Type 0) (library : Asking) (out err : Taking) : Type 0 where

@@ -1,4 +1,4 @@
--- Why a run has no report, and how a run ends by it.
+-- Why a run tells nothing, and how a run of `groups` ends by it.
 use Rattle.std.specs.Prelude.{ℕ, Result, Ok, Err, Vec}
 use Rattle.std.specs.declared.alloc.Global.{Global}
 use Rattle.file_library.specs.declared.loaded.LoadStop.{LoadStop}
@@ -16,12 +16,12 @@ use Rattle.group_tool.specs.declared.stop.Stop.{Stop}
 use Rattle.group_tool.specs.declared.stop.Stop.TheVariants.{Usage, Faults, NoPredicate, ReadFault, Passed, NoMemory}
 use Rattle.group_tool.specs.End.{End, usage, faults, missing, unread, limit, report, no_memory}
 
--- why there are no options, as why there is no report
+-- why there are no options, as why a run tells nothing
 abbrev pub of_words : WordFault → Stop
 of_words of_word.Usage = Usage
 of_words of_word.NoMemory = NoMemory
 
--- why nothing was loaded, as why there is no report
+-- why nothing was loaded, as why a run tells nothing
 abbrev pub of_loading : LoadStop → Stop
 of_loading (of_load.Faults list) = Faults list
 of_loading (of_load.ReadFault name) = ReadFault name
@@ -30,18 +30,18 @@ of_loading (of_load.FileTooLarge name) = Passed (FileTooLarge name)
 of_loading of_load.TooMuchText = Passed TooMuchText
 of_loading of_load.NoMemory = NoMemory
 
--- why there is no program, as why there is no report
+-- why there is no program, as why a run tells nothing
 abbrev pub of_importing : ImportStop → Stop
 of_importing (of_import.Faults list) = Faults list
 of_importing of_import.TooManyPredicates = Passed TooManyPredicates
 of_importing of_import.NoMemory = NoMemory
 
--- why not every goal is known to be callable, as why there is no report
+-- why not every goal is known to be callable, as why a run tells nothing
 abbrev pub of_checking : GoalStop → Stop
 of_checking (of_check.Faults list) = Faults list
 of_checking of_check.NoMemory = NoMemory
 
--- why there are no roots, as why there is no report
+-- why there are no roots, as why a run tells nothing
 abbrev pub of_roots : RootStop → Stop
 of_roots (of_root.NoPredicate root) = NoPredicate root
 of_roots of_root.NoMemory = NoMemory

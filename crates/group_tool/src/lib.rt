@@ -16,6 +16,9 @@
 //! Files are seen through a `Library` and output through a `Sink`, in memory or real. What the disk holds
 //! and what streams do with bytes no clause says; but over any library, the disk too, the answer is the
 //! right one for just the files that it handed over.
+//!
+//! What puts bytes on a sink, why a run tells nothing and the lines that say so serve other programs over
+//! files too: `say`, `Stop`, `missing_line` and their like.
 #![tactic(auto)]
 
 mod answer;
@@ -29,17 +32,19 @@ mod own_kinds;
 mod parts;
 mod roots;
 mod run;
-mod say;
+mod saying;
 mod sink;
 mod stop;
 mod stream_sink;
 
 pub use group_words::{Options, WordFault, parse_words};
 pub use laws::one_answer;
-pub use lines::fault_lines;
+pub use lines::{fault_lines, limit_line, missing_line, unread_line};
 pub use memory_sink::MemorySink;
 pub use roots::{RootStop, roots_by};
 pub use run::{run_alone, run_groups};
+pub use saying::{put_all, say, say_with};
 pub use search_pool::{Gate, MeetGate, OpenGate};
 pub use sink::{Flushed, MOST_PUT, Put, Sink};
+pub use stop::{Limit, Stop};
 pub use stream_sink::StreamSink;

@@ -54,48 +54,59 @@ fn push_number(alloc: Global, text: &mut String, number: u32) -> Result<(), Allo
     text.push_str(&digits)
 }
 
-/// The line that says which name of the words is no predicate of the program.
-pub fn missing_line(alloc: Global, root: &PredName) -> Result<String, AllocError>
-    ensures { IfOk result (λ text. string_bytes text ≡ missing_line root.now) }
+/// The line that says which name of the words is no predicate: `PROGRAM: no predicate NAME`.
+pub fn missing_line(alloc: Global, program: &str, root: &PredName) -> Result<String, AllocError>
+    ensures { IfOk result (λ text. string_bytes text ≡ missing_line program.now root.now) }
 {
     let name = predicate_name(alloc, root)?;
-    line(alloc, "groups: no predicate ", name.as_str(), "\n")
+    named_line(alloc, program, ": no predicate ", name.as_str(), "\n")
 }
 
-/// The line that says which file can't be read.
-pub fn unread_line(alloc: Global, name: &Text) -> Result<String, AllocError>
-    ensures { IfOk result (λ text. string_bytes text ≡ unread_line name.now) }
+/// The line that says which file can't be read: `PROGRAM: cannot read FILE`.
+pub fn unread_line(alloc: Global, program: &str, name: &Text) -> Result<String, AllocError>
+    ensures { IfOk result (λ text. string_bytes text ≡ unread_line program.now name.now) }
 {
-    line(alloc, "groups: cannot read ", name.as_str(), "\n")
+    named_line(alloc, program, ": cannot read ", name.as_str(), "\n")
 }
 
-/// The line that says which limit was passed.
-#[tactic(auto, using(crate::proofs::LimitLine::many_predicates))]
-pub fn limit_line(alloc: Global, limit: &Limit) -> Result<String, AllocError>
-    ensures { IfOk result (λ text. string_bytes text ≡ limit_line limit.now) }
+/// The line that says which limit was passed: `PROGRAM: ` and the limit.
+pub fn limit_line(alloc: Global, program: &str, limit: &Limit) -> Result<String, AllocError>
+    ensures { IfOk result (λ text. string_bytes text ≡ limit_line program.now limit.now) }
 {
     match limit {
-        Limit::TooManyFiles => String::from_str(alloc, "groups: more than 1024 files\n"),
-        Limit::FileTooLarge(name) => line(
+        Limit::TooManyFiles => line(alloc, program, ": more than 1024 files\n"),
+        Limit::FileTooLarge(name) => named_line(
             alloc,
-            "groups: ",
+            program,
+            ": ",
             name.as_str(),
             " is larger than 8388608 bytes\n",
         ),
-        Limit::TooMuchText => {
-            String::from_str(alloc, "groups: more than 33554432 bytes of text\n")
-        }
-        Limit::TooManyPredicates => {
-            String::from_str(alloc, "groups: more than 1048576 predicates\n")
-        }
+        Limit::TooMuchText => line(alloc, program, ": more than 33554432 bytes of text\n"),
+        Limit::TooManyPredicates => line(alloc, program, ": more than 1048576 predicates\n"),
     }
 }
 
-/// The name with words before and behind it.
-fn line(alloc: Global, before: &str, name: &str, behind: &str) -> Result<String, AllocError>
-    ensures { IfOk result (λ text. string_bytes text ≡ before.now ++ (name.now ++ behind.now)) }
+/// The program's name with words behind it.
+fn line(alloc: Global, program: &str, words: &str) -> Result<String, AllocError>
+    ensures { IfOk result (λ text. string_bytes text ≡ program.now ++ words.now) }
 {
-    let mut text = String::from_str(alloc, before)?;
+    let mut text = String::from_str(alloc, program)?;
+    text.push_str(words)?;
+    Ok(text)
+}
+
+/// The program's name, and behind it another name with words before and behind that.
+fn named_line(
+    alloc: Global,
+    program: &str,
+    before: &str,
+    name: &str,
+    behind: &str,
+) -> Result<String, AllocError>
+    ensures { IfOk result (λ text. string_bytes text ≡ program.now ++ (before.now ++ (name.now ++ behind.now))) }
+{
+    let mut text = line(alloc, program, before)?;
     text.push_str(name)?;
     text.push_str(behind)?;
     Ok(text)

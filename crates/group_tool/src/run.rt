@@ -13,7 +13,7 @@ ghost use Rattle.group_tool.specs.Run.{HasReported, HasUsage, HasNoRoot, HasFaul
 
 use crate::answer::{report_alone, report_lawful};
 use crate::lines::{fault_lines, limit_line, missing_line, unread_line};
-use crate::say::say;
+use crate::saying::say_with;
 use crate::sink::Sink;
 use crate::stop::Stop;
 use file_library::Library;
@@ -24,20 +24,13 @@ use std::alloc::{AllocError, Global};
 use std::sync::Wait;
 use std::thread::Threads;
 
+/// The name of the program, which begins its lines.
+const PROGRAM: &str = "groups";
+
 const USAGE: &str =
     "usage: groups [--jobs N | --searches K --seed S] [--roots LIST] [--order [--stream]] [--unreached] [--effects] [--loops] [--path LIST] FILE... | groups --make N [--jobs N | --searches K --seed S]\n";
 
 const OUT_OF_MEMORY: &str = "groups: out of memory\n";
-
-/// Says the bytes and answers the status, or 5 where the sink failed.
-fn say_with<S: Sink>(sink: &mut S, bytes: &[u8], status: u8) -> u8
-    ensures { SaidWith bytes.now status result (S.seen sink.old, S.seen sink.new) }
-{
-    if say(sink, bytes) {
-        return status;
-    }
-    5
-}
 
 /// Says the lines, or that there was no memory for them.
 fn say_lines<S: Sink>(sink: &mut S, lines: Result<String, AllocError>, status: u8) -> u8
@@ -58,9 +51,9 @@ fn say_stop<S: Sink>(alloc: Global, sink: &mut S, stop: &Stop) -> u8
     match stop {
         Stop::Usage => say_with(sink, USAGE.as_bytes(), 2),
         Stop::Faults(faults) => say_lines(sink, fault_lines(alloc, faults), 3),
-        Stop::NoPredicate(root) => say_lines(sink, missing_line(alloc, root), 2),
-        Stop::ReadFault(name) => say_lines(sink, unread_line(alloc, name), 4),
-        Stop::Passed(limit) => say_lines(sink, limit_line(alloc, limit), 6),
+        Stop::NoPredicate(root) => say_lines(sink, missing_line(alloc, PROGRAM, root), 2),
+        Stop::ReadFault(name) => say_lines(sink, unread_line(alloc, PROGRAM, name), 4),
+        Stop::Passed(limit) => say_lines(sink, limit_line(alloc, PROGRAM, limit), 6),
         Stop::NoMemory => say_with(sink, OUT_OF_MEMORY.as_bytes(), 7),
     }
 }

@@ -19,7 +19,7 @@ pub enum Limit {
     TooManyPredicates,
 }
 
-/// Why a run has no report.
+/// Why a run tells nothing.
 #[derive(Drop)]
 pub enum Stop {
     /// The words aren't lawful.

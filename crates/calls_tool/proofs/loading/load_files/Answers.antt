@@ -1,5 +1,5 @@
 use Rattle.file_library.specs.SortedOut.{see_loaded}
-use Rattle.calls_tool.specs.Stop.{of_loading}
+use Rattle.group_tool.specs.Stop.{of_loading}
 use Rattle.calls_tool.proofs.CarryingLemmas.{carried, stopped}
 use Rattle.calls_tool.proofs.EndLemmas.{stop_end, loaded_end}
 use Rattle.calls_tool.proofs.loading.load_files.Goals as goal

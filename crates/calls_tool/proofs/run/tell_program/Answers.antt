@@ -1,8 +1,8 @@
 use Rattle.std.proofs.Common.{inl, inr, refl}
-use Rattle.calls_tool.specs.declared.stop.Stop.TheVariants.{NoMemory}
+use Rattle.group_tool.specs.declared.stop.Stop.TheVariants.{NoMemory}
 use Rattle.import_rules.specs.Program.{see_program}
 use Rattle.calls_tool.specs.Answer.{IsLoadedEnd}
-use Rattle.calls_tool.specs.Stop.{of_checking, of_roots}
+use Rattle.group_tool.specs.Stop.{of_checking, of_roots}
 use Rattle.call_told.specs.Wanted.{see_wanted}
 use Rattle.calls_tool.proofs.EndLemmas.{handed_on, check_end, root_end}
 use Rattle.calls_tool.proofs.run.tell_program.Goals as goal

@@ -1,7 +1,7 @@
 use Rattle.std.proofs.Common.{◌-◌, ◌+◌, take, drop, ap, ◌∙◌, arith, length-take, length-drop}
 use Rattle.group_tool.specs.Sink.{more_taken}
 use Rattle.group_tool.proofs.Said.{take_piece, more_twice}
-use Rattle.group_tool.proofs.say.put_all.Goals as goal
+use Rattle.group_tool.proofs.saying.put_all.Goals as goal
 
 pub loop-at-preserved : goal.loop-at-preserved
 loop-at-preserved g c =

@@ -1,6 +1,6 @@
 use Rattle.std.proofs.Common.{◌≡◌, ◌≤◌, ◌-◌, length, take}
 use Rattle.group_tool.specs.Sink.{more_taken}
-use Rattle.group_tool.proofs.say.put_all.Given as goal
+use Rattle.group_tool.proofs.saying.put_all.Given as goal
 
 abbrev pub invariant-loop-at : goal.invariant-loop-at
 invariant-loop-at g l =

@@ -1,12 +1,13 @@
 ghost use Rattle.std.specs.Prelude.{◌≡◌, ◌≤◌};
 ghost use Rattle.std.specs.Bool.{OnTrue, OnFalse};
+ghost use Rattle.group_tool.specs.Run.{SaidWith};
 ghost use Rattle.group_tool.specs.Say.{SaidIs, TookPart};
 ghost use Rattle.group_tool.specs.Sink.{more_taken};
 
 use crate::sink::{Flushed, MOST_PUT, Put, Sink};
 
 /// Puts all of the bytes, each piece again from where it was cut. Whether all were taken.
-fn put_all<S: Sink>(sink: &mut S, bytes: &[u8]) -> bool
+pub fn put_all<S: Sink>(sink: &mut S, bytes: &[u8]) -> bool
     ensures all { OnTrue result ((S.seen sink.new).taken ≡ more_taken (S.seen sink.old).taken bytes.now) }
     ensures part { OnFalse result (TookPart bytes.now (S.seen sink.old) (S.seen sink.new)) }
     ensures faults_kept { (S.seen sink.old).faults ≤ (S.seen sink.new).faults }
@@ -35,4 +36,14 @@ pub fn say<S: Sink>(sink: &mut S, bytes: &[u8]) -> bool
         Flushed::Done => true,
         Flushed::Failed => false,
     }
+}
+
+/// Says the bytes and answers the status, or 5 where the sink failed.
+pub fn say_with<S: Sink>(sink: &mut S, bytes: &[u8], status: u8) -> u8
+    ensures { SaidWith bytes.now status result (S.seen sink.old, S.seen sink.new) }
+{
+    if say(sink, bytes) {
+        return status;
+    }
+    5
 }

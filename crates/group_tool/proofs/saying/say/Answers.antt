@@ -1,5 +1,5 @@
-use Rattle.calls_tool.proofs.Said.{taken_unflushed}
-use Rattle.calls_tool.proofs.say.say.Goals as goal
+use Rattle.group_tool.proofs.Said.{taken_unflushed}
+use Rattle.group_tool.proofs.saying.say.Goals as goal
 
 pub returns-in-Failed-clause-said : goal.returns-in-Failed-clause-said
 returns-in-Failed-clause-said c = λ c'.
