@@ -20,13 +20,16 @@ walk-requires c =
 pub loop-body-preserved : goal.loop-body-preserved
 loop-body-preserved c =
     let T = rows_of (see_program c.args.program.now) in
-    among_more (IsSeenMet T) c.args.bodies.now c.loop-body.body-index c.body-item.result (see_mets c.args.met.now.items) (see_mets c.loop-body.met.items)
-    (see_mets c.walk.new.met.items) c.loop-body-test.true c.body-item.is c.loop-body.invariant c.in_ok-walk.ensures.met
+    record {
+      met = among_more (IsSeenMet T) c.args.bodies.now c.loop-body.body-index c.body-item.result (see_mets c.args.met.now.items) (see_mets c.loop-body.met.items)
+          (see_mets c.walk.new.met.items) c.loop-body-test.true c.body-item.is c.loop-body.invariant.met c.in_ok-walk.ensures.met;
+      meant = λ old. c.in_ok-walk.ensures.meant (c.loop-body.invariant.meant old);
+    }
 
-pub returns : goal.returns
-returns c =
+pub returns-clause-met : goal.returns-clause-met
+returns-clause-met c =
     let T = rows_of (see_program c.args.program.now) in
     let bodies = c.args.bodies.now in
     let old = see_mets c.args.met.now.items in
     let new = see_mets c.loop-body.met.items in
-    bodies_met T bodies old new (among_all (IsSeenMet T) bodies c.loop-body.body-index old new c.loop-body-test.false c.loop-body.invariant)
+    bodies_met T bodies old new (among_all (IsSeenMet T) bodies c.loop-body.body-index old new c.loop-body-test.false c.loop-body.invariant.met)
