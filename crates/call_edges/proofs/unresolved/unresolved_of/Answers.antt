@@ -12,7 +12,7 @@ returns c =
     let node = c.args.node in
     let called = c.push_unresolved.new.names.items in
     let told =
-    node_names seen node (see_mets c.in_ok-met.met.items) (map see_called c.new-called.result.items) (map see_called called) c.in_ok-met.ensures
+    node_names seen node (see_mets c.in_ok-met.met.items) (map see_called c.new-called.result.items) (map see_called called) c.in_ok-met.ensures.met
     (ap (map see_called) c.new-called.ensures.items) (rw c.deref.ensures.value at c.in_ok-push_unresolved.ensures) in
     IfOk-then c.owned.result _ _ c.owned.ensures (λ names is.
     all_names seen node called c.sort_unstable.new.self.items c.dedup.new.self.items names.items told
