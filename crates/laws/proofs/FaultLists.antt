@@ -32,7 +32,7 @@ use Rattle.laws.proofs.Orders.{HasOnce, has_once}
 use Rattle.laws.proofs.Placed.{has_place}
 
 -- what is known of a program, where its files were loaded
-known : (loaded : LoadedFiles) (seen : Seen) → WasLoaded loaded → IsProgram loaded seen → IsKnown seen
+pub known : (loaded : LoadedFiles) (seen : Seen) → WasLoaded loaded → IsProgram loaded seen → IsKnown seen
 known loaded seen was program =
     let own : WasLoaded seen.loaded = subst WasLoaded (sym program.is) was in
     record {

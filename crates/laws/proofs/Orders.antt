@@ -1,5 +1,5 @@
 -- Each list has its elements in order: each once, or as often as they stand in it.
-use Rattle.std.proofs.Common.{◌≡◌, ◌⊎◌, ◌↔◌, inl, inr, zero, suc, ◌+◌, ◌<◌, false, List, [], ◌∷◌, AllPairs, Contains, IsPermutation, length, get_or, refl, sym, ap, ◌∙◌, subst, arith}
+use Rattle.std.proofs.Common.{◌≡◌, ◌⊎◌, ◌↔◌, inl, inr, zero, suc, ◌+◌, ◌<◌, ◌≤◌, false, List, [], ◌∷◌, AllPairs, Contains, IsPermutation, length, get_or, refl, sym, ap, ◌∙◌, subst, arith}
 use Rattle.std.specs.Cmp.{IsTotalOrder}
 use Rattle.std.specs.List.Sorted.{IsSorted}
 use Rattle.std.specs.Ordering.{is_lt, ordering_reverse}
@@ -19,6 +19,7 @@ module _ {X : Type 0} (cmp : X → X → Ordering) (total : IsTotalOrder cmp) wh
     pub once : List X
     pub rising : IsRising once
     pub each : (x : X) → Contains once x ↔ Contains xs x
+    pub fewer : length once ≤ length xs
 
   -- one more element, where it isn't there
 
@@ -62,6 +63,15 @@ module _ {X : Type 0} (cmp : X → X → Ordering) (total : IsTotalOrder cmp) wh
               | inr rest ↦ in_rest y z (put x ys) (later (inr rest))
             ]
 
+    put_few : (x : X) (ys : List X) → length (put x ys) ≤ suc (length ys)
+    put_few x [] = omega arith
+    put_few x (y ∷ ys) = at (cmp x y) (put_few x ys)
+      where
+        at : (o : Ordering) → length (put x ys) ≤ suc (length ys) → length (put_by o x y ys (put x ys)) ≤ suc (suc (length ys))
+        at Less few = omega arith
+        at Equal few = omega arith
+        at Greater few = omega (arith, few)
+
     put_rising : (x : X) (ys : List X) → IsRising ys → IsRising (put x ys)
     put_rising x [] up = λ i j d lt within. absurd (omega (arith, lt, within))
     put_rising x (y ∷ ys) up = at (cmp x y) refl (put_rising x ys (rest_in_order (λ a b. cmp a b ≡ Less) y ys up))
@@ -82,7 +92,7 @@ module _ {X : Type 0} (cmp : X → X → Ordering) (total : IsTotalOrder cmp) wh
             elim (put_from x z ys has) [ inl same ↦ subst (λ w. cmp y w ≡ Less) same less | inr rest ↦ behind z rest ])) later
 
     pub has_once : (xs : List X) → HasOnce xs
-    has_once [] = record { once = []; rising = λ i j d lt within. absurd (omega (arith, within)); each = λ x. (λ has. has, λ has. has) }
+    has_once [] = record { once = []; rising = λ i j d lt within. absurd (omega (arith, within)); each = λ x. (λ has. has, λ has. has); fewer = omega arith }
     has_once (x ∷ xs) =
         let rest = has_once xs in
         record {
@@ -92,6 +102,7 @@ module _ {X : Type 0} (cmp : X → X → Ordering) (total : IsTotalOrder cmp) wh
             λ has. elim (put_from x z rest.once has) [ inl is ↦ subst (Contains (x ∷ xs)) is (in_first x xs) | inr old ↦ in_rest x z xs ((rest.each z).0 old) ],
             λ has. put_there x z rest.once (elim (first_or_rest x z xs has) [ inl is ↦ inl is | inr later ↦ inr ((rest.each z).1 later) ]),
           );
+          fewer = omega (arith, put_few x rest.once, rest.fewer);
         }
 
   -- the elements of the list in order

@@ -15,7 +15,10 @@
 //!   classes, and the groups of a legal order have levels;
 //! - `report`: files have a list of import loops, groups in a legal order a report;
 //! - `word`: words are lawful, and set options, or aren't;
-//! - `answer`: words over a map of files have a right answer, which is all of this together.
+//! - `answer`: words over a map of files have a right answer, which is all of this together;
+//! - `told`: the words of `calls` ask for one thing or for nothing, predicates of a program have a table
+//!   of their calls, and words of `calls` over a map of files have a right answer too, and one alone
+//!   where they ask for no graph.
 #![tactic(auto)]
 
 mod answer;
@@ -26,6 +29,7 @@ mod load;
 mod program;
 mod report;
 mod schedule;
+mod told;
 mod word;
 
 pub use answer::some_answer;
@@ -39,4 +43,8 @@ pub use load::load_or_faults;
 pub use program::{goal_faults_exist, program_or_faults, roots_exist};
 pub use report::{loops_exist, reports_exist};
 pub use schedule::{levels_exist, order_exists, schedule_ends};
+pub use told::{
+    asked_or_nothing, memberships_exist, one_told_answer, some_told_answer, tables_exist,
+    told_exists,
+};
 pub use word::lawful_or_not;

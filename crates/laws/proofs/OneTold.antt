@@ -1,0 +1,79 @@
+-- What is told of a program is one list of bytes, where it isn't the graph.
+use Rattle.std.proofs.Common.{◌≡◌, ◌≢◌, ◌++◌, ℕ, Bool, true, false, List, [], Some, None, codes, flat_map, get_or, length, slice_get, zip, refl, sym}
+use Rattle.std.proofs.Common.{ap, ◌∙◌, subst}
+use Rattle.graph_law.specs.Graph.{Calls}
+use Rattle.group_release.specs.declared.level.Level.{Level}
+use Rattle.import_rules.specs.declared.names.PredName.{PredName}
+use Rattle.import_rules.specs.Program.{Seen}
+use Rattle.call_edges.specs.Successors.{successor_lists}
+use Rattle.loop_report.specs.Reportable.{AreLeveled}
+use Rattle.call_table.specs.Memberships.{AreGroupsOf}
+use Rattle.call_table.specs.Table.{IsTable}
+use Rattle.call_table.specs.declared.table.CallTable.{CallTable}
+use Rattle.call_told.specs.declared.words.Form.{Form}
+use Rattle.call_told.specs.declared.words.Form.TheVariants.{Lines, Undefined, Dot}
+use Rattle.call_told.specs.Told.{TellsForm, TellsFrom, call_lines, clause_lines, predicate_lines}
+use Rattle.call_told.specs.Wanted.{Asked}
+use Rattle.call_writer.specs.Lines.{call_line_if, clause_line, predicate_head, predicate_line_of}
+use Rattle.laws.proofs.OneTable.{one_call_places, one_calls, one_clause_places, one_clauses}
+use Rattle.laws.proofs.SameGroups.{each_same, same_nodes}
+
+-- the line of a predicate with what is told of its group
+abbrev line_with : List PredName → ℕ → List ℕ → List ℕ
+line_with predicates node fields =
+    elim (slice_get predicates node) [ Some name ↦ predicate_head node name ++ (codes "," ++ (fields ++ codes "}\n")) | None ↦ [] ]
+
+module _ (seen : Seen) (nodes : List ℕ) (groups others : List (List ℕ)) (a b : CallTable)
+    (is : IsTable seen nodes groups a) (also : IsTable seen nodes others b)
+  where
+    same_clause_lines : clause_lines seen a ≡ clause_lines seen b
+    same_clause_lines =
+        let clauses = one_clauses seen nodes groups others a b is also in
+        let places = one_clause_places seen nodes groups others a b is also in
+        λ i. flat_map (λ pair. clause_line seen pair.0 pair.1) (zip (clauses i) (places i))
+
+    same_call_lines : (undefined : Bool) → call_lines undefined seen a ≡ call_lines undefined seen b
+    same_call_lines undefined =
+        let calls = one_calls seen nodes groups others a b is also in
+        let places = one_call_places seen nodes groups others a b is also in
+        λ i. flat_map (λ pair. call_line_if undefined seen pair.0 pair.1) (zip (calls i) (places i))
+
+module _ (seen : Seen) (roots : List ℕ) where
+  abbrev IsLeveled : List (List ℕ) → List Level → Type 0
+  IsLeveled groups levels = AreLeveled (Calls (successor_lists seen)) roots groups levels
+
+  abbrev ArePlaced : List (List ℕ) → List ℕ → Type 0
+  ArePlaced groups places = AreGroupsOf (length seen.predicates) groups places
+
+  abbrev line_of : List (List ℕ) → List Level → List ℕ → ℕ → List ℕ
+  line_of groups levels places p = predicate_line_of seen.predicates groups levels p (get_or places p 0)
+
+  module _ (groups others : List (List ℕ)) (levels marks : List Level) (places other_places nodes : List ℕ)
+      (leveled : IsLeveled groups levels) (marked : IsLeveled others marks) (placed : ArePlaced groups places) (placed_too : ArePlaced others other_places)
+    where
+      same_predicate_lines : predicate_lines seen groups levels places nodes ≡ predicate_lines seen others marks other_places nodes
+      same_predicate_lines =
+          let same = each_same leveled marked (length seen.predicates) places other_places placed placed_too in
+          let each : line_of groups levels places ≡ line_of others marks other_places = λ i p. line_with seen.predicates p ((same p).fields i) in
+          ap (λ line. flat_map line nodes) each
+
+      same_form : (form : Form) → form ≢ Dot → (bytes other : List ℕ) → TellsForm form seen groups levels places nodes bytes
+          → TellsForm form seen others marks other_places nodes other → bytes ≡ other
+      same_form Lines lines bytes other is also =
+          let clauses = same_clause_lines seen nodes groups others is.table also.table is.is_table also.is_table in
+          let calls = same_call_lines seen nodes groups others is.table also.table is.is_table also.is_table false in
+          is.is ∙ ((λ i. same_predicate_lines i ++ (clauses i ++ calls i)) ∙ sym also.is)
+      same_form Undefined lines bytes other is also =
+          is.is ∙ (same_call_lines seen nodes groups others is.table also.table is.is_table also.is_table true ∙ sym also.is)
+      same_form Dot lines bytes other is also = absurd (lines refl)
+
+  pub one_told : (asked : Asked) → asked.form ≢ Dot → (bytes other : List ℕ) → TellsFrom asked seen roots bytes → TellsFrom asked seen roots other
+      → bytes ≡ other
+  one_told asked lines bytes other is also =
+      let a = is.reach in
+      let b = also.reach in
+      let same = same_nodes a.leveled b.leveled (length seen.predicates) is.places also.places a.placed b.placed asked.settings.unreached in
+      let nodes : also.nodes ≡ is.nodes = b.nodes_are ∙ (sym same ∙ sym a.nodes_are) in
+      let tells = subst (λ ns. TellsForm asked.form seen also.groups also.levels also.places ns other) nodes also.tells in
+      same_form is.groups also.groups is.levels also.levels is.places also.places is.nodes a.leveled b.leveled a.placed b.placed asked.form lines
+      bytes other is.tells tells
