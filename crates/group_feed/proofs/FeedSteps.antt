@@ -1,5 +1,6 @@
 -- What the feeder owes when it gives the turn back, and what it pushes.
-use Rattle.std.proofs.Common.{◌≡◌, inl, ℕ, ◌<◌, ◌+◌, true, List, [], ◌∷◌, ◌++◌, length, take, drop, get_or, subst, sym, refl, ap, ◌∙◌, arith}
+use Rattle.std.proofs.Common.{◌≡◌, inl, inr, ℕ, ◌<◌, ◌+◌, true, List, [], ◌∷◌, ◌++◌, length, take, drop, get_or, subst, sym, refl, ap, ◌∙◌, arith}
+use Rattle.std.proofs.lemmas.Bool.{cases_lt}
 use Rattle.std.proofs.lemmas.List.{append-nil, get_or_append_left, length-append, take-append-drop, take_at, take_more}
 use Rattle.std.specs.Prelude.{All, Contains}
 use Rattle.list_laws.specs.Counts.{IsLonger, flat, times}
@@ -12,7 +13,7 @@ use Rattle.node_claims.specs.Steps.{MayGive}
 use Rattle.node_claims.specs.Views.{outline_of}
 use Rattle.node_claims.specs.declared.view.Taken.{Taken}
 use Rattle.node_claims.specs.declared.view.View.{View}
-use Rattle.group_feed.specs.Copying.{AreSeen, AreWithin}
+use Rattle.group_feed.specs.Copying.{AreCopied, AreSeen, AreWithin}
 use Rattle.group_feed.specs.Feeder.{AreFed}
 use Rattle.group_feed.specs.Ordered.{AreOrdered}
 use Rattle.group_feed.proofs.LineSteps.{first_ordered}
@@ -83,6 +84,14 @@ pub within_seen : (groups released : List (List ℕ)) (seen : List ℕ) → AreW
 within_seen groups released seen within p has =
     let here : 0 < times p (flat released) = counted p (flat released) (in_flat released p (within p has)) in
     omega (arith, here, times-append p seen (flat released))
+
+-- where all that is released is copied, so is all that was seen by then
+pub seen_copied : (groups released : List (List ℕ)) (seen : List ℕ) → AreWithin released groups → ((x : ℕ) → 0 < times x seen → 0 < times x (flat released))
+    → AreCopied (seen ++ flat released) groups
+seen_copied groups released seen within lent p has =
+    let both = times-append p seen (flat released) in
+    let here : 0 < times p (flat released) = elim (cases_lt 0 (times p seen)) [ inl before ↦ lent p before | inr none ↦ omega (arith, has, both, none) ] in
+    within p (from_flat released p (standing p (flat released) here))
 
 -- nodes that are in one of the groups still are, where there are more groups
 pub still_in : (old new : List (List ℕ)) (nodes : List ℕ) → IsLonger old new → All (HasMember old) nodes → All (HasMember new) nodes

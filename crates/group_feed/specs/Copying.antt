@@ -16,6 +16,10 @@ AreCopiedUpTo n groups copies = (i p : ℕ) → i < n → Contains (group_at gro
 abbrev pub AreSeen : List (List ℕ) → List ℕ → Type 0
 AreSeen groups seen = (p : ℕ) → HasMember groups p → 0 < times p seen
 
+-- each node that the pass saw finished is in one of the groups
+abbrev pub AreCopied : List ℕ → List (List ℕ) → Type 0
+AreCopied seen groups = (p : ℕ) → 0 < times p seen → HasMember groups p
+
 -- the old copies, and behind them those of the first n groups that weren't there yet
 pub record IsCopied (lists groups old new : List (List ℕ)) (n : ℕ) : Type 0 where
   pub ordered : AreOrdered lists new

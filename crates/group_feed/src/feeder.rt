@@ -1,11 +1,11 @@
-ghost use Rattle.std.specs.Prelude.{◌≡◌, ◌≤◌, ◌+◌, ℕ, true, false, not, [], length, take, All, MatchResult, OnOk};
+ghost use Rattle.std.specs.Prelude.{◌≡◌, ◌<◌, ◌≤◌, ◌+◌, ℕ, true, false, not, [], length, take, get_or, All, MatchResult, OnOk};
 ghost use Rattle.crossbeam_queue.specs.Passes.{view, IsPassOf as is_line_pass, ruled_capacity};
 ghost use Rattle.list_laws.specs.Counts.{IsLonger};
 ghost use Rattle.graph_law.specs.Classes.{HasMember};
 ghost use Rattle.graph_law.specs.Graph.{Calls, lists_of};
 ghost use Rattle.graph_law.specs.Reach.{IsReached};
 ghost use Rattle.search_pool.specs.Driving.{IsIdle};
-ghost use Rattle.group_feed.specs.Copying.{AreSeen, AreWithin};
+ghost use Rattle.group_feed.specs.Copying.{AreCopied, AreSeen, AreWithin};
 ghost use Rattle.group_feed.specs.Driving.{AreFound};
 ghost use Rattle.group_feed.specs.Feeder.{AreFed, HasToldFailure};
 ghost use Rattle.group_feed.specs.Line.{feeding, newcomer};
@@ -76,8 +76,8 @@ pub(crate) fn feed<N: Graph, R: Wait>(
     unreachable!()
 }
 
-// Copies under the turn what was released and isn't copied yet. It tells whether the book hasn't failed, and
-// the pass that comes back has told of it where it has.
+// Copies under the turn what was released and isn't copied yet. It tells whether the book hasn't failed: then
+// all that the pass that comes back has seen is copied, else that pass has told of the failure.
 fn copy_turn(
     rt: &impl Wait,
     alloc: Global,
@@ -95,6 +95,7 @@ fn copy_turn(
     ensures seen { AreSeen copies.new.groups result.0.view.seen }
     ensures told { result.0.view.told ≡ not result.1 }
     ensures longer { IsLonger copies.old.groups copies.new.groups }
+    ensures all { result.1 ≡ true → AreCopied result.0.view.seen copies.new.groups }
 {
     let mut turn = claims.turn(rt, pass);
     let goes_on = copy_or_fail(alloc, turn.book(), copies);
@@ -114,6 +115,7 @@ fn copy_or_fail(alloc: Global, book: &mut Book, copies: &mut Released) -> bool
     ensures within { AreWithin copies.new.groups book.old.groups }
     ensures reached { (v : ℕ) → HasMember book.old.groups v → IsReached (Calls book.old.lists) book.old.roots v }
     ensures longer { IsLonger copies.old.groups copies.new.groups }
+    ensures all { result ≡ true → AreWithin book.old.groups copies.new.groups }
 {
     book.keeps();
     if book.has_failed() {
@@ -164,12 +166,13 @@ fn push_from<N: Graph, R: Wait>(
     Ok(())
 }
 
-// So many roots, from the first on, are in one of the groups, where `from` of them are.
+// How many roots, from the first on, are in one of the groups, where `from` of them are.
 fn copied_roots(copies: &Released, roots: &[u32], from: usize) -> usize
     requires within { from ≤ length roots.now }
     requires before { All (HasMember copies.now.groups) (take from roots.now) }
     ensures within { result ≤ length roots.now }
     ensures copied { All (HasMember copies.now.groups) (take result roots.now) }
+    ensures next { result < length roots.now → HasMember copies.now.groups (get_or roots.now result 0) → ⊥ }
 {
     for index in from..roots.len() {
         if !copies.holds(roots[index]) {

@@ -1,16 +1,16 @@
-use Rattle.std.proofs.Common.{◌≡◌, ℕ, List, [], ◌++◌, None, sym, ap, ◌∙◌, subst}
+use Rattle.std.proofs.Common.{◌≡◌, ◌<◌, ℕ, List, [], ◌++◌, None, sym, ap, ◌∙◌, subst}
 use Rattle.graph_law.specs.Graph.{Calls}
 use Rattle.graph_law.specs.Reach.{IsReached}
 use Rattle.search_stack.specs.Search.{SearchValue}
-use Rattle.list_laws.specs.Counts.{flat}
+use Rattle.list_laws.specs.Counts.{flat, times}
 use Rattle.group_release.specs.Book.{BookValue}
 use Rattle.node_claims.specs.Claims.{nodes_with}
 use Rattle.node_claims.specs.Steps.{MayGive}
 use Rattle.node_claims.specs.Views.{outline_of}
 use Rattle.node_claims.specs.declared.view.View.{View}
-use Rattle.group_feed.specs.Copying.{AreSeen, AreWithin}
+use Rattle.group_feed.specs.Copying.{AreCopied, AreSeen, AreWithin}
 use Rattle.group_feed.specs.Ordered.{AreOrdered}
-use Rattle.group_feed.proofs.FeedSteps.{may_rest, seen_within, within_seen}
+use Rattle.group_feed.proofs.FeedSteps.{may_rest, seen_copied, seen_within, within_seen}
 use Rattle.group_feed.proofs.feeder.copy_turn.Goals as goal
 
 pub give-requires : goal.give-requires
@@ -53,3 +53,17 @@ returns-clause-are g c =
           (subst (λ (l : List (List ℕ)). IsReached (Calls l) c.book.result.now.roots v) lists
           (c.copy_or_fail-goes_on.ensures.reached v (c.copy_or_fail-goes_on.ensures.within v has)));
     }
+
+pub returns-clause-all : goal.returns-clause-all
+returns-clause-all g c = λ goes.
+    let now : BookValue = c.copy_or_fail-goes_on.new.book in
+    let copies : List (List ℕ) = c.copy_or_fail-goes_on.new.copies.groups in
+    let kept : now.groups ≡ c.book.result.now.groups = ap (λ (b : BookValue). b.groups) c.copy_or_fail-goes_on.ensures.book in
+    let same : now.groups ≡ c.turn-turn.result.book.groups = kept ∙ ap (λ (b : BookValue). b.groups) c.book.ensures.value in
+    let within : AreWithin now.groups copies =
+    subst (λ (groups : List (List ℕ)). AreWithin groups copies) (sym kept) (c.copy_or_fail-goes_on.ensures.all goes) in
+    let lent : (x : ℕ) → 0 < times x c.turn-turn.result.view.seen → 0 < times x (flat now.groups) =
+    λ x seen. subst (λ (groups : List (List ℕ)). 0 < times x (flat groups)) (sym same)
+    (c.turn-turn.ensures.lent.seen x (subst (λ (v : View). 0 < times x v.seen) c.turn-turn.ensures.view seen)) in
+    let seen : c.give-2.result.view.seen ≡ c.turn-turn.result.view.seen ++ flat now.groups = ap (λ (v : View). v.seen) c.give-2.ensures.view in
+    subst (λ (s : List ℕ). AreCopied s copies) (sym seen) (seen_copied copies now.groups c.turn-turn.result.view.seen within lent)
