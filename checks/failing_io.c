@@ -1,11 +1,12 @@
 /* Preloaded before a program: reads and writes of at most MOST bytes each, read number FAIL_READ and write number FAIL_WRITE fail, counted from 1,
-   and so does each write after it. GROW names a file that is a byte longer after each read. When the program ends, the numbers of its reads and
+   and so does each write after it. GROW names a file that is 4,096 bytes longer after each read. When the program ends, the numbers of its reads and
    writes are written to the file COUNT_TO. */
 #define _GNU_SOURCE
 #include <errno.h>
 #include <fcntl.h>
 #include <stdio.h>
 #include <stdlib.h>
+#include <string.h>
 #include <sys/syscall.h>
 #include <unistd.h>
 
@@ -44,7 +45,9 @@ ssize_t read(int file, void *room, size_t size) {
     ssize_t got = syscall(SYS_read, file, room, size < most ? size : most);
     int more = grows ? open(grows, O_WRONLY | O_APPEND) : -1;
     if (more >= 0) {
-        syscall(SYS_write, more, " ", 1);
+        char spaces[4096];
+        memset(spaces, ' ', sizeof spaces);
+        syscall(SYS_write, more, spaces, sizeof spaces);
         close(more);
     }
     return got;
