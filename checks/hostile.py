@@ -1,16 +1,16 @@
 #!/usr/bin/env python3
-"""Runs `groups` on hostile input: each must answer at once, with a lawful status and lines.
+"""Runs `groups` and `calls` on hostile input: each must answer at once, with a valid status and lines.
 
 - each prefix of an example, cut at every byte: status 0 or 3, and at 3 one line or more;
 - files of random bytes, of quotes, of opening brackets, of `:- ` again and again, and one long line,
   each of a MiB, and one file that is a byte too large;
 - a run over three files in which the Nth allocation fails, for each N in turn, with one search, with
-  three that take turns, and with two workers: status 7 with nothing on standard output and its line on
-  standard error, or with no line where the words were not read yet, or the answer of a run in which
-  none fails. This needs a C compiler, `cc`.
+  three that take turns, with workers, and for each form that `calls` writes: status 7 with nothing on
+  standard output and its line on standard error, or with no line if the arguments weren't read yet, or
+  the answer of a run in which none fails. This needs a C compiler, `cc`.
 
-Ends with status 1 where an answer is wrong. The whole takes about two minutes; with --quick each seventh prefix and each seventh
-allocation is tried.
+Ends with status 1 if an answer is wrong. The whole takes about two minutes; with --quick each seventh
+prefix and each seventh allocation is tried.
 """
 
 import argparse
@@ -29,6 +29,16 @@ EXAMPLE = EXAMPLES / "module.pl"
 SIZE = 1_048_576
 TOO_LARGE = 8_388_609
 MOST_SECONDS = 20.0
+
+# Options of the runs in which allocations are refused.
+GROUPS_WORDS = (
+    [],
+    ["--searches", "3", "--seed", "5"],
+    ["--jobs", "2"],
+    ["--jobs", "3", "--order", "--stream"],
+    ["--effects", "--loops", "--path", "calculator:value/2,scanner:digits/3"],
+)
+CALLS_WORDS = ([], ["--unreached", "--undefined"], ["--dot"])
 
 # The program, and whether but a part is tried.
 chosen = []
@@ -99,41 +109,47 @@ def hostile_files(folder):
         wrong.append(f"a file that is too large: {answer}")
 
 
-def memory(folder, *options):
-    """Fails each allocation of a run with these options in turn, alone and with all behind it, by a library that is loaded before the program."""
-    shim, count = folder / "failing_malloc.so", folder / "count"
+def shim_of(folder):
+    """The library that refuses an allocation, made in the folder, beside the examples that the runs read."""
+    shim = folder / "failing_malloc.so"
     source = ROOT / "checks" / "failing_malloc.c"
     subprocess.run(["cc", "-O1", "-shared", "-fPIC", "-o", shim, source, "-ldl"], check=True)
     for name in ("calculator.pl", "scanner.pl", "module.pl"):
         (folder / name).write_bytes((EXAMPLES / name).read_bytes())
+    return shim
+
+
+def memory(folder, shim, tool, *options):
+    """Refuses each allocation of a run with these options in turn, alone and with all after it, by a library that is loaded before the program."""
+    count, words = folder / "count", [tool, *options, "calculator.pl", "module.pl"]
 
     def answer(number, **more):
         env = {"LD_PRELOAD": str(shim), "FAIL_AT": str(number), "COUNT_TO": str(count), **more}
         try:
-            done = subprocess.run([chosen[0], *options, "calculator.pl", "module.pl"], cwd=folder, capture_output=True, env=env, timeout=60)
+            done = subprocess.run(words, cwd=folder, capture_output=True, env=env, timeout=60)
         except subprocess.TimeoutExpired:
             return -1, b"", b"no end within 60 s"
         return done.returncode, done.stdout, done.stderr
 
     def settled(told):
-        """What is told, whatever the order of its lines where workers decide on it."""
+        """What is written, whatever the order of its lines if workers decide on it."""
         return (told[0], b"".join(sorted(told[1].splitlines(True))), told[2]) if "--stream" in options else told
 
     whole = settled(answer(0))
     total = int(count.read_text())
-    silent, wanting = (7, b"", b""), (7, b"", b"groups: out of memory\n")
+    silent, wanting = (7, b"", b""), (7, b"", f"{tool.name}: out of memory\n".encode())
     seen = []
     for number in some(range(1, total + 1)):
         seen.append(settled(answer(number)))
         if seen[-1] not in (silent, wanting, whole):
-            wrong.append(f"allocation {number} {options}: status {seen[-1][0]}, {len(seen[-1][1])} bytes on out")
+            wrong.append(f"{tool.name}: allocation {number} {options}: status {seen[-1][0]}, {len(seen[-1][1])} bytes on out")
         on = settled(answer(number, FAIL_ON="1"))
         if on not in (silent, wanting, whole):
-            wrong.append(f"allocations from {number} on {options}: status {on[0]}, {len(on[1])} bytes on out")
+            wrong.append(f"{tool.name}: allocations from {number} on {options}: status {on[0]}, {len(on[1])} bytes on out")
     if wanting in seen and silent in seen[seen.index(wanting) :]:
-        wrong.append("no line of status 7, though the words were read")
+        wrong.append(f"{tool.name}: no line of status 7, though the arguments were read")
     failed = seen.count(silent) + seen.count(wanting)
-    print(f"{total} allocations {' '.join(options)}: {failed} times out of memory, {seen.count(whole)} as without")
+    print(f"{tool.name} {' '.join(options)}: {total} allocations, {failed} times out of memory, {seen.count(whole)} as without")
 
 
 def main():
@@ -146,11 +162,14 @@ def main():
         folder = pathlib.Path(name)
         prefixes(folder)
         hostile_files(folder)
-        memory(folder)
-        memory(folder, "--searches", "3", "--seed", "5")
-        memory(folder, "--jobs", "2")
-        memory(folder, "--jobs", "3", "--order", "--stream")
-        memory(folder, "--effects", "--loops", "--path", "calculator:value/2,scanner:digits/3")
+        shim = shim_of(folder)
+        for words in GROUPS_WORDS:
+            memory(folder, shim, chosen[0], *words)
+        calls = program.calls()
+        if calls is None:
+            wrong.append("there is no program calls: ./prove builds it")
+        for words in CALLS_WORDS if calls else ():
+            memory(folder, shim, calls, *words)
     for line in wrong:
         print("WRONG", line)
     sys.exit(1 if wrong else 0)

@@ -1,12 +1,13 @@
 #!/usr/bin/env python3
-"""Tries the built program over a disk and streams that are not as one would wish, which no clause can speak of.
+"""Tries the built programs over a disk and streams that are not as one would wish, which no clause can speak of.
 
 - Files that aren't there, may not be read, are folders, pipes or devices, lead round in links, grow while they are read or change between two runs of reads; each read failing in turn, and reads cut
   after each number of bytes.
 - Standard output and standard error closed, full, or pipes whose reader is gone; each write failing in turn, and writes cut after each number of bytes.
 
 Each run must end by one of the statuses of docs/report.md, by no signal, with just the bytes that the status promises: the whole report, or the first
-bytes of it, or none. Needs `cc` for the failing reads and writes. Ends with status 1 where an answer is wrong.
+bytes of it, or none. So must `calls`, of which the files and the streams are tried alone. Needs `cc` for the failing reads and writes. Ends with status 1
+if an answer is wrong.
 """
 
 import argparse
@@ -144,6 +145,28 @@ def failing(folder, whole):
     print(f"{reads} reads and {writes} writes failed in turn, {len(CUTS)} lengths tried")
 
 
+def other_program(folder):
+    """The same of `calls`: files that can't be read, and outputs that take nothing, or a part of what is written."""
+    calls = program.calls()
+    if calls is None:
+        wrong.append("there is no program calls: ./prove builds it")
+        return
+    chosen[:] = [calls]
+    told = run(folder, "calculator.pl")
+    expect("calls", told[::2], (0, b""))
+    unread = (4, b"", b"calls: cannot read folder.pl\n")
+    expect("calls of a folder", run(folder, "folder.pl"), unread)
+    absent = (3, b"", b"none.pl: no such file\n")
+    expect("calls of an absent file", run(folder, "none.pl"), absent)
+    streams(folder, told)
+    # The system ends a program that passes its limit on a file's size, unless it asks not to be told.
+    shell = "trap '' XFSZ; ulimit -f 1; exec \"$0\" calculator.pl >part"
+    done = subprocess.run(["sh", "-c", shell, calls], cwd=folder, stderr=subprocess.PIPE, timeout=60)
+    part = (folder / "part").read_bytes()
+    if (done.returncode, done.stderr) != (5, b"") or not part or part == told[1] or not told[1].startswith(part):
+        wrong.append(f"calls into a file with a limit: status {done.returncode}, {len(part)} of {len(told[1])} bytes")
+
+
 def main():
     parser = argparse.ArgumentParser(description=__doc__.splitlines()[0])
     program.add_option(parser)
@@ -158,6 +181,7 @@ def main():
         pipe_as_file(folder, whole)
         streams(folder, whole)
         failing(folder, whole)
+        other_program(folder)
     for line in wrong:
         print("WRONG", line)
     print("streams:", "wrong" if wrong else "right")

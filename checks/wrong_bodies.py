@@ -132,15 +132,18 @@ def verdict(crate, edit, said):
     lines = re.findall(rf"(?m)^fn {re.escape(crate.name)}::({named}): (.*)$", said)
     refused = [f"{at}: {it}" for at, it in lines if it.startswith(("no proof", "not proved")) and "it calls" not in it]
     # (where it also calls what isn't proved, an error in its own proof shows that it is refused by itself)
-    own = re.search(rf"(?m)^(?:\./)?proofs/{re.escape(edit.function.replace('::', '/'))}/\w+\.antt:\d+:\d+: error.*$", said)
-    if refused or own:
-        return True, (refused or [own[0]])[0]
+    errors = re.findall(rf"(?m)^(?:\./)?proofs/{re.escape(edit.function.replace('::', '/'))}/\w+\.antt:\d+:\d+: error.*$", said)
+    # (a proof that names a call or a branch that the edit takes away doesn't fit the body, whatever the clauses say)
+    if errors and all(re.search(r"has no (field )?`|can be named from here", it) for it in errors):
+        return False, f"its proof's text alone doesn't fit: {errors[0]}"
+    if refused or errors:
+        return True, (refused or errors)[0]
     if lines and all(it.startswith("proved") for _, it in lines):
         return False, "it is let through"
     if lines:
         return False, f"it is not refused by itself: {lines[0][1]}"
-    errors = re.findall(r"(?m)^.*(?:error\[|: error|^rattle|no verdict).*$", said)
-    return False, f"nothing is said of its function: {(errors or said.splitlines() or ['no output'])[-1 if not errors else 0]}"
+    others = re.findall(r"(?m)^.*(?:error\[|: error|^rattle|no verdict).*$", said)
+    return False, f"nothing is said of its function: {(others or said.splitlines() or ['no output'])[-1 if not others else 0]}"
 
 
 def tried(crate, edits):

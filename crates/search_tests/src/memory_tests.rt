@@ -1,6 +1,7 @@
 use crate::graphs::graph_of_lists;
 use graph_law::{Graph, Opener};
 use search_machine::drive_many;
+use search_stack::groups_plain;
 use std::alloc::AllocError;
 use std::test::Fail;
 
@@ -26,15 +27,17 @@ impl Opener for Failing {
     }
 }
 
+/// A ring whose nodes are all roots, so that searches meet while one of them is refused memory.
 #[test]
 fn no_memory_at_a_node_is_told(rt: HostRuntime) -> Result<(), Fail> {
     let alloc = rt.alloc();
     for at in 0..3 {
-        let graph = graph_of_lists(alloc, &[&[1], &[2], &[0]], &[0])?;
+        let graph = graph_of_lists(alloc, &[&[1], &[2], &[0]], &[0, 1, 2])?;
         let failing = Failing { graph, at };
         assert_eq!(rt; failing.count(), 3);
-        let groups = drive_many(alloc, &failing, &[0], 2, 7);
-        assert!(rt; groups.is_err());
+        assert!(rt; groups_plain(alloc, &failing, &[0, 1, 2]).is_err());
+        assert!(rt; drive_many(alloc, &failing, &[0, 1, 2], 3, 7).is_err());
+        assert!(rt; drive_many(alloc, &failing, &[0], 2, 7).is_err());
     }
     Ok(())
 }

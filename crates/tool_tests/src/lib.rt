@@ -1,11 +1,14 @@
 //! Tests of the libraries of files and of the calls that the program makes: of files in memory and what is
-//! asked for, of sinks that fail, of limits and of workers. Whole runs over files are rows of `checks/rows/`.
+//! asked for, of devices that fail, of limits and of workers. More whole runs over files are rows of
+//! `checks/rows/`.
 #![tactic(auto)]
 
 #[cfg(test)]
 mod asking;
 #[cfg(test)]
 mod crowd;
+#[cfg(test)]
+mod devices;
 #[cfg(test)]
 mod drivers;
 #[cfg(test)]
@@ -14,6 +17,8 @@ mod libraries;
 mod limits;
 #[cfg(test)]
 mod loads;
+#[cfg(test)]
+mod rows;
 #[cfg(test)]
 mod runs;
 #[cfg(test)]
