@@ -6,14 +6,14 @@ ghost use Rattle.group_feed.specs.Feeder.{HasToldFailure};
 use crate::feeder::fail_book;
 use graph_law::Opener;
 use node_claims::{Claims, Pass};
-use search_pool::{Ended, Gate, Openings, run_all};
+use search_pool::{Ended, Gate, run_all};
 use std::alloc::Global;
 use std::sync::Wait;
 use std::thread::Threads;
 
-/// Searches with a worker for each pass, which hold back beside a giant group, since nothing is known of
-/// what an opening costs, and tells how each has ended. Where there is no memory to start them, no worker
-/// marks the book as failed: the spare pass does, so that the feeder ends too, and comes back.
+/// Searches with a worker for each pass, none of which holds back, and returns how each has ended. If
+/// there is no memory to start them, no worker marks the book as failed: the spare pass does, so that the
+/// feeder ends too, and comes back.
 pub(crate) fn search<R: Threads + Wait + Sync, O: Opener, G: Gate>(
     rt: &R,
     alloc: Global,
@@ -30,7 +30,7 @@ pub(crate) fn search<R: Threads + Wait + Sync, O: Opener, G: Gate>(
         (λ ended. (length ended.items ≡ length passes.items) × All (EndsWell claims.now) ended.items)
         (λ pass. HasToldFailure claims.now pass) }
 {
-    match run_all(rt, alloc, claims, passes, opener, gate, Openings::Cheap) {
+    match run_all(rt, alloc, claims, passes, opener, gate) {
         Ok(ended) => Ok(ended),
         Err(_) => Err(fail_book(rt, alloc, claims, spare)),
     }

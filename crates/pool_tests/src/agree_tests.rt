@@ -1,69 +1,71 @@
-use crate::graphs::graph_of;
-use search_pool::{OpenGate, drive_workers};
-use search_stack::groups_plain;
-use std::alloc::{AllocError, Global};
-use std::sync::Wait;
+use crate::agree::agree;
+use crate::graphs::{Shape, draw, graph_of, graph_with};
+use search_pool::{Gate, MeetGate, OpenGate};
+use std::hint;
 use std::test::Fail;
-use std::thread::Threads;
+
+// How many loops the first expansion waits for one of another worker.
+const LOOPS: u32 = 50_000_000;
+
+// Successor lists and roots.
+const GRAPHS: [(&[&[u32]], &[u32]); 8] = [
+    (&[&[1], &[0]], &[0]),
+    (&[&[1], &[2], &[0]], &[0, 1, 2]),
+    (&[&[1], &[0, 2], &[3], &[2, 0]], &[3, 0]),
+    (&[&[1], &[2], &[3], &[]], &[0, 2]),
+    (&[&[1, 2], &[3], &[3], &[]], &[0]),
+    (&[&[0]], &[0]),
+    (&[&[4], &[4], &[0], &[], &[1]], &[3, 2, 1, 0]),
+    (&[&[1], &[0], &[]], &[2, 0, 2, 1, 0]),
+];
 
 #[test]
 fn workers_find_the_groups_of_one_search(rt: HostRuntime) -> Result<(), Fail> {
     let alloc = rt.alloc();
-    assert!(rt; agree(&rt, alloc, &[&[1], &[0]], &[0])?, "a ring of two");
-    assert!(rt;
-        agree(&rt, alloc, &[&[1], &[2], &[0]], &[0, 1, 2])?,
-        "a ring of three"
-    );
-    assert!(rt;
-        agree(&rt, alloc, &[&[1], &[0, 2], &[3], &[2, 0]], &[3, 0])?,
-        "two rings joined"
-    );
-    assert!(rt;
-        agree(&rt, alloc, &[&[1], &[2], &[3], &[]], &[0, 2])?,
-        "a chain"
-    );
-    assert!(rt;
-        agree(&rt, alloc, &[&[1, 2], &[3], &[3], &[]], &[0])?,
-        "a diamond"
-    );
-    assert!(rt;
-        agree(&rt, alloc, &[&[0]], &[0])?,
-        "a node that calls itself"
-    );
-    assert!(rt;
-        agree(&rt, alloc, &[&[4], &[4], &[0], &[], &[1]], &[3, 2, 1, 0])?,
-        "many roots"
-    );
-    assert!(rt;
-        agree(&rt, alloc, &[&[1], &[0], &[]], &[2, 0, 2, 1, 0])?,
-        "roots that come twice"
-    );
+    for (lists, roots) in GRAPHS {
+        let graph = graph_of(alloc, lists, roots)?;
+        for jobs in 1..9 {
+            assert!(rt;
+                agree(&rt, alloc, &graph, jobs, &OpenGate)?,
+                "{lists:?} by {jobs}"
+            );
+        }
+    }
     Ok(())
 }
 
-/// Whether up to eight workers find the groups that one search finds.
-fn agree<R: Threads + Wait + Sync>(
-    rt: &R,
-    alloc: Global,
-    lists: &[&[u32]],
-    roots: &[u32],
-) -> Result<bool, Fail> {
-    let graph = graph_of(alloc, lists, roots)?;
-    let expected = sorted(groups_plain(alloc, &graph, graph.roots())?)?;
-    for jobs in 1..9 {
-        let groups = drive_workers(rt, alloc, &graph, graph.roots(), jobs, &OpenGate)?;
-        if sorted(groups)? != expected {
-            return Ok(false);
-        }
-    }
-    Ok(true)
+/// It holds the first expansion until another worker expands a node too, and then each for a moment,
+/// so that the searches of workers meet.
+#[derive(Drop)]
+struct MixingGate {
+    meeting: MeetGate,
+    seed: u32,
 }
 
-/// The groups as sets: the members of each ascending, and the groups in order.
-fn sorted(mut groups: Vec<Vec<u32>>) -> Result<Vec<Vec<u32>>, AllocError> {
-    for group in &mut groups {
-        group.sort_unstable();
+impl Gate for MixingGate {
+    fn opened(&self, node: u32) {
+        self.meeting.opened(node);
+        for _turn in 0..draw(self.seed, node) % 64 {
+            hint::spin_loop();
+        }
     }
-    groups.sort()?;
-    Ok(groups)
+}
+
+/// The workers of each graph expand nodes at once.
+#[test]
+fn workers_that_meet_find_the_groups_of_random_graphs(rt: HostRuntime) -> Result<(), Fail> {
+    let alloc = rt.alloc();
+    for seed in 0..1_000 {
+        let graph = graph_with(alloc, Shape::Random(seed), 2 + seed % 11)?;
+        let gate = MixingGate {
+            meeting: MeetGate::new(LOOPS),
+            seed,
+        };
+        assert!(rt;
+            agree(&rt, alloc, &graph, 2 + seed % 3, &gate)?,
+            "graph {seed}"
+        );
+        assert!(rt; gate.meeting.met(), "graph {seed}");
+    }
+    Ok(())
 }

@@ -1,22 +1,22 @@
-//! Tests of workers that search one graph side by side.
+//! Tests of workers that search one graph in parallel.
 #![tactic(auto)]
 
 #[cfg(test)]
+mod agree;
+#[cfg(test)]
 mod agree_tests;
 #[cfg(test)]
-mod crowd;
+mod counting_gate;
 #[cfg(test)]
-mod gate_tests;
-#[cfg(test)]
-mod giant_tests;
+mod crew_tests;
 #[cfg(test)]
 mod graphs;
+#[cfg(test)]
+mod many_tests;
 #[cfg(test)]
 mod meeting;
 #[cfg(test)]
 mod seen_tests;
-#[cfg(test)]
-mod slow_gate;
 #[cfg(test)]
 mod star_gate;
 #[cfg(test)]
@@ -28,10 +28,6 @@ mod told;
 #[cfg(test)]
 mod told_tests;
 #[cfg(test)]
-mod trial_tests;
-#[cfg(test)]
 mod turn_tests;
 #[cfg(test)]
 mod waiting;
-#[cfg(test)]
-mod waking_tests;

@@ -1,60 +1,58 @@
+ghost use Rattle.std.specs.Prelude.{◌≡◌};
+
 use crate::waiting::comes;
-use graph_law::Opener;
+use graph_law::{Graph, Opener};
 use std::alloc::AllocError;
 use std::sync::atomic::{AtomicBool, AtomicU32, Ordering};
 
-/// Two nodes that call nothing. The first that is opened waits for the other.
+/// A graph of which each expansion waits until so many have begun.
 #[derive(Drop)]
-pub(crate) struct Meeting {
-    zeros: AtomicU32,
-    ones: AtomicU32,
-    entered: AtomicU32,
-    second: AtomicBool,
-    met: AtomicBool,
+pub(crate) struct Meeting<'a> {
+    graph: &'a Graph,
+    count: u32,
+    begun: AtomicU32,
+    all: AtomicBool,
+    met: AtomicU32,
 }
 
-impl Meeting {
-    pub(crate) fn new() -> Meeting {
+impl<'a> Meeting<'a> {
+    pub(crate) fn new(graph: &'a Graph, count: u32) -> Meeting<'a>
+        ensures { result.graph.now ≡ graph.now }
+    {
         Meeting {
-            zeros: AtomicU32::new(0),
-            ones: AtomicU32::new(0),
-            entered: AtomicU32::new(0),
-            second: AtomicBool::new(false),
-            met: AtomicBool::new(false),
+            graph,
+            count,
+            begun: AtomicU32::new(0),
+            all: AtomicBool::new(false),
+            met: AtomicU32::new(0),
         }
     }
 
-    /// How often each node was opened.
-    pub(crate) fn opened(&self) -> (u32, u32) {
-        (
-            self.zeros.load(Ordering::SeqCst),
-            self.ones.load(Ordering::SeqCst),
-        )
+    /// How many expansions have begun.
+    pub(crate) fn begun(&self) -> u32 {
+        self.begun.load(Ordering::SeqCst)
     }
 
-    /// Whether the second node was opened while the first waited.
-    pub(crate) fn met(&self) -> bool {
+    /// How many of them have seen so many begin.
+    pub(crate) fn met(&self) -> u32 {
         self.met.load(Ordering::SeqCst)
     }
 }
 
-impl Opener for Meeting {
-    ghost use Rattle.std.specs.Prelude.{[], ◌∷◌};
-
-    ghost lists = { λ meeting. [] ∷ [] ∷ [] };
+impl<'a> Opener for Meeting<'a> {
+    ghost lists = { λ meeting. meeting.graph.now.lists };
 
     fn count(&self) -> u32 {
-        2
+        self.graph.count()
     }
 
-    fn expand(&self, node: u32, _out: &mut Vec<u32>) -> Result<(), AllocError> {
-        let opened = if node == 0 { &self.zeros } else { &self.ones };
-        opened.fetch_add(1, Ordering::SeqCst);
-        if self.entered.fetch_add(1, Ordering::SeqCst) == 0 {
-            self.met.store(comes(&self.second), Ordering::SeqCst);
-        } else {
-            self.second.store(true, Ordering::SeqCst);
+    fn expand(&self, node: u32, out: &mut Vec<u32>) -> Result<(), AllocError> {
+        if self.begun.fetch_add(1, Ordering::SeqCst).wrapping_add(1) == self.count {
+            self.all.store(true, Ordering::SeqCst);
         }
-        Ok(())
+        if comes(&self.all) {
+            self.met.fetch_add(1, Ordering::SeqCst);
+        }
+        self.graph.expand(node, out)
     }
 }

@@ -6,7 +6,7 @@ ghost use Rattle.search_pool.specs.declared.ended.Ended.TheVariants.{Finished};
 use crate::graphs::graph_of;
 use graph_law::Opener;
 use node_claims::{Claimed, Claims, Looked, Pass};
-use search_pool::{Ended, OpenGate, Openings, work};
+use search_pool::{Ended, OpenGate, work};
 use std::sync::Wait;
 use std::test::Fail;
 
@@ -17,15 +17,7 @@ fn a_pass_that_did_nothing_sees_what_a_worker_finished(rt: HostRuntime) -> Resul
     assert_eq!(rt; graph.count(), 3);
     let (claims, pass) = Claims::make(alloc, &graph, graph.roots())?;
     let (first, second) = claims.split(pass);
-    let ended = work(
-        &rt,
-        alloc,
-        &claims,
-        first,
-        &graph,
-        &OpenGate,
-        Openings::Cheap,
-    );
+    let ended = work(&rt, alloc, &claims, first, &graph, &OpenGate);
     let Ended::Finished { pass: first } = ended else {
         return Err("the worker has not finished".into());
     };

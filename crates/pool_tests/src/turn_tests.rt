@@ -6,7 +6,7 @@ use crate::graphs::graph_of;
 use crate::waiting::comes;
 use graph_law::Graph;
 use node_claims::{Claims, Pass};
-use search_pool::{Ended, Gate, Openings, work};
+use search_pool::{Ended, Gate, work};
 use search_stack::Search;
 use std::alloc::Global;
 use std::sync::Wait;
@@ -77,7 +77,7 @@ fn side_by_side<R: Threads + Wait + Sync>(
         || -> Ended
             requires { (claims.now.lists ≡ graph.now.lists) × (IsPassOf claims.now theirs × (theirs.view.nodes ≡ [])) }
             ensures { EndsWell claims.entry.now result }
-        { work(rt, alloc, claims, theirs, graph, gate, Openings::Dear) },
+        { work(rt, alloc, claims, theirs, graph, gate) },
         || -> (Pass, bool)
             requires { IsPassOf claims.now mine × (mine.view.nodes ≡ []) }
             ensures { IsPassOf claims.entry.now result.0 × (result.0.view.nodes ≡ []) }

@@ -1,5 +1,5 @@
 -- The nodes of the group that was released last are closed one after another.
-use Rattle.std.proofs.Common.{◌≡◌, ℕ, zero, suc, ◌<◌, ◌≤◌, ◌+◌, ◌-◌, List, [], ◌∷◌, ◌++◌, length, take, get_or, Some, ap, ◌∙◌, sym, subst, arith}
+use Rattle.std.proofs.Common.{◌≡◌, ℕ, zero, suc, ◌<◌, ◌≤◌, ◌+◌, ◌-◌, List, [], ◌∷◌, ◌++◌, length, take, get_or, Some, ap, ◌∙◌, sym, subst, arith, append_assoc}
 use Rattle.std.proofs.lemmas.List.{get_or_default, take_more}
 use Rattle.std.proofs.lemmas.Option.{get_or_from_slice_get}
 use Rattle.std.specs.Prelude.{Contains, slice_get}
@@ -57,11 +57,20 @@ module _ {turn : TurnValue} (may : MayCloseAll turn) {now : TurnValue} (index : 
           open_yet =
               let more : times node (take (index + 1) group) ≡ times node (take index group) + times node (node ∷ []) =
               ap (times node) closed_more ∙ times-append node (take index group) (node ∷ []) in
-              omega (arith, more, taken_less node (index + 1) group, may.once node, times_here node);
+              omega (
+                arith,
+                more,
+                taken_less node (index + 1) group,
+                may.once node,
+                times_here node,
+                may.none_closed node contained,
+                times-append node turn.taken.closed (take index group),
+              );
         })
 
     pub closes_more : (after : TurnValue)
         → after ≡ record now { taken = record now.taken { closed = now.taken.closed ++ node ∷ [] } } → after ≡ with_closed turn (take (index + 1) group)
     closes_more after closed =
         closed ∙ ap (λ (t : TurnValue). record t { taken = record t.taken { closed = t.taken.closed ++ node ∷ [] } }) is
+        ∙ ap (λ nodes. record turn { taken = record turn.taken { closed = nodes } }) (append_assoc turn.taken.closed (take index group) (node ∷ []))
         ∙ ap (with_closed turn) (sym closed_more)

@@ -5,8 +5,9 @@ use Rattle.list_laws.specs.Counts.{times, flat}
 use Rattle.search_stack.specs.GoodSearch.{IsGood}
 use Rattle.search_stack.specs.Search.{SearchValue}
 use Rattle.group_release.specs.Book.{BookValue}
-use Rattle.node_claims.specs.Claims.{ClaimsValue, PassValue, TurnValue}
-use Rattle.node_claims.specs.Views.{Noted}
+use Rattle.node_claims.specs.Claims.{ClaimsValue, PassValue, TurnValue, nodes_with}
+use Rattle.node_claims.specs.Steps.{MayGive}
+use Rattle.node_claims.specs.Views.{Noted, outline_of}
 use Rattle.search_pool.specs.Worker.{EndsWell, IsWorking}
 use Rattle.search_pool.specs.declared.worker.stretch.Stretch.{Stretch}
 use Rattle.search_pool.specs.declared.worker.went.Worker.{Worker}
@@ -71,14 +72,28 @@ pub record GoesOnWith (claims : ClaimsValue) (turn : TurnValue) (search : Search
 abbrev pub last_group : BookValue → List ℕ
 last_group book = slice_index_or book.groups (length book.groups - 1) []
 
--- the turn with these nodes closed, where none was
+-- the turn with these nodes closed too
 abbrev pub with_closed : TurnValue → List ℕ → TurnValue
-with_closed turn nodes = record turn { taken = record turn.taken { closed = nodes } }
+with_closed turn nodes = record turn { taken = record turn.taken { closed = turn.taken.closed ++ nodes } }
+
+-- a worker has the turn, and may give it back with this search and go on: the search is good for what is released; so many roots were seen
+-- finished; and as the turn was taken no node stood twice
+pub record HasTurn (claims : ClaimsValue) (turn : TurnValue) (search : SearchValue) (seen_roots : ℕ) : Type 0 where
+  pub of : IsTurnOf claims turn
+  pub lists : turn.book.lists ≡ claims.lists
+  pub roots : turn.book.roots ≡ claims.roots
+  pub wants_nothing : search.wanted ≡ None
+  pub within : seen_roots ≤ length claims.roots
+  pub seen : All (λ root. 0 < times root turn.view.seen) (take seen_roots claims.roots)
+  pub good : IsGood claims.lists claims.roots (flat turn.book.groups) false search.stack
+  pub may : MayGive turn.view turn.taken (outline_of turn.book) (nodes_with search None)
+  pub apart : (x : ℕ) → times x turn.view.nodes + (times x turn.taken.book.kept + times x (flat turn.taken.book.released)) ≤ 1
+  pub below : (x : ℕ) → 0 < times x turn.view.nodes + (times x turn.taken.book.kept + times x (flat turn.taken.book.released)) → x < length claims.lists
 
 -- a group was released and none of its nodes is closed yet: each stands there once, is a node of the graph, and stood with the pass or was kept
 pub record MayCloseAll (turn : TurnValue) : Type 0 where
   pub some : 0 < length turn.book.groups
-  pub none_closed : turn.taken.closed ≡ []
+  pub none_closed : (x : ℕ) → Contains (last_group turn.book) x → times x turn.taken.closed ≡ 0
   pub once : (x : ℕ) → times x (last_group turn.book) ≤ 1
   pub below : (x : ℕ) → Contains (last_group turn.book) x → x < length turn.view.lists
   pub stood : (x : ℕ) → Contains (last_group turn.book) x → 0 < times x turn.view.nodes + times x turn.taken.book.kept

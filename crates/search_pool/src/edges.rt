@@ -7,6 +7,7 @@ ghost use Rattle.list_laws.specs.Counts.{times};
 ghost use Rattle.search_pool.specs.Edges.{GoesOn};
 ghost use Rattle.search_pool.specs.Worker.{IsRunning, IsWorking, StopsAt};
 
+use crate::crew::Crew;
 use crate::gate::Gate;
 use crate::stopped::Stopped;
 use graph_law::Opener;
@@ -15,7 +16,7 @@ use search_stack::{Opening, Search};
 use std::alloc::{AllocError, Global};
 use std::sync::Wait;
 
-// From how many nodes on a search gets more room than it needs, and how much at most.
+// From how many nodes on a search gets more room than it needs, and for how many nodes at most.
 const LARGE: u32 = 256;
 
 const MOST_ROOM: u32 = 262_144;
@@ -30,15 +31,16 @@ pub(crate) fn run_free<O: Opener, G: Gate>(
     search: &mut Search,
     opener: &O,
     gate: &G,
+    crew: &Crew,
 ) -> Stopped
     requires made { claims.now.lists ≡ O.lists opener.now }
     requires running { IsRunning claims.now pass.old search.old false }
     ensures stops { StopsAt claims.now pass.new search.new result }
     ensures seen { (x : ℕ) → 0 < times x pass.old.view.seen → 0 < times x pass.new.view.seen }
 {
-    let _count = opener.count();
+    let count = opener.count();
     'edges: for _ in rt.forever() {
-        if search.reserve(room_for(search.len())).is_err() {
+        if search.reserve(room_for(search.len(), count)).is_err() {
             return Stopped::NoRoom;
         }
         let Some(node) = search.begin() else {
@@ -48,17 +50,17 @@ pub(crate) fn run_free<O: Opener, G: Gate>(
             search.retreat();
             continue;
         };
-        if let Some(stopped) = settle(alloc, claims, pass, search, opener, gate, node) {
+        if let Some(stopped) = settle(alloc, claims, pass, search, opener, gate, crew, node) {
             return stopped;
         }
     }
     unreachable!()
 }
 
-// How much room a search of so many nodes is to have. Each time that a large one has grown to twice as much
-// it gets room for eight times as many, since far-off nodes compete for places in a table that is hardly
-// larger than they are many.
-fn room_for(nodes: u32) -> u32
+// How much room a search of so many nodes of the graph is to have. Each time that a large one has doubled
+// it gets room for eight times as many, since far-off nodes compete for slots in a table that is hardly
+// larger than they are many. No more than the rest of the graph ever come.
+fn room_for(nodes: u32, count: u32) -> u32
     ensures { 0 < result }
 {
     if nodes < LARGE {
@@ -67,7 +69,8 @@ fn room_for(nodes: u32) -> u32
     if nodes & (nodes - 1) != 0 {
         return 1;
     }
-    nodes.saturating_mul(8).clamp(1, MOST_ROOM)
+    let more = nodes.saturating_mul(8).min(MOST_ROOM);
+    more.min(count.saturating_sub(nodes)).max(1)
 }
 
 /// Claims the node of the edge that the top has begun last, and settles the edge where that can be
@@ -79,6 +82,7 @@ fn settle<O: Opener, G: Gate>(
     search: &mut Search,
     opener: &O,
     gate: &G,
+    crew: &Crew,
     node: u32,
 ) -> Option<Stopped>
     requires made { claims.now.lists ≡ O.lists opener.now }
@@ -90,7 +94,7 @@ fn settle<O: Opener, G: Gate>(
     ensures seen { (x : ℕ) → 0 < times x pass.old.view.seen → 0 < times x pass.new.view.seen }
 {
     match claims.claim(pass, node) {
-        Claimed::Won => match open_node(alloc, claims, pass, search, opener, gate, node) {
+        Claimed::Won => match open_node(alloc, claims, pass, search, opener, gate, crew, node) {
             Ok(()) => None,
             Err(_) => Some(Stopped::Unopened(node)),
         },
@@ -107,7 +111,8 @@ fn settle<O: Opener, G: Gate>(
     }
 }
 
-/// Opens a node that the pass has won, and pushes it. At want of memory nothing has changed.
+/// Expands a node that the pass has won, and pushes it. If memory is out nothing has changed. To the
+/// crew the gate is a part of the expansion.
 pub(crate) fn open_node<O: Opener, G: Gate>(
     alloc: Global,
     claims: &Claims,
@@ -115,6 +120,7 @@ pub(crate) fn open_node<O: Opener, G: Gate>(
     search: &mut Search,
     opener: &O,
     gate: &G,
+    crew: &Crew,
     node: u32,
 ) -> Result<(), AllocError>
     requires made { claims.now.lists ≡ O.lists opener.now }
@@ -128,8 +134,10 @@ pub(crate) fn open_node<O: Opener, G: Gate>(
     ensures unchanged { IfErr result (λ _. search.new ≡ search.old) }
 {
     let mut succs = Vec::new(alloc);
+    crew.step();
     gate.opened(node);
     opener.expand(node, &mut succs)?;
+    crew.step();
     search.push(Opening { node, succs });
     Ok(())
 }

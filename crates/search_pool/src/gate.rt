@@ -1,7 +1,5 @@
 ghost use Rattle.std.specs.Prelude.{◌≡◌};
 
-use graph_law::Opener;
-use std::alloc::AllocError;
 use std::marker::Model;
 use std::sync::atomic::{AtomicU64, Ordering};
 use std::{hint, thread};
@@ -29,26 +27,6 @@ pub struct OpenGate;
 
 impl Gate for OpenGate {
     fn opened(&self, _node: u32) {}
-}
-
-/// An opener whose gate is told of each node before it is opened.
-#[derive(Drop)]
-pub(crate) struct Gated<'a, O, G> {
-    pub(crate) opener: &'a O,
-    pub(crate) gate: &'a G,
-}
-
-impl<'a, O: Opener, G: Gate> Opener for Gated<'a, O, G> {
-    ghost lists = { λ gated. O.lists gated.opener.now };
-
-    fn count(&self) -> u32 {
-        self.opener.count()
-    }
-
-    fn expand(&self, node: u32, out: &mut Vec<u32>) -> Result<(), AllocError> {
-        self.gate.opened(node);
-        self.opener.expand(node, out)
-    }
 }
 
 /// A gate that holds the first opening until a second one has entered, or a number of loops is over.

@@ -1,10 +1,11 @@
-ghost use Rattle.std.specs.Prelude.{◌≡◌, []};
+ghost use Rattle.std.specs.Prelude.{◌≡◌, [], None};
 ghost use Rattle.node_claims.specs.Claims.{IsPassOf};
+ghost use Rattle.search_stack.specs.Search.{empty_stack};
 ghost use Rattle.search_pool.specs.Worker.{EndsWell};
 
+use crate::crew::Crew;
 use crate::ended::Ended;
 use crate::gate::Gate;
-use crate::openings::Openings;
 use graph_law::Opener;
 use node_claims::{Claims, Pass};
 use search_stack::Search;
@@ -27,8 +28,7 @@ use stretch::Stretch;
 use went::{Went, Worker};
 
 /// Works until the pass has seen each root finished, or memory is wanting. It calls the gate and then
-/// the opener for each node that it wins, without the turn. What an opening costs tells it whether to go
-/// on beginning searches that at once have to wait. The promise holds if the call returns.
+/// the opener for each node that it wins, without the turn. The promise holds if the call returns.
 pub fn work<O: Opener, G: Gate>(
     rt: &impl Wait,
     alloc: Global,
@@ -36,7 +36,26 @@ pub fn work<O: Opener, G: Gate>(
     pass: Pass,
     opener: &O,
     gate: &G,
-    openings: Openings,
+) -> Ended
+    requires made { claims.now.lists ≡ O.lists opener.now }
+    requires pass { IsPassOf claims.now pass }
+    requires idle { pass.view.nodes ≡ [] }
+    ensures { EndsWell claims.now result }
+{
+    work_in(rt, alloc, claims, pass, opener, gate, &Crew::at_work(), 0)
+}
+
+/// The same, for a worker of a crew, which begins with room for so many nodes. If the crew's first worker has
+/// shown that expanding nodes is dear, it goes on beginning searches even if they have to wait at once.
+pub(crate) fn work_in<O: Opener, G: Gate>(
+    rt: &impl Wait,
+    alloc: Global,
+    claims: &Claims,
+    pass: Pass,
+    opener: &O,
+    gate: &G,
+    crew: &Crew,
+    room: u32,
 ) -> Ended
     requires made { claims.now.lists ≡ O.lists opener.now }
     requires pass { IsPassOf claims.now pass }
@@ -45,7 +64,7 @@ pub fn work<O: Opener, G: Gate>(
 {
     let mut worker = Worker {
         pass,
-        search: Search::empty(alloc),
+        search: begin_search(alloc, room),
         stretch: Stretch {
             roots: Vec::new(alloc),
             next: 0,
@@ -56,10 +75,21 @@ pub fn work<O: Opener, G: Gate>(
         awaited: 0,
     };
     'turns: for _ in rt.forever() {
-        match go_on(rt, alloc, claims, worker, opener, gate, openings) {
+        match go_on(rt, alloc, claims, worker, opener, gate, crew) {
             Went::On(after) => worker = after,
             Went::Ended(ended) => return ended,
         }
     }
     unreachable!()
+}
+
+// A search with nothing on its stack. If there is no memory for so much room, it has none yet.
+fn begin_search(alloc: Global, room: u32) -> Search
+    ensures stack { result.stack ≡ empty_stack }
+    ensures wanted { result.wanted ≡ None }
+{
+    match Search::with_room(alloc, room) {
+        Ok(search) => search,
+        Err(_) => Search::empty(alloc),
+    }
 }

@@ -6,26 +6,20 @@ ghost use Rattle.graph_law.specs.Reach.{IsReached};
 ghost use Rattle.search_pool.specs.Driving.{IsIdle, IsThrough};
 ghost use Rattle.search_pool.specs.Worker.{EndsWell};
 
+use crate::crew::Crew;
 use crate::ended::Ended;
-use crate::gate::{Gate, Gated};
-use crate::openings::Openings;
-use crate::trial::{Trial, search_alone};
-use crate::worker::work;
+use crate::gate::Gate;
+use crate::worker::work_in;
 use graph_law::Opener;
 use node_claims::{Claims, Pass};
-use search_stack::groups_plain;
 use std::alloc::{AllocError, Global};
 use std::sync::Wait;
 use std::thread;
 use std::thread::Threads;
 
-// From how many nodes on one search is tried first, whose openings may cost next to nothing. Over fewer the
-// try would take too much of a run whose openings are dear: it lasts one to two milliseconds.
-const MANY_NODES: u32 = 4_096;
-
-/// The groups of all that the roots reach, in a legal order, found by `jobs` workers; or by one search,
-/// where the nodes are many and opening them costs little, since workers gain nothing then. Where no thread
-/// can be made, the workers run one after another. The promise holds if the call returns.
+/// The groups of all that the roots reach, in a legal order, found by `jobs` workers. One of them begins,
+/// and the others hold back as long as nodes are expanded so cheaply that they would gain nothing. If no
+/// thread can be made, they run one after another. The promise holds if the call returns.
 pub fn drive_workers<R: Threads + Wait + Sync, O: Opener, G: Gate>(
     rt: &R,
     alloc: Global,
@@ -42,31 +36,11 @@ pub fn drive_workers<R: Threads + Wait + Sync, O: Opener, G: Gate>(
     ensures reached { IfOk result (λ groups. (v : ℕ) → HasMember (lists_of groups.items) v
         → IsReached (Calls (O.lists opener.now)) roots.now v) }
 {
-    let jobs = useful(jobs, roots.len());
-    if jobs <= 1 {
-        return groups_plain(alloc, &Gated { opener, gate }, roots);
-    }
-    let trial = Trial::new();
-    if opener.count() >= MANY_NODES {
-        if let Some(groups) = search_alone(rt, alloc, &trial, &Gated { opener, gate }, roots)? {
-            return Ok(groups);
-        }
-    }
     let (claims, pass) = Claims::make(alloc, opener, roots)?;
     let passes = split_for(alloc, &claims, pass, jobs)?;
-    let ended = run_all(rt, alloc, &claims, passes, opener, gate, trial.openings())?;
+    let ended = run_crew(rt, alloc, &claims, passes, opener, gate, &Crew::new())?;
     let pass = join_all(&claims, ended)?;
     Ok(claims.finish(rt, pass))
-}
-
-// How many of the workers can have something to do: each of them begins at a root. One alone needs no claims.
-fn useful(jobs: u32, roots: usize) -> u32
-    ensures { result ≤ jobs }
-{
-    if roots < jobs as usize {
-        return roots as u32;
-    }
-    jobs
 }
 
 /// A pass for each of `jobs` workers.
@@ -92,8 +66,8 @@ pub fn split_for(
     Ok(passes)
 }
 
-/// Each pass works in a thread of its own, where one can be made. It answers how each worker has ended.
-/// The promise holds if the call returns.
+/// Runs a worker for each pass, in a thread of its own if one can be made. None of them holds back. Returns
+/// how each has ended. The promise holds if the call returns.
 pub fn run_all<R: Threads + Wait + Sync, O: Opener, G: Gate>(
     rt: &R,
     alloc: Global,
@@ -101,7 +75,24 @@ pub fn run_all<R: Threads + Wait + Sync, O: Opener, G: Gate>(
     passes: Vec<Pass>,
     opener: &O,
     gate: &G,
-    openings: Openings,
+) -> Result<Vec<Ended>, AllocError>
+    requires made { claims.now.lists ≡ O.lists opener.now }
+    requires idle { All (IsIdle claims.now) passes.items }
+    ensures count { IfOk result (λ ended. length ended.items ≡ length passes.items) }
+    ensures ended { IfOk result (λ ended. All (EndsWell claims.now) ended.items) }
+{
+    run_crew(rt, alloc, claims, passes, opener, gate, &Crew::at_work())
+}
+
+// The same, for the workers of a crew.
+fn run_crew<R: Threads + Wait + Sync, O: Opener, G: Gate>(
+    rt: &R,
+    alloc: Global,
+    claims: &Claims,
+    passes: Vec<Pass>,
+    opener: &O,
+    gate: &G,
+    crew: &Crew,
 ) -> Result<Vec<Ended>, AllocError>
     requires made { claims.now.lists ≡ O.lists opener.now }
     requires idle { All (IsIdle claims.now) passes.items }
@@ -114,11 +105,21 @@ pub fn run_all<R: Threads + Wait + Sync, O: Opener, G: Gate>(
         &|pass: Pass| -> Ended
             requires { (claims.now.lists ≡ O.lists opener.now) × IsIdle claims.now pass }
             ensures { EndsWell claims.entry.now result }
-        { work(rt, alloc, claims, pass, opener, gate, openings) },
+        {
+            // One more than there are nodes, so that the search never grows.
+            let room = if crew.come(rt) {
+                opener.count().saturating_add(1)
+            } else {
+                0
+            };
+            let ended = work_in(rt, alloc, claims, pass, opener, gate, crew, room);
+            crew.leave();
+            ended
+        },
     )
 }
 
-/// One pass that knows what all knew, where each worker has finished.
+// One pass that knows what all knew, if each worker has finished.
 fn join_all(claims: &Claims, ended: Vec<Ended>) -> Result<Pass, AllocError>
     requires some { 0 < length ended.items }
     requires well { All (EndsWell claims.now) ended.items }

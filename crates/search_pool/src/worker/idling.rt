@@ -8,9 +8,9 @@ use super::rooting::open_next;
 use super::stopping::stop;
 use super::stretch::Stretch;
 use super::went::{Went, Worker};
+use crate::crew::Crew;
 use crate::ended::Ended;
 use crate::gate::Gate;
-use crate::openings::Openings;
 use crate::pausing::pause;
 use graph_law::Opener;
 use group_release::Book;
@@ -21,8 +21,8 @@ use std::sync::Wait;
 // In how many stretches the roots are handed out, where there are enough: four for each of 64 workers.
 const STRETCHES: usize = 256;
 
-// How many searches in a row may come to few nodes and wait before the worker waits too, where openings
-// are cheap.
+// How many searches in a row may come to few nodes and wait before the worker waits too, if expanding
+// nodes is cheap.
 const MOST_VAIN: u32 = 4;
 
 // The most roots of a stretch. A turn for so many costs next to nothing, and no worker is left with much.
@@ -38,18 +38,18 @@ pub(crate) fn take_up<O: Opener, G: Gate>(
     worker: Worker,
     opener: &O,
     gate: &G,
-    openings: Openings,
+    crew: &Crew,
 ) -> Went
     requires made { claims.now.lists ≡ O.lists opener.now }
     requires at_work { IsAtWork claims.now worker false }
     requires idle { size worker.search.stack ≡ 0 }
     ensures { GoesWell claims.now result }
 {
-    if are_too_many(worker.vain, openings) {
+    if are_too_many(worker.vain, crew) {
         return hold_back(rt, claims, worker);
     }
     if worker.stretch.next < worker.stretch.roots.len() {
-        return open_next(rt, alloc, claims, worker, opener, gate);
+        return open_next(rt, alloc, claims, worker, opener, gate, crew);
     }
     let Worker {
         pass,
@@ -86,14 +86,11 @@ pub(crate) fn take_up<O: Opener, G: Gate>(
     Went::On(worker)
 }
 
-// Whether the worker is to begin no other search, with so many of its last in vain. Where openings are
-// dear none is in vain: the nodes that it has opened are moved on top of the search that it waits for, which
-// need not open them.
-fn are_too_many(vain: u32, openings: Openings) -> bool {
-    match openings {
-        Openings::Cheap => vain >= MOST_VAIN,
-        Openings::Dear => false,
-    }
+// Whether the worker should begin no other search, since its last `vain` ones had to wait at once. Never
+// if expanding nodes is dear: the nodes that it expanded are moved on top of the search that it waits
+// for, which need not expand them.
+fn are_too_many(vain: u32, crew: &Crew) -> bool {
+    vain >= MOST_VAIN && !crew.finds_expansions_dear()
 }
 
 // Waits a little, where the worker's last searches all had to wait at once, and begins no other until the

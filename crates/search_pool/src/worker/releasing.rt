@@ -1,15 +1,20 @@
-ghost use Rattle.std.specs.Prelude.{◌≡◌, false};
+ghost use Rattle.std.specs.Prelude.{◌≡◌, ℕ, false};
 ghost use Rattle.search_stack.specs.Search.{IsRipe};
-ghost use Rattle.search_pool.specs.Working.{IsAtWork, GoesWell};
+ghost use Rattle.node_claims.specs.Claims.{ClaimsValue};
+ghost use Rattle.search_pool.specs.Working.{GoesWell, HasTurn, IsAtWork};
 
 use super::closing::close_group;
 use super::giving::give_back;
 use super::stopping::stop;
 use super::went::{Went, Worker};
-use node_claims::Claims;
+use node_claims::{Claims, Turn};
+use search_stack::Search;
+use std::alloc::AllocError;
 use std::sync::Wait;
 
-/// Releases the ripe top segment, and closes its nodes. The worker goes on with the rest.
+/// Releases the ripe top segment and closes its nodes, again and again as long as the top segment of what
+/// is left is ripe: a group is often the last that its caller has waited for, and one turn serves both.
+/// The worker goes on with the rest.
 pub(crate) fn release(rt: &impl Wait, claims: &Claims, worker: Worker) -> Went
     requires at_work { IsAtWork claims.now worker false }
     requires ripe { IsRipe worker.search.stack }
@@ -29,10 +34,27 @@ pub(crate) fn release(rt: &impl Wait, claims: &Claims, worker: Worker) -> Went
     if book.has_failed() {
         return Went::Ended(stop(turn, search, None));
     }
+    'groups: for _ in rt.forever() {
+        if release_top(&mut turn, &mut search).is_err() {
+            return Went::Ended(stop(turn, search, None));
+        }
+        if !search.is_ripe() {
+            return Went::On(give_back(turn, search, stretch, seen_roots));
+        }
+    }
+    unreachable!()
+}
+
+/// Releases the ripe top segment, and closes its nodes. If memory is out nothing has changed.
+fn release_top(turn: &mut Turn<'_>, search: &mut Search) -> Result<(), AllocError>
+    requires ripe { IsRipe search.old.stack }
+    requires under { (claims : ClaimsValue) × (n : ℕ) × HasTurn claims turn.old search.old n }
+    ensures { (claims : ClaimsValue) (n : ℕ) → HasTurn claims turn.old search.old n → HasTurn claims turn.new search.new n }
+{
     let Ok(group) = search.take_ripe() else {
-        return Went::Ended(stop(turn, search, None));
+        return Err(AllocError);
     };
-    book.release(group);
-    close_group(&mut turn);
-    Went::On(give_back(turn, search, stretch, seen_roots))
+    turn.book().release(group);
+    close_group(turn);
+    Ok(())
 }

@@ -5,6 +5,7 @@ ghost use Rattle.search_pool.specs.Working.{GoesWell, HasClaimedOn, HasWon, IsAt
 
 use super::stopping::give_up;
 use super::went::{Went, Worker};
+use crate::crew::Crew;
 use crate::edges::open_node;
 use crate::gate::Gate;
 use graph_law::Opener;
@@ -21,6 +22,7 @@ pub(crate) fn open_next<O: Opener, G: Gate>(
     mut worker: Worker,
     opener: &O,
     gate: &G,
+    crew: &Crew,
 ) -> Went
     requires made { claims.now.lists ≡ O.lists opener.now }
     requires at_work { IsAtWork claims.now worker false }
@@ -31,7 +33,7 @@ pub(crate) fn open_next<O: Opener, G: Gate>(
 {
     'roots: while worker.stretch.next < worker.stretch.roots.len() {
         if let Some(root) = claim_next(claims, &mut worker) {
-            return open_root(rt, alloc, claims, worker, opener, gate, root);
+            return open_root(rt, alloc, claims, worker, opener, gate, crew, root);
         }
     }
     Went::On(worker)
@@ -66,6 +68,7 @@ fn open_root<O: Opener, G: Gate>(
     mut worker: Worker,
     opener: &O,
     gate: &G,
+    crew: &Crew,
     root: u32,
 ) -> Went
     requires made { claims.now.lists ≡ O.lists opener.now }
@@ -84,6 +87,7 @@ fn open_root<O: Opener, G: Gate>(
         &mut worker.search,
         opener,
         gate,
+        crew,
         root,
     );
     match opened {

@@ -7,9 +7,9 @@ use super::releasing::release;
 use super::stopping::give_up;
 use super::suspending::suspend;
 use super::went::{Went, Worker};
+use crate::crew::Crew;
 use crate::edges::run_free;
 use crate::gate::Gate;
-use crate::openings::Openings;
 use crate::stopped::Stopped;
 use graph_law::Opener;
 use node_claims::Claims;
@@ -24,16 +24,16 @@ pub(crate) fn go_on<O: Opener, G: Gate>(
     worker: Worker,
     opener: &O,
     gate: &G,
-    openings: Openings,
+    crew: &Crew,
 ) -> Went
     requires made { claims.now.lists ≡ O.lists opener.now }
     requires at_work { IsAtWork claims.now worker false }
     ensures { GoesWell claims.now result }
 {
     if worker.search.is_empty() {
-        return take_up(rt, alloc, claims, worker, opener, gate, openings);
+        return take_up(rt, alloc, claims, worker, opener, gate, crew);
     }
-    run(rt, alloc, claims, worker, opener, gate)
+    run(rt, alloc, claims, worker, opener, gate, crew)
 }
 
 // Runs the search without the turn as far as it goes, and then does what needs the turn.
@@ -44,6 +44,7 @@ fn run<O: Opener, G: Gate>(
     mut worker: Worker,
     opener: &O,
     gate: &G,
+    crew: &Crew,
 ) -> Went
     requires made { claims.now.lists ≡ O.lists opener.now }
     requires at_work { IsAtWork claims.now worker false }
@@ -58,6 +59,7 @@ fn run<O: Opener, G: Gate>(
         &mut worker.search,
         opener,
         gate,
+        crew,
     );
     match stopped {
         Stopped::Ripe => release(rt, claims, worker),

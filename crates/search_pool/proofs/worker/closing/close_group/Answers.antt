@@ -1,5 +1,5 @@
 -- One more node of the group is closed each time, and in the end all are.
-use Rattle.std.proofs.Common.{◌≡◌, ◌<◌, length, Some, ap, ◌∙◌, sym, subst, arith}
+use Rattle.std.proofs.Common.{◌≡◌, ◌<◌, length, Some, ap, ◌∙◌, sym, subst, arith, append-nil}
 use Rattle.std.proofs.lemmas.List.{take_all}
 use Rattle.std.specs.Prelude.{slice_get}
 use Rattle.node_claims.specs.Claims.{TurnValue}
@@ -28,7 +28,9 @@ close-requires c =
     }
 
 pub loop-index-init : goal.loop-index-init
-loop-index-init c = c.members-count.ensures.unchanged ∙ ap (with_closed c.args.turn.now) c.requires.none_closed
+loop-index-init c =
+    c.members-count.ensures.unchanged
+    ∙ ap (λ nodes. record c.args.turn.now { taken = record c.args.turn.now.taken { closed = nodes } }) (sym (append-nil c.args.turn.now.taken.closed))
 
 pub loop-index-preserved : goal.loop-index-preserved
 loop-index-preserved c =

@@ -1,6 +1,6 @@
 use Rattle.std.specs.Prelude.{false}
 use Rattle.search_pool.specs.Working.{IsAtWork}
-use Rattle.search_pool.proofs.worker.work.Given as goal
+use Rattle.search_pool.proofs.worker.work_in.Given as goal
 
 -- the worker is between two turns
 abbrev pub invariant-turns : goal.invariant-turns

@@ -2,17 +2,17 @@ use search_pool::Gate;
 use std::hint;
 use std::sync::atomic::{AtomicU32, Ordering};
 
-const TURNS: u32 = 200;
-
-/// It takes a few microseconds for each node, and counts what it is told.
+/// It counts the nodes that it is told of, and takes so many loops for each.
 #[derive(Drop)]
-pub(crate) struct SlowGate {
+pub(crate) struct CountingGate {
+    loops: u32,
     told: AtomicU32,
 }
 
-impl SlowGate {
-    pub(crate) fn new() -> SlowGate {
-        SlowGate {
+impl CountingGate {
+    pub(crate) fn new(loops: u32) -> CountingGate {
+        CountingGate {
+            loops,
             told: AtomicU32::new(0),
         }
     }
@@ -23,9 +23,9 @@ impl SlowGate {
     }
 }
 
-impl Gate for SlowGate {
+impl Gate for CountingGate {
     fn opened(&self, _node: u32) {
-        for _turn in 0..TURNS {
+        for _loop in 0..self.loops {
             hint::spin_loop();
         }
         self.told.fetch_add(1, Ordering::SeqCst);

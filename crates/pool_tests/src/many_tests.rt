@@ -1,0 +1,97 @@
+use crate::agree::{agree, agree_at_once};
+use crate::counting_gate::CountingGate;
+use crate::graphs::{Shape, graph_with};
+use crate::star_gate::StarGate;
+use crate::starved::Starved;
+use node_claims::Claims;
+use search_pool::{Ended, OpenGate, run_all, split_for};
+use std::test::Fail;
+
+// So many nodes that several roots are handed out at once: a worker that is handed more roots begins anew.
+const STAR: u32 = 3_000;
+
+// A few microseconds.
+const SLOW: u32 = 200;
+
+/// Most nodes are in one group, which all workers meet: searches that wait at once, workers that hold back
+/// then, and searches that are moved on top of another one. If nodes are dear to expand, which the first
+/// worker shows, none holds back.
+#[test]
+fn workers_find_a_giant_group(rt: HostRuntime) -> Result<(), Fail> {
+    let alloc = rt.alloc();
+    let graph = graph_with(alloc, Shape::Tangle, 10_000)?;
+    for jobs in [2, 4, 16] {
+        assert!(rt; agree_at_once(&rt, alloc, &graph, jobs, &OpenGate)?);
+        assert!(rt; agree(&rt, alloc, &graph, jobs, &CountingGate::new(SLOW))?);
+    }
+    Ok(())
+}
+
+/// While the node is expanded that all others call and that calls these, which lasts long, the other worker
+/// expands half of them. The rest may be roots that were handed out to the worker that waits.
+#[test]
+fn a_worker_goes_on_beside_a_giant_group_that_is_dear_to_expand(
+    rt: HostRuntime,
+) -> Result<(), Fail> {
+    let alloc = rt.alloc();
+    let graph = graph_with(alloc, Shape::Star, STAR)?;
+    let gate = StarGate::new(STAR / 2, 100_000_000);
+    assert!(rt; agree(&rt, alloc, &graph, 2, &gate)?);
+    assert!(rt; gate.came());
+    Ok(())
+}
+
+/// It expands a few and then waits, since nobody has shown that nodes are dear to expand.
+#[test]
+fn a_worker_holds_back_beside_a_giant_group(rt: HostRuntime) -> Result<(), Fail> {
+    let alloc = rt.alloc();
+    let graph = graph_with(alloc, Shape::Star, STAR)?;
+    let gate = StarGate::new(STAR / 2, 1_000_000);
+    assert!(rt; agree_at_once(&rt, alloc, &graph, 2, &gate)?);
+    assert!(rt; !gate.came());
+    Ok(())
+}
+
+/// There is no memory to expand the node that all others wait for. The other worker holds back then, and
+/// sees it.
+#[test]
+fn a_worker_that_holds_back_sees_a_failure(rt: HostRuntime) -> Result<(), Fail> {
+    let alloc = rt.alloc();
+    let graph = graph_with(alloc, Shape::Star, STAR)?;
+    let starved = Starved {
+        graph: &graph,
+        node: 0,
+    };
+    let gate = StarGate::new(STAR / 2, 20_000_000);
+    let (claims, pass) = Claims::make(alloc, &starved, graph.roots())?;
+    let passes = split_for(alloc, &claims, pass, 2)?;
+    for ended in run_all(&rt, alloc, &claims, passes, &starved, &gate)? {
+        assert!(rt; matches!(ended, Ended::NoMemory { .. }));
+    }
+    Ok(())
+}
+
+/// Many more workers than processors take turns without end. A turn that is given back and wakes nobody
+/// leaves them asleep, and the run doesn't end.
+#[test]
+fn a_turn_given_back_wakes_who_waits(rt: HostRuntime) -> Result<(), Fail> {
+    let alloc = rt.alloc();
+    let graph = graph_with(alloc, Shape::Loose, 4_000)?;
+    for _round in 0..5 {
+        assert!(rt; agree_at_once(&rt, alloc, &graph, 16, &OpenGate)?);
+    }
+    Ok(())
+}
+
+/// The roots are handed out in stretches, of which the last is a short one.
+#[test]
+fn each_root_of_each_stretch_is_released(rt: HostRuntime) -> Result<(), Fail> {
+    let alloc = rt.alloc();
+    for count in [1, 255, 256, 257, 511, 513, 1_025] {
+        let graph = graph_with(alloc, Shape::Loose, count)?;
+        for jobs in [1, 2, 5] {
+            assert!(rt; agree_at_once(&rt, alloc, &graph, jobs, &OpenGate)?);
+        }
+    }
+    Ok(())
+}
