@@ -1,21 +1,18 @@
 #!/usr/bin/env python3
 """Runs `groups` with many workers, whose answers must be those of one worker.
 
-Over few predicates `--jobs N` alone is one search, up to the `FEW_PREDICATES` of `group_tool`; with
-`--order --stream` N workers search whatever the size. So most runs here are streams.
+With `--jobs N` one worker begins, and the others hold back as long as predicates are expanded cheaply. With
+`--order --stream` all search from the start. So each run is made both ways: without a stream the report has
+to be that of one worker, byte for byte; in a stream its lines may come in another order.
 
-- random small graphs, some to a file: the report of one worker has as many groups as the classes of mutual reach
-  that are counted here, with two workers it is the same, and with 2, 3 and 8 workers and `--order --stream` its
-  lines are the same in another order;
-- hard shapes in streams: a ring of 100,000 predicates with 64 workers, from one root and from all; 200,000
-  predicates that call nothing, each a root; rings of few predicates with more workers than these. Each run ends
-  in time, and so do one without a stream and eight searches that take turns, with the report of one worker, byte
-  for byte;
-- more predicates than one search is left to at once: a ring of them, and as many that call nothing, with 4 and 64
-  workers, which let one search try first, and the report is that of one worker, byte for byte.
+- Random small graphs, some to a file, with 2, 3 and 8 workers. The report of one worker has as many groups as
+  there are classes of mutual reach, which are counted here.
+- Hard shapes with 64 workers: a ring of 100,000 predicates, from one root and from all; 200,000 predicates that
+  call nothing, each a root; rings of fewer predicates than workers. Eight searches that take turns find the same.
+- Half a million predicates, a ring and as many that call nothing, with 4 and 64 workers.
 
-Ends with status 1 where an answer is wrong. The whole takes at most five minutes; `--graphs N` and `--runs N` say
-how many graphs and how many runs of hard shapes there are.
+Each run has to end in time. Ends with status 1 if an answer is wrong. `--graphs N` and `--runs N` say how many
+graphs there are, and how many runs of hard shapes with and without a stream.
 """
 
 import argparse
@@ -119,6 +116,12 @@ def differ_in_lines(name, report, expected):
         wrong.append(f"{name}, in a stream: other lines")
 
 
+def differ_both_ways(name, folder, jobs, expected):
+    """Notes if so many workers report anything else than was expected, without a stream or in one."""
+    differ(name, run(folder, jobs), expected)
+    differ_in_lines(name, run(folder, jobs, "--order", "--stream"), expected)
+
+
 def small_graphs(folder, count):
     source = random.Random(13)
     for begun in range(0, count, GRAPHS_IN_A_FILE):
@@ -136,9 +139,8 @@ def small_graphs(folder, count):
         classes = class_count(calls, range(len(calls)) if all_roots else roots)
         if group_count(expected) != classes:
             wrong.append(f"graphs from {begun} on: {group_count(expected)} groups for {classes} classes")
-        differ(f"graphs from {begun} on, {JOBS[1]} jobs", run(folder, JOBS[1]), expected)
         for jobs in JOBS[1:]:
-            differ_in_lines(f"graphs from {begun} on, {jobs} jobs", run(folder, jobs, "--order", "--stream"), expected)
+            differ_both_ways(f"graphs from {begun} on, {jobs} jobs", folder, jobs, expected)
 
 
 def ring(count):
@@ -165,14 +167,13 @@ def hard_runs(folder, count):
         if group_count(expected) != groups:
             wrong.append(f"{name}: {group_count(expected)} groups for {groups}")
         differ(f"{name}, eight searches", run(folder, None, "--searches", "8", "--seed", "1"), expected)
-        differ(name, run(folder, MOST_JOBS), expected)
         for _ in range(times):
-            differ_in_lines(name, run(folder, MOST_JOBS, "--order", "--stream"), expected)
-        print(f"{name}: {times} runs in {time.monotonic() - begun:.1f} s", flush=True)
+            differ_both_ways(name, folder, MOST_JOBS, expected)
+        print(f"{name}: {times} runs each way in {time.monotonic() - begun:.1f} s", flush=True)
 
 
 def many_runs(folder, times):
-    """Runs over more predicates than one search is left to, from all of them."""
+    """Runs over half a million predicates, from all of them."""
     for name, calls, groups in (
         ("a ring of many", ring(MANY_PREDICATES), 1),
         ("many alone", [[] for _ in range(MANY_PREDICATES)], MANY_PREDICATES),
@@ -186,8 +187,8 @@ def many_runs(folder, times):
             wrong.append(f"{name}: {group_count(expected)} groups for {groups}")
         for jobs in MANY_JOBS:
             for _ in range(times):
-                differ(f"{name}, {jobs} jobs", run(folder, jobs), expected)
-        print(f"{name}: {len(MANY_JOBS) * times} runs in {time.monotonic() - begun:.1f} s", flush=True)
+                differ_both_ways(f"{name}, {jobs} jobs", folder, jobs, expected)
+        print(f"{name}: {len(MANY_JOBS) * times} runs each way in {time.monotonic() - begun:.1f} s", flush=True)
 
 
 def main():
