@@ -1,10 +1,10 @@
 #!/usr/bin/env python3
 """Times whole runs of `groups` with one, two and four workers, on the families of `whole.py` and on larger ones.
 
-Up to 524,288 predicates `--jobs N` is one search, so the factors of the first rows say what the option costs where it
-changes nothing. In the last rows one search is tried first. Needs the built program. Prints a table: the medians of nine runs of
-each, in random order, in milliseconds, and the factors to the run with one worker. It takes five minutes or so. With
-`--keep FOLDER` the texts stay there.
+A predicate is expanded at no cost once its calls are known. So one worker goes on alone while the others hold
+back, and the factors are what claims, turns and threads cost. Needs the built program. Prints a table: the
+medians of nine runs of each, in random order, in milliseconds, and the factors to the run with one worker. It
+takes about five minutes. With `--keep FOLDER` the texts stay there.
 """
 
 import random

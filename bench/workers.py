@@ -1,26 +1,27 @@
 #!/usr/bin/env python3
-"""Times workers that search one graph side by side, each in a thread of its own, beside one plain search.
+"""Times workers that search one graph in parallel, each in a thread of its own, and compares them with one search.
 
 Needs `rt`, and `strace` and `valgrind` for the counts. Prints three tables.
 
-The first has times, each the best of five runs, in milliseconds: of one plain search, and of 1, 2, 4 and 8
-workers. In the rows of cost 0 a node is opened by a copy of its list: one search tries first, and goes on alone,
-so the columns are what it costs to look at it. In the other rows opening a node takes about two or twenty
-microseconds of arithmetic, as a node does whose calls must first be found, so that search gives way and the
-columns are what more workers gain; the plain search opens nodes at the same cost. `one`, `two` and `four` are the
-times of 1, 2 and 4 workers over that of the plain search.
+The first has times in milliseconds, each the best of five runs: of one plain search, and of 1, 2, 4 and 8
+workers. In the rows of cost 0 a node is expanded by a copy of its list. There one worker goes on alone while
+the others hold back, so the columns are what its claims and turns cost, and what it costs to look at it. In
+the other rows it takes about two or twenty microseconds of arithmetic to expand a node, as it does if its
+calls must first be found. There the others begin too, and the columns are what they gain. The plain search
+expands nodes at the same cost. `one`, `two` and `four` are the times of 1, 2 and 4 workers over that of the
+plain search.
 
-The second has counts, each of one run under `strace` on 250 times fewer nodes, since `strace` slows what it counts
-and over so few nodes workers search at once, without a try:
-for each number of workers how often a thread slept (until the turn was given back, or because it found nothing to
-do), how often one was woken, how often one let others go on, and all system calls. A turn that is given back while
-nobody sleeps makes none, so where nobody waits the counts stay the same however many groups there are.
+The second has counts, each of one run under `strace` on 250 times fewer nodes, since `strace` slows what it
+counts. For each number of workers it has how often a thread slept (until the turn was given back, because it
+found nothing to do, or because it held back), how often one was woken, how often one let others go on, and
+all system calls. A turn that is given back while nobody sleeps makes none.
 
-The third has how often the turn was taken, and the millions of instructions of all threads with the making of the
-graph, each of one run under `valgrind`, which lets one thread run at a time, on 250 times fewer nodes too.
+The third has how often the turn was taken, and the millions of instructions of all threads. These include
+the making of the graph. Each is of one run under `valgrind`, which lets one thread run at a time, on 250
+times fewer nodes too.
 
-It stops where two numbers of groups differ. Once the program is built it takes five minutes or so, and at most ten: a
-run that is counted is cut off after twenty seconds, and its row then has dashes.
+It stops if two numbers of groups differ. Once the program is built it takes about five minutes, and at most
+ten. A run that is counted is cut off after twenty seconds, and its row then has dashes.
 """
 
 import re
@@ -45,7 +46,7 @@ GRAPHS = [
     ("random", 20_000, TWENTY_MICROS),
 ]
 JOBS = [1, 2, 4, 8]
-# Under `strace` and under `valgrind` a graph has so many times fewer nodes, which is too few for one search to be tried first.
+# Under `strace` and under `valgrind` a graph has so many times fewer nodes.
 FEWER = 250
 MOST_SECONDS = 20.0
 
