@@ -1,1 +1,2 @@
+mod LedSteps
 mod NewGroups

@@ -1,6 +1,6 @@
 use crate::graphs::tailed_ring;
+use crate::shown::levels_shown;
 use graph_law::{Graph, Opener, is_recursive};
-use group_release::{Level, levels};
 use search_stack::groups_plain;
 use std::test::Fail;
 
@@ -32,11 +32,14 @@ fn a_node_that_calls_itself_is_recursive(rt: HostRuntime) -> Result<(), Fail> {
 fn releases_callees_first_with_their_levels(rt: HostRuntime) -> Result<(), Fail> {
     let alloc = rt.alloc();
     let graph = tailed_ring(alloc)?;
-    assert_eq!(rt; graph.count(), 4);
-    let groups = groups_plain(alloc, &graph, &[3])?;
-    assert_eq!(rt; format!(in alloc; "{groups:?}")?.as_str(), "[[2], [0, 1], [3]]");
-    let found = levels(alloc, &graph, &groups)?;
-    let seen = found.iter().map(|level: &Level| (level.height, level.recursive));
-    assert!(rt; seen.eq([(0, false), (1, true), (2, false)]));
+    let groups = groups_plain(alloc, &graph, graph.roots())?;
+    assert_eq!(rt;
+        format!(in alloc; "{groups:?}")?.as_str(),
+        "[[2], [0, 1], [3]]"
+    );
+    assert_eq!(rt;
+        levels_shown(alloc, &graph, &groups)?.as_str(),
+        "[(0, false), (1, true), (2, false)]"
+    );
     Ok(())
 }

@@ -9,12 +9,18 @@ mod class_tests;
 #[cfg(test)]
 mod graphs;
 #[cfg(test)]
+mod led;
+#[cfg(test)]
 mod level_tests;
 #[cfg(test)]
 mod machine_tests;
 #[cfg(test)]
 mod memory_tests;
 #[cfg(test)]
+mod shown;
+#[cfg(test)]
 mod step_tests;
 #[cfg(test)]
 mod table_tests;
+#[cfg(test)]
+mod worked_tests;

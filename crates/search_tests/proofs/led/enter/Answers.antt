@@ -1,0 +1,8 @@
+use Rattle.std.proofs.Common.{◌∙◌, ap}
+use Rattle.search_tests.proofs.LedSteps.{entered}
+use Rattle.search_tests.proofs.led.enter.Goals as goal
+
+pub returns : goal.returns
+returns c =
+    entered c.in_ok-begin.ensures (c.is_free.ensures c.if-not-is_free.false)
+    (rw (← c.requires.lists) at c.in_ok-push.ensures.pushed) c.in_ok-push.ensures.wants_nothing
