@@ -21,13 +21,6 @@ use std::alloc::{AllocError, Global};
 use std::sync::Wait;
 use std::thread::Threads;
 
-// Up to how many predicates one search finds the groups, however many workers are asked for. What the
-// predicates call lies in memory by then, so a node is opened by a copy of its list: an opening has nothing
-// that a second worker could take off the first, while claims and turns take about as many instructions as
-// the search, and more time. That was so with 2 and with 4 workers and for graphs of each shape, and the
-// search is some 6 to 11 of 100 instructions of a run. Beyond this one search is tried first.
-const FEW_PREDICATES: u32 = 524_288;
-
 /// The groups of all that the roots reach, and of nothing else, in a legal order: found by one search,
 /// or by many that take turns, and then in the order of their schedule.
 pub fn groups_alone(
@@ -52,8 +45,7 @@ pub fn groups_alone(
     }
 }
 
-/// The same, found by workers, each in a thread of its own with a search of its own; by one search where
-/// the predicates are too few for workers to pay.
+/// The same, found by workers, each in a thread of its own with a search of its own.
 pub fn groups_by_workers<R: Threads + Wait + Sync, G: Gate>(
     rt: &R,
     alloc: Global,
@@ -69,20 +61,8 @@ pub fn groups_by_workers<R: Threads + Wait + Sync, G: Gate>(
     ensures { IfOk result (λ groups. AreGroups (ListCalls (successor_lists (see_program program.now))) roots.now (lists_of groups.items)) }
 {
     settings_within();
-    let jobs = useful_jobs(options.jobs, program.count());
-    drive_workers(rt, alloc, calls, roots, jobs, gate)
-}
-
-// How many of the workers that are asked for can pay.
-fn useful_jobs(jobs: u32, predicates: u32) -> u32
-    requires { 0 < jobs }
-    ensures some { 0 < result }
-    ensures most { result ≤ jobs }
-{
-    if predicates <= FEW_PREDICATES {
-        return 1;
-    }
-    jobs
+    let _program = program;
+    drive_workers(rt, alloc, calls, roots, options.jobs, gate)
 }
 
 /// The same, and the taker finds their levels as they come.

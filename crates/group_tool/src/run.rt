@@ -77,7 +77,23 @@ fn say_report<O: Sink, E: Sink>(
     }
 }
 
-/// Puts what the options of lawful words come to on the sink that it goes to.
+/// Whether one thread finds the groups: there are many searches on it, or no more than one worker, and
+/// levels are found behind the groups.
+fn is_alone(options: &Options) -> bool
+    ensures at_the_end { result ≡ true → (see_options options.now).stream ≡ false }
+    ensures alone { result ≡ true → (is_some (see_options options.now).searches ≡ true) ⊎ ((see_options options.now).jobs ≡ 1) }
+{
+    if options.stream {
+        return false;
+    }
+    if options.searches.is_some() {
+        return true;
+    }
+    options.jobs == 1
+}
+
+/// Puts what the options of lawful words come to on the sink that it goes to. What one thread answers is
+/// handed to `run_alone`, which always returns.
 fn run_lawful<R: Threads + Wait + Sync, L: Library, O: Sink, E: Sink, G: Gate>(
     rt: &R,
     alloc: Global,
@@ -94,6 +110,9 @@ fn run_lawful<R: Threads + Wait + Sync, L: Library, O: Sink, E: Sink, G: Gate>(
     ensures out_left { result ≢ 0 → result ≢ 5 → out.new ≡ out.old }
     ensures one_left { (out.new ≡ out.old) ⊎ (err.new ≡ err.old) }
 {
+    if is_alone(options) {
+        return run_alone(rt, alloc, options, library, out, err);
+    }
     let report = report_lawful(rt, alloc, options, library, gate);
     say_report(alloc, out, err, report)
 }
