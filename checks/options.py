@@ -24,10 +24,7 @@ import tempfile
 import program
 
 ROOT = pathlib.Path(__file__).resolve().parent.parent
-USAGE = (
-    b"usage: groups [--jobs N | --searches K --seed S] [--roots LIST] [--order [--stream]] [--unreached] [--effects] [--loops] [--path LIST] FILE..."
-    b" | groups --make N [--jobs N | --searches K --seed S]\n"
-)
+USAGE = f"{program.usage()}\n".encode()
 # What each part behind the report begins its lines with, in the order of the parts.
 PARTS = {"--unreached": (b"unreached ",), "--effects": (b"effect ",), "--loops": (b"loop ",), "--path": (b"path ", b"no-path ")}
 LARGE = (

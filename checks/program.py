@@ -25,3 +25,9 @@ def calls():
     """The program `calls` that was built here, or the kept one; None where there is neither."""
     places = (ROOT / "crates" / "calls" / "out" / "calls", ROOT / "release" / "calls")
     return next((it for it in places if it.is_file()), None)
+
+
+def usage(name="groups"):
+    """The usage line of a program: the first lines of its help page, as one."""
+    page = (ROOT / "docs" / "help" / f"{name}.txt").read_text()
+    return " ".join(page.partition("\n\n")[0].split())

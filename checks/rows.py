@@ -8,7 +8,7 @@ A line that begins with one of these marks says what the lines up to the next on
 >> NAME         a file of these lines joined, with no newline but those that are written `\\n`; `\\xHH` is a byte
 >* NAME         a file of these lines joined as well, each behind a number that says how often it stands
 $ WORD ..       a run with these words, as a shell reads them; the lines are those of standard output, and behind a `!` and a blank of standard error, where
-                USAGE is the usage line that docs/report.md has
+                USAGE is the usage line, as docs/help/groups.txt has it
 ? STATUS        the status of the run above, where it isn't 0
 
 Ends with status 1 where an answer is another one."""
@@ -23,7 +23,7 @@ import tempfile
 import program
 
 ROWS = pathlib.Path(__file__).resolve().parent / "rows"
-USAGE = (program.ROOT / "docs" / "report.md").read_text().partition("```\n")[2].partition("\n")[0]
+USAGE = program.usage()
 MOST_SECONDS = 120
 MARKS = ("==", ">", ">>", ">*", "$", "?")
 
