@@ -1,9 +1,9 @@
-# Completion of bash for groups(1): options that aren't given yet, and Prolog files.
-_groups() {
+# Completion of bash for prolog-calls(1): options that aren't given yet, and Prolog files.
+_prolog_calls() {
     local word=${COMP_WORDS[COMP_CWORD]} last=${COMP_WORDS[COMP_CWORD - 1]} it
-    local options=(--jobs --searches --seed --roots --order --stream --unreached --effects --loops --path --make)
+    local options=(--roots --unreached --undefined --dot)
     COMPREPLY=()
-    case $last in --jobs | --searches | --seed | --roots | --path | --make | =) return ;; esac
+    case $last in --roots | =) return ;; esac
     [[ $word != = ]] || return 0
     local given=" ${COMP_WORDS[*]:1:COMP_CWORD-1} "
     if [[ $word == -* && $given != *" -- "* ]]; then
@@ -16,4 +16,4 @@ _groups() {
     compopt -o filenames 2>/dev/null
     while IFS= read -r it; do COMPREPLY+=("$it"); done < <(compgen -f -X '!*.pl' -- "$word"; compgen -d -- "$word")
 }
-complete -F _groups groups
+complete -F _prolog_calls prolog-calls prolog-calls-swi
