@@ -44,7 +44,7 @@ def sources(crate):
 
 def account_words(text, known):
     """What the account of proofs names that no source has."""
-    for crate, body in re.findall(r"^- \*\*(\w+)\*\*:(.*?)(?=^- \*\*|^#|\Z)", text, re.M | re.S):
+    for crate, body in re.findall(r"^### (\w+)$(.*?)(?=^#|\Z)", text, re.M | re.S):
         for code in CODE.findall(body):
             if "/" not in code:
                 yield from (f"docs/proved.md: {crate}: `{word}` stands nowhere" for word in WORD.findall(code) if word not in known)
