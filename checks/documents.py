@@ -47,37 +47,30 @@ def account_words(text, known):
     for crate, body in re.findall(r"^### (\w+)$(.*?)(?=^#|\Z)", text, re.M | re.S):
         for code in CODE.findall(body):
             if "/" not in code:
-                yield from (f"docs/proved.md: {crate}: `{word}` stands nowhere" for word in WORD.findall(code) if word not in known)
+                yield from (f"docs/proved.md: {crate}: `{word}` is nowhere" for word in WORD.findall(code) if word not in known)
 
 
-def modules_of(cell):
-    """The files of the modules that a cell names, as `CRATE: Module`, or `Module` for one more of the same crate; none where it names others."""
-    files, crate = [], None
-    for code in CODE.findall(cell):
-        place = re.fullmatch(r"(?:(\w+): )?(\w+)", code)
-        crate = (place and place[1]) or crate
-        if not place or not crate:
-            return []
-        files.append(ROOT / "crates" / crate / "specs" / f"{place[2]}.antt")
-    return files
+def definition_entries(text):
+    """Each entry of the page on definitions: its crate, its names, its modules, and the names of its cases."""
+    for crate, body in re.findall(r"^### (\w+)$(.*?)(?=^##|\Z)", text, re.M | re.S):
+        for item in re.split(r"\n(?=- )|\n\n", body):
+            entry = re.match(r"- (.+?) \(((?:`\w+`(?:, )?)+)\):(.*)", " ".join(item.split()))
+            if entry:
+                names, modules, rest = entry.groups()
+                cases = rest.partition("Cases: ")[2]
+                yield crate, CODE.findall(names), CODE.findall(modules), CODE.findall(cases)
 
 
 def definition_rows(text, evaluators):
-    """What the tables of definitions name that isn't where they say."""
-    for line in text.splitlines():
-        cells = [cell.strip() for cell in line.strip("|").split(" | ")]
-        modules = modules_of(cells[2].rstrip("| ")) if len(cells) in (3, 4) else []
-        if not modules:
-            continue
-        yield from (f"docs/definitions.md: there is no {path.relative_to(ROOT)}" for path in modules if not path.exists())
-        standing = words_of(modules)
-        for code in CODE.findall(cells[0]):
-            name = WORD.match(code)
-            if name and name[0] not in standing:
-                yield f"docs/definitions.md: `{name[0]}` doesn't stand in {cells[2]}"
-        for code in CODE.findall(cells[3]) if len(cells) == 4 else []:
-            if WORD.fullmatch(code) and code not in evaluators:
-                yield f"docs/definitions.md: `{code}`, which evaluates {cells[0]}, stands nowhere"
+    """What the page on definitions names that isn't where it says."""
+    for crate, names, modules, cases in definition_entries(text):
+        files = [ROOT / "crates" / crate / "specs" / f"{it}.antt" for it in modules]
+        yield from (f"docs/definitions.md: there is no {path.relative_to(ROOT)}" for path in files if not path.exists())
+        known = words_of(files)
+        for name in (WORD.match(it) for it in names):
+            if name and name[0] not in known:
+                yield f"docs/definitions.md: {crate}: `{name[0]}` isn't in {', '.join(modules)}"
+        yield from (f"docs/definitions.md: {crate}: `{it}`, a case of {names[0]}, is nowhere" for it in cases if WORD.fullmatch(it) and it not in evaluators)
 
 
 def broken_links(path):
