@@ -1,9 +1,9 @@
 #!/usr/bin/env python3
-"""Runs the built program on the largest programs that it takes, with each option, and on the next larger ones.
+"""Runs the built programs on the largest programs that they take, with each option, and on the next larger ones.
 
 A private limit of one of its parts, below the ones of docs/report.md, would show here: 1,048,576 predicates in two files with one worker, with many, with
-searches that take turns, with a stream, with what stands behind the report; 1,024 files; a group, and a path, of a million predicates. Ends with status 1
-where an answer is wrong; prints the seconds and the most memory of each run.
+searches that take turns, with a stream, with what comes after the report; 1,024 files; a group, and a path, of a million predicates. `calls` lists the same
+programs, and calls with long names. Ends with status 1 if an answer is wrong; prints the seconds and the most memory of each run.
 """
 
 import argparse
@@ -25,17 +25,17 @@ chosen = []
 wrong = []
 
 
-def run(folder, *words):
+def run(folder, *words, tool=None):
     begun = time.monotonic()
     with tempfile.TemporaryFile() as out, tempfile.TemporaryFile() as err:
-        process = subprocess.Popen([chosen[0], *words], cwd=folder, stdout=out, stderr=err)
+        process = subprocess.Popen([tool or chosen[0], *words], cwd=folder, stdout=out, stderr=err)
         _, status, used = os.wait4(process.pid, 0)
         process.returncode = os.waitstatus_to_exitcode(status)
         took = time.monotonic() - begun
         # A new process begins with the memory of the one that starts it, so less than that can't be told.
         own = resource.getrusage(resource.RUSAGE_SELF).ru_maxrss
         most = f"{used.ru_maxrss >> 10:5} MB" if used.ru_maxrss > own else " " * 8
-        print(f"  {took:6.2f} s, {used.ru_utime + used.ru_stime:6.2f} of processors, {most}: {' '.join(words)[:90]}", flush=True)
+        print(f"  {took:6.2f} s, {used.ru_utime + used.ru_stime:6.2f} of processors, {most}: {pathlib.Path(tool or chosen[0]).name} {' '.join(words)[:90]}", flush=True)
         out.seek(0)
         err.seek(0)
         return process.returncode, out.read(), err.read()
@@ -102,13 +102,73 @@ def many_files(folder):
     expect("one file more", run(folder, "n0.pl", f"n{MOST_FILES}.pl"), (6, b"", f"groups: more than {MOST_FILES} files\n".encode()))
 
 
+def predicate_line(number, name, group, height, recursive):
+    return f'{{"is":"predicate","id":{number},"module":"user","name":"{name}","arity":0,"group":{group},"height":{height},"recursive":{recursive}}}\n'
+
+
+def clause_line(predicate, file, line):
+    return f'{{"is":"clause","predicate":{predicate},"file":"{file}","line":{line},"column":1}}\n'
+
+
+def call_line(caller, callee, name, file, line, column):
+    return f'{{"is":"call","caller":{caller},"callee":{callee},"module":"user","name":"{name}","arity":0,"file":"{file}","line":{line},"column":{column}}}\n'
+
+
+def expect_lines(what, found, parts):
+    """Compares with the lines of several lists one after another."""
+    expect(what, found, (0, "".join(line for part in parts for line in part).encode(), b""))
+
+
+def listed_facts(folder, calls):
+    """`calls` on as many facts."""
+    names = sorted(f"p{number}" for number in range(MOST))
+    ids = {name: number for number, name in enumerate(names)}
+    predicates = [predicate_line(number, name, number, 0, "false") for number, name in enumerate(names)]
+    half = MOST // 2
+    clauses = (clause_line(ids[f"p{number}"], f"f{number // half}.pl", number % half + 1) for number in range(MOST))
+    expect_lines("facts, listed", run(folder, "f0.pl", "f1.pl", tool=calls), (predicates, clauses))
+    expect("facts, undefined calls", run(folder, "--undefined", "f0.pl", "f1.pl", tool=calls), (0, b"", b""))
+
+
+def listed_ring(folder, calls):
+    """`calls` on the ring, whose calls are as many."""
+    size, files = 1_000_000, [f"r{at}.pl" for at in range(4)]
+    names = sorted(f"p{number}" for number in range(size))
+    ids = {name: number for number, name in enumerate(names)}
+    places = [(f"p{number}", f"p{(number + 1) % size}", files[number * 4 // size], number % (size // 4) + 1) for number in range(size)]
+    predicates = [predicate_line(number, name, 0, 0, "true") for number, name in enumerate(names)]
+    clauses = (clause_line(ids[name], file, line) for name, _, file, line in places)
+    made = (call_line(ids[name], ids[next], next, file, line, len(name) + 5) for name, next, file, line in places)
+    expect_lines("a ring, listed", run(folder, *files, tool=calls), (predicates, clauses, made))
+    status, out, err = run(folder, "--dot", *files, tool=calls)
+    if (status, err, out.count(b" -> ")) != (0, b"", size):
+        wrong.append(f"a ring as a graph: status {status}, {out.count(b' -> ')} edges")
+
+
+def listed_names(folder, calls):
+    """`calls` on 5,000 calls with names of 200 characters, and on as many files as may be named."""
+    names = [f"{number:05}".rjust(200, "a") for number in range(5_000)]
+    (folder / "long.pl").write_text("".join(f"p :- {name}.\n" for name in names))
+    clauses = (clause_line(0, "long.pl", number + 1) for number in range(len(names)))
+    made = (call_line(0, "null", name, "long.pl", number + 1, 6) for number, name in enumerate(names))
+    expect_lines("long names, listed", run(folder, "long.pl", tool=calls), ([predicate_line(0, "p", 0, 0, "false")], clauses, made))
+    status, out, err = run(folder, *(f"n{number}.pl" for number in range(MOST_FILES)), tool=calls)
+    if (status, err, out.count(b"\n")) != (0, b"", 3 * MOST_FILES - 1):
+        wrong.append(f"{MOST_FILES} files, listed: status {status}, {len(out.splitlines())} lines")
+
+
 def main():
     parser = argparse.ArgumentParser(description=__doc__.splitlines()[0])
     program.add_option(parser)
     chosen[:] = [program.of(parser.parse_args())]
     with tempfile.TemporaryDirectory() as name:
+        folder, calls = pathlib.Path(name), program.calls()
         for part in (facts, one_group, many_files):
-            part(pathlib.Path(name))
+            part(folder)
+        if calls is None:
+            wrong.append("there is no program calls: ./prove builds it")
+        for part in (listed_facts, listed_ring, listed_names) if calls else ():
+            part(folder, calls)
     for line in wrong:
         print("WRONG", line)
     print("largest:", "wrong" if wrong else "right")
