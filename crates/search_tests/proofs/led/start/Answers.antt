@@ -20,7 +20,7 @@ returns-clause-runs c =
     let root : Contains c.args.book.now.roots c.in-Some.root =
     picked_in c.args.book.now.roots c.args.book.now.given c.in-Some.root (sym c.next_root.ensures.next ∙ c.in-Some.is) in
     started (subst (λ roots. Contains roots c.in-Some.root) (sym (ap (λ (book : BookValue). book.roots) c.in-Some.ensures.given)) root)
-    (c.is_free.ensures c.if-not-is_free.false)
+    c.if-not-is_free.ensures
     (c.in_ok-push.ensures.pushed
     ∙ ap (λ s. pushed s c.in-Some.root (get_or c.args.graph.now.lists c.in-Some.root [])) c.in_ok-search.ensures.empty
     ∙ ap (λ lists. pushed empty_stack c.in-Some.root (get_or lists c.in-Some.root [])) (sym lists_are))
