@@ -1,9 +1,9 @@
 #!/bin/sh
-# undefined.sh FILE..: names that are called and not defined, as `FILE:LINE:COLUMN: TEXT`, for the error
-# list of an editor. Needs `calls` and `jq`. Ends with the status of the one that failed.
+# undefined.sh FILE..: names that are called and not defined, as `FILE:LINE:COLUMN: TEXT`, for the
+# error list of an editor. Needs `calls` and `jq`. Ends with the status of the one that failed.
 #
-# Names that SWI-Prolog has built in are printed too. To pass over them, write them into a file, one
-# NAME/ARITY a line, and give it as KNOWN=FILE in the environment.
+# Names that SWI-Prolog has built in are printed too. To pass over them, write them into a file,
+# one NAME/ARITY a line, and give it as KNOWN=FILE in the environment.
 here=$(dirname -- "$(readlink -f -- "$0")")
 calls=$("${CALLS:-$here/../calls}" --unreached --undefined "$@") || exit
 [ -z "$calls" ] || printf '%s\n' "$calls" |
