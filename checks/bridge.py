@@ -1,141 +1,245 @@
 #!/usr/bin/env python3
-"""Tries bridges/swi/groups-swi: on small programs with known answers, then on the `.pl` files of the Prolog packages that are installed,
-each in its own folder.
+"""Tries bridges/swi/groups-swi and calls-swi: on small programs with known answers, on programs whose calls SWI-Prolog itself traces, on hostile ones,
+and then on the `.pl` files of the Prolog packages that are installed, each in its own folder.
 
-Prints how many files get a report by `groups` alone and by the bridge, and what is told most where there is none or something is left
-out. Then the groups of a hundred of them are compared with those of the calls that SWI-Prolog's prolog_xref tells; files that differ are
-listed with their first difference (docs/bridge.md has the reasons). Ends with status 1 where fewer than nine of ten files get
-a report, or a run dies or takes longer than a minute. Where swipl or the packages aren't installed it says so and does nothing.
+Of these it prints how many get a report by `groups` alone and by the bridge, and what is told most where something is left out. All that `calls` alone
+tells of a file `calls-swi` must tell at the same place. Then the groups of a hundred of them are compared with those of the calls that SWI-Prolog's
+prolog_xref tells; files that differ are listed with their first difference (docs/bridge.md has the reasons). Ends with status 1 if a program is answered
+wrongly, if fewer than nine of ten files get a report, or if a run dies or takes longer than a minute. Without swipl or the packages it says so.
 
---every N takes each Nth file alone.
+--every N takes each Nth file alone. --libraries reads the whole installed library of SWI-Prolog in one run instead, and prints what that took.
 """
 
 import argparse
 import collections
 import concurrent.futures
+import json
 import os
 import pathlib
 import re
+import resource
 import shutil
+import signal
 import subprocess
 import sys
 import tempfile
+import time
 
+import bridge_cases
+import bridge_hostile
 import real_programs
 
 ROOT = pathlib.Path(__file__).resolve().parent.parent
 GROUPS = pathlib.Path(os.environ.get("GROUPS_PROGRAM", ROOT / "groups"))
+CALLS = pathlib.Path(os.environ.get("CALLS_PROGRAM", ROOT / "calls"))
 BRIDGE = ROOT / "bridges" / "swi" / "groups-swi"
+CALLS_BRIDGE = ROOT / "bridges" / "swi" / "calls-swi"
+GOALS = ROOT / "bridges" / "swi" / "library-goals"
+TRACED = ROOT / "checks" / "bridge_programs"
 MOST_SECONDS = 60
+HOSTILE_SECONDS = 20
 COMPARED = 100
+AT_ONCE = 2
 NAME = re.compile(r"(?:'(?:[^'\\]|\\.|'')*'|[^ '])+")
 
 
-# What is given (files by name), the words, and the status, report and lines of faults that must come.
-CASES = [
-    (
-        "conditions, operators of other files, included texts, soft cuts and guards",
-        {
-            "main.pl": ":- module(main, [go/1]).\n:- use_module(ops).\n:- include(part).\n:- if(current_prolog_flag(bounded, false)).\n"
-            "go(X), X ~~> y => part(X).\ngo(X) => part(X).\n:- else.\ngo(_) :- nothing(.\n:- endif.\n",
-            "ops.pl": ":- module(ops, [op(700, xfx, ~~>), (~~>)/2]).\nA ~~> B :- A = B.\n",
-            "part.pl": "part(X) :- ( X = 1 *-> go(X) ; true ).\n",
-        },
-        ["main.pl"],
-        0,
-        "predicates 3 groups 2 recursive 1 levels 2\n0 plain ops:~~>/2\n1 recursive main:go/1 main:part/1\n",
-        "",
-    ),
-    (
-        "a clause that can't be read is told, and the rest goes on",
-        {"f.pl": "p :- q.\nq :- ( .\nr :- r.\n"},
-        ["f.pl"],
-        8,
-        "predicates 2 groups 2 recursive 1 levels 1\n0 plain user:p/0\n0 recursive user:r/0\n",
-        "f.pl:2:8: syntax error: end_of_clause\n",
-    ),
-    (
-        "programs that halt or loop when they are loaded aren't loaded",
-        {"f.pl": ":- halt.\n:- repeat, fail.\n:- if((repeat, fail)).\np.\n:- endif.\n:- initialization(q).\nq.\n"},
-        ["f.pl"],
-        8,
-        "predicates 1 groups 1 recursive 0 levels 1\n0 plain user:q/0\n",
-        "f.pl:3:1: condition repeat,fail isn't run, and taken as false\n",
-    ),
-    (
-        "files of one name in two folders, names with blanks and quotes",
-        {
-            "it's a/x.pl": ":- module(a, [p/0]).\n:- use_module('../b/x').\np :- q.\n",
-            "b/x.pl": ":- module(b, [q/0]).\nq :- a:p.\n",
-        },
-        ["it's a/x.pl"],
-        0,
-        "predicates 2 groups 1 recursive 1 levels 1\n0 recursive a:p/0 b:q/0\n",
-        "",
-    ),
-    (
-        "faults are told at the clause that they come from",
-        {"f.pl": ":- module(f, [p/0]).\n\n:- use_module(g).\np.\n", "g.pl": ":- module(f, [q/0]).\nq.\n"},
-        ["f.pl"],
-        3,
-        "",
-        "g.pl:1:1: module is declared in two files\n",
-    ),
-    (
-        "what a module hands on from others, and a file without a module that one loads",
-        {
-            "f.pl": ":- module(f, [p/0]).\n:- use_module(all).\np :- q, r, s.\n",
-            "all.pl": ":- module(all, []).\n:- reexport(g).\n:- reexport(h, [r/0]).\n:- ensure_loaded(plain).\n",
-            "g.pl": ":- module(g, [q/0]).\nq :- f:p.\n",
-            "h.pl": ":- module(h, [r/0, s/0]).\nr :- s.\ns.\n",
-            "plain.pl": "t :- u.\nu :- t.\n",
-        },
-        ["--unreached", "f.pl"],
-        0,
-        "predicates 4 groups 3 recursive 1 levels 3\n0 plain h:s/0\n1 plain h:r/0\n2 recursive f:p/0 g:q/0\nunreached all:t/0\nunreached all:u/0\n",
-        "",
-    ),
-    (
-        "goals handed to predicates of the system, lambda terms too",
-        {"f.pl": ":- module(f, [p/1]).\np(L) :- foldl([X, A, B]>>q(X, A, B), L, 0, _).\nq(X, _, _) :- setup_call_cleanup(true, p(X), r).\nr.\n"},
-        ["f.pl"],
-        0,
-        "predicates 3 groups 2 recursive 1 levels 2\n0 plain f:r/0\n1 recursive f:p/1 f:q/3\n",
-        "",
-    ),
-    ("a file that isn't there", {}, ["f.pl"], 3, "", "f.pl: no such file\n"),
-    ("no word", {}, [], 2, "", None),
-]
+def write_files(room, files):
+    for name, text in files.items():
+        path = pathlib.Path(room, name)
+        path.parent.mkdir(parents=True, exist_ok=True)
+        path.write_bytes(text if isinstance(text, bytes) else text.encode())
 
 
-def try_case(case):
-    """What is wrong with the answer to one case, or nothing. The folder may only be read."""
-    what, files, words, status, report, faults = case
-    with tempfile.TemporaryDirectory(prefix="bridge-") as room:
-        for name, text in files.items():
-            path = pathlib.Path(room, name)
-            path.parent.mkdir(exist_ok=True)
-            path.write_text(text)
-        for folder, _, _ in os.walk(room):
+def answer(files, words, before=None, command=BRIDGE, most=MOST_SECONDS):
+    """Status, output and faults of a run in a folder that may only be read; what stays behind in the folder for temporary files is a fault."""
+    with tempfile.TemporaryDirectory(prefix="bridge-") as room, tempfile.TemporaryDirectory(prefix="bridge-") as own:
+        write_files(room, files)
+        if before:
+            before(room)
+        folders = [folder for folder, _, _ in os.walk(room)]
+        for folder in folders:
             os.chmod(folder, 0o555)
-        done = subprocess.run([BRIDGE, *words], cwd=room, capture_output=True, text=True, timeout=MOST_SECONDS)
-        for folder, _, _ in os.walk(room):
+        try:
+            done = subprocess.run([command, *words], cwd=room, env={**os.environ, "TMPDIR": own}, stdin=subprocess.DEVNULL, capture_output=True, timeout=most)
+            result = done.returncode, done.stdout.decode(errors="replace"), done.stderr.decode(errors="replace")
+        except subprocess.TimeoutExpired:
+            result = None, "", f"takes longer than {most} s"
+        left = os.listdir(own)
+        for folder in folders:
             os.chmod(folder, 0o755)
-    told = (done.returncode, done.stdout, done.stderr if faults is not None else None)
-    return "" if told == (status, report, faults) else f"{what}: {told}"
+    return (result[0], result[1], f"{left} stay behind") if left else result
+
+
+def try_case(case, most=MOST_SECONDS):
+    """What is wrong with the answer to one case, or nothing. A report that ends with its first line stands for all that begin so."""
+    what, files, words, status, report, faults, *before = case
+    told = answer(files, words, *before, most=most)
+    same = told[1].startswith(report) if report.startswith("predicates") and report.count("\n") == 1 else told[1] == report
+    right = told[0] == status and same and faults in (None, told[2])
+    return "" if right else f"{what}: {told}"
+
+
+def try_hostile(case):
+    return try_case(case, HOSTILE_SECONDS)
+
+
+def told_calls(output):
+    """The pairs of a caller and a callee that calls-swi tells, and the predicates that are in a group."""
+    names, pairs, reached = {}, set(), set()
+    for said in map(json.loads, output.splitlines()):
+        if said["is"] == "predicate":
+            names[said["id"]] = f"{said['module']}:{said['name']}/{said['arity']}"
+            if said["group"] is not None:
+                reached.add(names[said["id"]])
+        elif said["is"] == "call" and said["callee"] is not None:
+            pairs.add((names[said["caller"]], names[said["callee"]]))
+    return pairs, reached
+
+
+def try_pairs(case):
+    """What is wrong with the pairs that are told of a small program; a name without a module is one of user."""
+    what, files, words, wanted, absent = case
+    status, out, faults = answer(files, ["--unreached", *words], command=CALLS_BRIDGE)
+    pairs = {f"{caller.removeprefix('user:')}>{callee.removeprefix('user:')}" for caller, callee in told_calls(out)[0]}
+    missing = [pair for pair in wanted.split() if pair.replace("user:", "") not in pairs]
+    wrong = [pair for pair in absent.split() if pair in pairs]
+    return f"{what}: status {status}, missing {missing}, wrong {wrong}: {faults}" if missing or wrong or status not in (0, 8) else ""
+
+
+def plain(name):
+    """A name without its quotes: what it is spelled with decides nothing."""
+    spelled = {"n": "\n", "t": "\t"}
+
+    def unquoted(found):
+        text = re.sub(r"\\x([0-9a-fA-F]+)\\", lambda it: chr(int(it[1], 16)), found[1].replace("''", "'"))
+        return re.sub(r"\\(.)", lambda it: spelled.get(it[1], it[1]), text)
+
+    return re.sub(r"'((?:[^'\\]|\\.|'')*)'", unquoted, name)
+
+
+def names_in(line):
+    return tuple(plain(name) for name in NAME.findall(line))
+
+
+def traced(folder):
+    """The pairs that SWI-Prolog makes when it runs the program, and what it calls from outside; as corrected by the program's own notes."""
+    words = ["swipl", "-f", "none", str(ROOT / "checks" / "bridge_trace.pl"), "--", str(folder), "main.pl"]
+    done = subprocess.run(words, stdin=subprocess.DEVNULL, capture_output=True, text=True, timeout=MOST_SECONDS)
+    if done.returncode != 0:
+        return None
+    lines = [names_in(line) for line in done.stdout.splitlines()]
+    outside = {callee for caller, callee in lines if caller == "ran"}
+    pairs = {pair for pair in lines if pair[0] != "ran"}
+    ran, text = outside | {callee for _, callee in pairs}, (folder / "main.pl").read_text(encoding="latin-1")
+    for sign, rest in re.findall(r"^%([-+]) (.*)$", text, re.M):
+        if sign == "+":
+            pairs.add(names_in(rest))
+        else:
+            pairs.discard(names_in(rest))
+            ran.discard(names_in(rest)[1])
+    return pairs, outside, ran
+
+
+def try_traced(folder):
+    """What is wrong with the calls told of a program that SWI-Prolog runs: all of them and no other, and all that ran is reached.
+
+    A note `%- CALLER CALLEE` in main.pl is of a call that the text doesn't say, `%+ CALLER CALLEE` of one that the debugger doesn't see.
+    What is called from outside, as a hook or in another thread, may have any caller.
+    """
+    found = traced(folder)
+    if found is None:
+        return f"{folder.name}: SWI-Prolog doesn't run it"
+    done = subprocess.run([CALLS_BRIDGE, "--unreached", "main.pl"], cwd=folder, stdin=subprocess.DEVNULL, capture_output=True, text=True, timeout=MOST_SECONDS)
+    pairs, reached = told_calls(done.stdout)
+    wanted, outside, ran = found
+    missing, more = wanted - pairs, {pair for pair in pairs - wanted if pair[1] not in outside}
+    if not missing and not more and ran <= reached and done.returncode in (0, 8):
+        return ""
+    return f"{folder.name}: missing {sorted(missing)}, more {sorted(more)}, unreached {sorted(ran - reached)}: {done.stderr}"
+
+
+def try_library_goals():
+    """Whether `groups` follows goals of library predicates with the declarations that library-goals writes."""
+    files = {"f.pl": ":- module(f, [p/1]).\np(L) :- foldl([X, A, B]>>q(X, A, B), L, 0, _), aggregate_all(count, r, _).\nq(_, A, A) :- p([]).\nr :- p([]).\n"}
+    with tempfile.TemporaryDirectory(prefix="bridge-") as room:
+        write_files(room, files)
+        done = subprocess.run([GOALS, "f.pl"], cwd=room, stdin=subprocess.DEVNULL, capture_output=True, text=True, timeout=MOST_SECONDS)
+        pathlib.Path(room, "goals.pl").write_text(done.stdout)
+        report = subprocess.run([GROUPS, "f.pl", "goals.pl"], cwd=room, stdin=subprocess.DEVNULL, capture_output=True, text=True).stdout
+    right = done.returncode == 0 and "recursive f:p/1 f:q/3 f:r/0" in report
+    return "" if right else f"library-goals: {done.returncode}, {done.stdout}, {done.stderr}, {report}"
+
+
+def try_signal():
+    """Whether SIGTERM ends the bridge and SWI-Prolog at once, and takes the temporary folder away."""
+    with tempfile.TemporaryDirectory(prefix="bridge-") as room:
+        write_files(room, {"f.pl": "p.\n" * 400000})
+        running = subprocess.Popen([BRIDGE, "f.pl"], cwd=room, env={**os.environ, "TMPDIR": room}, stdout=subprocess.DEVNULL, stderr=subprocess.DEVNULL)
+        time.sleep(0.6)
+        running.send_signal(signal.SIGTERM)
+        try:
+            status = running.wait(3)
+        except subprocess.TimeoutExpired:
+            running.kill()
+            return "SIGTERM doesn't end it"
+        left = [name for name in os.listdir(room) if name != "f.pl"]
+    return "" if status == 130 and not left else f"SIGTERM: status {status}, {left} stay behind"
+
+
+def try_settings():
+    """Whether the user's own settings of SWI-Prolog stay unread."""
+    with tempfile.TemporaryDirectory(prefix="bridge-") as room:
+        write_files(room, {"swi-prolog/init.pl": f":- open('{room}/ran', write, S), close(S).\n", "f.pl": "p.\n"})
+        subprocess.run([BRIDGE, "f.pl"], cwd=room, env={**os.environ, "XDG_CONFIG_HOME": room}, stdin=subprocess.DEVNULL, capture_output=True, timeout=MOST_SECONDS)
+        return "the user's settings are run" if pathlib.Path(room, "ran").exists() else ""
+
+
+def try_small():
+    """What is wrong with the answers to all small programs."""
+    folders = sorted(path for path in TRACED.iterdir() if path.is_dir())
+    kinds = [
+        ("small programs", try_case, bridge_cases.CASES),
+        ("small programs' calls", try_pairs, bridge_cases.PAIRS),
+        ("hostile programs", try_hostile, bridge_hostile.HOSTILE),
+        ("programs that SWI-Prolog traces", try_traced, folders),
+        ("other things", lambda attempt: attempt(), [try_library_goals, try_signal, try_settings]),
+    ]
+    wrong = []
+    with concurrent.futures.ThreadPoolExecutor(AT_ONCE) as pool:
+        for what, attempt, cases in kinds:
+            found = [said for said in pool.map(attempt, cases) if said]
+            print(f"{len(cases) - len(found)} of {len(cases)} {what} are right", flush=True)
+            wrong += found
+    return wrong
 
 
 def run(words, path):
     try:
-        done = subprocess.run([*words, path.name], cwd=path.parent, capture_output=True, timeout=MOST_SECONDS)
+        done = subprocess.run([*words, path.name], cwd=path.parent, stdin=subprocess.DEVNULL, capture_output=True, timeout=MOST_SECONDS)
         return done.returncode, done.stdout.decode(errors="replace"), done.stderr.decode(errors="replace")
     except subprocess.TimeoutExpired:
         return None, "", ""
 
 
-def plain(name):
-    """A name without its quotes: what it is spelled with decides nothing."""
-    return re.sub(r"'((?:[^'\\]|\\.|'')*)'", lambda found: found[1].replace("''", "'").replace("\\'", "'").replace("\\\\", "\\"), name)
+def lines_of(words, path):
+    """What `calls` tells of a file, as tuples without its numbers, or nothing if it gives no answer."""
+    status, out, _ = run([*words, "--unreached"], path)
+    if status not in (0, 8):
+        return None
+    names, lines = {}, set()
+    for said in map(json.loads, out.splitlines()):
+        if said["is"] == "predicate":
+            names[said["id"]] = f"{said['module']}:{said['name']}/{said['arity']}"
+        elif os.path.basename(said["file"]) == path.name:
+            goal = (said["module"], said["name"], said["arity"]) if said["is"] == "call" else ()
+            lines.add((names[said.get("caller", said.get("predicate"))], goal, said["line"], said["column"]))
+    return lines
+
+
+def places_differ(path):
+    """The clauses and calls that `calls` tells of the file by itself and the bridge doesn't tell at the same place; None if it isn't read."""
+    alone = lines_of([CALLS], path)
+    return None if alone is None else sorted(alone - (lines_of([CALLS_BRIDGE], path) or set()))
 
 
 def reported(report, module):
@@ -190,8 +294,7 @@ def told_by_xref(path):
         return None
     module, defined, exported, directive, edges = "user", set(), set(), set(), collections.defaultdict(set)
     for line in out.splitlines():
-        word, *names = NAME.findall(line)
-        names = [plain(name) for name in names]
+        word, *names = names_in(line)
         if word == "module":
             module = names[0]
         elif word == "defines":
@@ -229,42 +332,70 @@ def difference(path, report):
     return ""
 
 
-def main():
-    parser = argparse.ArgumentParser()
-    parser.add_argument("--every", type=int, default=1)
-    every = parser.parse_args().every
-    if shutil.which("swipl") is None:
-        print("SWI-Prolog isn't installed: nothing to try")
-        return 0
-    wrong = [said for said in map(try_case, CASES) if said]
-    print(f"{len(CASES) - len(wrong)} of {len(CASES)} small programs are right")
-    if shutil.which("dpkg-query") is None or not real_programs.packages():
-        print("no Prolog package is installed: no real file is tried")
-        return report_end(wrong, 1.0)
-    paths = sorted({path for package in real_programs.packages() for path in real_programs.sources(package)})[::every]
-    alone, bridged, causes, reports = 0, collections.Counter(), collections.Counter(), []
-    with concurrent.futures.ThreadPoolExecutor(4) as pool:
-        runs = zip(paths, pool.map(lambda path: run([GROUPS], path), paths), pool.map(lambda path: run([BRIDGE], path), paths))
-        for path, (status, _, _), (bridge_status, out, err) in runs:
-            alone += status == 0
-            bridged[bridge_status] += 1
-            if bridge_status not in (0, 3, 8):
-                wrong.append(f"{path}: status {bridge_status}: {err[-200:]}")
-            elif bridge_status != 3:
-                reports.append((path, out))
-            causes.update(re.sub(r"`.*|[^ ]+/[0-9]+ |'.*'", "", line.split(": ", 1)[-1])[:70] for line in err.splitlines())
-    share = (bridged[0] + bridged[8]) / max(1, len(paths))
+def try_reports(paths, pool):
+    """What is wrong with the reports of real files, the share that has one, and the reports."""
+    alone, bridged, causes, reports, wrong = 0, collections.Counter(), collections.Counter(), [], []
+    runs = zip(paths, pool.map(lambda path: run([GROUPS], path), paths), pool.map(lambda path: run([BRIDGE], path), paths))
+    for path, (status, _, _), (bridge_status, out, err) in runs:
+        alone += status == 0
+        bridged[bridge_status] += 1
+        if bridge_status not in (0, 3, 8):
+            wrong.append(f"{path}: status {bridge_status}: {err[-200:]}")
+        elif bridge_status != 3:
+            reports.append((path, out))
+        causes.update(re.sub(r"`.*|[^ ]+/[0-9]+ |'.*'", "", line.split(": ", 1)[-1])[:70] for line in err.splitlines() if not line.startswith("groups-swi: "))
     print(f"{len(paths)} files: {alone} get a report alone, {bridged[0]} by the bridge, {bridged[8]} more with something left out")
     for cause, count in causes.most_common(12):
         print(f"{count:7}  {cause}")
-    chosen = reports[:: max(1, len(reports) // COMPARED)][:COMPARED]
-    with concurrent.futures.ThreadPoolExecutor(4) as pool:
+    return wrong, (bridged[0] + bridged[8]) / max(1, len(paths)), reports
+
+
+def try_real(every):
+    """What is wrong with the answers to real files, and the share of them that gets a report."""
+    paths = sorted({path for package in real_programs.packages() for path in real_programs.sources(package)})[::every]
+    with concurrent.futures.ThreadPoolExecutor(AT_ONCE) as pool:
+        wrong, share, reports = try_reports(paths, pool)
+        differ = list(zip(paths, pool.map(places_differ, paths)))
+        chosen = reports[:: max(1, len(reports) // COMPARED)][:COMPARED]
         found = list(pool.map(lambda one: difference(*one), chosen))
+    wrong += [f"{path}: not told at its place: {lines[0]}" for path, lines in differ if lines]
+    print(f"{sum(lines is not None for _, lines in differ)} files are read without the bridge: it tells the same places of {sum(lines == [] for _, lines in differ)}")
     print(f"{len(chosen)} files beside prolog_xref: {found.count('')} with the same groups")
     for (path, _), said in zip(chosen, found):
         if said:
             print(f"  {path.name}: {said}")
-    return report_end(wrong, share)
+    return wrong, share
+
+
+def try_libraries():
+    """What is wrong with one run over the whole installed library, in which no more than 25 s of processor time may go."""
+    home = pathlib.Path(subprocess.run(["swipl", "--dump-runtime-variables"], capture_output=True, text=True).stdout.partition('PLBASE="')[2].partition('"')[0])
+    paths = sorted(path for path in (home / "library").rglob("*.pl") if path.name not in ("INDEX.pl", "MKINDEX.pl"))
+    before = resource.getrusage(resource.RUSAGE_CHILDREN)
+    done = subprocess.run([BRIDGE, "--libraries", "--unreached", *map(str, paths)], stdin=subprocess.DEVNULL, capture_output=True, text=True)
+    after = resource.getrusage(resource.RUSAGE_CHILDREN)
+    seconds = after.ru_utime + after.ru_stime - before.ru_utime - before.ru_stime
+    print(f"{len(paths)} files: status {done.returncode}, {done.stdout.partition(chr(10))[0]}, {seconds:.1f} s of processor time, {after.ru_maxrss / 1024:.0f} MB")
+    print("\n".join(done.stderr.splitlines()[-1:]))
+    return [] if done.returncode == 8 and seconds <= 25 else [f"the whole library: {done.stderr[-300:]}"]
+
+
+def main():
+    parser = argparse.ArgumentParser()
+    parser.add_argument("--every", type=int, default=1)
+    parser.add_argument("--libraries", action="store_true")
+    words = parser.parse_args()
+    if shutil.which("swipl") is None:
+        print("SWI-Prolog isn't installed: nothing to try")
+        return 0
+    if words.libraries:
+        return report_end(try_libraries(), 1.0)
+    wrong = try_small()
+    if shutil.which("dpkg-query") is None or not real_programs.packages():
+        print("no Prolog package is installed: no real file is tried")
+        return report_end(wrong, 1.0)
+    more, share = try_real(words.every)
+    return report_end(wrong + more, share)
 
 
 def report_end(wrong, share):

@@ -1,5 +1,6 @@
 /*  swipl xref_calls.pl -- FILE: what SWI-Prolog's prolog_xref says of the file, a fact a line:
-    `module NAME`, `defines NAME/ARITY`, `exports NAME/ARITY`, `calls NAME/ARITY NAME/ARITY`, `directive NAME/ARITY`. */
+    `module NAME`, `defines NAME/ARITY`, `exports NAME/ARITY`, `calls NAME/ARITY NAME/ARITY`, `directive NAME/ARITY`. What a clause for another
+    module calls, a hook's, counts as called by a directive. */
 
 :- use_module(library(prolog_xref)).
 :- use_module(library(apply)).
@@ -15,7 +16,8 @@ main([File]) :-
     format("module ~q~n", [Module]),
     forall(( xref_defined(Source, Head, How), own(How), plain(Module, Head, Own) ), tell(defines, [Own])),
     forall(xref_exported(Source, Head), tell(exports, [Head])),
-    forall(( xref_called(Source, Called, By), plain(Module, Called, To), plain(Module, By, From) ), called(From, To)).
+    forall(( xref_called(Source, Called, By), plain(Module, Called, To) ),
+           ( plain(Module, By, From) -> called(From, To) ; tell(directive, [To]) )).
 
 % What belongs to the module of the file, without its name.
 plain(Module, Head, Own) :-

@@ -1,0 +1,94 @@
+/** <module> What the bridge knows of the program that it reads
+
+The facts that reading writes and that naming, walking and writing look up. A file has a number, and
+so has each text that is read for it: the file itself and what it includes. A place is
+at(Text, Offset), with the offset in characters from 0.
+*/
+
+:- module(bridge_facts,
+          [ option/1,               % Name
+            source/3,               % Number, Path, Class
+            home/4,                 % Number, Module, Kind, Operators
+            text/3,                 % Text, Path, Number
+            export/3,               % Number, Name, Arity
+            exported_operator/4,    % Number, Priority, Type, Names
+            item/3,                 % Number, Place, What
+            defined/3,              % Module, Name, Arity
+            meta/4,                 % Module, Name, Arity, Modes
+            load/5,                 % Load, Number, Place, Target, How
+            again/1,                % Load
+            pick/4,                 % Load, Name, Arity, As
+            drop/3,                 % Load, Name, Arity
+            module_load/3,          % Module, Load, Target
+            handles_rules/1,        % Number
+            foreign/1,              % Number
+            expansion/4,            % Count, Module, Goal, Expanded
+            define/3,               % +Module, +Name, +Arity
+            say/3,                  % +Reading, +Place, +What
+            next_number/2,          % +Counter, -Number
+            note/1                  % :Fact
+          ]).
+
+:- meta_predicate note(0).
+
+/** option(?Name)
+
+    An option of the command line: libraries, expand, 'no-run', undefined or declare.
+*/
+/** source(?Number, ?Path, ?Class)
+
+    A file. Class is `named` where an argument names it, `loaded` where a file of the program loads
+    it, and `library` for a library and all that libraries load.
+*/
+/** home(?Number, ?Module, ?Kind, ?Operators)
+
+    The module of a file that is read or being read. Kind is `module` where it declares that module,
+    else `plain`. Operators is the module whose operators hold in the file.
+*/
+/** item(?Number, ?Place, ?What)
+
+    What the file says, in its order:
+    module; clause(Owner, Name, Arity, Module, Parts, Expansions); declare(How, Indicators);
+    goal(Goal, Position); root(Module, Name, Arity); load(Load).
+    A part of a clause is goal(Goal, Position) or grammar(Body, Position), and Expansions the number
+    of facts of goal_expansion/2 that were read before it.
+*/
+/** load(?Load, ?Number, ?Place, ?Target, ?How)
+
+    Target is file(Number), or outside(Path) for a library that is only looked at. How is `all`,
+    `only` (what pick/4 lists) or `except` (all but what drop/3 lists; pick/4 has new names).
+*/
+:- dynamic
+    option/1, source/3, home/4, text/3, export/3, exported_operator/4, item/3, defined/3, meta/4,
+    load/5, again/1, pick/4, drop/3, module_load/3, handles_rules/1, foreign/1, expansion/4.
+
+%!  define(+Module, +Name, +Arity) is det.
+%
+%   The text defines the predicate.
+define(Module, Name, Arity) :-
+    (   defined(Module, Name, Arity)
+    ->  true
+    ;   assertz(defined(Module, Name, Arity))
+    ).
+
+%!  say(+Reading, +Place, +What) is det.
+%
+%   The file that is being read says What.
+say(reading(Number, _), Place, What) :-
+    assertz(item(Number, Place, What)).
+
+%!  next_number(+Counter, -Number) is det.
+%
+%   The next of 1, 2, 3 ..
+next_number(Counter, Number) :-
+    flag(Counter, Before, Before + 1),
+    Number is Before + 1.
+
+%!  note(:Fact) is det.
+%
+%   The fact is there once.
+note(Fact) :-
+    (   call(Fact)
+    ->  true
+    ;   assertz(Fact)
+    ).

@@ -1,0 +1,3 @@
+:- use_module(beside).
+:- include('more/deep').
+part :- beside.

@@ -1,0 +1,3 @@
+:- module(provider, [provided/0]).
+provided :- hidden.
+hidden.

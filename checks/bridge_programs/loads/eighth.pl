@@ -1,0 +1,2 @@
+:- module(eighth, [eight/0]).
+eight.

@@ -1,0 +1,2 @@
+:- module(fifth, [five/0]).
+five.

@@ -1,0 +1,3 @@
+:- module(fourth, [four/0, two/0]).
+four.
+two.

@@ -1,0 +1,2 @@
+:- module(seventh, [seven/0]).
+seven.

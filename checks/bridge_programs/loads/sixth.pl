@@ -1,0 +1,2 @@
+:- module(sixth, [six/0]).
+six.

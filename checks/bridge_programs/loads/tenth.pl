@@ -1,0 +1,2 @@
+:- module(tenth, [ten/0]).
+ten.

@@ -1,0 +1,1 @@
+:- module(exporter, [op(700, xfx, <~>)]).

@@ -1,0 +1,4 @@
+:- module(back, [one/0, three/0, four/0]).
+one :- three.
+three.
+four.

@@ -1,0 +1,2 @@
+:- module(last, []).
+:- reexport(deep, except([seven/0])).

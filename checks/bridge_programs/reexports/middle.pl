@@ -1,0 +1,3 @@
+:- module(middle, [two/0]).
+:- reexport([back]).
+two :- one.

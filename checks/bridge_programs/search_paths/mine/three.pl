@@ -1,0 +1,2 @@
+:- module(three, [three/0]).
+three.

@@ -1,0 +1,2 @@
+:- module(four, [four/0]).
+four.

@@ -1,0 +1,2 @@
+:- module(one, [one/0]).
+one.

@@ -1,0 +1,2 @@
+:- module(two, [two/0]).
+two.
