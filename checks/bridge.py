@@ -36,6 +36,7 @@ BRIDGE = ROOT / "bridges" / "swi" / "groups-swi"
 CALLS_BRIDGE = ROOT / "bridges" / "swi" / "calls-swi"
 GOALS = ROOT / "bridges" / "swi" / "library-goals"
 TRACED = ROOT / "checks" / "bridge_programs"
+PEERS = ROOT / "checks" / "bridge_peers"
 MOST_SECONDS = 60
 HOSTILE_SECONDS = 20
 COMPARED = 100
@@ -158,6 +159,14 @@ def try_traced(folder):
     return f"{folder.name}: missing {sorted(missing)}, more {sorted(more)}, unreached {sorted(ran - reached)}: {done.stderr}"
 
 
+def try_peer(folder):
+    """Whether a program on which the bridge once went wrong gets its answer: the report, the status and the faults, as SWI-Prolog itself runs it."""
+    words = (folder / "words").read_text().split()
+    done = subprocess.run([BRIDGE, *words], cwd=folder, stdin=subprocess.DEVNULL, capture_output=True, text=True, timeout=MOST_SECONDS)
+    told = f"{done.stdout}status {done.returncode}\n{done.stderr}"
+    return "" if told == (folder / "answer").read_text() else f"{folder.name}: {told}"
+
+
 def try_library_goals():
     """Whether `groups` follows goals of library predicates with the declarations that library-goals writes."""
     files = {"f.pl": ":- module(f, [p/1]).\np(L) :- foldl([X, A, B]>>q(X, A, B), L, 0, _), aggregate_all(count, r, _).\nq(_, A, A) :- p([]).\nr :- p([]).\n"}
@@ -194,15 +203,23 @@ def try_settings():
         return "the user's settings are run" if pathlib.Path(room, "ran").exists() else ""
 
 
+def try_modules():
+    """Whether the tests of the bridge's own modules pass."""
+    words = ["swipl", "-f", "none", "-g", "run_tests", "-t", "halt", "tests.pl"]
+    done = subprocess.run(words, cwd=BRIDGE.parent, stdin=subprocess.DEVNULL, capture_output=True, text=True, timeout=MOST_SECONDS)
+    return "" if done.returncode == 0 and "Warning" not in done.stderr else f"tests.pl: {done.stderr}"
+
+
 def try_small():
     """What is wrong with the answers to all small programs."""
-    folders = sorted(path for path in TRACED.iterdir() if path.is_dir())
+    folders, peers = (sorted(path for path in top.iterdir() if path.is_dir()) for top in (TRACED, PEERS))
     kinds = [
         ("small programs", try_case, bridge_cases.CASES),
         ("small programs' calls", try_pairs, bridge_cases.PAIRS),
         ("hostile programs", try_hostile, bridge_hostile.HOSTILE),
         ("programs that SWI-Prolog traces", try_traced, folders),
-        ("other things", lambda attempt: attempt(), [try_library_goals, try_signal, try_settings]),
+        ("programs with known answers", try_peer, peers),
+        ("other things", lambda attempt: attempt(), [try_library_goals, try_signal, try_settings, try_modules]),
     ]
     wrong = []
     with concurrent.futures.ThreadPoolExecutor(AT_ONCE) as pool:

@@ -560,4 +560,29 @@ PAIRS = [
         "",
         "p/0>q/0 p/0>y/0 p/0>r/1",
     ),
+    (
+        "with --libraries, goals that libraries take and what is loaded where it is called",
+        {
+            "f.pl": ":- module(f, [p/0, walk/1]).\n"
+            ":- use_module(library(apply)).\n"
+            "p :- assertion(q).\n"
+            "q.\n"
+            "walk(t(Cs)) :- maplist([C]>>walk(C), Cs).\n",
+        },
+        ["--libraries", "f.pl"],
+        "f:p/0>prolog_debug:assertion/1 f:p/0>f:q/0 f:walk/1>apply:maplist/2 f:walk/1>f:walk/1 prolog_debug:assertion/1>prolog_debug:assertion_failed/2",
+        "",
+    ),
+    (
+        "with --undefined, only what nothing defines",
+        {
+            "f.pl": ":- module(f, [p/0]).\n"
+            ":- use_module(library(debug)).\n"
+            "p :- format('x'), foldl(q, [], 0, _), debug(a, b, []), no_such(1), lists:append([], [], _), other:nothing.\n"
+            "q(_, A, A).",
+        },
+        ["--undefined", "f.pl"],
+        "",
+        "",
+    ),
 ]

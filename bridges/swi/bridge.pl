@@ -56,7 +56,7 @@ run(Command, Folder, Words, Status) :-
         read_all,
         find_imports,
         (   option(libraries)
-        ->  read_autoloaded(called)
+        ->  read_autoloaded(calls_of_file)
         ;   true
         ),
         (   option(declare)
@@ -85,19 +85,3 @@ named_file(Word, Number) :-
     ->  true
     ;   new_source(Path, named, Number)
     ).
-
-%!  called(-Module, -Name, -Arity) is nondet.
-%
-%   What is called and means nothing of the program, of a library that is loaded or of the system.
-called(Module, Name, Arity) :-
-    findall(M-N/A,
-            ( item(_, Place, What), parts_in(What, In, Parts, Expansions),
-              calls_in(Parts, In, Place, Expansions, false, Calls),
-              member(call(M, N, A, _), Calls), means(M, N, A, none) ),
-            Names0),
-    sort(Names0, Names),
-    member(Module-Name/Arity, Names),
-    \+ of_system(Name, Arity).
-
-parts_in(clause(_, _, _, Module, Parts, Expansions), Module, Parts, Expansions) :- Parts \== [].
-parts_in(goal(Goal, At), user, [goal(Goal, At)], 0).

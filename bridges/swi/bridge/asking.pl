@@ -68,7 +68,8 @@ question(Name, Arity) :-
                 memberchk/2, member/2, current_arithmetic_function/1, prolog_load_context/2,
                 atom/1, var/1, nonvar/1, number/1, integer/1, atom_concat/3, sub_atom/5,
                 file_search_path/2, file_base_name/2, file_directory_name/2, absolute_file_name/2,
-                current_foreign_library/2, module_property/2, compare/3, functor/3, arg/3
+                current_foreign_library/2, module_property/2, compare/3, functor/3, arg/3,
+                variant_sha1/2, variant_hash/2, term_hash/2, debugging/1
               ]).
 
 % One step of arithmetic may take hours: powers and shifts are let in with small exponents alone.
@@ -145,6 +146,7 @@ holds(source_exports(File, Indicator), asked(_, _, Path)) :-
     find_source(File, Path, Found),
     arity_of(Indicator, Name, Arity),
     library_export(Found, Name, Arity, _).
+holds(debugging(_), _) :- !, fail.
 holds(prolog_load_context(Key, Value), asked(Module, _, Path)) :-
     !,
     load_context(Key, Module, Path, Value).

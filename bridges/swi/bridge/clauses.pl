@@ -77,10 +77,11 @@ holds_from_here(file_search_path(Alias, Folder), user, [], _, reading(_, Text)) 
     search_path(Alias, Folder, Path).
 holds_from_here(goal_expansion(Goal, Expanded), Owner, Parts, _, _) :-
     ( Parts == [] ; Parts = [goal(Body, _)], Body == true ),
-    nonvar(Goal),
+    callable(Goal),
     !,
     next_number(bridge_expansions, Count),
-    assertz(expansion(Count, Owner, Goal, Expanded)).
+    head_name(Goal, Name, Arity),
+    assertz(expansion(Name, Arity, Count, Owner, Goal, Expanded)).
 % Those of `system` are a library's, for directives of its own: the bridge knows the usual ones.
 holds_from_here(Inner, Owner, _, Place, _) :-
     head_name(Inner, Name, Arity),

@@ -7,6 +7,7 @@ added to it.
 
 :- module(bridge_goals,
           [ calls_in/6,             % +Parts, +Module, +Place, +Expansions, +Tell, -Calls
+            calls_of_file/2,        % +Number, -Call
             closure//5,             % +Goal, +Position, +Module, +Added, +Default
             grammar//4              % +Body, +Position, +Module, +Default
           ]).
@@ -39,6 +40,20 @@ calls_in(Parts, Module, Place, Expansions, Tell, Calls) :-
         ;   true
         )
     ).
+
+%!  calls_of_file(+Number, -Call) is nondet.
+%
+%   Each call of the clauses and directives of a file, of which none is told.
+calls_of_file(Number, Call) :-
+    item(Number, Place, What),
+    parts_in(What, Number, Module, Parts, Expansions),
+    calls_in(Parts, Module, Place, Expansions, false, Calls),
+    member(Call, Calls).
+
+parts_in(clause(_, _, _, Module, Parts, Expansions), _, Module, Parts, Expansions) :- Parts \== [].
+parts_in(goal(Goal, At), Number, Module, [goal(Goal, At)], Expansions) :-
+    home(Number, Module, _, _),
+    flag(bridge_expansions, Expansions, Expansions).
 
 % Default is the offset that counts where none is known.
 calls_of([], _, _) --> [].
@@ -100,15 +115,17 @@ goal_at(by(Number, Goal), At, M, D) -->
 rewritten(Goal, M, Added, by(Number, New)) :-
     b_getval(bridge_expansions, Count),
     Count > 0,
+    head_name(Goal, Name, Arity0),
+    Arity is Arity0 + Added,
+    expansion(Name, Arity, Number, Owner, Pattern, Expanded),
+    Number =< Count,
+    ( Owner == M ; Owner == user ; Owner == system ),
     nb_getval(bridge_expanded, Times),
     most_expansions(Most),
     Times < Most,
     b_getval(bridge_used, Used),
-    extended(Goal, Added, Whole),
-    expansion(Number, Owner, Pattern, Expanded),
-    Number =< Count,
     \+ memberchk(Number, Used),
-    ( Owner == M ; Owner == user ; Owner == system ),
+    extended(Goal, Added, Whole),
     subsumes_term(Pattern, Whole),
     !,
     copy_term(Pattern-Expanded, Whole-New),

@@ -177,6 +177,7 @@ undeclared_goal(Goal, Name, Arity, At, Closure, P, Added) :-
 in_argument(concurrent, 3, 2, goals).
 in_argument(first_solution, 3, 2, goals).
 in_argument(http_handler, 3, 2, 1).
+in_argument(pce_global, 2, 2, 1).
 in_argument(on_signal, 3, 3, 1).
 in_argument(wrap_predicate, 4, 4, 0).
 in_argument(in_pce_thread, 1, 1, 0).

@@ -102,7 +102,8 @@ search_export(Path, Name, Arity, Definer) :-
 %   The library's text declares which arguments of its predicate are goals.
 library_modes(Path, Name, Arity, Modes) :-
     whole(Path),
-    modes(Path, Name, Arity, Modes).
+    modes(Path, Name, Arity, Modes),
+    !.
 
 /* The first directives, up to the first clause. */
 

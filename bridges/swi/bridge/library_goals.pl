@@ -26,16 +26,11 @@ write_library_goals :-
            write_declarations(Module, Name, Arity, Modes)).
 
 called_outside(Module, Name, Arity) :-
-    item(_, Place, What),
-    parts_in(What, In, Parts, Expansions),
-    calls_in(Parts, In, Place, Expansions, false, Calls),
-    member(call(Module, Name, Arity, _), Calls),
+    source(Number, _, _),
+    calls_of_file(Number, call(Module, Name, Arity, _)),
     means(Module, Name, Arity, Meaning),
     ( Meaning == none ; Meaning = library(_) ),
     \+ known_to_groups(Name, Arity).
-
-parts_in(clause(_, _, _, Module, Parts, Expansions), Module, Parts, Expansions) :- Parts \== [].
-parts_in(goal(Goal, At), user, [goal(Goal, At)], 0).
 
 % The table in the profile has these.
 known_to_groups(call, Arity) :- Arity > 0.

@@ -7,7 +7,8 @@ loads by itself.
 
 :- module(bridge_names,
           [ find_imports/0,
-            read_autoloaded/1,      % :Called
+            read_autoloaded/1,      % :Calls
+            loads_itself/1,         % ?Number
             loaded_name/3,          % +Module, +Name, +Arity
             provider/5,             % +Number, +Name, +Arity, -Definer, -Plain
             public_name/3,          % +Number, -Name, -Arity
@@ -25,7 +26,7 @@ loads by itself.
 :- use_module(selections).
 :- use_module(texts).
 
-:- meta_predicate read_autoloaded(3).
+:- meta_predicate read_autoloaded(2).
 
 :- dynamic
     public_name/3,          % Number, name, arity: what a load of all takes of the file
@@ -34,7 +35,9 @@ loads by itself.
     imported/6,             % Module, name, arity, file that defines it, its name there, load
     meaning/4,              % Module, name, arity, what it means there
     system_modes/3,         % Name, arity, some(Modes) or none
-    library_found/3.        % Name, arity, some(Path) or none
+    library_found/3,        % Name, arity, some(Path) or none
+    looked_through/1,       % Number of a file whose calls were looked up
+    loads_itself/1.         % Number of a file that is read for what calls it
 
 %!  find_imports is det.
 %
@@ -247,22 +250,30 @@ library_of(Name, Arity, Path) :-
         exists_file(Path)
     ).
 
-%!  read_autoloaded(:Called) is det.
+%!  read_autoloaded(:Calls) is det.
 %
 %   Reads what SWI-Prolog would load by itself where it is called, and then what is called there.
-%   Called(Module, Name, Arity) says on backtracking what is called and means nothing yet.
-read_autoloaded(Called) :-
-    findall(Path,
-            ( call(Called, _, Name, Arity), autoloaded(Name, Arity, Path), \+ source(_, Path, _) ),
-            Paths0),
+%   Calls(Number, Call) says on backtracking what a file calls.
+read_autoloaded(Calls) :-
+    findall(Number, ( source(Number, _, _), \+ looked_through(Number) ), Numbers),
+    findall(Path, ( member(Number, Numbers), loaded_by_itself(Calls, Number, Path) ), Paths0),
     sort(Paths0, Paths),
+    forall(member(Number, Numbers), assertz(looked_through(Number))),
     (   Paths == []
     ->  true
-    ;   forall(member(Path, Paths), new_source(Path, library, _)),
+    ;   forall(member(Path, Paths),
+               ( new_source(Path, library, Number), assertz(loads_itself(Number)) )),
         read_all,
         find_imports,
-        read_autoloaded(Called)
+        read_autoloaded(Calls)
     ).
+
+loaded_by_itself(Calls, Number, Path) :-
+    call(Calls, Number, call(Module, Name, Arity, _)),
+    means(Module, Name, Arity, none),
+    \+ of_system(Name, Arity),
+    autoloaded(Name, Arity, Path),
+    \+ source(_, Path, _).
 
 %!  goal_modes(+Meaning, +Module, +Name, +Arity, -Modes) is semidet.
 %

@@ -40,7 +40,10 @@ written(Folder, Name, Out, Goal) :-
     atomic_list_concat([Folder, /, Name], Path),
     setup_call_cleanup(
         open(Path, write, Out, [encoding(utf8), newline(posix)]),
-        ignore(Goal),
+        (   call(Goal)
+        ->  true
+        ;   throw(error(failed(Name), _))
+        ),
         close(Out)).
 
 write_names(Out) :-
@@ -61,14 +64,9 @@ write_items(To, Number) :-
     forall(item(Number, Place, What), write_item(What, Place, To)),
     forall(root(Number, Place, Module, Name, Arity), write_root(Place, Module, Name, Arity, To)),
     (   Number =:= 1
-    ->  forall(loaded_by_none(Other), write_load(Other, [], at(1, 0), To))
+    ->  forall(loads_itself(Other), write_load(Other, [], at(1, 0), To))
     ;   true
     ).
-
-% Files that SWI-Prolog would load by itself.
-loaded_by_none(Other) :-
-    source(Other, _, library),
-    \+ module_load(_, _, file(Other)).
 
 write_root(Place, Module, Name, Arity, To) :-
     Place = at(_, Offset),
@@ -148,9 +146,22 @@ own_export(Number, Name, Arity) :-
 defined_in(Module, Name/Arity) :-
     defined(Module, Name, Arity).
 
-tell_absent(Absent, Number, Place) :-
+% What SWI-Prolog itself has under the name is no lack of the file.
+tell_absent(Absent0, Number, Place) :-
+    home(Number, Module, _, _),
+    exclude(system_has(Module), Absent0, Absent),
     length(Absent, Count),
-    Absent = [First|_],
+    (   Absent == []
+    ->  true
+    ;   tell_absent(Count, Absent, Number, Place)
+    ).
+
+system_has(Module, Name/Arity) :-
+    functor(Head, Name, Arity),
+    ( '$c_current_predicate'(_, system:Head) ; '$c_current_predicate'(_, Module:Head) ),
+    !.
+
+tell_absent(Count, [First|_], Number, Place) :-
     (   foreign(Number)
     ->  Why = "written in C"
     ;   Why = "not defined in the text"
