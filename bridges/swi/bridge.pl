@@ -1,13 +1,11 @@
-/*  Writes of SWI-Prolog programs what calls what, in the profile of Prolog that `groups` and `calls`
-    read.
+/** <module> Who calls what in SWI-Prolog programs, for `groups` and `calls`
 
     swipl bridge.pl -- COMMAND FOLDER OPTION.. -- FILE..
 
-    Each file, and each that it loads, is read by SWI-Prolog's own reader and never loaded: no goal of
-    it is run, except the conditions of `if/1`, as far as they only ask. bridge/writing.pl says what
-    stands in FOLDER then. What was left out is told on standard error. The status is 0; 8 where
-    something of the program's own files was left out; 3 where a file that is named isn't there; 7
-    where memory is wanting.
+Each file, and each that it loads, is read by SWI-Prolog's own reader and never loaded: no goal of
+it is run, except the conditions of `if/1`, as far as they only ask. bridge/writing.pl says what is
+in FOLDER then. What was left out is told on standard error. The status is 0; 8 if something of the
+program's own files was left out; 3 if a file that is named isn't there; 7 if memory is wanting.
 */
 
 :- module(bridge, [main/0]).
@@ -44,7 +42,6 @@ failed(Command, error(resource_error(What), _), 7) :-
     !,
     format(user_error, "~w: out of memory: ~w~n", [Command, What]).
 failed(Command, Error, 1) :-
-    print_message_lines(user_error, kind(error), []),
     format(user_error, "~w: the bridge failed: ~p~n", [Command, Error]).
 
 run(Command, Folder, Words, Status) :-
@@ -54,7 +51,7 @@ run(Command, Folder, Words, Status) :-
         Status = 3
     ;   maplist(named_file, Files, Numbers),
         read_all,
-        find_imports,
+        resolve_names,
         (   option(libraries)
         ->  read_autoloaded(calls_of_file)
         ;   true

@@ -91,19 +91,24 @@ test(json, Text == "\"a\\\"\\\\\\u0009\u00e9\"") :-
 :- begin_tests(asking).
 
 test(asks, true) :-
-    maplist(asks, [true, current_predicate(p/0), (\+ a = b ; X is 2 ** 3, X > 1), m:current_op(_, _, a)]).
+    maplist(asks, [ true, current_predicate(p/0), ( \+ a = b ; X is 2 ** 3, X > 1 ),
+                    m:current_op(_, _, a)
+                  ]).
 test(does, true) :-
     forall(member(Goal, [_, shell(x), (true, halt), m:assertz(p), call(true), X:true]),
            ( \+ asks(Goal), X = X )).
 test(takes_long, true) :- forall(member(E, [3 ** 100, 3 ** _, 1 << 65]), \+ asks(_ is E)).
-test(plainly_asks, true) :- plainly_asks(current_prolog_flag(a, b)), \+ plainly_asks(exists_file(a)).
+test(plainly_asks, true) :-
+    plainly_asks(current_prolog_flag(a, b)),
+    \+ plainly_asks(exists_file(a)).
 
 :- end_tests(asking).
 
 :- begin_tests(conditions).
 
 test(skips, true) :- skipping([branch(open, _)]), skipping([branch(closed, _)]).
-test(reads, true) :- \+ skipping([]), \+ skipping([branch(taken, _)]), \+ skipping([branch(both, _)]).
+test(reads, true) :-
+    forall(member(Open, [[], [branch(taken, _)], [branch(both, _)]]), \+ skipping(Open)).
 test(else_of_a_branch_that_was_read, Left == [branch(closed, p)]) :-
     condition(else, x, r, [branch(taken, p)], Left).
 test(else_of_a_condition_without_answer, Left == [branch(both, p)]) :-
@@ -124,7 +129,8 @@ test(control, Names == [m:a/0, m:b/0, m:c/1, n:d/0]) :-
     called([goal(( a -> \+ b ; c(_), n:d ), none)], Names).
 test(nothing, Names == []) :- called([goal(( _, [a], "s", 3, _:x ), none)], Names).
 test(closures, Names == [m:maplist/3, m:a/3]) :- called([goal(maplist(a(_), _, _), none)], Names).
-test(lambda, Names == [m:foldl/4, m:q/2]) :- called([goal(foldl([X, A, B]>>q(X, A-B), _, _, _), none)], Names).
+test(lambda, Names == [m:foldl/4, m:q/2]) :-
+    called([goal(foldl([X, A, B]>>q(X, A-B), _, _, _), none)], Names).
 test(lambda_with_free_variables, Names == [m:maplist/2, m:q/1]) :-
     called([goal(maplist({X}/[Y]>>q(X-Y), _), none)], Names).
 test(carets, Names == [m:setof/3, n:q/1]) :- called([goal(setof(_, X^(n:q(X)), _), none)], Names).

@@ -84,12 +84,12 @@ holds_from_here(goal_expansion(Goal, Expanded), Owner, Parts, _, _) :-
     assertz(expansion(Name, Arity, Count, Owner, Goal, Expanded)).
 % Those of `system` are a library's, for directives of its own: the bridge knows the usual ones.
 holds_from_here(Inner, Owner, _, Place, _) :-
-    head_name(Inner, Name, Arity),
-    expands(Name, Arity),
-    Owner \== system,
-    !,
-    leave_out(Place, "clauses of ~w aren't run: what they add isn't read", [Name/Arity]).
-holds_from_here(_, _, _, _, _).
+    (   head_name(Inner, Name, Arity),
+        expands(Name, Arity),
+        Owner \== system
+    ->  leave_out(Place, "clauses of ~w aren't run: what they add isn't read", [Name/Arity])
+    ;   true
+    ).
 
 expands(goal_expansion, 2).
 expands(goal_expansion, 4).

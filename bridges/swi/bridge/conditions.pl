@@ -39,8 +39,9 @@ condition(if(_), Place, _, Conditions, [branch(closed, Place)|Conditions]) :-
 condition(if(Goal), Place, Reading, Conditions, [branch(State, Place)|Conditions]) :-
     !,
     branch(Goal, Place, Reading, State).
-condition(elif(Goal), Place, Reading, [branch(open, If)|Conditions], [branch(State, If)|Conditions]) :-
+condition(elif(Goal), Place, Reading, [branch(open, If)|Conditions], Left) :-
     !,
+    Left = [branch(State, If)|Conditions],
     branch(Goal, Place, Reading, State).
 condition(elif(_), _, _, [branch(both, If)|Conditions], [branch(both, If)|Conditions]) :- !.
 condition(elif(_), _, _, [branch(_, If)|Conditions], [branch(closed, If)|Conditions]) :- !.

@@ -11,6 +11,7 @@
 :- use_module(library(apply)).
 :- use_module(library(lists)).
 :- use_module(clauses).
+:- use_module(expansions).
 :- use_module(facts).
 :- use_module(messages).
 :- use_module(operators).
@@ -33,8 +34,8 @@ declaration(format_predicate(_, Head), Place, Reading) :-
     rooted(Head, 0, Place, Reading).
 declaration(chr_constraint(List), Place, Reading) :- constraints_said(List, Place, Reading).
 declaration(constraints(List), Place, Reading) :- constraints_said(List, Place, Reading).
-declaration(record(Spec), Place, Reading) :- made(Spec, record_predicate, Place, Reading).
-declaration(persistent(Spec), Place, Reading) :- made(Spec, persistent_predicate, Place, Reading).
+declaration(record(Spec), Place, Reading) :- made(record(Spec), Place, Reading).
+declaration(persistent(Spec), Place, Reading) :- made(persistent(Spec), Place, Reading).
 
 %!  module_said(+Module, +Exports, +Place, +Reading) is det.
 %
@@ -145,35 +146,15 @@ constraints_said(List, Place, Reading) :-
 constraint(Item, Name, Arity) :- indicator(Item), !, arity_of(Item, Name, Arity).
 constraint(Typed, Name, Arity) :- callable(Typed), head_name(Typed, Name, Arity).
 
-% What the expansions of library(record) and library(persistency) make of a declaration: predicates
-% without clauses here.
-made(Spec, By, Place, Reading) :-
-    findall(Name/Arity,
-            ( listed_item(Spec, here, _, Term), compound(Term), call(By, Term, Parts, Arity),
-              atomic_list_concat(Parts, Name) ),
-            Indicators),
-    declared(dynamic, Indicators, Place, Reading).
+% What a library of SWI-Prolog makes of a declaration has its place. Data for the library's own module
+% call nothing.
+made(Directive, Place, Reading) :-
+    Reading = reading(Number, _),
+    home(Number, Home, _, _),
+    made_clauses(Directive, Home, Clauses),
+    forall(member(Clause, Clauses), made_clause(Clause, Place, Reading)).
 
-record_predicate(Record, Parts, Arity) :-
-    functor(Record, R, _),
-    member(Parts-Arity,
-           [ [default_, R]-1, [is_, R]-1, [make_, R]-2, [make_, R]-3, [R, '_data']-3,
-             [set_, R, '_fields']-3, [set_, R, '_fields']-4, [set_, R, '_field']-3
-           ]).
-record_predicate(Record, Parts, Arity) :-
-    functor(Record, R, _),
-    arg(_, Record, Field),
-    nonvar(Field),
-    record_field(Field, F),
-    member(Parts-Arity,
-           [ [R, '_', F]-2, [set_, F, '_of_', R]-3, [set_, F, '_of_', R]-2,
-             [nb_set_, F, '_of_', R]-2
-           ]).
-
-record_field(Field = _, Name) :- !, nonvar(Field), record_field(Field, Name).
-record_field(Name:_, Name) :- !, atom(Name).
-record_field(Name, Name) :- atom(Name).
-
-persistent_predicate(Fact, [Before, Name], Arity) :-
-    functor(Fact, Name, Arity),
-    member(Before, ['', assert_, asserta_, retract_, retractall_]).
+made_clause((:- dynamic(List)), Place, Reading) :- !, declared(dynamic, List, Place, Reading).
+made_clause((:- _), _, _) :- !.
+made_clause(_:_, _, _) :- !.
+made_clause(Clause, Place, Reading) :- clause_said(Clause, none, Place, Reading).

@@ -110,7 +110,8 @@ qualified(initialization(Goal, When), Module, initialization(Module:Goal, When))
 setting(module(Module, Exports), Place, Reading) :- module_said(Module, Exports, Place, Reading).
 setting(module(Module, Exports, _), Place, Reading) :- module_said(Module, Exports, Place, Reading).
 setting(export(List), _, Reading) :- export_said(List, Reading).
-setting(op(Priority, Type, Names), Place, Reading) :- operator(Priority, Type, Names, Place, Reading).
+setting(op(Priority, Type, Names), Place, Reading) :-
+    operator(Priority, Type, Names, Place, Reading).
 setting(include(Files), Place, Reading) :- includes(Files, Place, Reading).
 setting(encoding(Encoding), Place, _) :-
     leave_out(Place, "encoding ~w isn't known", [Encoding]).

@@ -25,6 +25,8 @@ at(Text, Offset), with the offset in characters from 0.
             expansion/6,            % Name, Arity, Count, Module, Goal, Expanded
             define/3,               % +Module, +Name, +Arity
             say/3,                  % +Reading, +Place, +What
+            system_path/1,          % +Path
+            inherits_user/1,        % +Module
             next_number/2,          % +Counter, -Number
             note/1                  % :Fact
           ]).
@@ -76,6 +78,22 @@ define(Module, Name, Arity) :-
 %   The file that is being read says What.
 say(reading(Number, _), Place, What) :-
     assertz(item(Number, Place, What)).
+
+%!  system_path(+Path) is semidet.
+%
+%   The file is one of SWI-Prolog's own library.
+system_path(Path) :-
+    current_prolog_flag(home, Home),
+    atom_concat(Home, Rest, Path),
+    ( sub_atom(Rest, 0, _, _, '/library') ; sub_atom(Rest, 0, _, _, '/xpce/prolog/') ),
+    !.
+
+%!  inherits_user(+Module) is semidet.
+%
+%   The module takes from `user` what it lacks: each does, except those of SWI-Prolog's library.
+inherits_user(Module) :-
+    Module \== user,
+    \+ ( home(Number, Module, module, _), source(Number, Path, _), system_path(Path) ).
 
 %!  next_number(+Counter, -Number) is det.
 %

@@ -1,8 +1,8 @@
 /** <module> What a body calls
 
 A walk over goals and grammar bodies that yields call(Module, Name, Arity, Offset) for each goal, in
-their order. Where a predicate takes goals, what it is given is walked too, with the arguments that are
-added to it.
+their order. Where a predicate takes goals, what it is given is walked too, with the arguments that
+are added to it.
 */
 
 :- module(bridge_goals,
@@ -103,8 +103,8 @@ both(A, B, At, M, D) -->
     goal(A, P, M, 0, D),
     goal(B, Q, M, 0, D).
 
-% What a fact of goal_expansion/2 makes of a goal stands where the goal stood. No fact is used again in
-% what it made, and a clause uses so many at most: facts may expand each other's goals for ever.
+% What a fact of goal_expansion/2 makes of a goal stands where the goal stood. No fact is used again
+% in what it made, and a clause uses so many at most: facts may expand each other's goals for ever.
 most_expansions(1000).
 
 goal_at(by(Number, Goal), At, M, D) -->
@@ -119,7 +119,7 @@ rewritten(Goal, M, Added, by(Number, New)) :-
     Arity is Arity0 + Added,
     expansion(Name, Arity, Number, Owner, Pattern, Expanded),
     Number =< Count,
-    ( Owner == M ; Owner == user ; Owner == system ),
+    ( Owner == M ; Owner == user, inherits_user(M) ; Owner == system ),
     nb_getval(bridge_expanded, Times),
     most_expansions(Most),
     Times < Most,

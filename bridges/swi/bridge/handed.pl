@@ -1,7 +1,7 @@
 /** <module> Goals that are handed to predicates
 
-By declarations (meta_predicate/1, html_meta/1), in the texts of `format`, and in arguments and options
-of predicates of SWI-Prolog that no declaration speaks of.
+By declarations (meta_predicate/1, html_meta/1), in the texts of `format`, and in arguments and
+options of predicates of SWI-Prolog that no declaration speaks of.
 */
 
 :- module(bridge_handed,
@@ -18,8 +18,8 @@ of predicates of SWI-Prolog that no declaration speaks of.
 
 %!  handed(+Goal, +Name, +Written, +Arity, +Position, +Module, +Meaning, +Default)// is det.
 %
-%   What the goal hands on. Written is the number of the arguments that it has in the text, and Arity
-%   that of all.
+%   What the goal hands on. Written is the number of the arguments that it has in the text, and
+%   Arity that of all.
 handed(_, main, _, 0, _, M, Meaning, D) -->
     { starts_program(Meaning) },
     !,
@@ -51,10 +51,6 @@ program_module(Module) :-
     Class \== library,
     \+ system_path(Path),
     !.
-
-system_path(Path) :-
-    current_prolog_flag(home, Home),
-    atom_concat(Home, _, Path).
 
 declared(N, Written, _, _, _, _, _) --> { N > Written }, !.
 declared(N, Written, Modes, Goal, At, M, D) -->
@@ -105,12 +101,30 @@ page_parts(N, Arity, Term, At, M, D) -->
 /* What no declaration speaks of. */
 
 % The predicates of SWI-Prolog for which undeclared//6 has a rule.
-passes(format).
-passes(Name) :- in_argument(Name, _, _, _).
-passes(Name) :- in_options(Name, _, _, _, _).
 passes(apply).
+passes(concurrent).
+passes(engine_create).
+passes(first_solution).
+passes(format).
+passes(http_handler).
+passes(http_parameters).
+passes(in_pce_thread).
+passes(in_pce_thread_sync).
+passes(load_html).
+passes(load_sgml).
+passes(load_structure).
+passes(load_xml).
+passes(on_signal).
+passes(pce_global).
+passes(portray_clause).
+passes(print_term).
 passes(prolog_listen).
+passes(prolog_walk_code).
 passes(sgml_parse).
+passes(thread_create).
+passes(thread_create_in_pool).
+passes(wrap_predicate).
+passes(write_term).
 
 undeclared(Goal, format, Arity, At, M, D) -->
     !,
@@ -132,9 +146,9 @@ undeclared(Goal, prolog_listen, _, At, M, D) -->
         closure(Closure, P, M, Added, D)
     ;   []
     ).
-undeclared(sgml_parse(_, Options), sgml_parse, 2, At, M, D) -->
-    !,
-    { part(2, At, OptionsAt),
+undeclared(Goal, Name, Arity, At, M, D) -->
+    { parses(Name, Arity), ! },
+    { arg(Arity, Goal, Options), part(Arity, At, OptionsAt),
       findall(Closure-P-Added, parser_call(Options, OptionsAt, Closure, P, Added), Calls)
     },
     handlers(Calls, M, D).
@@ -150,10 +164,7 @@ undeclared_goal(Goal, Name, Arity, At, Closure, P, Added) :-
     arg(N, Goal, Argument),
     part(N, At, Q),
     (   How = goals
-    ->  is_list(Argument),
-        list_parts(Q, Ps),
-        nth1(I, Argument, Closure),
-        ( nth1(I, Ps, P) -> true ; P = none ),
+    ->  item_at(Argument, Q, Closure, P),
         Added = 0
     ;   callable(Argument),
         Closure = Argument,
@@ -163,15 +174,26 @@ undeclared_goal(Goal, Name, Arity, At, Closure, P, Added) :-
 undeclared_goal(Goal, Name, Arity, At, Closure, P, Added) :-
     in_options(Name, Arity, N, Option, Added),
     arg(N, Goal, Options),
-    is_list(Options),
     part(N, At, Q),
-    list_parts(Q, Ps),
-    nth1(I, Options, Written),
+    item_at(Options, Q, Written, R),
     nonvar(Written),
     functor(Written, Option, 1),
     arg(1, Written, Closure),
     callable(Closure),
-    ( nth1(I, Ps, R) -> part(1, R, P) ; P = none ).
+    part(1, R, P).
+
+% Each item of a list that may go on with a variable, and its position.
+item_at(List, At, Item, P) :-
+    list_parts(At, Ps),
+    item_in(List, Ps, Item, P).
+
+item_in(List, _, _, _) :- var(List), !, fail.
+item_in([Item0|Items], Ps0, Item, P) :-
+    next_place(Ps0, P0, Ps),
+    (   Item = Item0,
+        P = P0
+    ;   item_in(Items, Ps, Item, P)
+    ).
 
 % in_argument(Name, Arity, Argument, How): a goal with so many arguments added, or a list of goals.
 in_argument(concurrent, 3, 2, goals).
@@ -187,12 +209,20 @@ in_argument(in_pce_thread_sync, 1, 1, 0).
 in_options(thread_create, 3, 3, at_exit, 0).
 in_options(thread_create_in_pool, 4, 4, at_exit, 0).
 in_options(engine_create, 4, 4, at_exit, 0).
+in_options(http_parameters, 3, 3, attribute_declarations, 2).
 in_options(prolog_walk_code, 1, 1, on_trace, 3).
 in_options(prolog_walk_code, 1, 1, on_edge, 3).
 in_options(print_term, 2, 2, portray_goal, 2).
 in_options(write_term, 2, 2, portray_goal, 2).
 in_options(write_term, 3, 3, portray_goal, 2).
 in_options(portray_clause, 3, 3, portray_goal, 2).
+
+% Whose last argument is options of the parser, with call(Event, Closure).
+parses(sgml_parse, 2).
+parses(load_structure, 3).
+parses(load_sgml, 3).
+parses(load_xml, 3).
+parses(load_html, 3).
 
 listener_arity(Event, 2) :- nonvar(Event), Event = _/_, !.
 listener_arity(Event, 2) :- nonvar(Event), Event = _:_/_, !.
@@ -205,13 +235,11 @@ listener_arity(erase, 1).
 listener_arity(break, 3).
 
 parser_call(Options, OptionsAt, Closure, P, Added) :-
-    is_list(Options),
-    list_parts(OptionsAt, Ps),
-    nth1(I, Options, Option),
+    item_at(Options, OptionsAt, Option, Q),
     nonvar(Option),
     Option = call(Event, Closure),
     callable(Closure),
-    ( nth1(I, Ps, Q) -> part(2, Q, P) ; P = none ),
+    part(2, Q, P),
     (   memberchk(Event, [begin, error, xmlns, urlns])
     ->  Added = 3
     ;   Added = 2

@@ -129,7 +129,9 @@ skip_first_line(Stream) :-
 
 header_terms(Stream, Path) :-
     catch(read_term(Stream, Term,
-                    [ module(bridge_header), syntax_errors(error), dotlists(false), cycles(false) ]),
+                    [ module(bridge_header), syntax_errors(error), dotlists(false),
+                      cycles(false)
+                    ]),
           Error, true),
     (   nonvar(Error)
     ->  Error = error(syntax_error(_), _),

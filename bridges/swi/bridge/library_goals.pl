@@ -37,8 +37,8 @@ known_to_groups(call, Arity) :- Arity > 0.
 known_to_groups(maplist, Arity) :- Arity > 1.
 known_to_groups(Name, Arity) :-
     memberchk(Name/Arity,
-              [ once/1, ignore/1, not/1, (initialization)/1, (initialization)/2, findall/3, findall/4,
-                bagof/3, setof/3, forall/2, catch/3, phrase/2, phrase/3
+              [ once/1, ignore/1, not/1, (initialization)/1, (initialization)/2, findall/3,
+                findall/4, bagof/3, setof/3, forall/2, catch/3, phrase/2, phrase/3
               ]).
 
 declared_modes(_, >>, Arity, Modes) :-

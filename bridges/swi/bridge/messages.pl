@@ -1,7 +1,7 @@
 /** <module> What was left out, told with its place
 
-Messages are kept and told at the end, by file and line. Those of one cause in one file are one line.
-What libraries leave out is only counted: the status speaks of the files of the program.
+Messages are kept and told at the end, by file and line. Those of one cause in one file are one
+line. What libraries leave out is only counted: the status speaks of the files of the program.
 */
 
 :- module(bridge_messages,

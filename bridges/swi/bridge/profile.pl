@@ -33,8 +33,8 @@ pattern(Name, Arity, Pattern) :-
 
 %!  name_text(+Name, -Text) is det.
 %
-%   All names but letter names are quoted. That of a compound may be the reserved symbol [] too, which
-%   is no atom there.
+%   All names but letter names are quoted. That of a compound may be the reserved symbol [] too,
+%   which is no atom there.
 name_text(Name, Text) :-
     known_name(Name, Text),
     !.

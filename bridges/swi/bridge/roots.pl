@@ -9,6 +9,7 @@ Hooks that SWI-Prolog or a library calls are roots, as are predicates that a fil
 
 :- use_module(library(lists)).
 :- use_module(facts).
+:- use_module(imports).
 :- use_module(names).
 :- use_module(terms).
 

@@ -114,7 +114,8 @@ plain_text(Term, Text) :-
     copy_term_nat(Term, Copy),
     term_variables(Copy, Variables),
     maplist(=('$VAR'('_')), Variables),
-    format(atom(Text), "~W", [Copy, [quoted(true), numbervars(true), max_depth(20), spacing(next_argument)]]).
+    format(atom(Text), "~W",
+           [Copy, [quoted(true), numbervars(true), max_depth(20), spacing(next_argument)]]).
 
 %!  error_text(+Error, -Text) is det.
 %

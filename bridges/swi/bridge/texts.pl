@@ -97,9 +97,9 @@ read_decoded(Path, Number, Text) :-
     read_bytes(Path, Encoding, Mark, String),
     read_from(0, String, decoded(Path, Encoding, 0, Mark), reading(Number, Text), []).
 
-% Reads on from an offset. decoded(Path, Encoding, From, Byte): the text is decoded so from the offset
-% From on, which is the file's byte Byte. Where a directive names another encoding, what comes after it
-% is decoded again.
+% Reads on from an offset. decoded(Path, Encoding, From, Byte): the text is decoded so from the
+% offset From on, which is the file's byte Byte. Where a directive names another encoding, what
+% comes after it is decoded again.
 read_from(Offset, String, Decoded, Reading, Conditions) :-
     Reading = reading(_, Text),
     note_lines(Text, String),
@@ -116,8 +116,9 @@ read_from(Offset, String, Decoded, Reading, Conditions) :-
 decoded_again(Encoding, _, String, Decoded, String, Decoded) :-
     Decoded = decoded(_, Encoding, _, _),
     !.
-decoded_again(New, At, String, decoded(Path, Old, From, Byte0), Again, decoded(Path, New, At, Byte)) :-
+decoded_again(New, At, String, decoded(Path, Old, From, Byte0), Again, Decoded) :-
     retractall(warned(_)),
+    Decoded = decoded(Path, New, At, Byte),
     Count is At - From,
     sub_string(String, From, Count, _, Part),
     bytes_of(Part, Old, Bytes),
@@ -137,7 +138,10 @@ skip_to(Stream, Offset) :-
 bytes_of(String, Encoding, Bytes) :-
     setup_call_cleanup(
         open_null_stream(Stream),
-        ( set_stream(Stream, encoding(Encoding)), write(Stream, String), byte_count(Stream, Bytes) ),
+        ( set_stream(Stream, encoding(Encoding)),
+          write(Stream, String),
+          byte_count(Stream, Bytes)
+        ),
         close(Stream)).
 
 :- multifile user:message_hook/3.

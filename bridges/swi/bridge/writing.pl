@@ -1,10 +1,10 @@
 /** <module> Writing facts of calls in the profile of `groups`
 
-Each file becomes FOLDER/fN.pl: its module, exports, imports and declarations, and of each clause the
-head and every goal that it calls, each on a line of its own, with `_` for each argument. FOLDER/places
-has for each such line `N TAB LINE TAB TEXT TAB LINE TAB COLUMN`, where it comes from, and FOLDER/files
-for each text its rank among the names, its name, and that as a JSON string. FOLDER/words has the new
-names of the files that arguments name.
+Each file becomes FOLDER/fN.pl: its module, exports, imports and declarations, and of each clause
+the head and every goal that it calls, each on a line of its own, with `_` for each argument.
+FOLDER/places has for each such line `N TAB LINE TAB TEXT TAB LINE TAB COLUMN`, where it comes from,
+and FOLDER/files for each text its rank among the names, its name, and that as a JSON string.
+FOLDER/words has the new names of the files that arguments name.
 */
 
 :- module(bridge_writing,
@@ -17,15 +17,14 @@ names of the files that arguments name.
 :- use_module(facts).
 :- use_module(goals).
 :- use_module(headers).
+:- use_module(imports).
+:- use_module(lines).
 :- use_module(messages).
 :- use_module(names).
 :- use_module(places).
 :- use_module(profile).
 :- use_module(roots).
 :- use_module(terms).
-
-% `groups` reads terms of at most 1,000 levels, and each goal of a body is one.
-most_calls(400).
 
 %!  write_all(+Folder, +Named) is det.
 write_all(Folder, Named) :-
@@ -47,7 +46,9 @@ written(Folder, Name, Out, Goal) :-
         close(Out)).
 
 write_names(Out) :-
-    findall(Codes-Text, ( text(Text, Path, _), shown(Path, Name), atom_codes(Name, Codes) ), Texts0),
+    findall(Codes-Text,
+            ( text(Text, Path, _), shown(Path, Name), atom_codes(Name, Codes) ),
+            Texts0),
     keysort(Texts0, Texts),
     forall(nth1(Rank, Texts, Codes-Text),
            ( maplist(plain_code, Codes, Plain),
@@ -62,6 +63,7 @@ write_file(Folder, Map, Number) :-
 
 write_items(To, Number) :-
     forall(item(Number, Place, What), write_item(What, Place, To)),
+    write_foreign(Number, To),
     forall(root(Number, Place, Module, Name, Arity), write_root(Place, Module, Name, Arity, To)),
     (   Number =:= 1
     ->  forall(loads_itself(Other), write_load(Other, [], at(1, 0), To))
@@ -71,6 +73,27 @@ write_items(To, Number) :-
 write_root(Place, Module, Name, Arity, To) :-
     Place = at(_, Offset),
     write_directive([call(Module, Name, Arity, Offset)], Place, To).
+
+% What a file with a foreign library calls and nothing defines is taken as written in C.
+write_foreign(Number, To) :-
+    To = to(_, _, _, Module, _),
+    findall(Name/Arity, called_in_c(Number, Name, Arity), Called0),
+    sort(Called0, Called),
+    (   Called == []
+    ->  true
+    ;   once(item(Number, Place, _)),
+        write_declaration(dynamic, Called, Module, Place, To)
+    ).
+
+called_in_c(Number, Name, Arity) :-
+    foreign(Number),
+    \+ option(undefined),
+    home(Number, Module, _, _),
+    calls_of_file(Number, call(Module, Name, Arity, _)),
+    means(Module, Name, Arity, none),
+    \+ of_system(Name, Arity),
+    \+ autoloaded(Name, Arity, _),
+    \+ ( Name == call ; Name == (^) ).
 
 write_item(module, Place, To) :- write_module(Place, To).
 write_item(clause(Owner, Name, Arity, Module, Parts, Expansions), Place, To) :-
@@ -227,75 +250,3 @@ short_indicator(Home, Item, Short) :-
     ->  Short = Plain
     ;   Short = Item
     ).
-
-/* Clauses and directives, a call a line. */
-
-begin_line(Place, to(Out, Map, Number, _, _)) :-
-    line_count(Out, Written),
-    place_line(Place, Text, Line, Column),
-    format(Map, "~d\t~d\t~d\t~d\t~d~n", [Number, Written, Text, Line, Column]).
-
-% A long body becomes several clauses of the same place: `calls-swi` tells each line once.
-write_clause(Calls, Parts, Owner, Name, Arity, Place, To) :-
-    To = to(Out, _, _, Home, Kind),
-    first_calls(Calls, First, Rest),
-    begin_line(Place, To),
-    put_called(Owner, Home, Kind, Name, Arity, Out),
-    (   First \== []
-    ->  write(Out, ' :-'),
-        Place = at(Text, _),
-        write_calls(First, Text, To)
-    ;   Parts == []
-    ->  write(Out, '.\n')
-    ;   write(Out, ' :- _.\n')
-    ),
-    (   Rest == []
-    ->  true
-    ;   write_clause(Rest, Parts, Owner, Name, Arity, Place, To)
-    ).
-
-write_directive([], _, _) :- !.
-write_directive(Calls, Place, To) :-
-    To = to(Out, _, _, _, _),
-    Place = at(Text, _),
-    first_calls(Calls, First, Rest),
-    write(Out, ':-'),
-    write_calls(First, Text, To),
-    write_directive(Rest, Place, To).
-
-first_calls(Calls, First, Rest) :-
-    most_calls(Most),
-    length(Prefix, Most),
-    (   append(Prefix, Rest0, Calls)
-    ->  First = Prefix,
-        Rest = Rest0
-    ;   First = Calls,
-        Rest = []
-    ).
-
-write_calls([call(M, Name, Arity, Offset)|Calls], Text, To) :-
-    To = to(Out, _, _, Home, Kind),
-    nl(Out),
-    begin_line(at(Text, Offset), To),
-    put_call(M, Home, Kind, Name, Arity, Out),
-    (   Calls == []
-    ->  write(Out, '.\n')
-    ;   put_char(Out, ','),
-        write_calls(Calls, Text, To)
-    ).
-
-put_call(M, Home, Kind, Name, Arity, Out) :-
-    means(M, Name, Arity, Meaning),
-    (   Meaning = other(Owner, Plain)
-    ->  put_called(Owner, Home, Kind, Plain, Arity, Out)
-    ;   put_called(M, Home, Kind, Name, Arity, Out)
-    ).
-
-put_called(M, Home, Kind, Name, Arity, Out) :-
-    (   M == Home, ( Kind == module ; M == user )
-    ->  true
-    ;   put_name(M, Out),
-        put_char(Out, :)
-    ),
-    pattern(Name, Arity, Pattern),
-    write(Out, Pattern).
