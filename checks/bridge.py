@@ -167,6 +167,36 @@ def try_peer(folder):
     return "" if told == (folder / "answer").read_text() else f"{folder.name}: {told}"
 
 
+FACT = re.compile(r"^([a-z]\w*)(\([^()]*\))?\.\n", re.M)
+
+
+def without_a_fact(text):
+    """The text without one fact that alone defines its predicate, or nothing if there is none."""
+    for found in FACT.finditer(text):
+        name = found[1]
+        if len(re.findall(rf"^{name}\b", text, re.M)) == 1 and not re.search(rf"[a-z_]+ {name}/|[\[,] *{name}/", text):
+            return text[: found.start()] + text[found.end() :]
+    return None
+
+
+def try_undefined(folder):
+    """Whether calls-swi --undefined and SWI-Prolog's list_undefined tell the same of a program that lacks a predicate; True if none can be taken away."""
+    text = without_a_fact((folder / "main.pl").read_text(encoding="latin-1"))
+    if text is None:
+        return True
+    with tempfile.TemporaryDirectory(prefix="bridge-") as room:
+        shutil.copytree(folder, room, dirs_exist_ok=True)
+        pathlib.Path(room, "main.pl").write_text(text, encoding="latin-1")
+        words = ["swipl", "-f", "none", str(ROOT / "checks" / "bridge_undefined.pl"), "--", room, "main.pl"]
+        done = subprocess.run(words, stdin=subprocess.DEVNULL, capture_output=True, text=True, timeout=MOST_SECONDS)
+        words = [CALLS_BRIDGE, "--undefined", "--unreached", "main.pl"]
+        told = subprocess.run(words, cwd=room, stdin=subprocess.DEVNULL, capture_output=True, text=True, timeout=MOST_SECONDS).stdout
+    theirs = {plain(line) for line in done.stdout.splitlines()}
+    calls = [said for said in map(json.loads, told.splitlines()) if said["is"] == "call"]
+    ours = {f"{said['module']}:{said['name']}/{said['arity']}" for said in calls if said["callee"] is None}
+    return "" if ours == theirs else f"{folder.name}: undefined by list_undefined {sorted(theirs)}, by calls-swi {sorted(ours)}"
+
+
 def try_library_goals():
     """Whether `groups` follows goals of library predicates with the declarations that library-goals writes."""
     files = {"f.pl": ":- module(f, [p/1]).\np(L) :- foldl([X, A, B]>>q(X, A, B), L, 0, _), aggregate_all(count, r, _).\nq(_, A, A) :- p([]).\nr :- p([]).\n"}
@@ -203,6 +233,53 @@ def try_settings():
         return "the user's settings are run" if pathlib.Path(room, "ran").exists() else ""
 
 
+# Texts that would write the file `ran` if anything of them was run.
+TRAP = "open(ran, write, S), close(S)"
+TRAPS = {
+    "f.pl": f""":- dynamic user:file_search_path/2.
+user:file_search_path(library, '.').
+:- use_module(library(record)).
+:- use_module(library(lists)).
+:- {TRAP}.
+:- initialization(({TRAP})).
+:- initialization(({TRAP}), now).
+term_expansion(_, []) :- {TRAP}.
+user:goal_expansion(_, true) :- {TRAP}.
+:- if(({TRAP})).
+:- endif.
+:- if(catch(true, _, ({TRAP}))).
+:- endif.
+:- if((X = ({TRAP}), X)).
+:- endif.
+:- if(forall(true, ({TRAP}))).
+:- endif.
+:- if(absolute_file_name('`touch ran`', _, [expand(true)])).
+:- endif.
+:- if(current_prolog_flag(home, _) -> ({TRAP}) ; true).
+:- endif.
+:- record point(x:integer=0).
+:- set_prolog_flag(double_quotes, atom).
+p :- point_x(_, X), q(X).
+q(_) :- {{|trap||x|}}.
+""",
+    "record.pl": f":- module(record, []).\n:- {TRAP}.\n",
+    "lists.pl": f":- module(lists, []).\n:- {TRAP}.\n",
+    "error.pl": f":- module(error, []).\n:- {TRAP}.\n",
+    "trap.pl": f":- module(trap, [trap/4]).\ntrap(_, _, _, _) :- {TRAP}.\n",
+}
+
+
+def try_traps():
+    """Whether nothing of a program is run when it is read."""
+    with tempfile.TemporaryDirectory(prefix="bridge-") as room:
+        write_files(room, TRAPS)
+        for words in (["f.pl"], ["--libraries", "f.pl"], ["--no-run", "f.pl"]):
+            done = subprocess.run([BRIDGE, *words], cwd=room, stdin=subprocess.DEVNULL, capture_output=True, text=True, timeout=MOST_SECONDS)
+            if done.returncode != 8 or pathlib.Path(room, "ran").exists():
+                return f"traps: status {done.returncode}, {done.stdout}{done.stderr}"
+    return ""
+
+
 def try_modules():
     """Whether the tests of the bridge's own modules pass."""
     words = ["swipl", "-f", "none", "-g", "run_tests", "-t", "halt", "tests.pl"]
@@ -219,13 +296,15 @@ def try_small():
         ("hostile programs", try_hostile, bridge_hostile.HOSTILE),
         ("programs that SWI-Prolog traces", try_traced, folders),
         ("programs with known answers", try_peer, peers),
-        ("other things", lambda attempt: attempt(), [try_library_goals, try_signal, try_settings, try_modules]),
+        ("programs beside list_undefined", try_undefined, folders),
+        ("other things", lambda attempt: attempt(), [try_library_goals, try_signal, try_settings, try_traps, try_modules]),
     ]
     wrong = []
     with concurrent.futures.ThreadPoolExecutor(AT_ONCE) as pool:
         for what, attempt, cases in kinds:
-            found = [said for said in pool.map(attempt, cases) if said]
-            print(f"{len(cases) - len(found)} of {len(cases)} {what} are right", flush=True)
+            answers = [said for said in pool.map(attempt, cases) if said is not True]
+            found = [said for said in answers if said]
+            print(f"{len(answers) - len(found)} of {len(answers)} {what} are right", flush=True)
             wrong += found
     return wrong
 

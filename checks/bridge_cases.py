@@ -234,6 +234,17 @@ CASES = [
         'predicates 2 groups 2 recursive 0 levels 2\n0 plain f:q/2\n1 plain f:p/2\n',
         '',
     ),
+    (
+        "tests of library(plunit), and goals in their options, are run from outside",
+        {
+            "f.pl": ":- module(f, [p/0]).\n:- use_module(library(plunit)).\np.\n:- begin_tests(u, [setup(a)]).\n"
+            "test(x, [setup(b), cleanup(c(1)), true(X == 1)]) :- d(X).\ntest(y) :- e.\n:- end_tests(u).\na. b. c(_). d(1). e. test(z, 3).\n",
+        },
+        ["--unreached", "f.pl"],
+        0,
+        "predicates 8 groups 8 recursive 0 levels 2\n" + "".join(f"0 plain f:{name}\n" for name in ("a/0", "b/0", "c/1", "d/1", "e/0", "p/0")) + "1 plain f:test/1\n1 plain f:test/2\n",
+        "",
+    ),
     ("a file that isn't there", {}, ["f.pl"], 3, "", "f.pl: no such file\n"),
     ("no word", {}, [], 2, "", None),
 ]

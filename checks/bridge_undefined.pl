@@ -13,15 +13,13 @@ Loads the files of FOLDER and prints each predicate that is called there and now
 :- dynamic user:message_hook/3.
 
 user:message_hook(check(undefined_procedures, Grouped), _, _) :-
-    forall(( member(Indicator-_, Grouped), in_folder(Indicator) ), tell(Indicator)).
+    forall(member(Indicator-_, Grouped), tell(Indicator)).
 
 start :-
     current_prolog_flag(argv, [Folder|Files]),
     working_directory(_, Folder),
     forall(member(File, Files), user:load_files(File, [silent(true)])),
     list_undefined([module_class([user])]).
-
-in_folder(_).
 
 tell(Module:Name/Arity) :- format("~q~n", [Module:Name/Arity]).
 tell(Name/Arity) :- format("~q~n", [user:Name/Arity]).

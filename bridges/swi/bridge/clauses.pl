@@ -5,7 +5,8 @@ Of a head only its name is kept, since its arguments call nothing.
 
 :- module(bridge_clauses,
           [ clause_said/4,          % +Term, +Position, +Place, +Reading
-            clause_of/7             % +Head, +Home, +Added, +Module, +Parts, +Place, +Reading
+            clause_of/7,            % +Head, +Home, +Added, +Module, +Parts, +Place, +Reading
+            test_options/3          % +Options, +Place, +Reading
           ]).
 
 :- use_module(library(lists)).
@@ -68,6 +69,7 @@ clause_of(Head, Home, Added, Module, Parts, Place, Reading) :-
     Arity is Arity0 + Added,
     define(Owner, Name, Arity),
     holds_from_here(Inner, Owner, Parts, Place, Reading),
+    test_of_unit(Inner, Owner, Name, Arity, Place, Reading),
     flag(bridge_expansions, Expansions, Expansions),
     say(Reading, Place, clause(Owner, Name, Arity, Module, Parts, Expansions)).
 
@@ -90,6 +92,35 @@ holds_from_here(Inner, Owner, _, Place, _) :-
     ->  leave_out(Place, "clauses of ~w aren't run: what they add isn't read", [Name/Arity])
     ;   true
     ).
+
+% Between begin_tests/1 and end_tests/1, library(plunit) runs each test/1 and test/2, and goals in its
+% options.
+test_of_unit(Head, Owner, test, Arity, Place, Reading) :-
+    Reading = reading(Number, _),
+    testing(Number),
+    ( Head = test(_), Options = [] ; Head = test(_, Options) ),
+    !,
+    say(Reading, Place, root(Owner, test, Arity)),
+    test_options(Options, Place, Reading).
+test_of_unit(_, _, _, _, _, _).
+
+%!  test_options(+Options, +Place, +Reading) is det.
+%
+%   Goals in the options of a test or a unit.
+test_options(Options, Place, Reading) :-
+    (   is_list(Options)
+    ->  forall(( member(Option, Options), nonvar(Option), test_goal(Option, Goal) ),
+               say(Reading, Place, goal(Goal, none)))
+    ;   nonvar(Options), test_goal(Options, Goal)
+    ->  say(Reading, Place, goal(Goal, none))
+    ;   true
+    ).
+
+test_goal(setup(Goal), Goal).
+test_goal(cleanup(Goal), Goal).
+test_goal(condition(Goal), Goal).
+test_goal(true(Goal), Goal).
+test_goal(forall(Goal), Goal).
 
 expands(goal_expansion, 2).
 expands(goal_expansion, 4).

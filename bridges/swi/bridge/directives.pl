@@ -8,6 +8,7 @@ A directive that says nothing of these is a goal: what it calls is a root.
           ]).
 
 :- use_module(library(lists)).
+:- use_module(clauses).
 :- use_module(declarations).
 :- use_module(facts).
 :- use_module(files).
@@ -113,6 +114,12 @@ setting(export(List), _, Reading) :- export_said(List, Reading).
 setting(op(Priority, Type, Names), Place, Reading) :-
     operator(Priority, Type, Names, Place, Reading).
 setting(include(Files), Place, Reading) :- includes(Files, Place, Reading).
+setting(begin_tests(_), _, reading(Number, _)) :- note(testing(Number)).
+setting(begin_tests(_, Options), Place, Reading) :-
+    Reading = reading(Number, _),
+    note(testing(Number)),
+    test_options(Options, Place, Reading).
+setting(end_tests(_), _, reading(Number, _)) :- retractall(testing(Number)).
 setting(encoding(Encoding), Place, _) :-
     leave_out(Place, "encoding ~w isn't known", [Encoding]).
 setting(if(_), Place, _) :- leave_out(Place, "condition isn't the whole of its directive", []).
@@ -152,6 +159,5 @@ silent(Name, Arity) :-
                 '$hide'/1, '$iso'/1, (module_transparent)/1, set_prolog_flag/2,
                 create_prolog_flag/3, style_check/1, license/1, license/2, set_module/1,
                 expects_dialect/1, det/1, '$set_source_module'/1, '$set_source_module'/2,
-                begin_tests/1, begin_tests/2, end_tests/1, predicate_options/3, setting/4,
-                chr_option/2, initialize/0
+                predicate_options/3, setting/4, chr_option/2, initialize/0
               ]).

@@ -22,6 +22,7 @@ at(Text, Offset), with the offset in characters from 0.
             module_load/3,          % Module, Load, Target
             handles_rules/1,        % Number
             foreign/1,              % Number
+            testing/1,              % Number
             expansion/6,            % Name, Arity, Count, Module, Goal, Expanded
             define/3,               % +Module, +Name, +Arity
             say/3,                  % +Reading, +Place, +What
@@ -62,7 +63,8 @@ at(Text, Offset), with the offset in characters from 0.
 */
 :- dynamic
     option/1, source/3, home/4, text/3, export/3, exported_operator/4, item/3, defined/3, meta/4,
-    load/5, again/1, pick/4, drop/3, module_load/3, handles_rules/1, foreign/1, expansion/6.
+    load/5, again/1, pick/4, drop/3, module_load/3, handles_rules/1, foreign/1, testing/1,
+    expansion/6.
 
 %!  define(+Module, +Name, +Arity) is det.
 %
