@@ -2,5 +2,5 @@ use Rattle.group_release.proofs.Beside.{reached_within}
 use Rattle.search_tests.proofs.shown.levels_shown.Goals as goal
 
 pub levels-requires-clause-nodes : goal.levels-requires-clause-nodes
-levels-requires-clause-nodes c = λ p has.
-    reached_within c.args.graph.now.lists c.args.graph.now.roots c.roots.ensures.graph.closed c.roots.ensures.graph.rooted p (c.requires.reached p has)
+levels-requires-clause-nodes c κs = λ p has.
+    reached_within c.args.graph.now.lists c.args.graph.now.roots c.roots-roots.ensures.graph.closed c.roots-roots.ensures.graph.rooted p (c.requires.reached p has)
