@@ -5,7 +5,7 @@
   of a list. Text in `code` counts as one word; blocks and headings don't count. Cells of tables end at `;` too, and count for the longest alone.
 - Words that the field has better ones for stand at most so often, in all documents together.
 
-With --all it prints the figures of each page and each word, and passes. Takes less than a second."""
+With --all it prints the figures of each page and each word, and passes. Takes about a second."""
 
 import argparse
 import pathlib
