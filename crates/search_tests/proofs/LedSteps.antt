@@ -1,5 +1,5 @@
 -- What each step makes of a search that is led by hand beside a book.
-use Rattle.std.proofs.Common.{◌≡◌, ◌⊎◌, inl, inr, ℕ, zero, suc, ◌<◌, ◌≤◌, ◌+◌, ◌-◌, true, false, List, [], ◌∷◌, length, get_or, map, drop, None, Some, nat_eq, ne_eqb, refl, ap, ◌∙◌, sym, subst, arith}
+use Rattle.std.proofs.Common.{◌≡◌, ◌⊎◌, inl, inr, ℕ, zero, suc, ◌<◌, ◌+◌, ◌-◌, true, false, List, [], ◌∷◌, length, get_or, map, drop, None, Some, nat_eq, ne_eqb, refl, ap, ◌∙◌, sym, subst, arith}
 use Rattle.std.proofs.lemmas.Bool.{cases_lt}
 use Rattle.std.proofs.lemmas.List.{get_or-map, get_or-drop, get_or_default, length-drop, length-map}
 use Rattle.std.proofs.lemmas.List.Elements.{All-from_get_or}

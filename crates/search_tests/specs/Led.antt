@@ -1,5 +1,5 @@
 -- A search that is led by hand beside a book.
-use Rattle.std.specs.Prelude.{◌≡◌, ℕ, ◌<◌, Bool, true, None}
+use Rattle.std.specs.Prelude.{◌≡◌, ℕ, ◌<◌, true, None}
 use Rattle.list_laws.specs.Counts.{flat}
 use Rattle.graph_law.specs.Classes.{HasMember}
 use Rattle.search_stack.specs.GoodSearch.{IsGood}

@@ -1,4 +1,3 @@
-use Rattle.std.proofs.Common.{◌∙◌, ap}
 use Rattle.search_tests.proofs.LedSteps.{entered}
 use Rattle.search_tests.proofs.led.enter.Goals as goal
 

@@ -1,5 +1,4 @@
 use Rattle.std.proofs.Common.{true≢false, ◌∙◌, sym, subst}
-use Rattle.search_stack.specs.Search.{SearchValue}
 use Rattle.group_release.specs.Book.{RunsBeside}
 use Rattle.search_machine.proofs.Steps.{below_of}
 use Rattle.search_tests.proofs.LedSteps.{joins}
