@@ -9,12 +9,13 @@
 //! {"is":"call","caller":0,"callee":null,"module":"user","name":"q","arity":1,"file":"f.pl","line":1,"column":9}
 //! ```
 //!
-//! It goes to `out` whole or not at all, but where `out` takes a part of it. Files are seen through a
-//! `Library` and output through a `Sink`, as in `group_tool`.
+//! It goes to `out` whole or not at all, unless `out` takes only a part of it and fails. What a run promises
+//! beside its answer is the record `RunKeeps` of `tool_run`. Files are seen through a `Library` and output
+//! through a `Sink`.
 #![tactic(auto)]
 
-mod loading;
+mod calls;
 mod run;
-mod say;
 
+pub use calls::Calls;
 pub use run::run_calls;

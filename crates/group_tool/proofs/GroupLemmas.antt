@@ -1,5 +1,5 @@
 -- The groups of a program: what holds of its successor lists holds of its calls.
-use Rattle.std.proofs.Common.{◌≡◌, ◌<◌, ◌≤◌, ◌++◌, ℕ, List, [], Result, Ok, Err, IfOk, All, Contains, length, ap, subst, inl, inr, arith}
+use Rattle.std.proofs.Common.{◌≡◌, ◌<◌, ◌≤◌, ◌++◌, ℕ, List, [], Result, Ok, Err, Vec, Global, IfOk, All, Contains, length, ap, subst, inl, inr, arith}
 use Rattle.std.proofs.lemmas.Bool.{cases_lt}
 use Rattle.std.proofs.lemmas.List.{get_or_past}
 use Rattle.std.proofs.lemmas.List.Elements.{All-contains}
@@ -20,9 +20,10 @@ use Rattle.call_edges.proofs.SuccessorLemmas.{lists_count, list_has, lists_close
 use Rattle.group_words.specs.Settings.{Settings}
 use Rattle.loop_report.specs.Reportable.{AreGroups, AreLeveled, AreReportable}
 use Rattle.group_tool.specs.Driving.{AreInScheduleOrder}
-use Rattle.group_tool.specs.Roots.{AreRootNumbers}
+use Rattle.tool_run.specs.Roots.{AreRootNumbers}
+use Rattle.tool_run.specs.Say.{concatenated}
 use Rattle.group_tool.specs.Parts.{AreParts}
-use Rattle.group_tool.specs.LoadedEnd.{IsOutput, ReportsProgram}
+use Rattle.group_tool.specs.Groups.{IsOutput, ReportsProgram}
 
 -- what has no number is defined nowhere
 no_places : (seen : Seen) (p : ℕ) → length seen.predicates ≤ p → places_in seen p ≡ []
@@ -110,6 +111,16 @@ reports settings seen roots groups levels first parts bytes are leveled order ou
   are_parts = are_parts;
   is = is;
 }
+
+-- the report, and what comes after it, in two texts
+pub reported : {E : Type 0} (r : Result (Vec (Vec ℕ Global) Global) E) (settings : Settings) (seen : Seen) (roots : List ℕ) (groups : List (List ℕ)) (levels : List Level)
+    (first parts : List ℕ) → AreRootNumbers settings.roots seen roots → AreLeveled (Calls (successor_lists seen)) roots groups levels
+    → AreInScheduleOrder settings.searches (successor_lists seen) roots groups → IsOutput settings.make settings.order settings.unreached seen groups levels first
+    → AreParts settings seen groups levels parts → IfOk r (λ texts. concatenated texts.items ≡ first ++ parts)
+    → IfOk r (λ texts. ReportsProgram settings seen (concatenated texts.items))
+reported {E} (Ok texts) settings seen roots groups levels first parts are leveled order output are_parts is =
+    reports settings seen roots groups levels first parts (concatenated texts.items) are leveled order output are_parts is
+reported {E} (Err error) settings seen roots groups levels first parts are leveled order output are_parts is = tt
 
 -- the groups that a search over the calls of the program ensures are those of its successor lists
 pub searched : {X E : Type 0} (r : Result X E) (groups_in : X → List (List ℕ)) (seen called : Seen) (roots : List ℕ) → called ≡ seen

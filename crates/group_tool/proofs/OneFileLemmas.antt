@@ -3,7 +3,7 @@ use Rattle.std.proofs.Common.{◌≡◌, ℕ, ◌+◌, ◌≤◌, Bool, true, fa
 use Rattle.std.specs.Str.{bytes_eq}
 use Rattle.std.proofs.lemmas.Bool.{not-false}
 use Rattle.file_library.specs.Library.{Files, IsFound}
-use Rattle.group_tool.specs.Wanted.{one_file}
+use Rattle.tool_run.specs.Wanted.{one_file}
 
 pub found_one : (name text asked room : List ℕ) (limit : ℕ) → not (bytes_eq name asked) ≡ false → room ≡ take (limit + 1) text
     → (length room ≤ limit + 1) × ((files : Files) → Some (one_file name text) ≡ Some files → IsFound files asked limit room)

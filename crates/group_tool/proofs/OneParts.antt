@@ -15,7 +15,7 @@ use Rattle.loop_report.specs.Reportable.{AreLeveled}
 use Rattle.loop_report.proofs.OneEffects.{same_effects}
 use Rattle.group_tool.specs.Parts.{AreOwnKinds, AreParts, IsPart, IsPathPart, TellEffects, TellLoops, path_line}
 use Rattle.group_tool.proofs.OneCircuits.{same_circuit_lines}
-use Rattle.group_tool.proofs.RootLemmas.{AreRising, one_named}
+use Rattle.tool_run.proofs.RootLemmas.{AreRising, one_named}
 
 same_part : (wanted : Bool) (Tells Told : List ℕ → Type 0) (bytes other : List ℕ) → (Tells bytes → Told other → bytes ≡ other) → IsPart wanted Tells bytes → IsPart wanted Told other
     → bytes ≡ other

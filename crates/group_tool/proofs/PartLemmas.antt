@@ -22,7 +22,7 @@ use Rattle.loop_report.specs.Effects.{AreEffectLines}
 use Rattle.loop_report.specs.Reportable.{AreLeveled}
 use Rattle.loop_report.specs.Walks.{AreCircuitLines, IsCircuitWithin}
 use Rattle.group_tool.specs.Parts.{AreOwnKinds, IsPathPart, TellEffects, TellLoops, path_line}
-use Rattle.group_tool.specs.Roots.{AreEnds}
+use Rattle.tool_run.specs.Roots.{AreEnds}
 use Rattle.group_tool.proofs.GroupLemmas.{lists_agree, members_listed}
 
 -- the nodes of a path are nodes of the graph

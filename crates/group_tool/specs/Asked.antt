@@ -5,7 +5,7 @@ use Rattle.call_edges.specs.GoalFaults.{AreGoalFaults}
 use Rattle.import_rules.specs.Program.{Seen}
 use Rattle.group_words.specs.Settings.{Settings}
 use Rattle.group_tool.specs.declared.answer.Asked.{Asked}
-use Rattle.group_tool.specs.Roots.{AreEnds, AreRootNumbers, HasRoots, asked_names}
+use Rattle.tool_run.specs.Roots.{AreEnds, AreRootNumbers, HasRoots, asked_names}
 
 -- these are the calls of the program, each of whose goals is callable, the numbers of all roots, and those of the ends of the path
 pub record IsAskedOf (settings : Settings) (seen : Seen) (asked : Asked) : Type 0 where

@@ -11,7 +11,7 @@ use Rattle.call_edges.specs.Unresolved.{IsUnresolved}
 use Rattle.group_words.specs.Settings.{Settings}
 use Rattle.loop_report.specs.Effects.{AreEffectLines}
 use Rattle.loop_report.specs.Walks.{AreCircuitLines, walk_line}
-use Rattle.group_tool.specs.Roots.{IsNamed}
+use Rattle.tool_run.specs.Roots.{IsNamed}
 
 -- a part where it is wanted, and no bytes where it isn't
 abbrev pub IsPart : Bool → (List ℕ → Type 0) → List ℕ → Type 0

@@ -1,24 +1,23 @@
-ghost use Rattle.std.specs.Prelude.{◌≡◌, ◌<◌, ℕ, List, None, All, IfErr, IfOk, length};
+ghost use Rattle.std.specs.Prelude.{◌≡◌, ◌<◌, ◌++◌, ℕ, List, None, All, IfErr, IfOk, length};
 ghost use Rattle.call_edges.specs.Opened.{see_call_lists};
 ghost use Rattle.call_edges.specs.Successors.{successor_lists};
 ghost use Rattle.graph_law.specs.Graph.{Calls as ListCalls, lists_of};
 ghost use Rattle.group_release.specs.declared.level.Level.{Level};
 ghost use Rattle.group_words.specs.Settings.{AreLawful, see_options};
-ghost use Rattle.group_tool.specs.Carrying.{ProgramComesTo};
+ghost use Rattle.tool_run.specs.Carrying.{ProgramComesTo};
 ghost use Rattle.group_tool.specs.Driving.{AreInScheduleOrder};
-ghost use Rattle.group_tool.specs.LoadedEnd.{IsOutput, ReportsProgram};
+ghost use Rattle.group_tool.specs.Groups.{IsOutput, ReportsProgram, groups_tool};
 ghost use Rattle.group_tool.specs.Asked.{IsAskedOf};
-ghost use Rattle.group_tool.specs.Run.{EndIs};
-ghost use Rattle.group_tool.specs.Stop.{end_of, end_of_stop};
-ghost use Rattle.group_tool.specs.Wanted.{AreJust};
+ghost use Rattle.tool_run.specs.Run.{EndIs};
+ghost use Rattle.tool_run.specs.Say.{concatenated};
+ghost use Rattle.tool_run.specs.Stop.{end_of, end_of_stop};
+ghost use Rattle.tool_run.specs.Wanted.{IsJust};
 ghost use Rattle.import_rules.specs.Program.{see_program};
 ghost use Rattle.loop_report.specs.Reportable.{AreGroups, AreLeveled, AreReportable};
 
 use crate::driver::{groups_alone, groups_by_stream, groups_by_workers};
 use crate::loading::load_program;
-use crate::parts::{joined, parts_of};
-use crate::roots::{ends_by, roots_by};
-use crate::stop::Stop;
+use crate::parts::parts_of;
 use call_edges::{CallLists, call_lists};
 use file_library::Library;
 use group_feed::LevelTaker;
@@ -31,6 +30,7 @@ use std::alloc::{AllocError, Global};
 use std::mem::forget;
 use std::sync::Wait;
 use std::thread::Threads;
+use tool_run::{Stop, ends_by, roots_by};
 
 /// What is asked of a program: what its predicates call, where reach begins, and the ends of the path
 /// that is wanted.
@@ -47,9 +47,9 @@ pub fn report_alone<R: Threads + Sync, L: Library>(
     alloc: Global,
     options: &Options,
     library: &mut L,
-) -> Result<Vec<u8>, Stop>
+) -> Result<Vec<Vec<u8>>, Stop>
     requires { (words : List (List ℕ)) × AreLawful words (see_options options.now) }
-    ensures { EndIs (AreJust (see_options options.now)) (L.seen library.old, L.seen library.new) (end_of result) }
+    ensures { EndIs groups_tool (IsJust (see_options options.now)) (L.seen library.old, L.seen library.new) (end_of result) }
 {
     let program = load_program(rt, alloc, options, library)?;
     let told = tell_alone(rt, alloc, options, &program);
@@ -64,9 +64,9 @@ pub fn report_lawful<R: Threads + Wait + Sync, L: Library, G: Gate>(
     options: &Options,
     library: &mut L,
     gate: &G,
-) -> Result<Vec<u8>, Stop>
+) -> Result<Vec<Vec<u8>>, Stop>
     requires { (words : List (List ℕ)) × AreLawful words (see_options options.now) }
-    ensures { EndIs (AreJust (see_options options.now)) (L.seen library.old, L.seen library.new) (end_of result) }
+    ensures { EndIs groups_tool (IsJust (see_options options.now)) (L.seen library.old, L.seen library.new) (end_of result) }
 {
     let program = load_program(rt, alloc, options, library)?;
     let told = tell(rt, alloc, options, &program, gate);
@@ -89,7 +89,7 @@ fn asked_of<'p, R: Threads + Sync>(
     program: &'p Program,
 ) -> Result<Asked<'p>, Stop>
     ensures asked { IfOk result (IsAskedOf (see_options options.now) (see_program program.now)) }
-    ensures stops { IfErr result (λ stop. ProgramComesTo (see_options options.now) (see_program program.now) (end_of_stop stop)) }
+    ensures stops { IfErr result (λ stop. ProgramComesTo groups_tool (see_options options.now) (see_program program.now) (end_of_stop stop)) }
 {
     let calls = call_lists(rt, alloc, program)?;
     let roots = roots_by(alloc, program, options)?;
@@ -104,9 +104,9 @@ fn tell<R: Threads + Wait + Sync, G: Gate>(
     options: &Options,
     program: &Program,
     gate: &G,
-) -> Result<Vec<u8>, Stop>
+) -> Result<Vec<Vec<u8>>, Stop>
     requires { (words : List (List ℕ)) × AreLawful words (see_options options.now) }
-    ensures { ProgramComesTo (see_options options.now) (see_program program.now) (end_of result) }
+    ensures { ProgramComesTo groups_tool (see_options options.now) (see_program program.now) (end_of result) }
 {
     settings_within();
     if options.stream {
@@ -127,14 +127,14 @@ fn tell_alone<R: Threads + Sync>(
     alloc: Global,
     options: &Options,
     program: &Program,
-) -> Result<Vec<u8>, Stop>
+) -> Result<Vec<Vec<u8>>, Stop>
     requires { (words : List (List ℕ)) × AreLawful words (see_options options.now) }
-    ensures { ProgramComesTo (see_options options.now) (see_program program.now) (end_of result) }
+    ensures { ProgramComesTo groups_tool (see_options options.now) (see_program program.now) (end_of result) }
 {
     let asked = asked_of(rt, alloc, options, program)?;
     let groups = groups_alone(alloc, options, program, &asked.calls, &asked.roots)?;
-    let bytes = report_groups(rt, alloc, options, program, &asked, &groups)?;
-    Ok(bytes)
+    let texts = report_groups(rt, alloc, options, program, &asked, &groups)?;
+    Ok(texts)
 }
 
 /// The same, where workers find the groups.
@@ -144,10 +144,10 @@ fn tell_by_workers<R: Threads + Wait + Sync, G: Gate>(
     options: &Options,
     program: &Program,
     gate: &G,
-) -> Result<Vec<u8>, Stop>
+) -> Result<Vec<Vec<u8>>, Stop>
     requires lawful { (words : List (List ℕ)) × AreLawful words (see_options options.now) }
     requires workers { (see_options options.now).searches ≡ None }
-    ensures { ProgramComesTo (see_options options.now) (see_program program.now) (end_of result) }
+    ensures { ProgramComesTo groups_tool (see_options options.now) (see_program program.now) (end_of result) }
 {
     let asked = asked_of(rt, alloc, options, program)?;
     let groups = groups_by_workers(
@@ -159,8 +159,8 @@ fn tell_by_workers<R: Threads + Wait + Sync, G: Gate>(
         &asked.roots,
         gate,
     )?;
-    let bytes = report_groups(rt, alloc, options, program, &asked, &groups)?;
-    Ok(bytes)
+    let texts = report_groups(rt, alloc, options, program, &asked, &groups)?;
+    Ok(texts)
 }
 
 /// The same, where workers find the groups and their levels are found as they come.
@@ -170,10 +170,10 @@ fn tell_by_stream<R: Threads + Wait + Sync, G: Gate>(
     options: &Options,
     program: &Program,
     gate: &G,
-) -> Result<Vec<u8>, Stop>
+) -> Result<Vec<Vec<u8>>, Stop>
     requires lawful { (words : List (List ℕ)) × AreLawful words (see_options options.now) }
     requires workers { (see_options options.now).searches ≡ None }
-    ensures { ProgramComesTo (see_options options.now) (see_program program.now) (end_of result) }
+    ensures { ProgramComesTo groups_tool (see_options options.now) (see_program program.now) (end_of result) }
 {
     let asked = asked_of(rt, alloc, options, program)?;
     let mut taker = LevelTaker::new(alloc, &asked.calls)?;
@@ -187,8 +187,8 @@ fn tell_by_stream<R: Threads + Wait + Sync, G: Gate>(
         gate,
         &mut taker,
     )?;
-    let bytes = report_leveled(rt, alloc, options, program, &asked, &groups, taker.levels())?;
-    Ok(bytes)
+    let texts = report_leveled(rt, alloc, options, program, &asked, &groups, taker.levels())?;
+    Ok(texts)
 }
 
 /// The report of the groups that the roots reach, by what the predicates call.
@@ -199,12 +199,12 @@ fn report_groups<R: Threads + Sync>(
     program: &Program,
     asked: &Asked<'_>,
     groups: &[Vec<u32>],
-) -> Result<Vec<u8>, AllocError>
+) -> Result<Vec<Vec<u8>>, AllocError>
     requires asked { IsAskedOf (see_options options.now) (see_program program.now) asked.now }
     requires groups { AreGroups (ListCalls (successor_lists (see_program program.now))) asked.now.roots.items (lists_of groups.now) }
     requires order { AreInScheduleOrder (see_options options.now).searches (successor_lists (see_program program.now)) asked.now.roots.items
         (lists_of groups.now) }
-    ensures { IfOk result (λ bytes. ReportsProgram (see_options options.now) (see_program program.now) bytes.items) }
+    ensures { IfOk result (λ texts. ReportsProgram (see_options options.now) (see_program program.now) (concatenated texts.items)) }
 {
     let levels = levels_of(alloc, program, &asked.calls, &asked.roots, groups)?;
     report_leveled(rt, alloc, options, program, asked, groups, &levels)
@@ -219,12 +219,12 @@ fn report_leveled<R: Threads + Sync>(
     asked: &Asked<'_>,
     groups: &[Vec<u32>],
     levels: &[Level],
-) -> Result<Vec<u8>, AllocError>
+) -> Result<Vec<Vec<u8>>, AllocError>
     requires asked { IsAskedOf (see_options options.now) (see_program program.now) asked.now }
     requires leveled { AreLeveled (ListCalls (successor_lists (see_program program.now))) asked.now.roots.items (lists_of groups.now) levels.now }
     requires order { AreInScheduleOrder (see_options options.now).searches (successor_lists (see_program program.now)) asked.now.roots.items
         (lists_of groups.now) }
-    ensures { IfOk result (λ bytes. ReportsProgram (see_options options.now) (see_program program.now) bytes.items) }
+    ensures { IfOk result (λ texts. ReportsProgram (see_options options.now) (see_program program.now) (concatenated texts.items)) }
 {
     let first = written(alloc, options, program, groups, levels)?;
     let parts = parts_of(
@@ -238,8 +238,17 @@ fn report_leveled<R: Threads + Sync>(
         groups,
         levels,
     )?;
-    let bytes = joined(first, &parts)?;
-    Ok(bytes)
+    two_texts(alloc, first, parts)
+}
+
+/// Two texts, of which the second comes after the first.
+fn two_texts(alloc: Global, first: Vec<u8>, second: Vec<u8>) -> Result<Vec<Vec<u8>>, AllocError>
+    ensures { IfOk result (λ texts. concatenated texts.items ≡ first.items ++ second.items) }
+{
+    let mut texts = Vec::new(alloc);
+    texts.push(first)?;
+    texts.push(second)?;
+    Ok(texts)
 }
 
 /// The levels of the groups that the roots reach.

@@ -3,15 +3,16 @@
 ghost use Rattle.std.specs.Prelude.{◌≡◌, ℕ, List, Bool, false, Option};
 ghost use Rattle.file_library.specs.Library.{Files};
 ghost use Rattle.group_words.specs.Settings.{Settings, AreLawful};
-ghost use Rattle.group_tool.specs.Answer.{IsAnswer};
-ghost use Rattle.group_tool.specs.End.{End};
-ghost use Rattle.group_tool.specs.Wanted.{AreJust};
+ghost use Rattle.group_tool.specs.Groups.{groups_tool};
+ghost use Rattle.tool_run.specs.Answer.{IsAnswer};
+ghost use Rattle.tool_run.specs.End.{End};
+ghost use Rattle.tool_run.specs.Wanted.{IsJust};
 
 /// Words over a map of files have one answer, and so have options, where the order of the groups is
 /// not asked for.
 pub fn one_answer()
     ensures words { (words : List (List ℕ)) (files : Files) (answer other : End) → ((options : Settings) → AreLawful words options → options.order ≡ false)
-        → IsAnswer (AreLawful words) files answer → IsAnswer (AreLawful words) files other → answer ≡ other }
+        → IsAnswer groups_tool (AreLawful words) files answer → IsAnswer groups_tool (AreLawful words) files other → answer ≡ other }
     ensures options { (options : Settings) (files : Files) (answer other : End) → options.order ≡ false
-        → IsAnswer (AreJust options) files answer → IsAnswer (AreJust options) files other → answer ≡ other }
+        → IsAnswer groups_tool (IsJust options) files answer → IsAnswer groups_tool (IsJust options) files other → answer ≡ other }
 {}

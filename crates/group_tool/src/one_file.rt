@@ -47,7 +47,7 @@ impl OneFile {
 impl Library for OneFile {
     ghost use Rattle.file_library.specs.Library.{library_seen};
     ghost use Rattle.file_library.specs.Notes.{noted};
-    ghost use Rattle.group_tool.specs.Wanted.{one_file};
+    ghost use Rattle.tool_run.specs.Wanted.{one_file};
 
     ghost seen = { λ l. library_seen (Some (one_file l.name l.text.items)) l.asked.items (noted l.notes.items) 0 l.misses };
 

@@ -6,7 +6,7 @@ ghost use Rattle.call_edges.specs.Successors.{successor_lists};
 ghost use Rattle.graph_law.specs.Graph.{Calls as ListCalls, lists_of};
 ghost use Rattle.group_words.specs.Settings.{see_options};
 ghost use Rattle.group_tool.specs.Parts.{AreParts, IsPart, IsPathPart, TellEffects, TellLoops, path_line};
-ghost use Rattle.group_tool.specs.Roots.{AreEnds};
+ghost use Rattle.tool_run.specs.Roots.{AreEnds};
 ghost use Rattle.import_rules.specs.Program.{see_program};
 ghost use Rattle.loop_report.specs.Reportable.{AreLeveled};
 
@@ -130,7 +130,7 @@ fn path_told(
 }
 
 /// The bytes, and the others behind them.
-pub fn joined(first: Vec<u8>, second: &[u8]) -> Result<Vec<u8>, AllocError>
+fn joined(first: Vec<u8>, second: &[u8]) -> Result<Vec<u8>, AllocError>
     ensures { IfOk result (λ bytes. bytes.items ≡ first.items ++ second.now) }
 {
     let mut bytes = first;

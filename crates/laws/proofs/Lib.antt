@@ -67,6 +67,7 @@ mod NamedRoots
 mod PartBytes
 mod ReportBytes
 mod LoadedEnds
+mod GroupEnds
 mod Answers
 -- told
 mod AskedWords
@@ -81,9 +82,7 @@ mod OrderedClauses
 mod CallTables
 mod ToldBytes
 mod ToldEnds
-mod ToldAnswers
 mod SameGroups
 mod OneTable
 mod OneTold
 mod OneToldEnd
-mod OneToldAnswer

@@ -14,8 +14,8 @@ use Rattle.import_rules.proofs.Lists.{all_by, any_there, any_from}
 use Rattle.import_rules.proofs.NameOrder.{same_parts, same_itself}
 use Rattle.call_edges.specs.Roots.{IsRoot}
 use Rattle.laws.proofs.Orders.{HasOnce, has_once}
-use Rattle.group_tool.specs.Roots.{IsNamed, IsRootBy, IsFirstMissing, LacksRoot, HasRoots, AreRootNumbers}
-use Rattle.group_tool.proofs.RootLemmas.{AreRising, stands, listed_are, named_below}
+use Rattle.tool_run.specs.Roots.{IsNamed, IsRootBy, IsFirstMissing, LacksRoot, HasRoots, AreRootNumbers}
+use Rattle.tool_run.proofs.RootLemmas.{AreRising, stands, listed_are, named_below}
 
 -- a name is that of a predicate, or not
 there_or_not : (predicates : List PredName) (name : PredName) → Contains predicates name ⊎ (Contains predicates name → ⊥)

@@ -35,11 +35,11 @@ use Rattle.loop_report.specs.Reportable.{AreLeveled, LeastDiffer}
 use Rattle.loop_report.specs.Walks.{circuit_line_at}
 use Rattle.loop_report.proofs.Printable.{least_differ}
 use Rattle.group_tool.specs.Parts.{AreOwnKinds, AreParts, IsPart, IsPathPart, TellEffects, TellLoops, path_line}
-use Rattle.group_tool.specs.Roots.{HasRoots, asked_names}
+use Rattle.tool_run.specs.Roots.{HasRoots, asked_names}
 use Rattle.group_tool.proofs.GroupLemmas.{members_listed}
 use Rattle.group_tool.proofs.KindLemmas.{AreKinds, kinds_more, kinds_none}
 use Rattle.group_tool.proofs.PartLemmas.{told_effects, told_loops, told_path}
-use Rattle.group_tool.proofs.RootLemmas.{stands}
+use Rattle.tool_run.proofs.RootLemmas.{stands}
 
 -- what there is for each graph, as the laws say it
 pub record PartLaws : Type 0 where

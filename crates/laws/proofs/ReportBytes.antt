@@ -15,8 +15,8 @@ use Rattle.group_words.specs.Settings.{Settings}
 use Rattle.loop_report.specs.Report.{head_line}
 use Rattle.loop_report.specs.Reportable.{AreGroups, AreLeveled, AreReportable}
 use Rattle.group_tool.specs.Driving.{AreInScheduleOrder}
-use Rattle.group_tool.specs.Roots.{AreRootNumbers, HasRoots, asked_names}
-use Rattle.group_tool.specs.LoadedEnd.{IsOutput, ReportsProgram}
+use Rattle.tool_run.specs.Roots.{AreRootNumbers, HasRoots, asked_names}
+use Rattle.group_tool.specs.Groups.{IsOutput, ReportsProgram}
 use Rattle.group_tool.proofs.GroupLemmas.{roots_listed, reportable, reports}
 use Rattle.laws.proofs.PartBytes.{PartLaws, some_parts}
 use Rattle.laws.specs.AnswerLayers.{ReportsExist, OrderReportsExist}

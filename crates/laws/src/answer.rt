@@ -3,8 +3,9 @@
 ghost use Rattle.std.specs.Prelude.{ℕ, List, All, IsUtf8};
 ghost use Rattle.file_library.specs.Library.{Files};
 ghost use Rattle.group_words.specs.Settings.{AreLawful};
-ghost use Rattle.group_tool.specs.Answer.{IsAnswer};
-ghost use Rattle.group_tool.specs.End.{End};
+ghost use Rattle.group_tool.specs.Groups.{groups_tool};
+ghost use Rattle.tool_run.specs.Answer.{IsAnswer};
+ghost use Rattle.tool_run.specs.End.{End};
 
 use crate::load::load_or_faults;
 use crate::program::{goal_faults_exist, program_or_faults, roots_exist};
@@ -18,7 +19,7 @@ use search_machine::schedules_answer;
 
 /// Words over files have an answer.
 pub fn some_answer()
-    ensures { (words : List (List ℕ)) (files : Files) → All IsUtf8 words → (end : End) × IsAnswer (AreLawful words) files end }
+    ensures { (words : List (List ℕ)) (files : Files) → All IsUtf8 words → (end : End) × IsAnswer groups_tool (AreLawful words) files end }
 {
     lawful_or_not();
     load_or_faults();

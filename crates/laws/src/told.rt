@@ -10,8 +10,9 @@ ghost use Rattle.call_table.specs.declared.table.CallTable.{CallTable};
 ghost use Rattle.call_told.specs.declared.words.Form.TheVariants.{Dot};
 ghost use Rattle.call_told.specs.Told.{TellsFrom};
 ghost use Rattle.call_told.specs.Wanted.{Asked, AreAsked, IsNothingAsked};
-ghost use Rattle.calls_tool.specs.Answer.{IsAnswer};
-ghost use Rattle.calls_tool.specs.End.{End};
+ghost use Rattle.calls_tool.specs.Calls.{calls_tool};
+ghost use Rattle.tool_run.specs.Answer.{IsAnswer};
+ghost use Rattle.tool_run.specs.End.{End};
 
 use crate::load::load_or_faults;
 use crate::program::{goal_faults_exist, program_or_faults, roots_exist};
@@ -54,7 +55,7 @@ pub fn told_exists()
 
 /// Words of `calls` over files have an answer.
 pub fn some_told_answer()
-    ensures { (words : List (List ℕ)) (files : Files) → All IsUtf8 words → (end : End) × IsAnswer (AreAsked words) files end }
+    ensures { (words : List (List ℕ)) (files : Files) → All IsUtf8 words → (end : End) × IsAnswer calls_tool (AreAsked words) files end }
 {
     asked_or_nothing();
     load_or_faults();
@@ -68,5 +69,5 @@ pub fn some_told_answer()
 /// Words of `calls` over files have one answer, where they ask for no graph.
 pub fn one_told_answer()
     ensures { (words : List (List ℕ)) (files : Files) (answer other : End) → ((asked : Asked) → AreAsked words asked → asked.form ≢ Dot)
-        → IsAnswer (AreAsked words) files answer → IsAnswer (AreAsked words) files other → answer ≡ other }
+        → IsAnswer calls_tool (AreAsked words) files answer → IsAnswer calls_tool (AreAsked words) files other → answer ≡ other }
 {}

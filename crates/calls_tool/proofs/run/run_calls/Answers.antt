@@ -1,36 +1,16 @@
-use Rattle.calls_tool.proofs.RunLemmas.{answered, handed_over, statuses, settled}
-use Rattle.calls_tool.proofs.StatusLemmas.{cut_off, faulty, passing, refused, told, unreadable, wanting}
+use Rattle.std.proofs.Common.{refl}
+use Rattle.call_told.specs.Wanted.{AreAsked, see_wanted}
+use Rattle.call_told.proofs.OneAsked.{one_asked}
+use Rattle.calls_tool.specs.Calls.{calls_tool}
+use Rattle.tool_run.proofs.KeepLemmas.{asked_keeps, refused_keeps}
 use Rattle.calls_tool.proofs.run.run_calls.Goals as goal
 
-pub returns-clause-answered : goal.returns-clause-answered
-returns-clause-answered g c = answered _ _ _ _ _ c.run.ensures.run
+pub returns-in-Ok-clause-run : goal.returns-in-Ok-clause-run
+returns-in-Ok-clause-run g c =
+    asked_keeps calls_tool (AreAsked c.args.words.now) (one_asked c.args.words.now) _ _ _ _ (see_wanted c.in-Ok.wanted) c.in-Ok.ensures.ok
+    (λ other also. one_asked c.args.words.now other (see_wanted c.in-Ok.wanted) also c.in-Ok.ensures.ok) c.run_wanted.ensures.run
 
-pub returns-clause-handed_over : goal.returns-clause-handed_over
-returns-clause-handed_over g c = handed_over _ _ _ _ _ c.run.ensures.run
-
-pub returns-clause-statuses : goal.returns-clause-statuses
-returns-clause-statuses g c = statuses _ _ _ _ _ c.run.ensures.run
-
-pub returns-clause-settled : goal.returns-clause-settled
-returns-clause-settled g c = settled _ _ _ _ _ c.run.ensures.run
-
-pub returns-clause-told : goal.returns-clause-told
-returns-clause-told g c = told _ _ _ _ _ c.run.ensures.run
-
-pub returns-clause-refused : goal.returns-clause-refused
-returns-clause-refused g c = refused _ _ _ _ _ c.run.ensures.run
-
-pub returns-clause-faults : goal.returns-clause-faults
-returns-clause-faults g c = faulty _ _ _ _ _ c.run.ensures.run
-
-pub returns-clause-unread : goal.returns-clause-unread
-returns-clause-unread g c = unreadable _ _ _ _ _ c.run.ensures.run
-
-pub returns-clause-cut_off : goal.returns-clause-cut_off
-returns-clause-cut_off g c = cut_off _ _ _ _ _ c.run.ensures.run
-
-pub returns-clause-limit : goal.returns-clause-limit
-returns-clause-limit g c = passing _ _ _ _ _ c.run.ensures.run
-
-pub returns-clause-no_memory : goal.returns-clause-no_memory
-returns-clause-no_memory g c = wanting _ _ _ _ _ c.run.ensures.run
+pub returns-in-Err-clause-run : goal.returns-in-Err-clause-run
+returns-in-Err-clause-run g c =
+    refused_keeps calls_tool (AreAsked c.args.words.now) (one_asked c.args.words.now) _ _ _ _ c.in-Err.fault c.from.result c.from.ensures refl c.in-Err.ensures.usage
+    c.put_end.ensures.put

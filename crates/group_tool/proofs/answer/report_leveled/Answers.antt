@@ -1,7 +1,7 @@
 use Rattle.graph_law.specs.Graph.{lists_of}
 use Rattle.import_rules.specs.Program.{see_program}
 use Rattle.group_words.specs.Settings.{see_options}
-use Rattle.group_tool.proofs.GroupLemmas.{reportable, reports}
+use Rattle.group_tool.proofs.GroupLemmas.{reportable, reported}
 use Rattle.group_tool.proofs.answer.report_leveled.Goals as goal
 
 pub written-requires : goal.written-requires
@@ -13,6 +13,6 @@ parts_of-requires-clause-leveled g c κs within = rw (c.deref.ensures.value) c.r
 
 pub returns : goal.returns
 returns g c =
-    reports (see_options c.args.options.now) (see_program c.args.program.now) c.args.asked.now.roots.items (lists_of c.args.groups.now) c.args.levels.now c.in_ok-first.first.items
-    c.in_ok-parts.parts.items c.in_ok-bytes.bytes.items c.requires.asked.roots c.requires.leveled c.requires.order c.in_ok-first.ensures
-    c.in_ok-parts.ensures (rw (c.deref-2.ensures.value) at c.in_ok-bytes.ensures)
+    reported c.two_texts.result (see_options c.args.options.now) (see_program c.args.program.now) c.args.asked.now.roots.items (lists_of c.args.groups.now) c.args.levels.now
+    c.in_ok-first.first.items c.in_ok-parts.parts.items c.requires.asked.roots c.requires.leveled c.requires.order c.in_ok-first.ensures c.in_ok-parts.ensures
+    c.two_texts.ensures

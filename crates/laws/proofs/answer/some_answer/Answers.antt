@@ -1,8 +1,11 @@
 use Rattle.laws.proofs.Reports.{line_order_of}
 use Rattle.laws.proofs.PartBytes.{PartLaws}
-use Rattle.laws.proofs.ReportBytes.{GraphLaws}
-use Rattle.laws.proofs.LoadedEnds.{LoadedLaws}
-use Rattle.laws.proofs.Answers as of_words
+use Rattle.laws.proofs.ReportBytes.{GraphLaws, SomeSearch}
+use Rattle.group_words.specs.Settings.{Settings, AreLawful}
+use Rattle.group_tool.specs.Groups.{groups_tool}
+use Rattle.laws.proofs.Answers as of_tool
+use Rattle.laws.proofs.GroupEnds.{can_report, some_search}
+use Rattle.laws.proofs.LoadedEnds.{CanTell, ProgramLaws}
 use Rattle.laws.proofs.answer.some_answer.Goals as goal
 
 pub returns : goal.returns
@@ -21,14 +24,15 @@ returns c =
       ordered = c.order_exists.ensures;
       rows = line_order_of;
     } in
-    let laws : LoadedLaws = record {
-      graphs = graphs;
-      reported = c.reports_exist.ensures.lines;
-      in_order = c.reports_exist.ensures.order;
-      parted = parted;
+    let laws : ProgramLaws = record {
       programs = c.program_or_faults.ensures;
       goals = c.goal_faults_exist.ensures;
       roots = c.roots_exist.ensures;
       below = c.roots_below.ensures;
     } in
-    of_words.some_answer c.settings_within.ensures laws c.load_or_faults.ensures c.lawful_or_not.ensures
+    let tells : (settings : Settings) → SomeSearch settings.searches → CanTell groups_tool settings =
+    can_report laws graphs c.reports_exist.ensures.lines c.reports_exist.ensures.order parted in
+    λ words files utf8.
+    of_tool.some_answer groups_tool (AreLawful words) files laws
+    (λ settings lawful. tells settings (some_search settings.searches settings.jobs (c.settings_within.ensures words settings lawful).searches)) c.load_or_faults.ensures
+    (c.lawful_or_not.ensures words utf8)

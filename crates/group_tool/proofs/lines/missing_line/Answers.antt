@@ -1,4 +1,0 @@
-use Rattle.group_tool.proofs.lines.missing_line.Goals as goal
-
-pub returns : goal.returns
-returns c = rw (c.as_str.ensures.value, c.in_ok-name.ensures) at c.named_line.ensures

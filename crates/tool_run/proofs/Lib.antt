@@ -1,0 +1,13 @@
+pub mod Said
+pub mod TextsSaid
+pub mod Writing
+pub mod RootLemmas
+pub mod Reading
+pub mod EndLemmas
+pub mod CarryingLemmas
+pub mod RunLemmas
+pub mod AskedNames
+pub mod KeepLemmas
+pub mod OneLoaded
+pub mod OneAnswer
+pub mod Examples

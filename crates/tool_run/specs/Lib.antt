@@ -1,0 +1,17 @@
+pub mod MemorySink
+pub mod Sink
+pub mod StreamSink
+pub mod Say
+pub mod Roots
+pub mod Lines
+pub mod Tool
+pub mod Wanted
+pub mod End
+pub mod LoadedEnd
+pub mod Answer
+pub mod Asking
+pub mod Stop
+pub mod Carrying
+pub mod Run
+pub mod Statuses
+pub mod Keeps
