@@ -24,10 +24,10 @@ LAYERS = [
     ("clauses", "prolog_terms::|prolog_ops::|clause_text::"),
     ("facts", "module_table::|file_library::"),
     ("calls", "call_edges::|import_rules::program::Program::find|import_rules::predicates::Predicates::find|group_tool::answer::asked_of"),
-    ("program", "import_rules::|group_tool::loading::"),
+    ("program", "import_rules::|(?:group_tool|tool_run)::loading::"),
     ("search", "search_stack::|group_tool::driver::"),
     ("report", "loop_report::|group_release::|group_tool::answer::report_(?:groups|leveled)"),
-    ("rest", r"group_tool::|groups::|\(below main\)|main$|0x"),
+    ("rest", r"group_tool::|tool_run::|groups::|\(below main\)|main$|0x"),
 ]
 
 
