@@ -1,5 +1,5 @@
 -- What is loaded, where no file has a fault.
-use Rattle.std.proofs.Common.{◌≡◌, ℕ, suc, ◌+◌, ◌≤◌, List, [], ◌∷◌, Option, Some, None, Contains, length, map, refl, sym, subst, ap, ◌∙◌, arith}
+use Rattle.std.proofs.Common.{◌≡◌, ℕ, suc, ◌+◌, ◌≤◌, List, [], ◌∷◌, Option, Some, None, Contains, length, map, sym, subst, ap, ◌∙◌, arith}
 use Rattle.std.specs.List.{cons_option, filter_map, AllZip}
 use Rattle.std.proofs.lemmas.List.{map-id}
 use Rattle.list_laws.proofs.OneOrder.{holds_of}

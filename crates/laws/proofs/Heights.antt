@@ -1,11 +1,11 @@
 -- The levels of groups in a legal order, one group after another.
-use Rattle.std.proofs.Common.{◌≡◌, ◌↔◌, ◌⊎◌, inl, inr, ℕ, zero, suc, ◌<◌, ◌≤◌, ◌+◌, true, false, IsTrue, List, [], ◌∷◌, ◌++◌, length, map, get_or, refl, sym, ap, ◌∙◌, subst, arith}
+use Rattle.std.proofs.Common.{◌≡◌, ◌↔◌, ◌⊎◌, inl, inr, ℕ, zero, suc, ◌<◌, ◌+◌, true, false, IsTrue, List, [], ◌∷◌, ◌++◌, length, refl, sym, ap, subst, arith}
 use Rattle.std.proofs.lemmas.Bool.{cases_eq, cases_lt}
-use Rattle.std.proofs.lemmas.List.{get_or_append_left, get_or_push, get_or-map, length_push, length-map}
+use Rattle.std.proofs.lemmas.List.{length_push}
 use Rattle.std.specs.Prelude.{Contains, slice_index_or}
 use Rattle.graph_law.specs.Classes.{GroupCalls, IsRecursive, group_at, least_member}
 use Rattle.graph_law.specs.Graph.{Calls}
-use Rattle.graph_law.specs.LegalOrder.{IsLegalOrder, StandsUpTo}
+use Rattle.graph_law.specs.LegalOrder.{IsLegalOrder}
 use Rattle.group_release.specs.declared.level.Level.{Level}
 use Rattle.group_release.specs.Level.{AreLevels, level_at}
 use Rattle.group_release.specs.Levels.{AreRaised, IsRaised}

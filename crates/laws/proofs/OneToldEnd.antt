@@ -1,6 +1,5 @@
 -- One text is told of a program by `calls`, where no graph is asked for.
-use Rattle.std.proofs.Common.{◌≡◌, ◌≢◌, ℕ, List, subst}
-use Rattle.import_rules.specs.Program.{Seen}
+use Rattle.std.proofs.Common.{◌≡◌, ◌≢◌, subst}
 use Rattle.call_told.specs.declared.words.Form.TheVariants.{Dot}
 use Rattle.call_told.specs.Told.{TellsFrom}
 use Rattle.call_told.specs.Wanted.{Asked}

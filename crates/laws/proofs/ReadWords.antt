@@ -5,7 +5,6 @@ use Rattle.group_words.specs.Words.{Key, Part, file, flag, apart, joined, IsPart
 use Rattle.group_words.proofs.HaveChars.{texts_have_chars}
 use Rattle.group_words.proofs.Readings.{reading_taken}
 use Rattle.group_words.proofs.Views.{ComeOnce, Parsed, parsed, parts_views}
-use Rattle.group_words.proofs.WalkRows.{plus}
 use Rattle.laws.proofs.Known.{IsKnown, known_all, known_bool, known_both, empty_or_not}
 use Rattle.group_words.proofs.Readings.{AreFiles, ArePlain, all_files, clap_parts, files_all, files_behind, files_both, files_front, lawful_parts, one_at_most, part_are_files, plain_values, plus_same}
 

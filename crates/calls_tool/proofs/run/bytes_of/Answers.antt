@@ -1,6 +1,5 @@
 -- One text more.
 use Rattle.std.proofs.Common.{◌++◌, ◌∷◌, [], ℕ, Vec, Global, append_assoc, ap, sym, ◌∙◌}
-use Rattle.call_told.specs.Told.{joined}
 use Rattle.tool_run.specs.Say.{concatenated}
 use Rattle.calls_tool.proofs.Bytes.{bytes_more}
 use Rattle.calls_tool.proofs.run.bytes_of.Goals as goal
