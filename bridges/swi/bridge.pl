@@ -40,7 +40,8 @@ main :-
 
 failed(Command, error(resource_error(What), _), 7) :-
     !,
-    format(user_error, "~w: out of memory: ~w~n", [Command, What]).
+    format(user_error, "~w: more ~w is needed than the bridge may take (BRIDGE_KILOBYTES)~n",
+           [Command, What]).
 failed(Command, Error, 1) :-
     format(user_error, "~w: the bridge failed: ~p~n", [Command, Error]).
 

@@ -9,23 +9,14 @@
 :- use_module(library(lists)).
 :- use_module(library(plunit)).
 :- use_module(bridge/asking).
-:- use_module(bridge/clauses).
 :- use_module(bridge/conditions).
-:- use_module(bridge/facts).
-:- use_module(bridge/files).
 :- use_module(bridge/goals).
-:- use_module(bridge/handed).
 :- use_module(bridge/headers).
-:- use_module(bridge/library_goals).
-:- use_module(bridge/messages).
 :- use_module(bridge/names).
-:- use_module(bridge/operators).
 :- use_module(bridge/places).
 :- use_module(bridge/profile).
 :- use_module(bridge/selections).
 :- use_module(bridge/terms).
-:- use_module(bridge/texts).
-:- use_module(bridge/writing).
 
 :- begin_tests(terms).
 

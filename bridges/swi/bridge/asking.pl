@@ -16,7 +16,6 @@ library. No answer takes long: the number of inferences and the size of powers a
 :- use_module(files).
 :- use_module(headers).
 :- use_module(imports).
-:- use_module(loads).
 :- use_module(names).
 :- use_module(terms).
 

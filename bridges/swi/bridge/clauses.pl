@@ -93,8 +93,8 @@ holds_from_here(Inner, Owner, _, Place, _) :-
     ;   true
     ).
 
-% Between begin_tests/1 and end_tests/1, library(plunit) runs each test/1 and test/2, and goals in its
-% options.
+% Between begin_tests/1 and end_tests/1, library(plunit) runs each test/1 and test/2, and goals in
+% its options.
 test_of_unit(Head, Owner, test, Arity, Place, Reading) :-
     Reading = reading(Number, _),
     testing(Number),

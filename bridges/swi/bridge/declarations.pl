@@ -146,8 +146,8 @@ constraints_said(List, Place, Reading) :-
 constraint(Item, Name, Arity) :- indicator(Item), !, arity_of(Item, Name, Arity).
 constraint(Typed, Name, Arity) :- callable(Typed), head_name(Typed, Name, Arity).
 
-% What a library of SWI-Prolog makes of a declaration has its place. Data for the library's own module
-% call nothing.
+% What a library of SWI-Prolog makes of a declaration has its place. Data for the library's own
+% module call nothing.
 made(Directive, Place, Reading) :-
     Reading = reading(Number, _),
     home(Number, Home, _, _),

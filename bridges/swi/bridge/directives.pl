@@ -7,7 +7,6 @@ A directive that says nothing of these is a goal: what it calls is a root.
           [ directive/4             % +Directive, +Position, +Place, +Reading
           ]).
 
-:- use_module(library(lists)).
 :- use_module(clauses).
 :- use_module(declarations).
 :- use_module(facts).

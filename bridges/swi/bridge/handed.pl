@@ -9,12 +9,10 @@ options of predicates of SWI-Prolog that no declaration speaks of.
                                     % +Default
           ]).
 
-:- use_module(library(lists)).
 :- use_module(facts).
 :- use_module(goals).
 :- use_module(names).
 :- use_module(places).
-:- use_module(terms).
 
 %!  handed(+Goal, +Name, +Written, +Arity, +Position, +Module, +Meaning, +Default)// is det.
 %

@@ -13,7 +13,6 @@ several files is looked for along their loads, each file once.
             outside_definer/4       % +Module, +Name, +Arity, -Path
           ]).
 
-:- use_module(library(lists)).
 :- use_module(facts).
 :- use_module(headers).
 :- use_module(messages).

@@ -10,7 +10,6 @@ Hooks that SWI-Prolog or a library calls are roots, as are predicates that a fil
 :- use_module(library(lists)).
 :- use_module(facts).
 :- use_module(imports).
-:- use_module(names).
 :- use_module(terms).
 
 %!  root(+Number, -Place, -Module, -Name, -Arity) is nondet.

@@ -13,13 +13,12 @@ decodes the rest of it anew.
             operators_of/2          % +Reading, -Operators
           ]).
 
-:- use_module(library(apply)).
-:- use_module(library(lists)).
 :- use_module(clauses).
 :- use_module(conditions).
 :- use_module(directives).
 :- use_module(facts).
 :- use_module(files).
+:- use_module(limits).
 :- use_module(messages).
 :- use_module(operators).
 :- use_module(places).
@@ -165,6 +164,7 @@ tell_ill_formed(decoded(Path, Encoding, From, _), Text) :-
 /* Terms of one text. Conditions are the states of the `if`s that are open, the innermost first. */
 
 read_terms(Stream, Reading, Conditions, End) :-
+    count_step,
     next_term(Stream, Reading, Conditions, Place, Term, Position),
     (   Term == end_of_file
     ->  End = end,

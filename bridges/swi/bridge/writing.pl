@@ -18,13 +18,12 @@ FOLDER/words has the new names of the files that arguments name.
 :- use_module(goals).
 :- use_module(headers).
 :- use_module(imports).
+:- use_module(limits).
 :- use_module(lines).
 :- use_module(messages).
 :- use_module(names).
-:- use_module(places).
 :- use_module(profile).
 :- use_module(roots).
-:- use_module(terms).
 
 %!  write_all(+Folder, +Named) is det.
 write_all(Folder, Named) :-
@@ -57,6 +56,7 @@ write_names(Out) :-
              nl(Out) )).
 
 write_file(Folder, Map, Number) :-
+    check_memory,
     atomic_list_concat([f, Number, '.pl'], Name),
     home(Number, Module, Kind, _),
     written(Folder, Name, Out, write_items(to(Out, Map, Number, Module, Kind), Number)).
