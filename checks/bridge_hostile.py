@@ -101,4 +101,6 @@ HOSTILE = [
      told(ONE, ["f.pl:1:1: no if stands before it", "f.pl:3:1: no endif closes this if"])),
     ("300 modules, each of which loads the next", {**{f"l{it}.pl": f":- module(l{it}, []).\n:- use_module(l{it + 1}).\n" for it in range(300)}, "l300.pl": ":- module(l300, []).\n"},
      ["l0.pl"], 0, "predicates 0 groups 0 recursive 0 levels 0\n", ""),
+    ("a module with the name of a library that is loaded where it is called", {"f.pl": ":- module(ordsets, [p/0]).\np :- list_to_ord_set([], _).\n"},
+     ["--libraries", "f.pl"], 0, report("ordsets:p/0"), "groups-swi: 1 file, 0 with something left out; of the libraries 1\n"),
 ]

@@ -147,11 +147,22 @@ holds(source_exports(File, Indicator), asked(_, _, Path)) :-
     arity_of(Indicator, Name, Arity),
     library_export(Found, Name, Arity, _).
 holds(debugging(_), _) :- !, fail.
+holds(current_op(Priority, Type, Name), asked(_, Number, _)) :-
+    !,
+    home(Number, _, _, Operators),
+    current_op(Priority, Type, Operators:Name).
+holds(current_module(Module), _) :- atom(Module), home(_, Module, module, _), !.
+holds(current_prolog_flag(Flag, Value), _) :- atom(Flag), own_flag(Flag, Usual), !, Value = Usual.
 holds(prolog_load_context(Key, Value), asked(Module, _, Path)) :-
     !,
     load_context(Key, Module, Path, Value).
 holds(Goal, _) :-
     user:Goal.
+
+% Flags that the bridge sets for itself, as they are in a program.
+own_flag(autoload, true).
+own_flag(generate_debug_info, true).
+own_flag(optimise, false).
 
 load_context(dialect, _, _, swi).
 load_context(module, Module, _, Module).

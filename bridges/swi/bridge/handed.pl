@@ -121,6 +121,7 @@ passes(prolog_walk_code).
 passes(sgml_parse).
 passes(thread_create).
 passes(thread_create_in_pool).
+passes('$notrace').
 passes(wrap_predicate).
 passes(write_term).
 
@@ -199,6 +200,7 @@ in_argument(first_solution, 3, 2, goals).
 in_argument(http_handler, 3, 2, 1).
 in_argument(pce_global, 2, 2, 1).
 in_argument(on_signal, 3, 3, 1).
+in_argument('$notrace', 1, 1, 0).
 in_argument(wrap_predicate, 4, 4, 0).
 in_argument(in_pce_thread, 1, 1, 0).
 in_argument(in_pce_thread_sync, 1, 1, 0).

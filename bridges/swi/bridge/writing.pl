@@ -66,7 +66,8 @@ write_items(To, Number) :-
     write_foreign(Number, To),
     forall(root(Number, Place, Module, Name, Arity), write_root(Place, Module, Name, Arity, To)),
     (   Number =:= 1
-    ->  forall(loads_itself(Other), write_load(Other, [], at(1, 0), To))
+    ->  forall(( loads_itself(Other), home(Other, _, module, _) ),
+               write_load(Other, [], at(1, 0), To))
     ;   true
     ).
 

@@ -2,7 +2,7 @@
 :- module(main, [main/0]).
 
 :- if(current_prolog_flag(bounded, false)).
-main :- one, five, eight, ten.
+main :- one, five, eight, ten, eleven, twelve.
 :- else.
 main :- wrong.
 :- endif.
@@ -50,6 +50,19 @@ eight :- nine.
 eight :- wrong.
 :- endif.
 nine.
+
+:- op(700, xfx, ===>).
+:- if(( current_op(700, _, ===>), current_module(main) )).
+eleven.
+:- else.
+eleven :- wrong.
+:- endif.
+
+:- if(current_prolog_flag(autoload, true)).
+twelve.
+:- else.
+twelve :- wrong.
+:- endif.
 
 :- if(predicate_property(nine, dynamic)).
 ten :- wrong.
