@@ -269,6 +269,31 @@ q(_) :- {{|trap||x|}}.
 }
 
 
+def swi_home():
+    """The folder in which SWI-Prolog is installed."""
+    told = subprocess.run(["swipl", "--dump-runtime-variables"], stdin=subprocess.DEVNULL, capture_output=True, text=True).stdout
+    return pathlib.Path(told.partition('PLBASE="')[2].partition('"')[0])
+
+
+def try_named_library():
+    """Whether a library that an argument names is a file of the program for what loads it by library(..)."""
+    words = [str(swi_home() / "library" / "http" / name) for name in ("html_head.pl", "html_write.pl")]
+    done = subprocess.run([CALLS_BRIDGE, *words], stdin=subprocess.DEVNULL, capture_output=True, text=True, timeout=MOST_SECONDS)
+    return "" if ("html_head:html_include/4", "html_write:html/3") in told_calls(done.stdout)[0] else f"a named library: {done.returncode} {done.stderr}"
+
+
+def try_bounds():
+    """Whether a program that needs more memory or processor time than is allowed gets a line and a status."""
+    with tempfile.TemporaryDirectory(prefix="bridge-") as room:
+        write_files(room, {"f.pl": "".join(f"p{it} :- p{it + 1}.\n" for it in range(60000))})
+        for name, most, status in (("BRIDGE_KILOBYTES", "50000", 7), ("BRIDGE_SECONDS", "1", 6)):
+            how = {"cwd": room, "env": {**os.environ, name: most, "TMPDIR": room}, "stdin": subprocess.DEVNULL, "capture_output": True, "text": True}
+            done = subprocess.run([BRIDGE, "f.pl"], timeout=MOST_SECONDS, **how)
+            if done.returncode != status or done.stderr.count("\n") != 1 or name not in done.stderr or os.listdir(room) != ["f.pl"]:
+                return f"{name}: status {done.returncode}, {done.stderr}, {os.listdir(room)}"
+    return ""
+
+
 def try_traps():
     """Whether nothing of a program is run when it is read."""
     with tempfile.TemporaryDirectory(prefix="bridge-") as room:
@@ -297,7 +322,7 @@ def try_small():
         ("programs that SWI-Prolog traces", try_traced, folders),
         ("programs with known answers", try_peer, peers),
         ("programs beside list_undefined", try_undefined, folders),
-        ("other things", lambda attempt: attempt(), [try_library_goals, try_signal, try_settings, try_traps, try_modules]),
+        ("other things", lambda attempt: attempt(), [try_library_goals, try_signal, try_settings, try_named_library, try_bounds, try_traps, try_modules]),
     ]
     wrong = []
     with concurrent.futures.ThreadPoolExecutor(AT_ONCE) as pool:
@@ -465,8 +490,7 @@ def try_real(every):
 
 def try_libraries():
     """What is wrong with one run over the whole installed library, in which no more than 25 s of processor time may go."""
-    home = pathlib.Path(subprocess.run(["swipl", "--dump-runtime-variables"], capture_output=True, text=True).stdout.partition('PLBASE="')[2].partition('"')[0])
-    paths = sorted(path for path in (home / "library").rglob("*.pl") if path.name not in ("INDEX.pl", "MKINDEX.pl"))
+    paths = sorted(path for path in (swi_home() / "library").rglob("*.pl") if path.name not in ("INDEX.pl", "MKINDEX.pl"))
     before = resource.getrusage(resource.RUSAGE_CHILDREN)
     done = subprocess.run([BRIDGE, "--libraries", "--unreached", *map(str, paths)], stdin=subprocess.DEVNULL, capture_output=True, text=True)
     after = resource.getrusage(resource.RUSAGE_CHILDREN)

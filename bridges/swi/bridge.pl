@@ -62,10 +62,19 @@ run(Command, Folder, Words, Status) :-
         ;   write_all(Folder, Numbers)
         ),
         tell_messages(Command),
+        tell_version(Command),
         (   something_left_out
         ->  Status = 8
         ;   Status = 0
         )
+    ).
+
+% On a terminal, that this SWI-Prolog is another one than was tried.
+tell_version(Command) :-
+    current_prolog_flag(version, Version),
+    (   ( Version =:= 90004 ; \+ stream_property(user_error, tty(true)) )
+    ->  true
+    ;   format(user_error, "~w: tried with SWI-Prolog 9.0.4; this one is ~d~n", [Command, Version])
     ).
 
 options([--|Files], Files) :- !.
