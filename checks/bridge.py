@@ -407,6 +407,13 @@ def classes(successors):
     return found
 
 
+# What SWI-Prolog calls in any module, and the tests of library(plunit).
+HOOKS = {
+    "attr_unify_hook/2", "attr_portray_hook/2", "attribute_goals/3", "project_attributes/2", "goal_expansion/2", "goal_expansion/4",
+    "term_expansion/2", "term_expansion/4", "test/1", "test/2",
+}
+
+
 def told_by_xref(path):
     """The module, its recursive groups and what its roots reach, by the calls that prolog_xref tells."""
     words = ["swipl", str(ROOT / "checks" / "xref_calls.pl"), "--"]
@@ -427,7 +434,7 @@ def told_by_xref(path):
         elif word == "calls":
             edges[names[0]].add(names[1])
     successors = {name: sorted(edges[name] & defined) for name in sorted(defined)}
-    roots = defined if module == "user" else (exported | directive) & defined
+    roots = defined if module == "user" else (exported | directive | HOOKS) & defined
     reached, todo = set(), list(roots)
     while todo:
         name = todo.pop()

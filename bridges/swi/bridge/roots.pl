@@ -49,6 +49,7 @@ multifile_in(Number, Name, Arity) :-
     !.
 
 % What SWI-Prolog, or a library of it, calls in any module.
+called_by_system(:=, 2).                % functions on dicts
 called_by_system(attr_unify_hook, 2).
 called_by_system(attr_portray_hook, 2).
 called_by_system(attribute_goals, 3).
