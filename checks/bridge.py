@@ -2,7 +2,7 @@
 """Tries bridges/swi/groups-swi and calls-swi: on small programs with known answers, on programs whose calls SWI-Prolog itself traces, on hostile ones,
 and then on the `.pl` files of the Prolog packages that are installed, each in its own folder.
 
-Of these it prints how many get a report by `groups` alone and by the bridge, and what is told most where something is left out. All that `calls` alone
+Of these it prints how many get a report by `groups` alone and by the bridge, and what is told most if something is left out. All that `calls` alone
 tells of a file `calls-swi` must tell at the same place. Then the groups of a hundred of them are compared with those of the calls that SWI-Prolog's
 prolog_xref tells; files that differ are listed with their first difference (docs/bridge.md has the reasons). Ends with status 1 if a program is answered
 wrongly, if fewer than nine of ten files get a report, or if a run dies or takes longer than a minute. Without swipl or the packages it says so.

@@ -147,7 +147,7 @@ CASES = [
         '',
     ),
     (
-        'imports by load_files/2 and but for some',
+        'imports by load_files/2, and all except some',
         {'f.pl': ':- module(f, [p/0]).\n:- load_files(g, [imports([q/0])]).\n:- use_module(h, except([t/0])).\np :- q, r, s, t.\n', 'g.pl': ':- module(g, [q/0, r/0]).\nq.\nr.\n', 'h.pl': ':- module(h, [s/0, t/0]).\ns.\nt.\n'},
         ['f.pl'],
         0,
@@ -179,7 +179,7 @@ CASES = [
         '',
     ),
     (
-        'conditions that would do something, or take too long; branches behind them',
+        'conditions that would do something, or take too long; branches after them',
         {'f.pl': ':- if(shell(true)).\np.\n:- else.\nq.\n:- endif.\n:- if((member(_, _), fail)).\nr.\n:- elif(true).\ns.\n:- else.\nt.\n:- endif.\n'},
         ['f.pl'],
         8,
@@ -203,7 +203,7 @@ CASES = [
         "f.pl:1:1: exported predicate gone/0 is not defined in the text: it has no clause\n" + ONE_OF_ONE,
     ),
     (
-        'goals behind ^, and the recovery of catch/3',
+        'goals after ^, and the recovery of catch/3',
         {'f.pl': ':- module(f, [p/2]).\np(Y, L) :- aggregate(count, X^r(X), _), catch(true, _, setup_call_cleanup(true, s, true)).\nr(_).\ns.\n'},
         ['f.pl'],
         0,
@@ -250,7 +250,7 @@ CASES = [
 ]
 
 # What must be told of small programs: files by name, the words, pairs of a caller and a callee, and pairs that must not be told. Of a file
-# that declares no module the name stands alone.
+# without a module the name is alone.
 PAIRS = [
     (
         "foldl, include, lambda",
@@ -537,7 +537,7 @@ PAIRS = [
         "",
     ),
     (
-        "words behind --",
+        "words after --",
         {
             "-x.pl": "p :- q.\n"
             "q.",

@@ -103,4 +103,6 @@ HOSTILE = [
      ["l0.pl"], 0, "predicates 0 groups 0 recursive 0 levels 0\n", ""),
     ("a module with the name of a library that is loaded where it is called", {"f.pl": ":- module(ordsets, [p/0]).\np :- list_to_ord_set([], _).\n"},
      ["--libraries", "f.pl"], 0, report("ordsets:p/0"), "groups-swi: 1 file, 0 with something left out; of the libraries 1\n"),
+    ("conditions that square a number again and again", {"f.pl": ":- if((X0 = 3, " + "".join(f"X{it + 1} is X{it} * X{it}, " for it in range(40)) + "X40 > 0)).\np.\n:- endif.\n"
+     ":- if(((9 ** 64) ** 64) ** 64 ** 64 > 0).\nq.\n:- endif.\n"}, ["--no-run", "f.pl"], 8, report("user:p/0", "user:q/0"), None),
 ]

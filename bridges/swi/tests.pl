@@ -88,9 +88,12 @@ test(asks, true) :-
 test(does, true) :-
     forall(member(Goal, [_, shell(x), (true, halt), m:assertz(p), call(true), X:true]),
            ( \+ asks(Goal), X = X )).
-test(takes_long, true) :- forall(member(E, [3 ** 100, 3 ** _, 1 << 65]), \+ asks(_ is E)).
+test(takes_long, true) :-
+    forall(member(E, [3 ** 100, 3 ** _, _ ** 3, 1 << 65, ( 9 ** 64 ) ** 64, _ * _]), \+ asks(_ is E)).
+test(takes_no_time, true) :- forall(member(E, [3 ** 10, _ * 100 + 7, 1 << 20]), asks(_ is E)).
 test(plainly_asks, true) :-
     plainly_asks(current_prolog_flag(a, b)),
+    \+ plainly_asks(0 < 3 ** ( 3 ** 20 )),
     \+ plainly_asks(exists_file(a)).
 
 :- end_tests(asking).

@@ -1,6 +1,6 @@
 /** <module> Conditions that only ask, and their answers
 
-A condition is run where every goal of it is one of a list that asks and changes nothing. Goals that
+A condition is run if every goal of it is one of a list that asks and changes nothing. Goals that
 ask for predicates, modules or files are answered from what the text has said so far; they load no
 library. No answer takes long: the number of inferences and the size of powers are bounded.
 */
@@ -30,7 +30,8 @@ asks(Goal) :-
 %
 %   Goal asks for no more than flags, operators and sources.
 plainly_asks(Goal) :-
-    asks(Goal, plain).
+    asks(Goal, plain),
+    \+ takes_long(Goal).
 
 asks(Goal, _) :- var(Goal), !, fail.
 asks(Goal, Kind) :-
@@ -72,13 +73,18 @@ question(Name, Arity) :-
                 variant_sha1/2, variant_hash/2, term_hash/2, debugging/1
               ]).
 
-% One step of arithmetic may take hours: powers and shifts are let in with small exponents alone.
+% One step of arithmetic may take hours. Powers and shifts are let in of small numbers by small ones,
+% and no product of two variables, which would square a number again and again.
 takes_long(Term) :-
     compound(Term),
     compound_name_arguments(Term, Name, Arguments),
-    (   Arguments = [_, Exponent],
+    (   Arguments = [Base, Exponent],
         memberchk(Name, [**, ^, <<]),
-        \+ ( integer(Exponent), abs(Exponent) =< 64 )
+        \+ ( number(Base), abs(Base) < 0x10000000000000000, integer(Exponent), abs(Exponent) =< 64 )
+    ;   Arguments = [Left, Right],
+        Name == (*),
+        \+ ground(Left),
+        \+ ground(Right)
     ;   member(Argument, Arguments),
         takes_long(Argument)
     ),
@@ -86,7 +92,7 @@ takes_long(Term) :-
 
 %!  answer(+Goal, +Reading, -Answer) is det.
 %
-%   Answer is `true`, `false`, or `unknown` where it would take too long.
+%   Answer is `true`, `false`, or `unknown` if it would take too long.
 answer(Goal, reading(Number, Text), Answer) :-
     home(Number, Module, _, _),
     text(Text, Path, _),
@@ -107,7 +113,7 @@ in_folder(Folder, Goal) :-
     working_directory(Old, Folder),
     call_cleanup(once(Goal), working_directory(_, Old)).
 
-% What the program has so far counts where a condition asks for predicates.
+% If a condition asks for predicates, what the program has so far counts.
 holds((A, B), In) :- !, holds(A, In), holds(B, In).
 holds((A -> B ; C), In) :- !, ( holds(A, In) -> holds(B, In) ; holds(C, In) ).
 holds((A *-> B ; C), In) :- !, ( holds(A, In) *-> holds(B, In) ; holds(C, In) ).

@@ -1,8 +1,8 @@
 /** <module> Conditional compilation
 
-The state of each `if` that is open is branch(State, Place): `taken` where this branch is read,
-`both` where every branch is, `open` where none was yet, and `closed` where one was, or where what
-holds the `if` isn't read.
+The state of each open `if` is branch(State, Place). State is `taken` if this branch is read, `both`
+if every branch is, `open` if none was yet, and `closed` if one was, or if what holds the `if` isn't
+read.
 */
 
 :- module(bridge_conditions,

@@ -105,7 +105,7 @@ metas(List, reading(Number, _)) :-
              \+ meta(Owner, Name, Arity, _) ),
            assertz(meta(Owner, Name, Arity, Item))).
 
-% Of library(http/html_write): says more than the declarations that stand before it.
+% Of library(http/html_write): says more than the declarations before it.
 page_metas(List, reading(Number, _)) :-
     home(Number, Home, _, _),
     forall(( listed_item(List, Home, Owner, Item), compound(Item), head_name(Item, Name, Arity) ),

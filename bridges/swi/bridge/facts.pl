@@ -40,12 +40,12 @@ at(Text, Offset), with the offset in characters from 0.
 */
 /** source(?Number, ?Path, ?Class)
 
-    A file. Class is `named` where an argument names it, `loaded` where a file of the program loads
-    it, and `library` for a library and all that libraries load.
+    A file. Class is `named` if an argument names it, `loaded` if a file of the program loads it,
+    and `library` for a library and all that libraries load.
 */
 /** home(?Number, ?Module, ?Kind, ?Operators)
 
-    The module of a file that is read or being read. Kind is `module` where it declares that module,
+    The module of a file that is read or being read. Kind is `module` if it declares that module,
     else `plain`. Operators is the module whose operators hold in the file.
 */
 /** item(?Number, ?Place, ?What)

@@ -55,7 +55,7 @@ parts_in(goal(Goal, At), Number, Module, [goal(Goal, At)], Expansions) :-
     home(Number, Module, _, _),
     flag(bridge_expansions, Expansions, Expansions).
 
-% Default is the offset that counts where none is known.
+% Default is the offset that counts if none is known.
 calls_of([], _, _) --> [].
 calls_of([goal(Goal, At)|Parts], M, D) --> goal(Goal, At, M, 0, D), calls_of(Parts, M, D).
 calls_of([grammar(Body, At)|Parts], M, D) --> grammar(Body, At, M, D), calls_of(Parts, M, D).
@@ -103,8 +103,8 @@ both(A, B, At, M, D) -->
     goal(A, P, M, 0, D),
     goal(B, Q, M, 0, D).
 
-% What a fact of goal_expansion/2 makes of a goal stands where the goal stood. No fact is used again
-% in what it made, and a clause uses so many at most: facts may expand each other's goals for ever.
+% What a fact of goal_expansion/2 makes of a goal has the place of the goal. No fact is used again in
+% what it made, and a clause uses so many at most: facts may expand each other's goals for ever.
 most_expansions(1000).
 
 goal_at(by(Number, Goal), At, M, D) -->
@@ -145,7 +145,7 @@ uncallable(Goal, At, D) :-
 
 %!  closure(+Goal, +Position, +Module, +Added, +Default)// is det.
 %
-%   A goal that is handed on. Something else stands there at times, as the options `[]`, or a number
+%   A goal that is handed on. At times it is something else, as the options `[]`, or a number
 %   that gets arguments: it calls nothing.
 closure(Goal, _, _, Added, _) --> { Added > 0, ( number(Goal) ; string(Goal) ) }, !.
 closure(Goal, At, M, Added, D) --> goal(Goal, At, M, Added, D).

@@ -1,6 +1,6 @@
 /** <module> Libraries that are looked at and not read as parts of the program
 
-What their first directives export, and, where it is asked for, which arguments of their predicates
+What their first directives export, and, if that is asked for, which arguments of their predicates
 are goals. Their texts are read, and none is loaded.
 */
 

@@ -1,7 +1,7 @@
 /** <module> Loads and includes: which files are read, and what is taken of them
 
-A library is read only where an argument names it, where a search path that the program sets leads
-to it, or with `--libraries`. Else its text is looked at for operators and exports.
+A library is read only if an argument names it, if a search path that the program sets leads to it,
+or with `--libraries`. Else its text is looked at for operators and exports.
 */
 
 :- module(bridge_loads,

@@ -110,7 +110,7 @@ library_of(Name, Arity, Path) :-
 
 %!  read_autoloaded(:Calls) is det.
 %
-%   Reads what SWI-Prolog would load by itself where it is called, and then what is called there.
+%   Reads what SWI-Prolog would load by itself when it is called, and then what is called there.
 %   Calls(Number, Call) says on backtracking what a file calls.
 read_autoloaded(Calls) :-
     findall(Number, ( source(Number, _, _), \+ looked_through(Number) ), Numbers),

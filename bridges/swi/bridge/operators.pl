@@ -19,7 +19,7 @@ without a module leaves its operators in the module that loads it.
 
 %!  set_operators(+Names, +Priority, +Type, +Owner) is semidet.
 %
-%   Declares one operator or a list of them; fails where that isn't possible.
+%   Declares one operator or a list of them; fails if that isn't possible.
 set_operators(Names, Priority, Type, Owner) :-
     catch(set_each(Names, Priority, Type, Owner), _, fail).
 

@@ -81,7 +81,7 @@ line_of(Table, Offset, Low, High, Line) :-
 
 %!  bare(+Position, -Bare) is det.
 %
-%   A position of `subterm_positions` without brackets; `none` where the reader gave none.
+%   A position of `subterm_positions` without brackets; `none` if the reader gave none.
 bare(Position, none) :- var(Position), !.
 bare(parentheses_term_position(_, _, Inner), Bare) :- !, bare(Inner, Bare).
 bare(Position, Position).

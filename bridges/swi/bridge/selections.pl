@@ -1,7 +1,7 @@
 /** <module> What a load takes of a file: all, a list of names, or all except a list
 
 Each selection is kept as facts under the number of its load, so that asking for one name takes no
-longer where the list is long.
+longer if the list is long.
 */
 
 :- module(bridge_selections,
