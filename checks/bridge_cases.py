@@ -245,6 +245,14 @@ CASES = [
         "predicates 8 groups 8 recursive 0 levels 2\n" + "".join(f"0 plain f:{name}\n" for name in ("a/0", "b/0", "c/1", "d/1", "e/0", "p/0")) + "1 plain f:test/1\n1 plain f:test/2\n",
         "",
     ),
+    (
+        "a search path that the program sets in a way that isn't followed is told; a library that isn't installed isn't",
+        {"f.pl": ":- use_module(app(core)).\n:- use_module(library(no_such_library)).\np.\n"},
+        ["f.pl"],
+        8,
+        "predicates 1 groups 1 recursive 0 levels 1\n0 plain user:p/0\n",
+        "f.pl:1:1: file app(core) isn't found\n" + ONE_OF_ONE,
+    ),
     ("a file that isn't there", {}, ["f.pl"], 3, "", "f.pl: no such file\n"),
     ("no word", {}, [], 2, "", None),
 ]

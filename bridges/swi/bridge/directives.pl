@@ -38,18 +38,46 @@ directive(Directive, At, Place, Reading) :-
     ;   say(Reading, Place, goal(Directive, At))
     ).
 
-% `:- prolog_load_context(directory, D), asserta(user:file_search_path(app, D)).`
-sets_search_path((prolog_load_context(directory, Folder), Sets), Reading) :-
-    var(Folder),
-    nonvar(Sets),
+% `:- prolog_load_context(directory, D), asserta(user:file_search_path(app, D)).` and the like.
+sets_search_path(Directive, Reading) :-
+    asserted_path(Directive, Before, Alias, Folder),
+    Reading = reading(_, Text),
+    text(Text, Path, _),
+    catch(names_folder(Before, Path), _, fail),
+    search_path(Alias, Folder, Path).
+
+asserted_path((First, Rest), [First|Before], Alias, Folder) :-
+    !,
+    nonvar(Rest),
+    asserted_path(Rest, Before, Alias, Folder).
+asserted_path(Sets, [], Alias, Folder) :-
+    compound(Sets),
     Sets =.. [Assert, Fact],
     memberchk(Assert, [assert, asserta, assertz]),
     nonvar(Fact),
-    innermost(Fact, user, user, file_search_path(Alias, Told)),
-    Reading = reading(_, Text),
-    text(Text, Path, _),
-    file_directory_name(Path, Folder),
-    search_path(Alias, Told, Path).
+    innermost(Fact, user, user, Inner),
+    nonvar(Inner),
+    Inner = file_search_path(Alias, Folder).
+
+% Goals that only work out the name of a folder from that of the file.
+names_folder([], _).
+names_folder([Goal|Goals], Path) :-
+    nonvar(Goal),
+    worked_out(Goal, Path),
+    names_folder(Goals, Path).
+
+worked_out(prolog_load_context(Key, Value), Path) :-
+    (   Key == directory
+    ->  file_directory_name(Path, Value)
+    ;   memberchk(Key, [source, file]),
+        Value = Path
+    ).
+worked_out(source_location(File, _), Path) :- File = Path.
+worked_out(file_directory_name(File, Folder), _) :- file_directory_name(File, Folder).
+worked_out(directory_file_path(Folder, Name, Path), _) :-
+    atomic_list_concat([Folder, /, Name], Path).
+worked_out(atom_concat(First, Second, Name), _) :- atomic_list_concat([First, Second], Name).
+worked_out(atomic_list_concat(Parts, Name), _) :- atomic_list_concat(Parts, Name).
 
 known(initialization(Goal), At, Place, Reading) :- !, goal_said(Goal, At, Place, Reading).
 known(initialization(Goal, _), At, Place, Reading) :- !, goal_said(Goal, At, Place, Reading).

@@ -8,7 +8,7 @@ Only regular files of at most 8 MiB are read: a device or a pipe may have no end
             find_source/3,          % +Specification, +Path, -Found
             of_library/2,           % +Specification, +Found
             search_path/3,          % +Alias, +Folder, +Path
-            search_alias/1,         % ?Alias
+            system_alias/1,         % +Alias
             read_bytes/4,           % +Path, +Encoding, +Skipped, -String
             first_encoding/3,       % +Path, -Encoding, -Mark
             file_string/2,          % +Path, -String
@@ -69,11 +69,14 @@ of_library(Specification, Found) :-
     Name \== (/),
     \+ ( alias(Name, Folder), atom_concat(Folder, _, Found) ).
 
-%!  search_alias(?Alias) is nondet.
+%!  system_alias(+Alias) is semidet.
 %
-%   The program sets a search path of this name.
-search_alias(Alias) :-
-    alias(Alias, _).
+%   SWI-Prolog has a search path of this name, and what it leads to is no file of the program.
+system_alias(library) :- !.
+system_alias(Alias) :-
+    \+ alias(Alias, _),
+    catch(user:file_search_path(Alias, _), _, fail),
+    !.
 
 %!  search_path(+Alias, +Folder, +Path) is det.
 %

@@ -96,7 +96,7 @@ load_operators([Number|Numbers], Seen, Operators) :-
 % Libraries that aren't installed are passed over, as by `groups`, unless they are asked for.
 tell_missing(File, Place) :-
     (   compound(File), compound_name_arity(File, Alias, 1), Alias \== (/),
-        ( Alias == library ; \+ search_alias(Alias) ),
+        system_alias(Alias),
         \+ option(libraries)
     ->  true
     ;   plain_text(File, Told),
