@@ -282,6 +282,22 @@ def try_named_library():
     return "" if ("html_head:html_include/4", "html_write:html/3") in told_calls(done.stdout)[0] else f"a named library: {done.returncode} {done.stderr}"
 
 
+def try_installed():
+    """Whether the bridge runs from PREFIX/share/groups/swi, with the programs and links to its commands in PREFIX/bin."""
+    with tempfile.TemporaryDirectory(prefix="bridge-") as room:
+        prefix = pathlib.Path(room, "a prefix")
+        shutil.copytree(BRIDGE.parent, prefix / "share" / "groups" / "swi")
+        (prefix / "bin").mkdir()
+        for name, program in (("groups", GROUPS), ("calls", CALLS)):
+            (prefix / "bin" / name).symlink_to(program.resolve())
+            (prefix / "bin" / f"{name}-swi").symlink_to(f"../share/groups/swi/{name}-swi")
+        write_files(room, {"f.pl": "p.\n"})
+        env = {name: value for name, value in os.environ.items() if name not in ("GROUPS_PROGRAM", "CALLS_PROGRAM")}
+        how = {"cwd": room, "env": env, "stdin": subprocess.DEVNULL, "capture_output": True, "text": True, "timeout": MOST_SECONDS}
+        told = [subprocess.run([prefix / "bin" / name, "f.pl"], **how) for name in ("groups-swi", "calls-swi")]
+    return "" if [it.returncode for it in told] == [0, 0] and "user:p/0" in told[0].stdout else f"installed: {[(it.stdout, it.stderr) for it in told]}"
+
+
 def try_bounds():
     """Whether a program that needs more memory or processor time than is allowed gets a line and a status."""
     with tempfile.TemporaryDirectory(prefix="bridge-") as room:
@@ -322,7 +338,7 @@ def try_small():
         ("programs that SWI-Prolog traces", try_traced, folders),
         ("programs with known answers", try_peer, peers),
         ("programs beside list_undefined", try_undefined, folders),
-        ("other things", lambda attempt: attempt(), [try_library_goals, try_signal, try_settings, try_named_library, try_bounds, try_traps, try_modules]),
+        ("other things", lambda attempt: attempt(), [try_library_goals, try_signal, try_settings, try_named_library, try_installed, try_bounds, try_traps, try_modules]),
     ]
     wrong = []
     with concurrent.futures.ThreadPoolExecutor(AT_ONCE) as pool:
