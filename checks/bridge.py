@@ -487,7 +487,7 @@ def try_reports(paths, pool):
             wrong.append(f"{path}: status {bridge_status}: {err[-200:]}")
         elif bridge_status != 3:
             reports.append((path, out))
-        causes.update(re.sub(r"`.*|[^ ]+/[0-9]+ |'.*'", "", line.split(": ", 1)[-1])[:70] for line in err.splitlines() if not line.startswith("groups-swi: "))
+        causes.update(re.sub(r"`.*|[^ ]+/[0-9]+ |'[^' ]*'", "", line.split(": ", 1)[-1])[:70] for line in err.splitlines() if not line.startswith("groups-swi: "))
     print(f"{len(paths)} files: {alone} get a report alone, {bridged[0]} by the bridge, {bridged[8]} more with something left out")
     for cause, count in causes.most_common(12):
         print(f"{count:7}  {cause}")

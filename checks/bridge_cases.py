@@ -253,6 +253,14 @@ CASES = [
         "predicates 1 groups 1 recursive 0 levels 1\n0 plain user:p/0\n",
         "f.pl:1:1: file app(core) isn't found\n" + ONE_OF_ONE,
     ),
+    (
+        "search paths that a library sets lead to libraries",
+        {"f.pl": ":- use_module(library(chr)).\n:- use_module(chr(chr_runtime)).\n:- use_module(library(pldoc)).\n:- use_module(pldoc(doc_html)).\np.\n"},
+        ["f.pl"],
+        0,
+        "predicates 1 groups 1 recursive 0 levels 1\n0 plain user:p/0\n",
+        "",
+    ),
     ("a file that isn't there", {}, ["f.pl"], 3, "", "f.pl: no such file\n"),
     ("no word", {}, [], 2, "", None),
 ]

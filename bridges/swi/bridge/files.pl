@@ -8,6 +8,7 @@ Only regular files of at most 8 MiB are read: a device or a pipe may have no end
             find_source/3,          % +Specification, +Path, -Found
             of_library/2,           % +Specification, +Found
             search_path/3,          % +Alias, +Folder, +Path
+            library_search_path/2,  % +Alias, +Folder
             system_alias/1,         % +Alias
             read_bytes/4,           % +Path, +Encoding, +Skipped, -String
             first_encoding/3,       % +Path, -Encoding, -Mark
@@ -94,6 +95,16 @@ search_path(Alias, Folder, Path) :-
         assertz(alias(Alias, Found)),
         assertz(user:file_search_path(Alias, Found))
     ;   true
+    ).
+
+%!  library_search_path(+Alias, +Folder) is det.
+%
+%   A library says that the alias names Folder: what is found there is no file of the program.
+library_search_path(Alias, Folder) :-
+    (   user:file_search_path(Alias, Folder)
+    ->  true
+    ;   retractall(known_source(_, _, _)),
+        assertz(user:file_search_path(Alias, Folder))
     ).
 
 %!  too_large(+Path) is semidet.

@@ -9,7 +9,8 @@ are goals. Their texts are read, and none is loaded.
             library_operator/4,     % +Path, -Priority, -Type, -Names
             library_modes/4,        % +Path, +Name, +Arity, -Modes
             library_module/2,       % +Path, -Module
-            header_name/2           % +Name, +Arity
+            header_name/2,          % +Name, +Arity
+            library_sets_path/1     % +Alias
           ]).
 
 :- use_module(library(lists)).
@@ -29,7 +30,8 @@ are goals. Their texts are read, and none is loaded.
     modes/4,                % Path, name, arity, which arguments are goals
     whole_read/1,           % Path
     export_known/4,         % Path, name, arity, some(Definer) or none
-    visited/1.              % Path, in one search
+    visited/1,              % Path, in one search
+    asked/2.                % Alias, path of a library in which it was looked for
 
 %!  library_module(+Path, -Module) is semidet.
 library_module(Path, Module) :-
@@ -170,6 +172,23 @@ header_agains(Files, Items, Path) :-
         assertz(header_again(Path, Found, Load))
     ).
 
+%!  library_sets_path(+Alias) is semidet.
+%
+%   A library that was looked at says by a fact what the alias names.
+library_sets_path(Alias) :-
+    format(string(Words), "\nuser:file_search_path(~q,", [Alias]),
+    forall(( header_read(Path), \+ asked(Alias, Path) ),
+           ( assertz(asked(Alias, Path)), catch(set_paths(Path, Words), _, true) )),
+    user:file_search_path(Alias, _),
+    !.
+
+set_paths(Path, Words) :-
+    \+ too_large(Path),
+    file_string(Path, String),
+    forall(( sub_string(String, Before, _, _, Words), term_at(String, Before, Term),
+             Term = user:file_search_path(Alias, Folder), ground(Folder) ),
+           library_search_path(Alias, Folder)).
+
 /* Declarations after the first clause: each is read by itself, where its words begin a line. */
 
 whole(Path) :- whole_read(Path), !.
@@ -185,15 +204,17 @@ whole(Path) :-
     ).
 
 declaration_at(String, Before, Path) :-
+    term_at(String, Before, (:- Directive)),
+    declaration(Directive, Path).
+
+term_at(String, Before, Term) :-
     string_length(String, Length),
     Count is min(20000, Length - Before),
     sub_string(String, Before, Count, _, Part),
     setup_call_cleanup(
         open_string(Part, Stream),
         read_term(Stream, Term, [module(bridge_header), syntax_errors(error)]),
-        close(Stream)),
-    Term = (:- Directive),
-    declaration(Directive, Path).
+        close(Stream)).
 
 declaration(op(Priority, Type, Names), _) :-
     !,

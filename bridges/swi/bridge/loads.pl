@@ -40,8 +40,19 @@ loads(File, Items, Again, Place, Reading) :-
     text(Text, Path, _),
     (   find_source(File, Path, Found)
     ->  load_found(File, Found, Items, Again, Place, Reading)
+    ;   unknown_alias(File, Alias),
+        library_sets_path(Alias),
+        find_source(File, Path, Found)
+    ->  load_found(File, Found, Items, Again, Place, Reading)
     ;   tell_missing(File, Place)
     ).
+
+% An alias of which nothing is known yet.
+unknown_alias(File, Alias) :-
+    compound(File),
+    compound_name_arity(File, Alias, 1),
+    Alias \== (/),
+    \+ system_alias(Alias).
 
 load_found(File, Found, Items, Again, Place, Reading) :-
     Reading = reading(Number, _),
