@@ -105,4 +105,9 @@ HOSTILE = [
      ["--libraries", "f.pl"], 0, report("ordsets:p/0"), "groups-swi: 1 file, 0 with something left out; of the libraries 1\n"),
     ("conditions that square a number again and again", {"f.pl": ":- if((X0 = 3, " + "".join(f"X{it + 1} is X{it} * X{it}, " for it in range(40)) + "X40 > 0)).\np.\n:- endif.\n"
      ":- if(((9 ** 64) ** 64) ** 64 ** 64 > 0).\nq.\n:- endif.\n"}, ["--no-run", "f.pl"], 8, report("user:p/0", "user:q/0"), None),
+    ("a name that files which export each other again don't have",
+     {"f.pl": ":- use_module(g, [no/0]).\n:- if(current_predicate(other/0)).\n:- endif.\n:- use_module(g).\n:- if(current_predicate(other/0)).\n:- endif.\np.\n",
+      "g.pl": ":- module(g, []).\n:- reexport(h).\n", "h.pl": ":- module(h, []).\n:- reexport(g).\n"},
+     ["f.pl"], 8, report("user:p/0") + "import-loop g h\n", "f.pl:1:1: no/0 isn't exported there\ngroups-swi: 3 files, 1 with something left out\n"),
+    ("a name that 20 layers of reexports don't have", {**diamonds(20), "f.pl": ":- use_module(d0x, [no/0]).\np.\n"}, ["f.pl"], 8, report("user:p/0"), None),
 ]

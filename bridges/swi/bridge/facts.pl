@@ -16,7 +16,7 @@ at(Text, Offset), with the offset in characters from 0.
             defined/3,              % Module, Name, Arity
             meta/4,                 % Module, Name, Arity, Modes
             load/5,                 % Load, Number, Place, Target, How
-            again/1,                % Load
+            again/4,                % Number, Load, Kind, Which
             pick/4,                 % Load, Name, Arity, As
             drop/3,                 % Load, Name, Arity
             module_load/3,          % Module, Load, Target
@@ -56,6 +56,10 @@ at(Text, Offset), with the offset in characters from 0.
     A part of a clause is goal(Goal, Position) or grammar(Body, Position), and Expansions the number
     of facts of goal_expansion/2 that were read before it.
 */
+/** again(?Number, ?Load, ?Kind, ?Which)
+
+    What the load brings the file exports again. Kind and Which are those of the load's target.
+*/
 /** load(?Load, ?Number, ?Place, ?Target, ?How)
 
     Target is file(Number), or outside(Path) for a library that is only looked at. How is `all`,
@@ -63,7 +67,7 @@ at(Text, Offset), with the offset in characters from 0.
 */
 :- dynamic
     option/1, source/3, home/4, text/3, export/3, exported_operator/4, item/3, defined/3, meta/4,
-    load/5, again/1, pick/4, drop/3, module_load/3, handles_rules/1, foreign/1, testing/1,
+    load/5, again/4, pick/4, drop/3, module_load/3, handles_rules/1, foreign/1, testing/1,
     expansion/6.
 
 %!  define(+Module, +Name, +Arity) is det.

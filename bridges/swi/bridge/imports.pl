@@ -39,8 +39,7 @@ make_public(Number, Name, Arity) :-
     (   public_name(Number, Name, Arity)
     ->  true
     ;   assertz(public_name(Number, Name, Arity)),
-        forall(( load(Load, Other, _, file(Number), _), again(Load),
-                 takes(Load, Name, Arity, New) ),
+        forall(( again(Other, Load, file, Number), takes(Load, Name, Arity, New) ),
                make_public(Other, New, Arity))
     ).
 
@@ -76,14 +75,17 @@ take(Module, Name, Arity, Other, Plain0, Load, Place) :-
     ).
 
 reexported_library(Number, Name, Arity) :-
-    load(Load, Number, _, Target, _),
-    again(Load),
+    retractall(visited(_, _, _)),
+    from_library_again(Number, Name, Arity).
+
+from_library_again(Number, Name, Arity) :-
+    \+ visited(Number, Name, Arity),
+    assertz(visited(Number, Name, Arity)),
+    again(Number, Load, Kind, Which),
     brings(Load, Name, Arity, Plain),
-    (   Target = outside(Path)
-    ->  library_export(Path, Plain, Arity, _)
-    ;   Target = file(Other),
-        Other \== Number,
-        reexported_library(Other, Plain, Arity)
+    (   Kind == outside
+    ->  library_export(Which, Plain, Arity, _)
+    ;   from_library_again(Which, Plain, Arity)
     ),
     !.
 
@@ -121,8 +123,7 @@ provided(Number, Name, Arity, Definer, Plain) :-
         ;   Definer = Number,
             Plain = Name
         )
-    ;   load(Load, Number, _, file(Other), _),
-        again(Load),
+    ;   again(Number, Load, file, Other),
         brings(Load, Name, Arity, Plain0),
         provided(Other, Plain0, Arity, Definer, Plain)
     ),

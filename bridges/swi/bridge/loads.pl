@@ -61,7 +61,7 @@ load_found(File, Found, Items, Again, Place, Reading) :-
     ->  Target = outside(Found),
         forall(library_operator(Found, Priority, Type, Names),
                ignore(set_operators(Names, Priority, Type, Operators)))
-    ;   known_source(File, Found, Number, Loaded),
+    ;   source_of(File, Found, Number, Loaded),
         Target = file(Loaded),
         read_source(Loaded, Home, Operators),
         load_operators([Loaded], [], Operators)
@@ -70,7 +70,8 @@ load_found(File, Found, Items, Again, Place, Reading) :-
     assertz(load(Load, Number, Place, Target, How)),
     assertz(module_load(Home, Load, Target)),
     (   Again == true
-    ->  assertz(again(Load))
+    ->  Target =.. [Kind, Which],
+        assertz(again(Number, Load, Kind, Which))
     ;   true
     ),
     say(Reading, Place, load(Load)).
@@ -80,10 +81,10 @@ looked_at(File, Found) :-
     \+ option(libraries),
     \+ source(_, Found, _).
 
-known_source(_, Found, _, Loaded) :-
+source_of(_, Found, _, Loaded) :-
     source(Loaded, Found, _),
     !.
-known_source(File, Found, Number, Loaded) :-
+source_of(File, Found, Number, Loaded) :-
     (   ( of_library(File, Found) ; source(Number, _, library) )
     ->  Class = library
     ;   Class = loaded
@@ -97,10 +98,9 @@ load_operators([Number|Numbers], Seen, Operators) :-
     ->  load_operators(Numbers, Seen, Operators)
     ;   forall(exported_operator(Number, Priority, Type, Names),
                ignore(set_operators(Names, Priority, Type, Operators))),
-        findall(Target, ( load(Load, Number, _, Target, _), again(Load) ), Targets),
-        forall(( member(outside(Path), Targets), library_operator(Path, Priority, Type, Names) ),
+        forall(( again(Number, _, outside, Path), library_operator(Path, Priority, Type, Names) ),
                ignore(set_operators(Names, Priority, Type, Operators))),
-        findall(Other, member(file(Other), Targets), Others, Numbers),
+        findall(Other, again(Number, _, file, Other), Others, Numbers),
         load_operators(Others, [Number|Seen], Operators)
     ).
 
