@@ -30,8 +30,6 @@ ROW_FILES = [*(ROOT / "checks" / "rows").glob("**/*.txt"), *ROOT.glob("crates/*/
 # What a command needs, by what it says.
 NEEDS = {"jq": r"\bjq\b|undefined\.sh", "dot": r"\bdot -|graph\.sh", "swipl": r"\bswipl\b|-swi\b|library-goals"}
 MOST_SECONDS = 60
-# Its commands aren't run yet.
-LATER = {ROOT / "docs" / "bridge.md"}
 
 
 def words_of(paths):
@@ -148,7 +146,7 @@ def main():
     parser = argparse.ArgumentParser(description=__doc__.splitlines()[0])
     parser.add_argument("documents", nargs="*", type=pathlib.Path, help="run the commands of these alone")
     chosen = [it.resolve() for it in parser.parse_args().documents]
-    amiss = [line for path in chosen or DOCUMENTS if path not in LATER for line in run_blocks(path)]
+    amiss = [line for path in chosen or DOCUMENTS for line in run_blocks(path)]
     if not chosen:
         crates = sorted(path.name for path in (ROOT / "crates").iterdir() if path.is_dir())
         known = words_of(path for crate in crates for path in sources(crate)) | set(crates)

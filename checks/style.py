@@ -14,7 +14,6 @@ import sys
 
 ROOT = pathlib.Path(__file__).resolve().parent.parent
 PAGES = [*(ROOT / name for name in ("README.md", "CONTRIBUTING.md", "CHANGES.md")), *sorted((ROOT / "docs").glob("*.md")), *sorted((ROOT / "docs").glob("*.1"))]
-PAGES.remove(ROOT / "docs" / "bridge.md")  # not yet
 MOST_MEAN, MOST_WORDS = 17, 45
 # What is counted, by its better words, and how often it may stand.
 WORDS = {
