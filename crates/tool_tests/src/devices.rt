@@ -52,33 +52,100 @@ const GONE: &[(&str, &[u8])] = &[
 ];
 
 const UNREAD: u8 = 4;
+
 const CUT_OFF: u8 = 5;
 
 static RUNS: [(Failing, Ending); 6] = [
     (
-        Failing { reads: &[1], word: "a.pl", files: RING, out: AMPLE, flush: false, err: AMPLE },
-        Ending { status: UNREAD, out: "", err: "groups: cannot read a.pl\n" },
+        Failing {
+            reads: &[1],
+            word: "a.pl",
+            files: RING,
+            out: AMPLE,
+            flush: false,
+            err: AMPLE,
+        },
+        Ending {
+            status: UNREAD,
+            out: "",
+            err: "groups: cannot read a.pl\n",
+        },
     ),
     (
-        Failing { reads: &[2], word: "a.pl", files: RING, out: AMPLE, flush: false, err: AMPLE },
-        Ending { status: UNREAD, out: "", err: "groups: cannot read b.pl\n" },
+        Failing {
+            reads: &[2],
+            word: "a.pl",
+            files: RING,
+            out: AMPLE,
+            flush: false,
+            err: AMPLE,
+        },
+        Ending {
+            status: UNREAD,
+            out: "",
+            err: "groups: cannot read b.pl\n",
+        },
     ),
     (
-        Failing { reads: &[3], word: "a.pl", files: RING, out: AMPLE, flush: false, err: AMPLE },
-        Ending { status: UNREAD, out: "", err: "groups: cannot read c.pl\n" },
+        Failing {
+            reads: &[3],
+            word: "a.pl",
+            files: RING,
+            out: AMPLE,
+            flush: false,
+            err: AMPLE,
+        },
+        Ending {
+            status: UNREAD,
+            out: "",
+            err: "groups: cannot read c.pl\n",
+        },
     ),
     // (the second wave is c.pl and gone.pl, in this order)
     (
-        Failing { reads: &[3], word: "m", files: GONE, out: AMPLE, flush: false, err: AMPLE },
-        Ending { status: UNREAD, out: "", err: "groups: cannot read gone.pl\n" },
+        Failing {
+            reads: &[3],
+            word: "m",
+            files: GONE,
+            out: AMPLE,
+            flush: false,
+            err: AMPLE,
+        },
+        Ending {
+            status: UNREAD,
+            out: "",
+            err: "groups: cannot read gone.pl\n",
+        },
     ),
     (
-        Failing { reads: &[], word: "f.pl", files: CHAIN, out: AMPLE, flush: true, err: AMPLE },
-        Ending { status: CUT_OFF, out: CHAIN_REPORT, err: "" },
+        Failing {
+            reads: &[],
+            word: "f.pl",
+            files: CHAIN,
+            out: AMPLE,
+            flush: true,
+            err: AMPLE,
+        },
+        Ending {
+            status: CUT_OFF,
+            out: CHAIN_REPORT,
+            err: "",
+        },
     ),
     (
-        Failing { reads: &[], word: "m", files: GONE, out: AMPLE, flush: false, err: 5 },
-        Ending { status: CUT_OFF, out: "", err: "m.pl:" },
+        Failing {
+            reads: &[],
+            word: "m",
+            files: GONE,
+            out: AMPLE,
+            flush: false,
+            err: 5,
+        },
+        Ending {
+            status: CUT_OFF,
+            out: "",
+            err: "m.pl:",
+        },
     ),
 ];
 
@@ -102,7 +169,15 @@ fn expect_end<R: Threads + Wait + Sync + Abort>(
     let mut library = library_of(alloc, failing.files, failing.reads)?;
     let mut out = make_sink(alloc, failing.out, failing.flush)?;
     let mut err = make_sink(alloc, failing.err, false)?;
-    let ended = run_groups(rt, alloc, &words, &mut library, &mut out, &mut err, &OpenGate);
+    let ended = run_groups(
+        rt,
+        alloc,
+        &words,
+        &mut library,
+        &mut out,
+        &mut err,
+        &OpenGate,
+    );
     assert_eq!(rt; (ended, out.taken(), err.taken()), (status, on_out, on_err));
     Ok(())
 }
@@ -116,8 +191,18 @@ fn ends_as_devices_fail(rt: HostRuntime) -> Result<(), Fail> {
         expect_end(&rt, alloc, failing, ending.status, out, err)?;
     }
     for most in 0..RING_REPORT.len() {
-        let failing = Failing { out: most as u32, ..NOTHING };
-        expect_end(&rt, alloc, &failing, CUT_OFF, &RING_REPORT.as_bytes()[..most], b"")?;
+        let failing = Failing {
+            out: most as u32,
+            ..NOTHING
+        };
+        expect_end(
+            &rt,
+            alloc,
+            &failing,
+            CUT_OFF,
+            &RING_REPORT.as_bytes()[..most],
+            b"",
+        )?;
     }
     Ok(())
 }

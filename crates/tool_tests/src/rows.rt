@@ -98,7 +98,15 @@ static ROWS: [FilesRun; 8] = [
         "",
     ),
     (&["f.pl"], CHAIN, &[], " f.pl", 0, CHAIN_REPORT, ""),
-    (&["--order", "f.pl"], CHAIN, &[], " f.pl", 0, CHAIN_REPORT, ""),
+    (
+        &["--order", "f.pl"],
+        CHAIN,
+        &[],
+        " f.pl",
+        0,
+        CHAIN_REPORT,
+        "",
+    ),
     (&["f.pl"], GRAMMAR, &[], " f.pl", 0, GRAMMAR_REPORT, ""),
     (
         &["--unreached", "f.pl"],
