@@ -1,5 +1,5 @@
 -- The groups of a program: what holds of its successor lists holds of its calls.
-use Rattle.std.proofs.Common.{◌≡◌, ◌<◌, ◌≤◌, ◌++◌, ℕ, List, [], Result, Ok, Err, Vec, Global, IfOk, All, Contains, length, ap, subst, inl, inr, arith}
+use Rattle.std.proofs.Common.{◌≡◌, ◌<◌, ◌≤◌, ◌++◌, ℕ, List, [], Result, Ok, Err, Vec, Global, IfOk, All, Contains, Option, None, length, ap, refl, sym, subst, inl, inr, arith}
 use Rattle.std.proofs.lemmas.Bool.{cases_lt}
 use Rattle.std.proofs.lemmas.List.{get_or_past}
 use Rattle.std.proofs.lemmas.List.Elements.{All-contains}
@@ -7,7 +7,7 @@ use Rattle.std.proofs.lemmas.Option.{slice_get_past}
 use Rattle.list_laws.proofs.OneOrder.{nothing_in}
 use Rattle.graph_law.specs.LegalOrder.{IsComplete, IsLegalOrder}
 use Rattle.graph_law.specs.Reach.{Agree, IsReached}
-use Rattle.graph_law.specs.Graph.{Calls}
+use Rattle.graph_law.specs.Graph.{Calls, lists_of}
 use Rattle.graph_law.specs.Classes.{HasMember, group_at}
 use Rattle.graph_law.proofs.ReachLaws.{along_walk, is_reached_along}
 use Rattle.graph_law.proofs.Transport.{Agree-sym, IsLegalOrder-agree, HaveHeights-agree, IsRecursive-agree}
@@ -22,7 +22,9 @@ use Rattle.loop_report.specs.Reportable.{AreGroups, AreLeveled, AreReportable}
 use Rattle.group_tool.specs.Driving.{AreInScheduleOrder}
 use Rattle.tool_run.specs.Roots.{AreRootNumbers}
 use Rattle.tool_run.specs.Say.{concatenated}
-use Rattle.group_tool.specs.Parts.{AreParts}
+use Rattle.group_tool.specs.Asked.{IsGroupedOf}
+use Rattle.group_tool.specs.Parts.{AreParts, IsPart, IsPathPart, TellEffects, TellLoops}
+use Rattle.group_tool.specs.declared.asked.Grouped.{Grouped}
 use Rattle.group_tool.specs.Groups.{IsOutput, ReportsProgram}
 
 -- what has no number is defined nowhere
@@ -112,15 +114,29 @@ reports settings seen roots groups levels first parts bytes are leveled order ou
   is = is;
 }
 
--- the report, and what comes after it, in two texts
-pub reported : {E : Type 0} (r : Result (Vec (Vec ℕ Global) Global) E) (settings : Settings) (seen : Seen) (roots : List ℕ) (groups : List (List ℕ)) (levels : List Level)
-    (first parts : List ℕ) → AreRootNumbers settings.roots seen roots → AreLeveled (Calls (successor_lists seen)) roots groups levels
-    → AreInScheduleOrder settings.searches (successor_lists seen) roots groups → IsOutput settings.make settings.order settings.unreached seen groups levels first
-    → AreParts settings seen groups levels parts → IfOk r (λ texts. concatenated texts.items ≡ first ++ parts)
-    → IfOk r (λ texts. ReportsProgram settings seen (concatenated texts.items))
-reported {E} (Ok texts) settings seen roots groups levels first parts are leveled order output are_parts is =
-    reports settings seen roots groups levels first parts (concatenated texts.items) are leveled order output are_parts is
-reported {E} (Err error) settings seen roots groups levels first parts are leveled order output are_parts is = tt
+-- what is grouped can be reported
+pub grouped_reportable : (settings : Settings) (seen : Seen) (grouped : Grouped) → IsGroupedOf settings seen grouped
+    → AreReportable (length seen.predicates) (lists_of grouped.groups.now) grouped.levels.now
+grouped_reportable settings seen grouped is =
+    reportable seen grouped.asked.now.roots.items (lists_of grouped.groups.now) grouped.levels.now is.asked.below is.leveled
+
+-- without searches no order of the groups is asked for
+pub unordered : (searches : Option (ℕ × ℕ)) (lists : List (List ℕ)) (roots : List ℕ) (groups : List (List ℕ)) → searches ≡ None
+    → AreInScheduleOrder searches lists roots groups
+unordered searches lists roots groups none = subst (λ s. AreInScheduleOrder s lists roots groups) (sym none) tt
+
+-- the report and the parts after it
+pub reported : {E : Type 0} (r : Result (Vec (Vec ℕ Global) Global) E) (settings : Settings) (seen : Seen) (grouped : Grouped) (lines effects loops path : List ℕ)
+    → IsGroupedOf settings seen grouped
+    → IsOutput settings.make settings.order settings.unreached seen (lists_of grouped.groups.now) grouped.levels.now lines
+    → IsPart settings.effects (TellEffects seen (lists_of grouped.groups.now) grouped.levels.now) effects
+    → IsPart settings.loops (TellLoops seen (lists_of grouped.groups.now) grouped.levels.now) loops → IsPathPart settings.path seen path
+    → IfOk r (λ texts. concatenated texts.items ≡ lines ++ (effects ++ loops ++ path)) → IfOk r (λ texts. ReportsProgram settings seen (concatenated texts.items))
+reported {E} (Ok texts) settings seen grouped lines effects loops path is output are_effects are_loops are_path joins =
+    reports settings seen grouped.asked.now.roots.items (lists_of grouped.groups.now) grouped.levels.now lines (effects ++ loops ++ path) (concatenated texts.items)
+    is.asked.roots is.leveled is.order output
+    (record { effects = effects; are_effects = are_effects; loops = loops; are_loops = are_loops; path = path; are_path = are_path; is = refl }) joins
+reported {E} (Err error) settings seen grouped lines effects loops path is output are_effects are_loops are_path joins = tt
 
 -- the groups that a search over the calls of the program ensures are those of its successor lists
 pub searched : {X E : Type 0} (r : Result X E) (groups_in : X → List (List ℕ)) (seen called : Seen) (roots : List ℕ) → called ≡ seen

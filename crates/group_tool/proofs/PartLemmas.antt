@@ -1,5 +1,5 @@
 -- What the parts behind the report are made of.
-use Rattle.std.proofs.Common.{◌≡◌, ◌<◌, ◌++◌, ◌∷◌, [], ℕ, List, Option, Some, None, All, length, get_or, refl, sym, subst, arith}
+use Rattle.std.proofs.Common.{◌≡◌, Bool, true, ◌<◌, ◌++◌, ◌∷◌, [], ℕ, List, Option, Some, None, All, length, get_or, refl, sym, subst, arith}
 use Rattle.std.proofs.lemmas.List.{get_or_default}
 use Rattle.std.proofs.lemmas.List.Elements.{All-cons, All-head, All-nil, All-tail}
 use Rattle.std.proofs.lemmas.Option.{slice_get_within}
@@ -21,7 +21,7 @@ use Rattle.call_edges.proofs.SuccessorLemmas.{lists_closed, lists_count}
 use Rattle.loop_report.specs.Effects.{AreEffectLines}
 use Rattle.loop_report.specs.Reportable.{AreLeveled}
 use Rattle.loop_report.specs.Walks.{AreCircuitLines, IsCircuitWithin}
-use Rattle.group_tool.specs.Parts.{AreOwnKinds, IsPathPart, TellEffects, TellLoops, path_line}
+use Rattle.group_tool.specs.Parts.{AreOwnKinds, IsPart, IsPathPart, TellEffects, TellLoops, path_line}
 use Rattle.tool_run.specs.Roots.{AreEnds}
 use Rattle.group_tool.proofs.GroupLemmas.{lists_agree, members_listed}
 
@@ -75,6 +75,10 @@ pub carriers_within : (seen : Seen) (roots : List ℕ) (groups : List (List ℕ)
 carriers_within seen roots groups levels own flows below leveled are place kind q lt low at =
     let there = carriers_below (successor_lists seen) (lists_closed seen) (members_listed seen roots groups below leveled.are) are place kind q lt low at in
     omega (arith, there, lists_count seen)
+
+-- a part that is wanted
+pub part_told : (wanted : Bool) (Tells : List ℕ → Type 0) (bytes : List ℕ) → wanted ≡ true → Tells bytes → IsPart wanted Tells bytes
+part_told wanted Tells bytes is told = subst (λ b. IsPart b Tells bytes) (sym is) told
 
 -- what is found over the lists of successors is told of what the predicates call
 

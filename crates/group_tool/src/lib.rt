@@ -20,6 +20,7 @@
 #![tactic(auto)]
 
 mod answer;
+mod asked;
 mod driver;
 mod groups;
 mod laws;

@@ -1,6 +1,6 @@
 //! The top calls.
 
-ghost use Rattle.std.specs.Prelude.{◌≡◌, ◌⊎◌, List, ℕ, true, false, is_some};
+ghost use Rattle.std.specs.Prelude.{◌≡◌, ◌⊎◌, List, ℕ, None, true, false, is_some};
 ghost use Rattle.group_words.specs.Settings.{AreLawful, see_options};
 ghost use Rattle.group_tool.specs.Groups.{groups_tool};
 ghost use Rattle.tool_run.specs.Keeps.{LeavesOther, RunKeeps};
@@ -9,7 +9,7 @@ ghost use Rattle.tool_run.specs.Wanted.{IsJust};
 use crate::answer::{report_alone, report_lawful};
 use crate::groups::Groups;
 use file_library::Library;
-use group_words::{Options, parse_words};
+use group_words::{Options, parse_words, settings_within};
 use prolog_tokens::Text;
 use search_pool::Gate;
 use std::alloc::Global;
@@ -20,9 +20,12 @@ use tool_run::{Sink, Stop, put_end};
 /// Whether one thread finds the groups: there are many searches on it, or no more than one worker, and
 /// levels are found after the groups.
 fn is_alone(options: &Options) -> bool
+    requires { (words : List (List ℕ)) × AreLawful words (see_options options.now) }
     ensures at_the_end { result ≡ true → (see_options options.now).stream ≡ false }
     ensures alone { result ≡ true → (is_some (see_options options.now).searches ≡ true) ⊎ ((see_options options.now).jobs ≡ 1) }
+    ensures workers { result ≡ false → (see_options options.now).searches ≡ None }
 {
+    settings_within();
     if options.stream {
         return false;
     }

@@ -4,7 +4,7 @@ use Rattle.group_words.specs.Settings.{see_options}
 use Rattle.group_tool.specs.Groups.{groups_tool}
 use Rattle.tool_run.specs.Carrying.{ProgramComesTo}
 use Rattle.tool_run.specs.Stop.{end_of_stop, of_checking, of_roots}
-use Rattle.group_tool.specs.declared.answer.Asked.{Asked}
+use Rattle.group_tool.specs.declared.asked.Asked.{Asked}
 use Rattle.tool_run.specs.declared.stop.Stop.{Stop}
 use Rattle.tool_run.proofs.EndLemmas.{check_end, root_end}
 use Rattle.tool_run.proofs.RootLemmas.{asked_stop}
