@@ -1,0 +1,71 @@
+// The data of the page, and what follows from it. Predicates, groups, modules and other names are indices.
+const data = JSON.parse(document.getElementById("data").textContent);
+const { predicates, groups, modules, callees, outside, others } = data;
+const isOneModule = modules.length === 1;
+
+const label = p => `${modules[predicates[p][0]]}:${predicates[p][1]}`;
+const shortLabel = p => isOneModule ? predicates[p][1] : label(p);
+const indexOf = names => new Map(names.map((name, at) => [name, at]));
+const labels = predicates.map((_, p) => label(p));
+const byLabel = indexOf(labels), byOther = indexOf(others), byModule = indexOf(modules);
+const searched = labels.map(it => it.toLowerCase());
+
+// Rows hold pairs: an index, and how many calls there are.
+function* pairsOf(row) {
+  for (let i = 0; i < row.length; i += 2) yield [row[i], row[i + 1]];
+}
+
+const callers = predicates.map(() => []), called = new Float64Array(predicates.length);
+const otherCallers = others.map(() => []), otherCalled = new Float64Array(others.length);
+function invert(rows, sources, counts) {
+  let sum = 0;
+  rows.forEach((row, p) => {
+    for (let i = 0; i < row.length; i += 2) {
+      sources[row[i]].push(p, row[i + 1]);
+      counts[row[i]] += row[i + 1];
+      sum += row[i + 1];
+    }
+  });
+  return sum;
+}
+const callCount = invert(callees, callers, called) + invert(outside, otherCallers, otherCalled);
+
+// Of the names that mean no predicate those that SWI-Prolog doesn't define either, if it was asked.
+const undefinedNames = data.undefined && new Set(data.undefined);
+
+// A shortest cycle of calls through a predicate, of at least so many; it never leaves the group.
+function cycleThrough(start, least, budget) {
+  const group = predicates[start][2], before = new Map([[start, -1]]), waiting = [start];
+  for (let at = 0; at < waiting.length; at++) {
+    const from = waiting[at], row = callees[from];
+    for (let i = 0; i < row.length; i += 2) {
+      if (budget && budget.left-- < 0) return null;
+      const to = row[i];
+      if (to === start && (least === 1 || from !== start)) return wayTo(from, before);
+      if (predicates[to][2] === group && !before.has(to)) {
+        before.set(to, from);
+        waiting.push(to);
+      }
+    }
+  }
+  return null;
+}
+function wayTo(last, before) {
+  const way = [];
+  for (let p = last; p !== -1; p = before.get(p)) way.push(p);
+  return way.reverse();
+}
+
+// A shortest cycle of a group, of two or more predicates if it has as many; and whether all were tried.
+const MOST_STEPS = 1e6;
+function shortestCycle(group) {
+  const members = groups[group][2], least = Math.min(2, members.length), budget = { left: MOST_STEPS };
+  let best = null;
+  for (const p of members) {
+    const way = cycleThrough(p, least, budget);
+    if (way && (!best || way.length < best.length)) best = way;
+    if (best && best.length === least) return [best, true];
+    if (budget.left < 0) return [best, false];
+  }
+  return [best, true];
+}
