@@ -64,30 +64,26 @@ reads_again() {
     esac
 }
 
-# library-goals says which predicates of SWI-Prolog's library take goals. Names that SWI-Prolog or a
-# library defines aren't in the undefined ones of calls-swi.
-asks=
-[ -n "$by_bridge" ] || ! command -v swipl >/dev/null 2>&1 || [ ! -x "$swi/library-goals" ] || asks=yes
+# library-goals says which predicates of SWI-Prolog's library take goals. What calls-swi --undefined
+# prints is what neither SWI-Prolog nor a library defines.
+asks=$by_bridge
+[ -n "$asks" ] || ! command -v swipl >/dev/null 2>&1 || [ ! -x "$swi/library-goals" ] || asks=yes
 reads "$groups" "$@" >"$room/report"
-if [ -n "$asks" ]; then
-    reads_again "${CALLS_SWI:-$swi/calls-swi}" --unreached --undefined "$@" >"$room/unknown"
+[ -z "$asks" ] || reads_again "${CALLS_SWI:-$swi/calls-swi}" --unreached --undefined "$@" >"$room/unknown"
+if [ -n "$asks" ] && [ -z "$by_bridge" ]; then
     reads_again "$swi/library-goals" "$@" >"$room/goals.pl"
     [ ! -s "$room/goals.pl" ] || set -- "$@" "$room/goals.pl"
 fi
 reads_again "$calls" --unreached "$@" >"$room/lines"
-case $by_bridge in
-yes) reads_again "$calls" --unreached --undefined "$@" >"$room/undefined" ;;
-*) jq -c 'select(.is == "call" and .callee == null)' "$room/lines" >"$room/undefined" ;;
-esac || exit
-[ -n "$asks" ] || cp "$room/undefined" "$room/unknown"
+[ -n "$asks" ] || cp "$room/lines" "$room/unknown" || exit
 
 # Each line, and after tabs the two names by which it may be known.
 jq -r --slurpfile unknown "$room/unknown" '
-    ($unknown | map({key: ([.module, .name, .arity] | tojson), value: true}) | from_entries) as $unknown
-    | select($unknown[[.module, .name, .arity] | tojson])
+    ($unknown | map(select(.is == "call") | {key: ([.module, .name, .arity] | tojson), value: true}) | from_entries) as $unknown
+    | select(.is == "call" and .callee == null and $unknown[[.module, .name, .arity] | tojson])
     | ("\(.name)/\(.arity)" | gsub("\n"; "\\n") | gsub("\t"; "\\t")) as $name
     | "\(.file):\(.line):\(.column): undefined \(.module):\($name)\t\(.module):\($name)\t\($name)"
-    ' "$room/undefined" >"$room/found" || exit
+    ' "$room/lines" >"$room/found" || exit
 
 # The loads of the files, for the positions of import cycles.
 jq -r 'select(.is == "clause").file' "$room/lines" | uniq | sort -u | grep -Fvx "$room/goals.pl" >"$room/files"

@@ -125,15 +125,25 @@ class Shown:
         clauses.sort()
         targets.sort(key=lambda it: it[:2])
         places = [it[:2] for it in targets]
-        for at, (line, column, predicate) in enumerate(clauses):
+        ends = places_after(clauses)
+        for (line, column, predicate), after in zip(clauses, ends):
             if len(self.clauses[predicate]) >= MOST_CLAUSES:
                 self.more[predicate] += 1
                 continue
-            after = clauses[at + 1][:2] if at + 1 < len(clauses) else None
             first = bisect.bisect_left(places, (line, column))
             last = bisect.bisect_left(places, after, first) if after else len(places)
             text = clause_text(source, (line, column), after, targets, range(first, last))
             self.clauses[predicate].append([file, line, column, *text])
+
+
+def places_after(clauses):
+    """The next place of a clause after each; several clauses have one place if one text stands for them."""
+    after, found = None, []
+    for at in range(len(clauses) - 1, -1, -1):
+        if at + 1 < len(clauses) and clauses[at + 1][:2] != clauses[at][:2]:
+            after = clauses[at + 1][:2]
+        found.append(after)
+    return found[::-1]
 
 
 def clause_text(source, place, after, targets, inside):
