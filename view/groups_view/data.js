@@ -33,27 +33,33 @@ const callCount = invert(callees, callers, called) + invert(outside, otherCaller
 // Of the names that mean no predicate those that SWI-Prolog doesn't define either, if it was asked.
 const undefinedNames = data.undefined && new Set(data.undefined);
 
-// A shortest cycle of calls through a predicate, of at least so many; it never leaves the group.
+// A shortest cycle of calls through a predicate, of at least so many; it never leaves the group. Before
+// and after a search `before` has no predicate: a search takes as long as what it visits.
+const UNSEEN = -2, START = -1;
+const before = new Int32Array(predicates.length).fill(UNSEEN);
 function cycleThrough(start, least, budget) {
-  const group = predicates[start][2], before = new Map([[start, -1]]), waiting = [start];
+  const group = predicates[start][2], waiting = [start];
+  before[start] = START;
+  const last = lastOfCycle(start, least, budget, group, waiting);
+  const way = [];
+  for (let p = last; p !== null && p !== START; p = before[p]) way.push(p);
+  for (const p of waiting) before[p] = UNSEEN;
+  return last === null ? null : way.reverse();
+}
+function lastOfCycle(start, least, budget, group, waiting) {
   for (let at = 0; at < waiting.length; at++) {
     const from = waiting[at], row = callees[from];
     for (let i = 0; i < row.length; i += 2) {
       if (budget && budget.left-- < 0) return null;
       const to = row[i];
-      if (to === start && (least === 1 || from !== start)) return wayTo(from, before);
-      if (predicates[to][2] === group && !before.has(to)) {
-        before.set(to, from);
+      if (to === start && (least === 1 || from !== start)) return from;
+      if (predicates[to][2] === group && before[to] === UNSEEN) {
+        before[to] = from;
         waiting.push(to);
       }
     }
   }
   return null;
-}
-function wayTo(last, before) {
-  const way = [];
-  for (let p = last; p !== -1; p = before.get(p)) way.push(p);
-  return way.reverse();
 }
 
 // A shortest cycle of a group, of two or more predicates if it has as many; and whether all were tried.

@@ -33,7 +33,8 @@ def script_text():
 
 def page(data, svg, caption, small):
     style, script = (FOLDER / "page.css").read_text("utf-8"), script_text()
-    policy = f"default-src 'none'; script-src {source(script)}; style-src {source(style)}; base-uri 'none'; form-action 'none'"
+    allowed = f"script-src {source(script)}; style-src {source(style)}"
+    policy = f"default-src 'none'; {allowed}; base-uri 'none'; form-action 'none'"
     title = plain(visible(data["title"]))
     frame = (FOLDER / "page.html").read_text("utf-8")
     values = {

@@ -17,6 +17,8 @@ COMMANDS = {"CALLS": TOP / "calls", "CALLS_SWI": TOP / "bridges" / "swi" / "call
 COMPLETE, LEFT_OUT, USAGE = 0, 8, 2
 # By so much the times of files may lag behind the clock.
 CLOCK_STEP = 10_000_000
+# Lines that are read by one call of json, which takes half the time of a call a line.
+READ_AT_ONCE = 4096
 
 
 class Failed(Exception):
@@ -87,7 +89,9 @@ def run_calls(swi, arguments):
 
 def objects(text):
     """Each line as an object. Lines end at newlines only: a string may hold U+0085."""
-    return (json.loads(line) for line in text.decode("utf-8").split("\n") if line)
+    lines = [it for it in text.decode("utf-8").split("\n") if it]
+    for at in range(0, len(lines), READ_AT_ONCE):
+        yield from json.loads("[" + ",".join(lines[at : at + READ_AT_ONCE]) + "]")
 
 
 def parse(text):

@@ -35,7 +35,8 @@ function foundPredicates(words) {
 }
 function sortedGroups() {
   const size = g => groups[g][2].length, height = g => groups[g][0], first = g => groups[g][2][0];
-  const sums = sort.value === "called" && groups.map(([, , members]) => members.reduce((n, p) => n + called[p], 0));
+  const calls = ([, , members]) => members.reduce((n, p) => n + called[p], 0);
+  const sums = sort.value === "called" && groups.map(calls);
   const orders = {
     size: (a, b) => size(b) - size(a) || groups[b][1] - groups[a][1] || height(b) - height(a),
     height: (a, b) => height(a) - height(b),
@@ -48,8 +49,8 @@ function sortedGroups() {
 }
 function groupCount(rows) {
   const unreached = rows.filter(g => groups[g][0] < 0).length, reached = rows.length - unreached;
-  const parts = [(reached || !unreached) && many(reached, "group"), unreached && many(unreached, "unreached predicate")];
-  return parts.filter(Boolean).join(", ");
+  const known = (reached || !unreached) && many(reached, "group");
+  return [known, unreached && many(unreached, "unreached predicate")].filter(Boolean).join(", ");
 }
 
 function fill() {

@@ -11,6 +11,7 @@ IGNORED = re.compile(
 HIDDEN = {"Cc", "Cf", "Co", "Cs", "Zl", "Zp", "Zs"}
 # Scripts that are written from right to left.
 RIGHT = re.compile("[\u0590-\u08ff\ufb1d-\ufdff\ufe70-\ufefc\U00010800-\U00010fff\U0001e800-\U0001efff]+")
+COMMON = re.compile("[a-z][a-zA-Z0-9_]*")
 GRAPHIC = re.compile(r"[-+*/\\^<>=~:.?@#&$]+")
 SOLO = {"[]", "{}", "!", ";"}
 ESCAPES = {"\\": "\\\\", "'": "\\'", "\n": "\\n", "\t": "\\t"}
@@ -26,7 +27,7 @@ def is_odd(character):
 
 def is_bare(text):
     """Whether Prolog writes this atom without quotes."""
-    if text in SOLO:
+    if COMMON.fullmatch(text) or text in SOLO:
         return True
     if GRAPHIC.fullmatch(text):
         return text != "." and not text.startswith("/*")

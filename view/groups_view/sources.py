@@ -147,7 +147,7 @@ def places_after(clauses):
 
 
 def clause_text(source, place, after, targets, inside):
-    """The text of the clause from `place` to the place of the one `after` it, and its links; nothing without a source."""
+    """The text of the clause from `place`, at most up to `after`, and its links; nothing without a source."""
     start = source.offset(*place)
     if start is None:
         return []

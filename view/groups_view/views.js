@@ -13,13 +13,15 @@ function showPredicate(p) {
   const moduleLink = make("a", { class: "tag", href: hash("m", modules[module]) }, `module ${cut(modules[module])}`);
   main.append(
     make("h1", {}, make("bdi", {}, labels[p])),
-    make("p", {}, recursive ? groupLink : null, tag(heightText(height)), moduleLink, tag(many(clauses.length + more, "clause"))),
+    make("p", {}, recursive ? groupLink : null, tag(heightText(height)), moduleLink,
+      tag(many(clauses.length + more, "clause"))),
     twoSides(
       `Called by (${number(callers[p].length / 2)})`, namesWithCounts(callers[p], toPredicate, NONE),
       `Calls (${number(callees[p].length / 2)})`, namesWithCounts(callees[p], toPredicate, NONE)));
   if (outside[p].length) {
     const item = ([o, n]) => make("li", {}, toOther(o), times(n));
-    main.append(title("Calls, not in these files"), longList("ul", { class: "flow" }, [...pairsOf(outside[p])], item, 60));
+    const names = longList("ul", { class: "flow" }, [...pairsOf(outside[p])], item, 60);
+    main.append(title("Calls, not in these files"), names);
   }
   if (recursive) showCycleThrough(p, members);
   main.append(title("Clauses"));
@@ -41,23 +43,28 @@ function showCycleThrough(p, members) {
 }
 
 // Who calls a group from outside, whom it calls there, and how many pairs of caller and callee are inside.
-function aroundGroup(members, inside) {
+function aroundGroup(group) {
   const from = new Map(), to = new Map();
-  let pairs = 0;
-  const add = (counts, p, n) => counts.set(p, (counts.get(p) || 0) + n);
-  for (const p of members) {
-    for (const [it, n] of pairsOf(callers[p])) if (!inside.has(it)) add(from, it, n);
-    for (const [it, n] of pairsOf(callees[p])) {
-      if (inside.has(it)) pairs++;
-      else add(to, it, n);
+  const add = (counts, row) => {
+    let inside = 0;
+    for (let i = 0; i < row.length; i += 2) {
+      const it = row[i];
+      if (predicates[it][2] === group) inside++;
+      else counts.set(it, (counts.get(it) || 0) + row[i + 1]);
     }
+    return inside;
+  };
+  let pairs = 0;
+  for (const p of groups[group][2]) {
+    add(from, callers[p]);
+    pairs += add(to, callees[p]);
   }
   const flat = counts => [...counts].sort((a, b) => a[0] - b[0]).flat();
   return [flat(from), flat(to), pairs];
 }
 function showGroup(group) {
-  const [height, recursive, members] = groups[group], inside = new Set(members);
-  const [from, to, pairs] = aroundGroup(members, inside);
+  const [height, recursive, members] = groups[group];
+  const [from, to, pairs] = aroundGroup(group);
   const kind = make("span", { class: recursive ? "tag recursive" : "tag" }, recursive ? "recursive" : "not recursive");
   main.append(
     make("h1", {}, "Group of ", make("bdi", {}, cut(labels[members[0]])),
@@ -75,7 +82,7 @@ function showGroup(group) {
   if (recursive) showShortestCycle(group);
   main.append(
     title(`Members (${number(members.length)})`),
-    longList("ul", { class: "names" }, members, p => memberItem(p, members, inside), 200),
+    longList("ul", { class: "names" }, members, p => memberItem(p, group), 200),
     twoSides(
       `Called from outside by (${number(from.length / 2)})`, namesWithCounts(from, toPredicate, NO_OTHER),
       `Calls outside (${number(to.length / 2)})`, namesWithCounts(to, toPredicate, NO_OTHER)));
@@ -91,12 +98,13 @@ function showShortestCycle(group) {
     if (edge) edge.classList.add("hot");
   });
   const which = isShortest ? "A shortest cycle" : "A short cycle (not all were tried)";
-  main.append(title(way.length === 1 ? "It calls itself" : `${which} of two or more: ${number(way.length)} calls`), cycleList(way));
+  const text = way.length === 1 ? "It calls itself" : `${which} of two or more: ${number(way.length)} calls`;
+  main.append(title(text), cycleList(way));
 }
-function memberItem(p, members, inside) {
+function memberItem(p, group) {
   const MOST = 6, item = make("li", {}, toPredicate(p));
-  if (members.length === 1) return item;
-  const called = [...pairsOf(callees[p])].map(([it]) => it).filter(it => inside.has(it));
+  if (groups[group][2].length === 1) return item;
+  const called = [...pairsOf(callees[p])].map(([it]) => it).filter(it => predicates[it][2] === group);
   item.append(dim(" \u2192 "));
   called.slice(0, MOST).forEach((it, at) => item.append(at ? ", " : "", toPredicate(it)));
   if (called.length > MOST) item.append(dim(` and ${number(called.length - MOST)} more`));
@@ -112,7 +120,8 @@ function showOther(o) {
   }
   main.append(
     make("h1", {}, make("bdi", {}, others[o])), note(why),
-    title(`Called by (${number(otherCallers[o].length / 2)})`), namesWithCounts(otherCallers[o], toPredicate, "nothing"));
+    title(`Called by (${number(otherCallers[o].length / 2)})`),
+    namesWithCounts(otherCallers[o], toPredicate, "nothing"));
 }
 
 function showModule(m) {
@@ -130,7 +139,10 @@ function showModule(m) {
     add(to, callees[p]);
   }
   const flat = counts => [...counts].sort((a, b) => b[1] - a[1]).flat();
-  const item = p => make("li", {}, toPredicate(p, predicates[p][1]), groups[predicates[p][2]][1] ? dim(" recursive") : null);
+  const item = p => {
+    const kind = groups[predicates[p][2]][1] ? dim(" recursive") : null;
+    return make("li", {}, toPredicate(p, predicates[p][1]), kind);
+  };
   main.append(
     make("h1", {}, "Module ", make("bdi", {}, modules[m])),
     twoSides(
@@ -148,10 +160,12 @@ function showProgram() {
   const figure = byId("picture").content.firstElementChild.cloneNode(true);
   main.append(figure);
   withZoom(figure, .55);
-  if (recursive.length) main.append(title(`Recursive groups (${number(recursive.length)})`), longList("div", {}, recursive, card, 10));
+  if (recursive.length) {
+    main.append(title(`Recursive groups (${number(recursive.length)})`), longList("div", {}, recursive, card, 10));
+  }
   if (reached.length) {
-    main.append(title("Groups by height"),
-      note("A group of height 0 calls no other. Any other is one above the highest that it calls."), bars(reached, top));
+    const text = "A group of height 0 calls no other. Any other is one above the highest that it calls.";
+    main.append(title("Groups by height"), note(text), bars(reached, top));
   }
   showNames();
   if (data.notes.length) {
@@ -164,7 +178,7 @@ function showProgram() {
     key("Enter"), " opens, ", key("Esc"), " back to this page; in the picture ", key("+"), key("\u2212"), key("0")));
 }
 function facts(recursive, reached, top) {
-  const unreached = predicates.length - groups.reduce((n, [height, , members]) => height < 0 ? n : n + members.length, 0);
+  const unreached = groups.reduce((n, [height, , members]) => height < 0 ? n + members.length : n, 0);
   const largest = groups.reduce((n, [, , members]) => Math.max(n, members.length), 0);
   const unknown = undefinedNames ? undefinedNames.size : others.length;
   const fact = (n, what, go) => {
@@ -205,8 +219,9 @@ function bars(reached, top) {
   const rows = bins.map(([plain, recursive], at) => {
     const low = at * step, high = Math.min(top, low + step - 1);
     const about = many(plain + recursive, "group") + (recursive ? `, ${number(recursive)} recursive` : "");
-    return [dim(low === high ? `${low}` : `${low}\u2013${high}`), button(() => only("all", null, [low, high]), {},
-      make("span", { class: "groups" }, about), make("span", { class: "bars" }, bar(recursive, "recursive"), bar(plain, "plain")))];
+    const both = make("span", { class: "bars" }, bar(recursive, "recursive"), bar(plain, "plain"));
+    const list = button(() => only("all", null, [low, high]), {}, make("span", { class: "groups" }, about), both);
+    return [dim(low === high ? `${low}` : `${low}\u2013${high}`), list];
   });
   return make("div", { class: "levels" }, ...rows.reverse().flat());
 }
@@ -216,7 +231,8 @@ function showNames() {
   const item = o => make("li", {}, toOther(o), times(otherCalled[o]));
   const names = (items, attributes, text) => {
     if (!items.length) return;
-    main.append(make("h2", attributes, `${text} (${number(items.length)})`), longList("ul", { class: "flow" }, items, item, 40));
+    const list = longList("ul", { class: "flow" }, items, item, 40);
+    main.append(make("h2", attributes, `${text} (${number(items.length)})`), list);
   };
   if (!undefinedNames) {
     names(byCalls, { id: "unknown" }, "Names that mean no predicate of these files");
