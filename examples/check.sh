@@ -77,11 +77,12 @@ fi
 reads_again "$calls" --unreached "$@" >"$room/lines"
 [ -n "$asks" ] || cp "$room/lines" "$room/unknown" || exit
 
-# Each line, and after tabs the two names by which it may be known.
+# Each line, and after tabs the two names by which it may be known. A log shows no control character
+# of a name.
 jq -r --slurpfile unknown "$room/unknown" '
     ($unknown | map(select(.is == "call") | {key: ([.module, .name, .arity] | tojson), value: true}) | from_entries) as $unknown
     | select(.is == "call" and .callee == null and $unknown[[.module, .name, .arity] | tojson])
-    | ("\(.name)/\(.arity)" | gsub("\n"; "\\n") | gsub("\t"; "\\t")) as $name
+    | ("\(.name)/\(.arity)" | gsub("[\\p{Cc}\\p{Cf}]"; "?")) as $name
     | "\(.file):\(.line):\(.column): undefined \(.module):\($name)\t\(.module):\($name)\t\($name)"
     ' "$room/lines" >"$room/found" || exit
 
