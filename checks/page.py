@@ -10,6 +10,7 @@ is no Chromium it says so and passes; where there is one that doesn't start, it 
 
 import argparse
 import collections
+import concurrent.futures
 import contextlib
 import json
 import os
@@ -422,6 +423,9 @@ def pictures(browser):
     status, said, _ = make(page, source)
     browser.open(page)
     check("one module of 400 groups: the recursive ones are drawn", status == 0 and len(browser.all("figure svg g.node")) == 4, said)
+    source.write_text("main.\n" + "".join(f"a{at} :- b{at}.\nb{at} :- a{at}.\n" for at in range(1100)))
+    status, said, _ = make(page, source)
+    check("a picture for each of the 1,000 largest recursive groups", page.read_text().count('<template id="group') == 1000 and not said, said)
     browser.is_quiet("pictures")
 
 
@@ -472,21 +476,36 @@ def folder_with(room, name, **scripts):
     return str(folder)
 
 
-def without_pictures(browser):
-    cases = {
-        "isn't found": ({}, 5),
-        "fails": ({"dot": "exit 1"}, 5),
-        "takes more than 20 s": ({"dot": f"{shutil.which('sleep')} 100; exit 0"}, 25),
-    }
-    for number, (why, (scripts, most)) in enumerate(cases.items()):
-        page = browser.room / "plain.html"
-        begun = time.monotonic()
-        status, said, _ = make(page, "calculator.pl", path=folder_with(browser.room, f"path{number}", **scripts))
-        took = time.monotonic() - begun
+# Why there is no picture: the script in place of dot, and the most seconds that a run takes.
+BROKEN_DOT = {
+    "isn't found": ({}, 5),
+    "fails": ({"dot": "exit 1"}, 5),
+    "takes more than 20 s": ({"dot": f"{shutil.which('sleep')} 100; exit 0"}, 25),
+}
+
+
+def make_without_dot(room, number, scripts):
+    page, begun = room / f"plain{number}.html", time.monotonic()
+    status, said, _ = make(page, "calculator.pl", path=folder_with(room, f"path{number}", **scripts))
+    return page, status, said, time.monotonic() - begun
+
+
+def without_pictures(browser, runs):
+    """What came of the runs with a broken dot, which go on while the browser does something else."""
+    for (why, (_, most)), run in zip(BROKEN_DOT.items(), runs):
+        page, status, said, took = run.result()
         browser.open(page)
         text = browser.text("figure")
         is_so = status == 0 and why in said and why in text and "There is no picture" in text and took < most * BUSY
         check(f"a dot that {why}: a page without pictures, and a line", is_so, (status, said, text, took))
+    dot, page = shutil.which("dot"), browser.room / "once.html"
+    once = f"[ ! -e {browser.room}/once ] || exit 1; : >{browser.room}/once; exec {dot} \"$@\""
+    status, said, _ = make(page, "calculator.pl", path=folder_with(browser.room, "once-only", dot=once))
+    browser.open(page)
+    is_so = status == 0 and "dot fails: 1 group without a picture of their own" in said and browser.all("figure svg")
+    check("a dot that fails for groups: the page has the picture of the program", is_so, said)
+    browser.go("g", "calculator:factor/3")
+    check("and a group has none", "Members (5)" in browser.text() and not browser.all("figure"))
 
 
 def sources_that_changed(browser):
@@ -621,7 +640,8 @@ def in_browser(room, options):
         check("selenium is installed (Debian: python3-selenium)", False)
         return
     try:
-        with browser_in(room, driver) as browser:
+        with concurrent.futures.ThreadPoolExecutor() as pool, browser_in(room, driver) as browser:
+            runs = [pool.submit(make_without_dot, room, at, it) for at, (it, _) in enumerate(BROKEN_DOT.values())]
             example(browser)
             keys_and_links(browser)
             looks(browser)
@@ -629,7 +649,7 @@ def in_browser(room, options):
             sizes(browser, (1500, 20000))
             pictures(browser)
             bridge(browser)
-            without_pictures(browser)
+            without_pictures(browser, runs)
             sources_that_changed(browser)
             if options.large:
                 large(browser)
@@ -650,10 +670,11 @@ def main():
         drawn()
         refusals(room)
         scripts(room)
-        if chromium():
-            in_browser(room, options)
+        missing = [it for it, is_there in (("chromium", chromium()), ("dot", shutil.which("dot"))) if not is_there]
+        if missing:
+            print(f"{', '.join(missing)} isn't installed, so no page is opened")
         else:
-            print("chromium isn't installed, so no page is opened")
+            in_browser(room, options)
         if options.keep:
             options.keep.mkdir(parents=True, exist_ok=True)
             for page in room.glob("*.html"):

@@ -14,7 +14,8 @@ from groups_view.names import RIGHT, many, short
 MOST_DRAWN = 300  # groups or modules in a picture
 MOST_EDGES = 1500
 MOST_MEMBERS = 40  # of a group that has a picture of its own
-MOST_SMALL = 150  # pictures of single groups
+MOST_SMALL = 1000  # pictures of single groups
+SMALL_AT_ONCE = 100  # of these in one run of dot
 MOST_NAMED = 8  # members that a box names
 DOT_SECONDS = 20  # for all pictures together
 
@@ -211,16 +212,26 @@ def run_dot(graphs, deadline):
     return [re.sub(r"<title>(?:[gmp]\d+(?:&#45;&gt;[gmp]\d+)?|picture)</title>\n?", "", it) for it in found]
 
 
-def draw(data):
-    """The picture of the program, its caption, the pictures of groups by their numbers, and why there is none."""
-    lines, caption = graph_of_program(data)
-    groups = data["groups"]
+def draw_groups(data, deadline):
+    """The pictures of recursive groups of a few members, the largest first, and why some have none."""
+    groups, drawn = data["groups"], {}
     small = [at for at, group in enumerate(groups) if group[1] and 2 <= len(group[2]) <= MOST_MEMBERS]
     small = sorted(small, key=lambda at: (-len(groups[at][2]), at))[:MOST_SMALL]
+    for at in range(0, len(small), SMALL_AT_ONCE):
+        part = small[at : at + SMALL_AT_ONCE]
+        try:
+            drawn.update(zip(part, run_dot([graph_of_group(data, it) for it in part], deadline)))
+        except NoPicture as why:
+            return drawn, f"{why}: {many(len(small) - len(drawn), 'group')} without a picture of their own"
+    return drawn, None
+
+
+def draw(data):
+    """The picture of the program, its caption, the pictures of groups by their numbers, and why one is missing."""
+    lines, caption = graph_of_program(data)
     deadline = time.monotonic() + DOT_SECONDS
     try:
         whole = run_dot([lines], deadline)[0] if lines else ""
-        drawn = dict(zip(small, run_dot([graph_of_group(data, at) for at in small], deadline))) if small else {}
     except NoPicture as why:
         return "", f"There is no picture: {why}.", {}, f"{why}: the page has no pictures"
-    return whole, caption + ".", drawn, None
+    return whole, caption + ".", *draw_groups(data, deadline)
