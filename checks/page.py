@@ -374,6 +374,10 @@ def hostile(browser):
     is_clean = browser.run("return document.scripts.length === 2 && !document.querySelector('img') && !window.owned")
     check("hostile: nothing ran", "<script>" in browser.driver.title and is_clean, browser.driver.title)
     browser.is_quiet("hostile")
+    for what, script in (("a script", "it.textContent = 'window.owned = 1'"), ("a file", "it.src = 'data:text/javascript,window.owned=1'")):
+        owned = f"const it = document.createElement('script'); {script}; document.body.append(it); it.remove(); return new Promise(done => setTimeout(() => done(window.owned), 50))"
+        check(f"hostile: the policy refuses {what} that isn't the page's", browser.run(owned) is None)
+    browser.driver.get_log("browser")
 
 
 def sizes(browser, counts):
@@ -490,6 +494,15 @@ def make_without_dot(room, number, scripts):
     return page, status, said, time.monotonic() - begun
 
 
+def long_names(room):
+    """Names of 30,000 characters, with escapes that end in ways which look alike."""
+    for number, part in enumerate(("\\x41\\n", "\\1\\\\", "''", "\\x41\\", "a")):
+        source, page = room / f"long{number}.pl", room / f"long{number}.html"
+        source.write_text(f":- module(m, [p/1]).\np(X) :- q('{part * 6000}', X).\nq(_, _).\n")
+        status, said, took = make(page, source)
+        check(f"a name with {part} 6,000 times", status == 0 and not said and took < 3, (said, took))
+
+
 def without_pictures(browser, runs):
     """What came of the runs with a broken dot, which go on while the browser does something else."""
     for (why, (_, most)), run in zip(BROKEN_DOT.items(), runs):
@@ -564,7 +577,7 @@ def graphs_of_scripts(room):
     status, svg, said = script("around.sh", "scanner:token/3", "1", "calculator.pl")
     check("around.sh: one step each way", status == 0 and labels(svg) == [f"scanner:{it}/3" for it in ("digits", "token", "tokens")], (said, labels(svg)))
     check("around.sh: no such predicate", script("around.sh", "a:b/0", "1", "calculator.pl")[::2] == (2, "around.sh: no predicate a:b/0\n"))
-    check("around.sh: wrong arguments", script("around.sh", "a:b/0", "x", "calculator.pl")[0] == 2)
+    check("around.sh: wrong arguments", [script("around.sh", "a:b/0", it, "calculator.pl")[0] for it in ("x", "", "100")] == [2, 2, 2])
     for name, words in (("modules.sh", ()), ("around.sh", ("a:b/0", "1"))):
         check(f"{name}: the status of calls", script(name, *words, "none.pl")[0] == 3)
     files = sorted(LIBRARY.glob("*.pl"))
@@ -669,6 +682,7 @@ def main():
     try:
         drawn()
         refusals(room)
+        long_names(room)
         scripts(room)
         missing = [it for it, is_there in (("chromium", chromium()), ("dot", shutil.which("dot"))) if not is_there]
         if missing:

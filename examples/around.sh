@@ -1,7 +1,7 @@
 #!/bin/sh
 # around.sh [--swi] MODULE:NAME/ARITY STEPS FILE..: a predicate among its neighbours, as SVG on
-# standard output: what it reaches by at most so many calls, and what reaches it so. --swi reads by
-# the bridge to SWI-Prolog. Needs `calls`, `jq` and the command `dot` of Graphviz. Ends with 2 if
+# standard output: what it reaches by at most so many calls (0 to 99), and what reaches it so. --swi
+# reads by the bridge to SWI-Prolog. Needs `calls`, `jq` and the command `dot` of Graphviz. Ends with 2 if
 # there is no such predicate, else with the status of what failed; with 8, after the graph, if the
 # bridge left something out.
 here=$(dirname -- "$(readlink -f -- "$0")")
@@ -10,7 +10,7 @@ calls=${CALLS:-$here/../calls}
 wanted=${1-}
 steps=${2-}
 case $#:$steps in
-[012]:* | *:*[!0-9]* | *:)
+[012]:* | *:*[!0-9]* | *: | *:???*)
     echo "usage: around.sh [--swi] MODULE:NAME/ARITY STEPS FILE.." >&2
     exit 2
     ;;

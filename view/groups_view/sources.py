@@ -15,9 +15,9 @@ MOST_TEXT = 6000  # characters of one clause
 MOST_GOAL = 400  # characters in which the name of a goal is looked for
 MOST_BYTES = 8_388_608  # of a file, as `groups` has it
 
-QUOTED = "|".join(
-    rf"{quote}(?:[^{quote}\\]|\\x[0-9a-fA-F]+\\|\\[0-7]+\\|\\.|{quote}{quote})*{quote}" for quote in ("'", '"', "`")
-)
+# No text is matched in two ways, so a token that isn't closed takes no longer than one that is.
+ESCAPE = r"\\(?:x[0-9a-fA-F]+\\|[0-7]+\\|(?!x[0-9a-fA-F]+\\|[0-7]+\\).)"
+QUOTED = "|".join(rf"{quote}(?:[^{quote}\\]|{ESCAPE}|{quote}{quote})*{quote}" for quote in ("'", '"', "`"))
 TOKEN = re.compile(
     r"%[^\n]*|/\*.*?(?:\*/|\Z)"
     r"|0'(?:\\x[0-9a-fA-F]+\\?|\\.|''|[^\\])"
