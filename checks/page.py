@@ -667,7 +667,7 @@ def in_browser(room, options):
             if options.large:
                 large(browser)
     except WebDriverException as error:
-        check("Chromium starts and does what it is told", False, str(error)[:2000])
+        check("Chromium starts and does what it is told", False, str(error).partition("\n")[0])
 
 
 def main():
