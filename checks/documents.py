@@ -28,7 +28,7 @@ DOCUMENTS = [ROOT / "README.md", ROOT / "CONTRIBUTING.md", ROOT / "CHANGES.md", 
 # Titles of rows and names of tests are here, beside the crates.
 ROW_FILES = [*(ROOT / "checks" / "rows").glob("**/*.txt"), *ROOT.glob("crates/*/src/*.rt"), *ROOT.glob("crates/*/stdin")]
 # What a command needs, by what it says.
-NEEDS = {"jq": r"\bjq\b|undefined\.sh", "dot": r"\bdot -|graph\.sh", "swipl": r"\bswipl\b|-swi\b|library-goals"}
+NEEDS = {"jq": r"\bjq\b|(?:undefined|modules|around|check)\.sh", "dot": r"\bdot -|(?:graph|modules|around)\.sh", "swipl": r"\bswipl\b|-swi\b|library-goals"}
 MOST_SECONDS = 60
 
 
