@@ -29,6 +29,8 @@ ROOT = kit.ROOT
 TABLE = kit.crates()
 CACHE = pathlib.Path(os.environ.get("XDG_CACHE_HOME") or pathlib.Path.home() / ".cache") / "groups-wrong-bodies"
 MOST_JOBS = 4
+# Whether an edit fails whose refusal shows only that the text of the proof no longer fits.
+STRICT = False
 
 
 class Edit:
@@ -135,7 +137,7 @@ def verdict(crate, edit, said):
     errors = re.findall(rf"(?m)^(?:\./)?proofs/{re.escape(edit.function.replace('::', '/'))}/\w+\.antt:\d+:\d+: error.*$", said)
     # (a proof that names a call or a branch that the edit takes away doesn't fit the body, whatever the clauses say)
     if errors and all(re.search(r"has no (field )?`|can be named from here", it) for it in errors):
-        return False, f"its proof's text alone doesn't fit: {errors[0]}"
+        return not STRICT, f"its proof's text alone doesn't fit: {errors[0]}"
     if refused or errors:
         return True, (refused or errors)[0]
     if lines and all(it.startswith("proved") for _, it in lines):
@@ -263,9 +265,12 @@ def main():
     parser.add_argument("names", nargs="*", metavar="NAME", help="crates; all where none is named")
     parser.add_argument("--all", action="store_true", help="also try those that were seen refused over the same files")
     parser.add_argument("--gate", action="store_true", help="also try those of must-fail/")
+    parser.add_argument("--strict", action="store_true", help="also fail if the proof's text alone doesn't fit, so that nothing is known of a clause")
     parser.add_argument("--list", action="store_true", help="only list them, each with its function")
     parser.add_argument("--jobs", type=int, default=min(MOST_JOBS, os.cpu_count() or 1), help="how many crates are tried at once, at most 4")
     options = parser.parse_args()
+    global STRICT
+    STRICT = options.strict
     unknown = [it for it in options.names if it not in TABLE]
     if unknown:
         sys.exit(f"crates.txt has no crate {unknown[0]}")
