@@ -119,7 +119,7 @@ def shim_of(folder):
     return shim
 
 
-def memory(folder, shim, tool, *options):
+def memory(folder, shim, name, tool, *options):
     """Refuses each allocation of a run with these options in turn, alone and with all after it, by a library that is loaded before the program."""
     count, words = folder / "count", [tool, *options, "calculator.pl", "module.pl"]
 
@@ -137,19 +137,19 @@ def memory(folder, shim, tool, *options):
 
     whole = settled(answer(0))
     total = int(count.read_text())
-    silent, wanting = (7, b"", b""), (7, b"", f"{tool.name}: out of memory\n".encode())
+    silent, wanting = (7, b"", b""), (7, b"", f"{name}: out of memory\n".encode())
     seen = []
     for number in some(range(1, total + 1)):
         seen.append(settled(answer(number)))
         if seen[-1] not in (silent, wanting, whole):
-            wrong.append(f"{tool.name}: allocation {number} {options}: status {seen[-1][0]}, {len(seen[-1][1])} bytes on out")
+            wrong.append(f"{name}: allocation {number} {options}: status {seen[-1][0]}, {len(seen[-1][1])} bytes on out")
         on = settled(answer(number, FAIL_ON="1"))
         if on not in (silent, wanting, whole):
-            wrong.append(f"{tool.name}: allocations from {number} on {options}: status {on[0]}, {len(on[1])} bytes on out")
+            wrong.append(f"{name}: allocations from {number} on {options}: status {on[0]}, {len(on[1])} bytes on out")
     if wanting in seen and silent in seen[seen.index(wanting) :]:
-        wrong.append(f"{tool.name}: no line of status 7, though the arguments were read")
+        wrong.append(f"{name}: no line of status 7, though the arguments were read")
     failed = seen.count(silent) + seen.count(wanting)
-    print(f"{tool.name} {' '.join(options)}: {total} allocations, {failed} times out of memory, {seen.count(whole)} as without")
+    print(f"{name} {' '.join(options)}: {total} allocations, {failed} times out of memory, {seen.count(whole)} as without")
 
 
 def main():
@@ -164,12 +164,12 @@ def main():
         hostile_files(folder)
         shim = shim_of(folder)
         for words in GROUPS_WORDS:
-            memory(folder, shim, chosen[0], *words)
+            memory(folder, shim, "groups", chosen[0], *words)
         calls = program.calls()
         if calls is None:
             wrong.append("there is no program calls: ./prove builds it")
         for words in CALLS_WORDS if calls else ():
-            memory(folder, shim, calls, *words)
+            memory(folder, shim, "calls", calls, *words)
     for line in wrong:
         print("WRONG", line)
     sys.exit(1 if wrong else 0)
