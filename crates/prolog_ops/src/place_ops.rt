@@ -66,7 +66,7 @@ impl PlaceOps {
     fn remove(&mut self, name: &str)
         ensures { op_at self.new ≡ with_op (op_at self.old) name.now None }
     {
-        self.ops.shift_remove(name);
+        self.ops.swap_remove(name);
     }
 
     /// Gives the name this operator, or none where the priority is 0. To remove one takes no memory.

@@ -3,4 +3,4 @@ use Rattle.prolog_ops.proofs.Lookups.{op_at-updates}
 use Rattle.prolog_ops.proofs.place_ops.PlaceOps.remove.Goals as goal
 
 pub returns : goal.returns
-returns c = op_at-updates c.self.inside.ops c.shift_remove.new.self c.args.name.now None c.shift_remove.ensures.updates c.args.self.now c.self.view_is
+returns c = op_at-updates c.self.inside.ops c.swap_remove.new.self c.args.name.now None c.swap_remove.ensures.updates c.args.self.now c.self.view_is
