@@ -1,10 +1,10 @@
 -- What some tables of names, hashes and numbers are, and what they aren't.
-use Rattle.std.proofs.Common.{◌≡◌, ◌≤◌, ℕ, List, [], ◌∷◌, true, false, length, codes, refl, sym, ap, ◌∙◌, arith, lit<, lit≤}
+use Rattle.std.proofs.Common.{◌≡◌, ◌≤◌, ℕ, Some, None, List, [], ◌∷◌, true, false, length, codes, refl, sym, ap, ◌∙◌, arith, lit<, lit≤}
 use Rattle.prolog_tokens.specs.declared.token.Kind.TheVariants.{Name, Quoted, Variable, Comma}
 use Rattle.prolog_names.specs.declared.table.Entry.{Entry}
 use Rattle.prolog_names.specs.Names.{name_at, opening_names, AreDistinct, IsOpened}
 use Rattle.prolog_names.specs.Numbers.{has_name}
-use Rattle.prolog_names.specs.Table.{text_hash, bucket_in, buckets_of, bucket_at, bytes_of, name_in, names_of, next_of, IsLast, IsHashed, IsSpan, with_name}
+use Rattle.prolog_names.specs.Table.{text_hash, bucket_in, chain_of, chains_of, bucket_at, bytes_of, name_in, names_of, next_of, IsLast, IsHashed, IsSpan, with_name}
 
 abbrev two : List (List ℕ)
 two = codes "b" ∷ codes "foo" ∷ []
@@ -54,8 +54,13 @@ last_bucket = refl
 only_bucket : bucket_in 1 97 ≡ 0
 only_bucket = refl
 
-side_by_side : buckets_of 10 (codes "a1" ∷ codes "a2" ∷ []) ≡ 2 ∷ 3 ∷ []
+side_by_side : chains_of (λ _. None) 10 (codes "a1" ∷ codes "a2" ∷ []) ≡ 2 ∷ 3 ∷ []
 side_by_side = refl
+
+-- a far name stands in the chain behind the buckets, wherever its hash points
+
+far_away : chain_of (λ _. Some 5) 10 (codes "a1") ≡ 10
+far_away = refl
 
 -- names one behind the other in one text: each stands where its entry says, as whole characters
 

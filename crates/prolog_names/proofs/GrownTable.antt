@@ -1,5 +1,5 @@
 -- A table with one name more.
-use Rattle.std.proofs.Common.{◌≡◌, ◌≢◌, ℕ, ◌+◌, ◌<◌, ◌≤◌, inl, inr, List, [], ◌∷◌, ◌++◌, length, map, take, get_or, set, true, false, refl, sym, ap, subst, ◌∙◌, arith}
+use Rattle.std.proofs.Common.{◌≡◌, ◌≢◌, ℕ, ◌+◌, ◌-◌, ◌<◌, Some, ◌≤◌, inl, inr, List, [], ◌∷◌, ◌++◌, length, map, take, get_or, set, true, false, refl, sym, ap, subst, ◌∙◌, arith}
 use Rattle.std.specs.Prelude.{if◌then◌else◌}
 use Rattle.std.specs.List.{list_any}
 use Rattle.std.specs.Str.{bytes_eq, IsUtf8}
@@ -11,7 +11,7 @@ use Rattle.std.proofs.lemmas.List.Folds.{list_any_at}
 use Rattle.std.proofs.lemmas.List.Sums.{sum_by_push, sum_by_more_le}
 use Rattle.prolog_names.specs.declared.table.Entry.{Entry}
 use Rattle.prolog_names.specs.Names.{name_at, AreDistinct}
-use Rattle.prolog_names.specs.Table.{text_hash, bucket_of, bytes_of, name_in, names_of, next_of, IsChained, IsHashed, IsSpan, IsTable, with_name}
+use Rattle.prolog_names.specs.Table.{Far, text_hash, chain_of, bytes_of, name_in, names_of, next_of, IsChained, IsHashed, IsSpan, IsTable, AreTold, with_name}
 use Rattle.prolog_names.proofs.Chains.{add_name}
 use Rattle.prolog_names.proofs.Spans.{names_kept, spans_kept, hashed_kept, last_name, last_span}
 
@@ -76,8 +76,18 @@ distinct_more names name absent distinct a b a_within b_within same =
     last : (k : ℕ) → length names ≡ k → name_at (names ++ name ∷ []) k ≡ name
     last k is = get_or_push names name [] k is
 
+-- the names so far and one more that is told at its place
+told_more : (far : Far) (names : List (List ℕ)) (name : List ℕ) → AreTold far names → ((n : ℕ) → far name ≡ Some n → n ≡ length names) → AreTold far (names ++ name ∷ [])
+told_more far names name told own place within n is =
+    elim (cases_lt place (length names)) [
+      | inl before ↦ told place before n (ap far (sym (get_or_append_left names (name ∷ []) [] place before)) ∙ is)
+      | inr from ↦
+          let here : length names ≡ place = omega (arith, within, from, length_push names name) in
+          own n (ap far (sym (get_or_push names name [] place here)) ∙ is) ∙ here
+    ]
+
 -- a name that isn't there yet is put behind the others
-module _ (texts name : List ℕ) (entries : List Entry) (heads : List ℕ) (entry : Entry) (table : IsTable texts entries heads)
+module _ (texts name : List ℕ) (entries : List Entry) (heads : List ℕ) (far : Far) (entry : Entry) (table : IsTable texts entries heads far)
     (starts : entry.start ≡ length texts) (ends : entry.end ≡ length texts + length name) where
   pub names_more : names_of (texts ++ name) (entries ++ entry ∷ []) ≡ names_of texts entries ++ name ∷ []
   names_more =
@@ -86,14 +96,18 @@ module _ (texts name : List ℕ) (entries : List Entry) (heads : List ℕ) (entr
       ∙ ap (λ last. names_of texts entries ++ last ∷ []) (last_name texts name entry starts ends)
 
   pub add_entry : IsUtf8 name → entry.hash ≡ text_hash name → list_any (bytes_eq name) (names_of texts entries) ≡ false
-      → bucket_of (length heads) name < length heads → entry.next ≡ get_or heads (bucket_of (length heads) name) 0
-      → IsTable (texts ++ name) (entries ++ entry ∷ []) (set heads (bucket_of (length heads) name) (length entries + 1))
-  add_entry utf8 hash absent below next = record {
+      → ((n : ℕ) → far name ≡ Some n → n ≡ length entries)
+      → chain_of far (length heads - 1) name < length heads → entry.next ≡ get_or heads (chain_of far (length heads - 1) name) 0
+      → IsTable (texts ++ name) (entries ++ entry ∷ []) (set heads (chain_of far (length heads - 1) name) (length entries + 1)) far
+  add_entry utf8 hash absent own below next = record {
     chained =
-        subst (λ ns. IsChained ns heads_more (next_of (entries ++ entry ∷ []))) (sym names_more)
-        (subst (λ xs. IsChained (names_of texts entries ++ name ∷ []) heads_more xs) (sym nexts)
-        (subst (λ k. IsChained (names_of texts entries ++ name ∷ []) (set heads b (k + 1)) (next_of entries ++ get_or heads b 0 ∷ []))
-        (length-map entries (name_in texts)) (add_name (names_of texts entries) heads (next_of entries) name table.chained below)));
+        subst (λ ns. IsChained far ns heads_more (next_of (entries ++ entry ∷ []))) (sym names_more)
+        (subst (λ xs. IsChained far (names_of texts entries ++ name ∷ []) heads_more xs) (sym nexts)
+        (subst (λ k. IsChained far (names_of texts entries ++ name ∷ []) (set heads b (k + 1)) (next_of entries ++ get_or heads b 0 ∷ []))
+        (length-map entries (name_in texts)) (add_name far (names_of texts entries) heads (next_of entries) name table.chained below)));
+    told =
+        subst (AreTold far) (sym names_more)
+        (told_more far (names_of texts entries) name table.told (λ n is. own n is ∙ sym (length-map entries (name_in texts))));
     spans = All-push (IsSpan (texts ++ name)) entries entry (spans_kept texts name entries utf8 table.spans) (last_span texts name entry starts ends utf8);
     hashed =
         All-push (IsHashed (texts ++ name)) entries entry (hashed_kept texts name entries entry table.spans table.hashed)
@@ -103,7 +117,7 @@ module _ (texts name : List ℕ) (entries : List Entry) (heads : List ℕ) (entr
   }
     where
       b : ℕ
-      b = bucket_of (length heads) name
+      b = chain_of far (length heads - 1) name
 
       heads_more : List ℕ
       heads_more = set heads b (length entries + 1)

@@ -1,4 +1,5 @@
 pub mod Examples
+pub mod Far
 pub mod ChainSteps
 pub mod Chains
 pub mod NumberedParts

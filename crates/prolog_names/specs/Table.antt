@@ -1,10 +1,10 @@
 -- Names in chains, one for each bucket of a hash.
-use Rattle.std.specs.Prelude.{ℕ, ◌≡◌, ◌≢◌, ◌+◌, ◌-◌, ◌*◌, ◌%◌, ◌^◌, ◌<◌, ◌≤◌, ◌++◌, [], ◌∷◌, List, length, map, fold, All, slice_index_or, if◌then◌else◌}
+use Rattle.std.specs.Prelude.{ℕ, Option, Some, None, is_some, ◌⊎◌, ◌≡◌, ◌≢◌, ◌+◌, ◌-◌, ◌*◌, ◌%◌, ◌^◌, ◌<◌, ◌≤◌, ◌++◌, [], ◌∷◌, List, length, map, fold, All, slice_index_or, if◌then◌else◌}
 use Rattle.std.specs.Int.{IsPowerOfTwo}
 use Rattle.std.specs.List.{list_any, slice_range, sum_by}
 use Rattle.std.specs.Str.{bytes_eq, IsCharBoundary}
 use Rattle.prolog_names.specs.declared.table.Entry.{Entry}
-use Rattle.prolog_names.specs.Names.{AreDistinct}
+use Rattle.prolog_names.specs.Names.{name_at, AreDistinct}
 
 -- the names with one more, where it doesn't stand among them yet
 abbrev pub with_name : List (List ℕ) → List ℕ → List (List ℕ)
@@ -17,12 +17,20 @@ text_hash text = fold (λ s b. (s * 16777619 % 2 ^ 32 + b) % 2 ^ 32) 0 text
 abbrev pub bucket_in : ℕ → ℕ → ℕ
 bucket_in size hash = hash % size
 
--- the bucket of a name, of so many
-abbrev pub bucket_of : ℕ → List ℕ → ℕ
-bucket_of size name = bucket_in size (text_hash name)
+-- the places of far names: those that came to a full chain
+abbrev pub Far : Type 0
+Far = List ℕ → Option ℕ
 
-abbrev pub buckets_of : ℕ → List (List ℕ) → List ℕ
-buckets_of size names = map (bucket_of size) names
+-- the chain of a name, where there are so many buckets: that of its bucket, or for a far name the one behind the buckets
+abbrev pub chain_of : Far → ℕ → List ℕ → ℕ
+chain_of far size name = if is_some (far name) then size else bucket_in size (text_hash name)
+
+abbrev pub chains_of : Far → ℕ → List (List ℕ) → List ℕ
+chains_of far size names = map (chain_of far size) names
+
+-- the chain takes the name of that hash, which comes to that place
+abbrev pub IsChainFor : Far → ℕ → List ℕ → ℕ → ℕ → ℕ → Type 0
+IsChainFor far size name hash place chain = ((chain ≡ bucket_in size hash) × (far name ≡ None)) ⊎ ((chain ≡ size) × (far name ≡ Some place))
 
 abbrev pub bucket_at : List ℕ → ℕ → ℕ
 bucket_at buckets place = slice_index_or buckets place 0
@@ -38,6 +46,10 @@ pub record AreChains (buckets : List ℕ) (count : ℕ) (heads next : List ℕ) 
   pub as_many : length next ≡ count
   pub last : (b : ℕ) → b < length heads → IsLast buckets count b (slice_index_or heads b 0)
   pub earlier : (n : ℕ) → n < count → IsLast buckets n (bucket_at buckets n) (slice_index_or next n 0)
+
+-- a far name that stands among the names does so at its place
+abbrev pub AreTold : Far → List (List ℕ) → Type 0
+AreTold far names = (place : ℕ) → place < length names → (n : ℕ) → far (name_at names place) ≡ Some n → n ≡ place
 
 -- how many bytes the names have
 abbrev pub bytes_of : List (List ℕ) → ℕ
@@ -63,14 +75,15 @@ pub record IsSpan (texts : List ℕ) (entry : Entry) : Type 0 where
 abbrev pub IsHashed : List ℕ → Entry → Type 0
 IsHashed texts entry = entry.hash ≡ text_hash (name_in texts entry)
 
--- the names stand in the chains of as many buckets as a power of two
-pub record IsChained (names : List (List ℕ)) (heads next : List ℕ) : Type 0 where
-  pub power : IsPowerOfTwo (length heads)
-  pub chains : AreChains (buckets_of (length heads) names) (length names) heads next
+-- the names stand in the chains of as many buckets as a power of two, and in that of far names
+pub record IsChained (far : Far) (names : List (List ℕ)) (heads next : List ℕ) : Type 0 where
+  pub power : IsPowerOfTwo (length heads - 1)
+  pub chains : AreChains (chains_of far (length heads - 1) names) (length names) heads next
 
 -- each name stands once, in the chain of its bucket, with its hash beside it; no other byte stands in the text of all names
-pub record IsTable (texts : List ℕ) (entries : List Entry) (heads : List ℕ) : Type 0 where
-  pub chained : IsChained (names_of texts entries) heads (next_of entries)
+pub record IsTable (texts : List ℕ) (entries : List Entry) (heads : List ℕ) (far : Far) : Type 0 where
+  pub chained : IsChained far (names_of texts entries) heads (next_of entries)
+  pub told : AreTold far (names_of texts entries)
   pub spans : All (IsSpan texts) entries
   pub hashed : All (IsHashed texts) entries
   pub distinct : AreDistinct (names_of texts entries)

@@ -1,17 +1,23 @@
 //! Names in chains, one for each bucket of a hash: a name is found by one look-up, without memory.
 
-ghost use Rattle.std.specs.Prelude.{◌≡◌, ◌<◌, ◌+◌, ◌^◌, ◌++◌, [], ◌∷◌, ℕ, false, length, map, fold, IfOk, OnOk, MatchOption};
+ghost use Rattle.std.specs.Prelude.{◌≡◌, ◌<◌, ◌+◌, ◌-◌, ◌^◌, ◌++◌, [], ◌∷◌, ℕ, List, false, length, map, fold, IfOk, OnOk, MatchOption};
 ghost use Rattle.std.specs.Int.{IsPowerOfTwo};
 ghost use Rattle.std.specs.List.{list_any};
 ghost use Rattle.std.specs.Str.{bytes_eq};
 ghost use Rattle.prolog_names.specs.Names.{name_at, AreDistinct};
-ghost use Rattle.prolog_names.specs.Table.{text_hash, bucket_in, bytes_of, name_in, with_name, IsSpan};
+ghost use Rattle.std.specs.BTreeMap.{get_by_text};
+ghost use Rattle.prolog_names.specs.Table.{text_hash, bucket_in, bytes_of, name_in, with_name, IsChainFor, IsSpan};
 
 use std::alloc::{AllocError, Global};
+use std::collections::BTreeMap;
 use std::marker::Model;
 
 /// How many bytes of names there is room for at first, for each bucket: those of a usual name.
 const NAME_BYTES: usize = 8;
+
+/// How many names a chain may have. Those that come to a full one stand in the last chain, and are found
+/// in order of their bytes: so each look-up is short, whatever names a text has.
+const MOST_IN_CHAIN: usize = 32;
 
 /// Where a name starts and ends in the text of all names, its hash, and one more than the place of the
 /// name before it in its bucket; 0 where there is none.
@@ -30,20 +36,24 @@ pub struct NameTable {
     /// The names, one behind the other, so that none needs a piece of memory of its own.
     texts: String,
     entries: Vec<Entry>,
-    /// For each bucket one more than the place of its last name; 0 where it has none.
+    /// For each bucket one more than the place of its last name; 0 where it has none. The last is no
+    /// bucket, but the chain of the far names.
     heads: Vec<u32>,
+    /// The names that came to a full chain, with their places.
+    far: BTreeMap<String, u32>,
 }
 
 impl Model for NameTable {
     ghost use Rattle.std.specs.Prelude.{List, ℕ};
     ghost use Rattle.std.specs.String.{string_bytes};
+    ghost use Rattle.std.specs.BTreeMap.{get_by_text};
     ghost use Rattle.prolog_names.specs.Table.{names_of, IsTable};
 
     ghost Value = { List (List ℕ) };
 
     ghost view = { λ table. names_of (string_bytes table.texts) table.entries.items };
 
-    ghost invariant = { λ table. IsTable (string_bytes table.texts) table.entries.items table.heads.items };
+    ghost invariant = { λ table. IsTable (string_bytes table.texts) table.entries.items table.heads.items (get_by_text table.far) };
 }
 
 /// The hash of a text. Texts that differ in their last byte alone have neighbouring hashes.
@@ -96,6 +106,48 @@ fn is_named(texts: &str, entry: &Entry, name: &str, hash: u32) -> bool
     name == name_in(texts, entry)
 }
 
+/// Whether a chain, from its head on, has fewer names than one may have. Either answer is a right one.
+fn has_room(entries: &[Entry], head: u32) -> bool {
+    let mut at = head;
+    for _ in 0..MOST_IN_CHAIN {
+        if at == 0 {
+            return true;
+        }
+        let Some(entry) = entries.get(at as usize - 1) else {
+            return true;
+        };
+        at = entry.next;
+    }
+    false
+}
+
+/// The chain that takes a name of that hash, which comes to that place: that of its bucket, where it has
+/// room, else the last one, and then the name is put to the far ones.
+fn chain_for(
+    alloc: Global,
+    entries: &[Entry],
+    heads: &[u32],
+    far: &mut BTreeMap<String, u32>,
+    name: &str,
+    hash: u32,
+    place: u32,
+) -> Result<usize, AllocError>
+    requires { IsPowerOfTwo (length heads.now - 1) }
+    ensures chain { IfOk result (IsChainFor (get_by_text far.new) (length heads.now - 1) name.now hash place) }
+    ensures others { (other : List ℕ) → bytes_eq name.now other ≡ false → get_by_text far.new other ≡ get_by_text far.old other }
+{
+    let last = heads.len() - 1;
+    if far.get(name).is_none() {
+        let bucket = bucket_of(hash, last);
+        if has_room(entries, heads[bucket]) {
+            return Ok(bucket);
+        }
+    }
+    let key = String::from_str(alloc, name)?;
+    far.insert(key, place)?;
+    Ok(last)
+}
+
 impl NameTable {
     /// A table without names, with more than so many buckets, and with room for as many names.
     pub fn new(alloc: Global, buckets: usize) -> Result<NameTable, AllocError>
@@ -106,7 +158,8 @@ impl NameTable {
         Ok(NameTable {
             texts: String::with_capacity(alloc, buckets * NAME_BYTES)?,
             entries: Vec::with_capacity(alloc, buckets)?,
-            heads: vec![in alloc; 0u32; size]?,
+            heads: vec![in alloc; 0u32; size + 1]?,
+            far: BTreeMap::new(alloc),
         })
     }
 
@@ -143,8 +196,18 @@ impl NameTable {
         requires { hash ≡ text_hash name.now }
         ensures { MatchOption result (list_any (bytes_eq name.now) self.now ≡ false) (λ n. (n < length self.now) × (name_at self.now n ≡ name.now)) }
     {
+        if let Some(place) = self.far.get(name) {
+            let place = *place;
+            if place as usize >= self.entries.len() {
+                return None;
+            }
+            if !self.is(place as usize, name) {
+                return None;
+            }
+            return Some(place);
+        }
         let texts = self.texts.as_str();
-        let mut at = self.heads[bucket_of(hash, self.heads.len())];
+        let mut at = self.heads[bucket_of(hash, self.heads.len() - 1)];
         while at > 0 {
             let place = at - 1;
             let entry = &self.entries[place as usize];
@@ -167,9 +230,18 @@ impl NameTable {
         ensures place { IfOk result (λ place. place ≡ length self.old) }
     {
         let place = self.entries.len() as u32;
-        let bucket = bucket_of(hash, self.heads.len());
         let start = self.texts.len() as u32;
         self.entries.reserve(1)?;
+        let alloc = *self.texts.allocator();
+        let bucket = chain_for(
+            alloc,
+            &self.entries,
+            &self.heads,
+            &mut self.far,
+            name,
+            hash,
+            place,
+        )?;
         self.texts.push_str(name)?;
         self.entries.push(Entry {
             start,
