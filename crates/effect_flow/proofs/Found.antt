@@ -11,6 +11,7 @@ use Rattle.effect_flow.specs.Carriers.{HasKind, IsCarrier, IsFirst, IsFlow, IsUp
 use Rattle.effect_flow.specs.Flows.{AreFound, AreReady, IsNext, IsOfCallee}
 use Rattle.effect_flow.proofs.Carried.{carried_below, carried_cases, carried_member}
 use Rattle.effect_flow.proofs.LeastOnes.{first_both, first_more, first_none, first_same, upto_more, upto_some}
+use Rattle.effect_flow.specs.declared.kinds.TheConstants.{KINDS}
 
 -- what callees give: one more
 
@@ -118,7 +119,7 @@ member_more lists own places place flows kind xs member before self both after i
 
 -- what the members give is the carrier
 pub carrier_found : (lists : List (List ℕ)) (own : List ℕ) (groups : List (List ℕ)) (places : List ℕ) (flows : List (List (Option ℕ))) (place kind : ℕ) (first : Option ℕ)
-    → AreReady lists own groups places → IsNext lists own groups flows place → kind < 7
+    → AreReady lists own groups places → IsNext lists own groups flows place → kind < KINDS
     → IsFirst (IsOfMember lists own places place flows kind (group_at groups place)) first
     → IsCarrier (Calls lists) own kind (group_at groups place) first
 carrier_found lists own groups places flows place kind first ready next low is = record {

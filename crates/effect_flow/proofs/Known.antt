@@ -7,6 +7,7 @@ use Rattle.graph_law.specs.Classes.{group_at}
 use Rattle.graph_law.specs.Reach.{IsReached}
 use Rattle.effect_flow.specs.Carriers.{AreFlows, HasKind, IsCarried, IsCarrier, IsFirst, IsFlow}
 use Rattle.effect_flow.proofs.LeastOnes.{first_none, first_same, upto_some}
+use Rattle.effect_flow.specs.declared.kinds.TheConstants.{KINDS}
 
 -- there is one least node
 
@@ -100,9 +101,9 @@ module _ (calls : ℕ → ℕ → Type 0) (own : List ℕ) (count : ℕ) where
   some_flow : (group : List ℕ) → IsKnown group → (flow : List (Option ℕ)) × IsFlow calls own group flow
   some_flow group is =
       let at : ℕ → Option ℕ = λ kind. (some_carrier group kind is).0 in (
-        map at (range_with_len 0 7),
+        map at (range_with_len 0 KINDS),
         λ kind low.
-            subst (IsCarrier calls own kind group) (sym (get_or-map-range_with_len at 0 7 kind kind None low (omega arith))) (some_carrier group kind is).1,
+            subst (IsCarrier calls own kind group) (sym (get_or-map-range_with_len at 0 KINDS kind kind None low (omega arith))) (some_carrier group kind is).1,
       )
 
   -- groups have flows

@@ -6,6 +6,7 @@ use Rattle.graph_law.specs.Reach.{Agree}
 use Rattle.graph_law.proofs.ReachLaws.{along_walk, is_reached_along}
 use Rattle.effect_flow.specs.Carriers.{AreFlows, IsCarried, first_at, flow_at}
 use Rattle.effect_flow.proofs.LeastOnes.{first_same}
+use Rattle.effect_flow.specs.declared.kinds.TheConstants.{KINDS}
 
 pub AreFlows-agree : {c d : ℕ → ℕ → Type 0} {own : List ℕ} {groups : List (List ℕ)} {flows : List (List (Option ℕ))} → Agree c d → AreFlows c own groups flows → AreFlows d own groups flows
 AreFlows-agree {c} {d} {own} {groups} {flows} agree are = record {
@@ -20,7 +21,7 @@ AreFlows-agree {c} {d} {own} {groups} {flows} agree are = record {
 -- carriers of groups of nodes are nodes
 pub carriers_below : (lists : List (List ℕ)) {own : List ℕ} {groups : List (List ℕ)} {flows : List (List (Option ℕ))} → IsClosed lists
     → ((p : ℕ) → HasMember groups p → p < length lists) → AreFlows (Calls lists) own groups flows
-    → (place kind q : ℕ) → place < length groups → kind < 7 → first_at (flow_at flows place) kind ≡ Some q → q < length lists
+    → (place kind q : ℕ) → place < length groups → kind < KINDS → first_at (flow_at flows place) kind ≡ Some q → q < length lists
 carriers_below lists {own} {groups} {flows} closed nodes are place kind q lt low at =
     let carried : IsCarried (Calls lists) own kind (group_at groups place) q = (are.carriers place lt kind low).is q at in
     let reached = carried.reached in

@@ -6,15 +6,16 @@ use Rattle.std.proofs.lemmas.Nat.{bit_set_by_shift}
 use Rattle.std.specs.Prelude.{IsBitSet}
 use Rattle.effect_flow.specs.Carriers.{IsFirst, first_at, see_node}
 use Rattle.effect_flow.proofs.LeastOnes.{first_seen, no_some, see_none, seen_number, upto_seen}
+use Rattle.effect_flow.specs.declared.kinds.TheConstants.{KINDS}
 
 -- the node stands at the first kinds that are set, and no node else
 pub record AreSetBelow (node kinds kind : ℕ) (firsts : List ℕ) : Type 0 where
-  pub each : length firsts ≡ 7
+  pub each : length firsts ≡ KINDS
   pub set : (k : ℕ) → k < kind → IsBitSet kinds k → get_or firsts k 0 ≡ node
   pub unset : (k : ℕ) → k < kind → (IsBitSet kinds k → ⊥) → get_or firsts k 0 ≡ 4294967295
-  pub rest : (k : ℕ) → kind ≤ k → k < 7 → get_or firsts k 0 ≡ 4294967295
+  pub rest : (k : ℕ) → kind ≤ k → k < KINDS → get_or firsts k 0 ≡ 4294967295
 
-pub unset_next : (node kinds kind : ℕ) (firsts : List ℕ) → kind < 7 → (bit_and (kinds / 2 ^ kind) 1 ≡ 1 → ⊥)
+pub unset_next : (node kinds kind : ℕ) (firsts : List ℕ) → kind < KINDS → (bit_and (kinds / 2 ^ kind) 1 ≡ 1 → ⊥)
     → AreSetBelow node kinds kind firsts → AreSetBelow node kinds (kind + 1) firsts
 unset_next node kinds kind firsts lt not_set are = record {
   each = are.each;
@@ -33,7 +34,7 @@ unset_next node kinds kind firsts lt not_set are = record {
   rest = λ k from low. are.rest k (omega (arith, from)) low;
 }
 
-pub set_next : (node kinds kind : ℕ) (firsts : List ℕ) → kind < 7 → bit_and (kinds / 2 ^ kind) 1 ≡ 1
+pub set_next : (node kinds kind : ℕ) (firsts : List ℕ) → kind < KINDS → bit_and (kinds / 2 ^ kind) 1 ≡ 1
     → AreSetBelow node kinds kind firsts → AreSetBelow node kinds (kind + 1) (set firsts kind node)
 set_next node kinds kind firsts lt is_set are =
     let within : kind < length firsts = omega (arith, lt, are.each) in
@@ -58,8 +59,8 @@ set_next node kinds kind firsts lt is_set are =
 set_or_not : (kinds kind : ℕ) → IsBitSet kinds kind ⊎ (IsBitSet kinds kind → ⊥)
 set_or_not kinds kind = elim (cases_eq (bit_and kinds (2 ^ kind)) 0) [ inl none ↦ inr (λ is. is none) | inr some ↦ inl some ]
 
-pub one_node : (node kinds : ℕ) (firsts : List ℕ) (end : ℕ) → node < 4294967295 → 7 ≤ end → AreSetBelow node kinds end firsts
-    → (kind : ℕ) → kind < 7 → IsFirst (λ q. (q ≡ node) × IsBitSet kinds kind) (first_at (map see_node firsts) kind)
+pub one_node : (node kinds : ℕ) (firsts : List ℕ) (end : ℕ) → node < 4294967295 → KINDS ≤ end → AreSetBelow node kinds end firsts
+    → (kind : ℕ) → kind < KINDS → IsFirst (λ q. (q ≡ node) × IsBitSet kinds kind) (first_at (map see_node firsts) kind)
 one_node node kinds firsts end low last are kind lt =
     let seen : first_at (map see_node firsts) kind ≡ see_node (get_or firsts kind 0) = first_seen firsts kind (omega (arith, lt, are.each)) in
     rw seen

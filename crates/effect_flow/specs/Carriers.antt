@@ -2,6 +2,7 @@
 use Rattle.std.specs.Prelude.{◌≡◌, ℕ, ◌<◌, ◌≤◌, ◌==◌, List, [], length, Option, Some, None, if◌then◌else◌, slice_index, slice_index_or, IsBitSet}
 use Rattle.graph_law.specs.Classes.{group_at}
 use Rattle.graph_law.specs.Reach.{IsReached}
+use Rattle.effect_flow.specs.declared.kinds.TheConstants.{KINDS}
 
 -- a number as a node: the greatest stands for none
 abbrev pub see_node : ℕ → Option ℕ
@@ -40,7 +41,7 @@ flow_at flows place = slice_index_or flows place []
 
 -- the flow has the carriers of the group
 abbrev pub IsFlow : (ℕ → ℕ → Type 0) → List ℕ → List ℕ → List (Option ℕ) → Type 0
-IsFlow calls own group flow = (kind : ℕ) → kind < 7 → IsCarrier calls own kind group (first_at flow kind)
+IsFlow calls own group flow = (kind : ℕ) → kind < KINDS → IsCarrier calls own kind group (first_at flow kind)
 
 -- for each group its carriers
 pub record AreFlows (calls : ℕ → ℕ → Type 0) (own : List ℕ) (groups : List (List ℕ)) (flows : List (List (Option ℕ))) : Type 0 where

@@ -4,6 +4,7 @@ ghost use Rattle.graph_law.specs.Graph.{Calls, lists_of};
 ghost use Rattle.effect_flow.specs.Carriers.{AreFlows, IsFirst, IsFlow, first_at, flow_at};
 ghost use Rattle.effect_flow.specs.Seen.{see_flow, see_flows};
 ghost use Rattle.effect_flow.specs.Flows.{AreFound, AreReady, IsNext, IsOfCallee};
+ghost use Rattle.effect_flow.specs.declared.kinds.TheConstants.{KINDS};
 
 use crate::firsts::Flow;
 use crate::grouped::Grouped;
@@ -29,7 +30,7 @@ fn with_callees(
 ) -> Flow
     requires nodes { All (λ callee. callee < length places.now) callees.now }
     requires known { All (λ callee. slice_index places.now callee < length flows.now) callees.now }
-    ensures { (kind : ℕ) → kind < 7
+    ensures { (kind : ℕ) → kind < KINDS
         → IsFirst (λ q. (first_at (see_flow start) kind ≡ Some q) ⊎ IsOfCallee places.now place (see_flows flows.now) kind callees.now q)
         (first_at (see_flow result) kind) }
 {

@@ -1,9 +1,9 @@
 ghost use Rattle.std.specs.Prelude.{◌≡◌, ℕ, ◌<◌, ◌⊎◌, None, Some, IsBitSet};
 ghost use Rattle.effect_flow.specs.Carriers.{IsFirst, first_at};
 ghost use Rattle.effect_flow.specs.Seen.{see_flow};
+ghost use Rattle.effect_flow.specs.declared.kinds.TheConstants.{KINDS};
 
-/// How many kinds of effects there are.
-const KINDS: usize = 7;
+use crate::kinds::KINDS;
 
 /// Stands where there is no node. It is no node's number.
 const NO_NODE: u32 = u32::MAX;
@@ -17,7 +17,7 @@ pub struct Flow {
 impl Flow {
     /// No carrier of any kind.
     pub(crate) fn none() -> Flow
-        ensures { (kind : ℕ) → kind < 7 → first_at (see_flow result) kind ≡ None }
+        ensures { (kind : ℕ) → kind < KINDS → first_at (see_flow result) kind ≡ None }
     {
         Flow {
             firsts: [NO_NODE; KINDS],
@@ -27,7 +27,7 @@ impl Flow {
     /// The node as the carrier of each of the kinds.
     pub(crate) fn of(node: u32, kinds: u64) -> Flow
         requires { node < 4294967295 }
-        ensures { (kind : ℕ) → kind < 7 → IsFirst (λ q. (q ≡ node) × IsBitSet kinds kind) (first_at (see_flow result) kind) }
+        ensures { (kind : ℕ) → kind < KINDS → IsFirst (λ q. (q ≡ node) × IsBitSet kinds kind) (first_at (see_flow result) kind) }
     {
         let mut firsts = [NO_NODE; KINDS];
         for kind in 0..KINDS {
@@ -41,7 +41,7 @@ impl Flow {
 
     /// The lesser of both carriers of each kind.
     pub(crate) fn lesser(&self, other: &Flow) -> Flow
-        ensures { (kind : ℕ) → kind < 7
+        ensures { (kind : ℕ) → kind < KINDS
             → IsFirst (λ q. (first_at (see_flow self.now) kind ≡ Some q) ⊎ (first_at (see_flow other.now) kind ≡ Some q)) (first_at (see_flow result) kind) }
     {
         let mut firsts = self.firsts;
@@ -53,7 +53,7 @@ impl Flow {
 
     /// The carrier of that kind.
     pub fn first(&self, kind: u32) -> Option<u32>
-        requires { kind < 7 }
+        requires { kind < KINDS }
         ensures { result ≡ first_at (see_flow self.now) kind }
     {
         let node = self.firsts[kind as usize];

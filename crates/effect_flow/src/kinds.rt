@@ -5,6 +5,9 @@ ghost use Rattle.std.specs.List.{list_any};
 ghost use Rattle.std.specs.Str.{bytes_eq};
 ghost use Rattle.effect_flow.specs.Kinds.{kinds};
 
+/// How many kinds of effects there are.
+pub const KINDS: usize = 7;
+
 const OUTPUT: u64 = 1;
 
 const INPUT: u64 = 2;

@@ -18,4 +18,4 @@ mod kinds;
 
 pub use firsts::Flow;
 pub use heights::flow;
-pub use kinds::kinds_of;
+pub use kinds::{KINDS, kinds_of};
