@@ -21,7 +21,6 @@ pub mod LightLemmas
 pub mod RootLemmas
 pub mod PlainRoots
 pub mod FaultLemmas
-pub mod KnownLemmas
 pub mod OffsetLemmas
 pub mod GoalLemmas
 pub mod CheckLemmas

@@ -8,7 +8,7 @@ ghost use Rattle.module_table.specs.Metas.{added};
 ghost use Rattle.call_edges.specs.Goals.{is_control, goal_way, way, settled, is_variable, goal_of, qualified_taken, row, taken};
 ghost use Rattle.call_edges.specs.Meant.{IsMeaning, IsMeant};
 ghost use Rattle.call_edges.specs.ProgramRows.{rows_of, standing_by};
-ghost use Rattle.import_rules.specs.Program.{Seen, found, meta_meant, see_program};
+ghost use Rattle.import_rules.specs.Program.{Seen, found, meta_meant};
 ghost use Rattle.call_edges.specs.Seen.{see_standing, see_taken};
 
 use crate::role::{Meaning, Meant, Met, Standing, Taken, Way};
@@ -133,8 +133,8 @@ fn qualified<'a>(owner: &'a str, role: GoalArg, args: &Parts<'a>) -> Taken<'a>
 /// What a name means in a module, and what that predicate declares. It is looked up only where a
 /// predicate declares something.
 fn meaning_of<'a>(program: &'a Program, owner: &'a str, name: &'a str, arity: u32) -> Meaning<'a>
-    ensures meant { IsMeaning (found (see_program program.now) owner.now name.now arity) result.meant }
-    ensures declared { result.declared.now ≡ meta_meant (see_program program.now) owner.now name.now arity }
+    ensures meant { IsMeaning (found program.now owner.now name.now arity) result.meant }
+    ensures declared { result.declared.now ≡ meta_meant program.now owner.now name.now arity }
 {
     if program.declares_nothing() {
         return Meaning {
@@ -179,8 +179,8 @@ pub fn take_apart<'a>(
     args: &Parts<'a>,
 ) -> Taken<'a>
     requires { count (trees_of args.now) + added role ≤ 4294967295 }
-    ensures taken { see_taken result ≡ taken (rows_of (see_program program.now)) at owner.now role name.now (trees_in (trees_of args.now)) }
-    ensures meant { IfSome result.met (IsMeant (see_program program.now)) }
+    ensures taken { see_taken result ≡ taken (rows_of program.now) at owner.now role name.now (trees_in (trees_of args.now)) }
+    ensures meant { IfSome result.met (IsMeant program.now) }
 {
     match way_of(role, name, args.len()) {
         Way::Silent => Taken {

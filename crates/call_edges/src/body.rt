@@ -4,7 +4,6 @@ ghost use Rattle.std.specs.Prelude.{◌≡◌, ◌<◌, ◌++◌, map, length, o
 ghost use Rattle.prolog_terms.specs.Terms.{tree_of};
 ghost use Rattle.clause_text.specs.Clauses.{clause_trees};
 ghost use Rattle.module_table.specs.Facts.{goal_trees, see_facts};
-ghost use Rattle.import_rules.specs.Program.{see_program};
 ghost use Rattle.call_edges.specs.Calls.{body_of};
 ghost use Rattle.call_edges.specs.Bodies.{see_body, body_in, clause_bodies, bodies_in, goal_body, goals_of_file, goals_in};
 
@@ -75,8 +74,8 @@ pub fn push_bodies_of<'a>(
     node: u32,
     bodies: &mut Vec<Body<'a>>,
 ) -> Result<(), AllocError>
-    requires { node < length (see_program program.now).predicates }
-    ensures { OnOk result (map see_body bodies.new.items ≡ map see_body bodies.old.items ++ bodies_in (see_program program.now) node) }
+    requires { node < length program.now.predicates }
+    ensures { OnOk result (map see_body bodies.new.items ≡ map see_body bodies.old.items ++ bodies_in program.now node) }
 {
     let files = &program.loaded().files;
     for place in program.places_of(node) {
@@ -99,8 +98,8 @@ pub fn bodies_of<'a>(
     program: &'a Program,
     node: u32,
 ) -> Result<Vec<Body<'a>>, AllocError>
-    requires { node < length (see_program program.now).predicates }
-    ensures { IfOk result (λ bodies. map see_body bodies.items ≡ bodies_in (see_program program.now) node) }
+    requires { node < length program.now.predicates }
+    ensures { IfOk result (λ bodies. map see_body bodies.items ≡ bodies_in program.now node) }
 {
     let mut bodies = Vec::new(alloc);
     push_bodies_of(program, node, &mut bodies)?;
@@ -148,8 +147,9 @@ fn push_goals<'a>(
 
 /// The goals of all directives, file by file.
 pub fn goals_of<'a>(alloc: Global, program: &'a Program) -> Result<Vec<Body<'a>>, AllocError>
-    ensures { IfOk result (λ bodies. map see_body bodies.items ≡ goals_in (see_program program.now).loaded.files) }
+    ensures { IfOk result (λ bodies. map see_body bodies.items ≡ goals_in program.now.loaded.files) }
 {
+    program.is_known();
     let mut bodies = Vec::new(alloc);
     for (place, file) in program.loaded().files.iter().enumerate() {
         push_goals(place as u32, file, &mut bodies)?;

@@ -2,7 +2,6 @@
 
 ghost use Rattle.std.specs.Prelude.{◌≡◌, ◌<◌, ◌↔◌, ℕ, [], All, Contains, length, map, OnOk, OnErr};
 ghost use Rattle.std.specs.List.Sorted.{IsStrictlyIncreasing};
-ghost use Rattle.import_rules.specs.Program.{see_program};
 ghost use Rattle.call_edges.specs.Goals.{Adds};
 ghost use Rattle.call_edges.specs.Meant.{AreMeant, IsMeant};
 ghost use Rattle.call_edges.specs.ProgramRows.{rows_of};
@@ -19,8 +18,8 @@ use std::alloc::AllocError;
 
 /// The predicate that a call in that file goes to. Its name is looked up where it wasn't yet.
 pub fn target(program: &Program, file: u32, met: Met) -> Option<u32>
-    requires { IsMeant (see_program program.now) met }
-    ensures { result ≡ target (see_program program.now) (see_met met.entry) }
+    requires { IsMeant program.now met }
+    ensures { result ≡ target program.now (see_met met.entry) }
 {
     let Met::Call {
         module,
@@ -47,8 +46,8 @@ pub fn push_targets(
     met: &[Met],
     out: &mut Vec<u32>,
 ) -> Result<(), AllocError>
-    requires { AreMeant (see_program program.now) met.now }
-    ensures { OnOk result (Adds (GoesTo (see_program program.now) (Contains (see_mets met.now))) out.old.items out.new.items) }
+    requires { AreMeant program.now met.now }
+    ensures { OnOk result (Adds (GoesTo program.now (Contains (see_mets met.now))) out.old.items out.new.items) }
 {
     for one in met {
         let Some(callee) = target(program, file, *one) else {
@@ -67,7 +66,7 @@ pub fn push_called<'a>(
 ) -> Result<(), AllocError>
     requires { All IsLight (map see_body bodies.now) }
     ensures { OnOk result (Adds
-        (GoesTo (see_program program.now) (IsAmong (IsMetInBody (rows_of (see_program program.now))) (map see_body bodies.now)))
+        (GoesTo program.now (IsAmong (IsMetInBody (rows_of program.now)) (map see_body bodies.now)))
         out.old.items out.new.items) }
 {
     let alloc = *out.allocator();
@@ -82,9 +81,9 @@ pub fn push_called<'a>(
 
 /// Adds the predicates that a predicate calls to `out`, which is empty.
 fn push_callees(program: &Program, node: u32, out: &mut Vec<u32>) -> Result<(), AllocError>
-    requires below { node < length (see_program program.now).predicates }
+    requires below { node < length program.now.predicates }
     requires empty { out.old.items ≡ [] }
-    ensures { OnOk result ((q : ℕ) → Contains out.new.items q ↔ NodeCalls (see_program program.now) node q) }
+    ensures { OnOk result ((q : ℕ) → Contains out.new.items q ↔ NodeCalls program.now node q) }
 {
     program.is_known();
     let bodies = bodies_of(*out.allocator(), program, node)?;
@@ -94,10 +93,10 @@ fn push_callees(program: &Program, node: u32, out: &mut Vec<u32>) -> Result<(), 
 /// Puts the predicates that a predicate calls into `out`, which is empty, ascending and each once.
 /// Where memory is wanting, `out` stays empty.
 fn callees(program: &Program, node: u32, out: &mut Vec<u32>) -> Result<(), AllocError>
-    requires below { node < length (see_program program.now).predicates }
+    requires below { node < length program.now.predicates }
     requires empty { out.old.items ≡ [] }
     ensures ascending { OnOk result (IsStrictlyIncreasing out.new.items) }
-    ensures calls { OnOk result ((q : ℕ) → Contains out.new.items q ↔ NodeCalls (see_program program.now) node q) }
+    ensures calls { OnOk result ((q : ℕ) → Contains out.new.items q ↔ NodeCalls program.now node q) }
     ensures err { OnErr result (out.new.items ≡ []) }
 {
     match push_callees(program, node, out) {
@@ -124,7 +123,7 @@ impl<'a> Calls<'a> {
 
     /// The calls of this program. It takes no memory.
     pub fn new(program: &'a Program) -> Calls<'a>
-        ensures { see_calls result ≡ see_program program.now }
+        ensures { see_calls result ≡ program.now }
     {
         Calls { program }
     }

@@ -1,7 +1,6 @@
 //! Whether every goal of a program is callable, and what its predicates call.
 
 ghost use Rattle.std.specs.Prelude.{[], ◌≡◌, ◌*◌, ◌<◌, ◌↔◌, true, ℕ, Ok, Contains, length, map, IfOk, OnOk, IfErr};
-ghost use Rattle.import_rules.specs.Program.{see_program};
 ghost use Rattle.call_edges.specs.Calls.{IsAmong};
 ghost use Rattle.call_edges.specs.declared.piece.TheConstants.{PIECE_SIZE};
 ghost use Rattle.call_edges.specs.CallLists.{ArePieces};
@@ -34,15 +33,15 @@ fn open_each<'a, R: Threads + Sync>(
     program: &'a Program,
     keep: bool,
 ) -> Result<Vec<Result<OpenedPiece<'a>, AllocError>>, AllocError>
-    ensures { IfOk result (λ each. AreOpened keep (see_program program.now) each.items) }
+    ensures { IfOk result (λ each. AreOpened keep program.now each.items) }
 {
     (0..piece_count(program.count()))
         .into_par_iter()
         .with_min_len(FEWEST)
         .map(
             |number: u32| -> Result<OpenedPiece<'_>, AllocError>
-                requires { number * PIECE_SIZE < length (see_program program.now).predicates }
-                ensures { IfOk result (IsOpenedPiece keep (see_program program.entry.now) number) }
+                requires { number * PIECE_SIZE < length program.now.predicates }
+                ensures { IfOk result (IsOpenedPiece keep program.entry.now number) }
             { open_piece(alloc, program, keep, number) },
         )
         .collect(rt, alloc)
@@ -90,8 +89,8 @@ fn open_all<'a, R: Threads + Sync>(
     program: &'a Program,
     keep: bool,
 ) -> Result<(Vec<Piece>, Vec<PieceCalls<'a>>), AllocError>
-    ensures pieces { IfOk result (λ found. ArePieces (see_program program.now) found.0.items) }
-    ensures kept { IfOk result (λ found. keep ≡ true → AreKept (see_program program.now) found.1.items) }
+    ensures pieces { IfOk result (λ found. ArePieces program.now found.0.items) }
+    ensures kept { IfOk result (λ found. keep ≡ true → AreKept program.now found.1.items) }
 {
     let each = open_each(rt, alloc, program, keep)?;
     let opened = whole(alloc, each)?;
@@ -116,8 +115,8 @@ fn fault_places(
     program: &Program,
     pieces: &[Piece],
 ) -> Result<Vec<(u32, u32)>, AllocError>
-    requires { ArePieces (see_program program.now) pieces.now }
-    ensures { IfOk result (λ faults. AreFaultPlaces (see_program program.now) faults.items) }
+    requires { ArePieces program.now pieces.now }
+    ensures { IfOk result (λ faults. AreFaultPlaces program.now faults.items) }
 {
     program.is_known();
     let mut faults = joined(alloc, pieces)?;
@@ -136,10 +135,10 @@ fn all_callable<'a, R: Threads + Sync>(
     program: &'a Program,
     keep: bool,
 ) -> Result<(Vec<Piece>, Vec<PieceCalls<'a>>), GoalStop>
-    ensures pieces { IfOk result (λ found. ArePieces (see_program program.now) found.0.items) }
-    ensures kept { IfOk result (λ found. keep ≡ true → AreKept (see_program program.now) found.1.items) }
-    ensures callable { OnOk result (AreGoalFaults (see_program program.now) []) }
-    ensures refused { IfErr result (IsGoalStop (see_program program.now)) }
+    ensures pieces { IfOk result (λ found. ArePieces program.now found.0.items) }
+    ensures kept { IfOk result (λ found. keep ≡ true → AreKept program.now found.1.items) }
+    ensures callable { OnOk result (AreGoalFaults program.now []) }
+    ensures refused { IfErr result (IsGoalStop program.now) }
 {
     program.is_known();
     let found = open_all(rt, alloc, program, keep)?;
@@ -158,9 +157,9 @@ pub fn call_lists<'a, R: Threads + Sync>(
     alloc: Global,
     program: &'a Program,
 ) -> Result<CallLists<'a>, GoalStop>
-    ensures calls { IfOk result (λ calls. see_call_lists calls ≡ see_program program.now) }
-    ensures callable { OnOk result (AreGoalFaults (see_program program.now) []) }
-    ensures refused { IfErr result (IsGoalStop (see_program program.now)) }
+    ensures calls { IfOk result (λ calls. see_call_lists calls ≡ program.now) }
+    ensures callable { OnOk result (AreGoalFaults program.now []) }
+    ensures refused { IfErr result (IsGoalStop program.now) }
 {
     let (pieces, _kept) = all_callable(rt, alloc, program, false)?;
     Ok(CallLists::of_pieces(program, pieces))
@@ -173,9 +172,9 @@ pub fn placed_call_lists<'a, R: Threads + Sync>(
     alloc: Global,
     program: &'a Program,
 ) -> Result<PlacedCallLists<'a>, GoalStop>
-    ensures calls { IfOk result (λ calls. see_placed_lists calls ≡ see_program program.now) }
-    ensures callable { OnOk result (AreGoalFaults (see_program program.now) []) }
-    ensures refused { IfErr result (IsGoalStop (see_program program.now)) }
+    ensures calls { IfOk result (λ calls. see_placed_lists calls ≡ program.now) }
+    ensures callable { OnOk result (AreGoalFaults program.now []) }
+    ensures refused { IfErr result (IsGoalStop program.now) }
 {
     let (pieces, kept) = all_callable(rt, alloc, program, true)?;
     let lists = CallLists::of_pieces(program, pieces);
@@ -188,8 +187,8 @@ pub fn check_goals<R: Threads + Sync>(
     alloc: Global,
     program: &Program,
 ) -> Result<(), GoalStop>
-    ensures ok { OnOk result (AreGoalFaults (see_program program.now) []) }
-    ensures refused { IfErr result (IsGoalStop (see_program program.now)) }
+    ensures ok { OnOk result (AreGoalFaults program.now []) }
+    ensures refused { IfErr result (IsGoalStop program.now) }
 {
     call_lists(rt, alloc, program)?;
     Ok(())

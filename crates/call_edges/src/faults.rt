@@ -1,7 +1,6 @@
 //! Goals that aren't callable, by the places of their files and their offsets.
 
 ghost use Rattle.std.specs.Prelude.{◌≡◌, ℕ, All, Contains, map, IfOk, OnOk};
-ghost use Rattle.import_rules.specs.Program.{see_program};
 ghost use Rattle.call_edges.specs.Goals.{Adds, fault};
 ghost use Rattle.call_edges.specs.ProgramRows.{rows_of};
 ghost use Rattle.call_edges.specs.Seen.{see_met, see_mets};
@@ -44,7 +43,7 @@ fn faults_in(
     bodies: &[Body],
 ) -> Result<Vec<(u32, u32)>, AllocError>
     requires { All IsLight (map see_body bodies.now) }
-    ensures { IfOk result (λ faults. AreFaultsIn (rows_of (see_program program.now)) (map see_body bodies.now) faults.items) }
+    ensures { IfOk result (λ faults. AreFaultsIn (rows_of program.now) (map see_body bodies.now) faults.items) }
 {
     let mut met = Vec::new(alloc);
     let mut faults = Vec::new(alloc);
@@ -58,7 +57,7 @@ fn faults_in(
 
 /// The places of goals of directives that aren't callable.
 pub fn directive_faults(alloc: Global, program: &Program) -> Result<Vec<(u32, u32)>, AllocError>
-    ensures { IfOk result (λ faults. AreFaultsIn (rows_of (see_program program.now)) (goals_in (see_program program.now).loaded.files) faults.items) }
+    ensures { IfOk result (λ faults. AreFaultsIn (rows_of program.now) (goals_in program.now.loaded.files) faults.items) }
 {
     program.is_known();
     let bodies = goals_of(alloc, program)?;

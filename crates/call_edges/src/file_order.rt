@@ -5,7 +5,6 @@ ghost use Rattle.std.specs.List.{flat_map};
 ghost use Rattle.std.specs.List.Sorted.{IsNonDecreasingBy, IsPermutation};
 ghost use Rattle.clause_text.specs.Clauses.{clause_trees};
 ghost use Rattle.call_edges.specs.FileOrder.{AreStarts, first_offset, node_of, see_start, start_in, start_place};
-ghost use Rattle.import_rules.specs.Program.{see_program};
 
 use crate::lists::joined;
 use clause_text::Clause;
@@ -42,8 +41,8 @@ fn first_offset(names: &Names, clauses: &[Clause]) -> u32
 /// A number that rises with the place at which the first clause of a predicate starts: by file, then by
 /// offset.
 fn first_place(program: &Program, node: u32) -> u64
-    requires { node < length (see_program program.now).predicates }
-    ensures { result ≡ start_place (see_program program.now) node }
+    requires { node < length program.now.predicates }
+    ensures { result ≡ start_place program.now node }
 {
     let Some(place) = program.places_of(node).first() else {
         return 0;
@@ -56,8 +55,8 @@ fn first_place(program: &Program, node: u32) -> u64
 
 /// These predicates, with their places.
 fn starts_from(alloc: Global, program: &Program, nodes: &[u32]) -> Result<Vec<Start>, AllocError>
-    requires { All (λ p. p < length (see_program program.now).predicates) nodes.now }
-    ensures { IfOk result (λ starts. AreStarts (see_program program.now) nodes.now starts.items) }
+    requires { All (λ p. p < length program.now.predicates) nodes.now }
+    ensures { IfOk result (λ starts. AreStarts program.now nodes.now starts.items) }
 {
     let mut starts = Vec::with_capacity(alloc, nodes.len())?;
     for node in nodes {
@@ -76,16 +75,16 @@ fn starts_of_each<R: Threads + Sync>(
     program: &Program,
     nodes: &[u32],
 ) -> Result<Vec<Vec<Start>>, AllocError>
-    requires { All (λ p. p < length (see_program program.now).predicates) nodes.now }
-    ensures { IfOk result (λ each. AreStarts (see_program program.now) nodes.now (flat_map (λ list. list.items) each.items)) }
+    requires { All (λ p. p < length program.now.predicates) nodes.now }
+    ensures { IfOk result (λ each. AreStarts program.now nodes.now (flat_map (λ list. list.items) each.items)) }
 {
     nodes
         .par_chunks(SIZE)
         .with_min_len(FEWEST)
         .map(
             |part: &[u32]| -> Result<Vec<Start>, AllocError>
-                requires { All (λ p. p < length (see_program program.now).predicates) part.now }
-                ensures { IfOk result (λ starts. AreStarts (see_program program.entry.now) part.now starts.items) }
+                requires { All (λ p. p < length program.now.predicates) part.now }
+                ensures { IfOk result (λ starts. AreStarts program.entry.now part.now starts.items) }
             { starts_from(alloc, program, part) },
         )
         .collect::<Result<Vec<Vec<Start>>, AllocError>>(rt, alloc)?
@@ -98,8 +97,8 @@ fn starts_in_order<R: Threads + Sync>(
     program: &Program,
     nodes: &[u32],
 ) -> Result<Vec<Start>, AllocError>
-    requires { All (λ p. p < length (see_program program.now).predicates) nodes.now }
-    ensures starts { IfOk result (λ starts. IsPermutation (map (start_in (see_program program.now)) nodes.now) (map see_start starts.items)) }
+    requires { All (λ p. p < length program.now.predicates) nodes.now }
+    ensures starts { IfOk result (λ starts. IsPermutation (map (start_in program.now) nodes.now) (map see_start starts.items)) }
     ensures ascending { IfOk result (λ starts. IsNonDecreasingBy (λ s. s.place) starts.items) }
 {
     let each = starts_of_each(rt, alloc, program, nodes)?;
@@ -128,9 +127,9 @@ pub fn in_file_order<R: Threads + Sync>(
     program: &Program,
     nodes: &[u32],
 ) -> Result<Vec<u32>, AllocError>
-    requires { All (λ p. p < length (see_program program.now).predicates) nodes.now }
+    requires { All (λ p. p < length program.now.predicates) nodes.now }
     ensures same { IfOk result (λ order. IsPermutation nodes.now order.items) }
-    ensures in_order { IfOk result (λ order. IsNonDecreasingBy (start_place (see_program program.now)) order.items) }
+    ensures in_order { IfOk result (λ order. IsNonDecreasingBy (start_place program.now) order.items) }
 {
     let starts = starts_in_order(rt, alloc, program, nodes)?;
     let order = nodes_of(alloc, &starts)?;

@@ -1,7 +1,6 @@
 //! What is found where a predicate is opened.
 
 ghost use Rattle.std.specs.Prelude.{◌≡◌, [], true, Contains, OnOk};
-ghost use Rattle.import_rules.specs.Program.{see_program};
 ghost use Rattle.call_edges.specs.CallPlaces.{IsCallBy};
 ghost use Rattle.call_edges.specs.Calls.{GoesTo};
 ghost use Rattle.call_edges.specs.Goals.{Adds};
@@ -48,9 +47,9 @@ pub fn push_found<'a>(
     met: &[Met<'a>],
     found: &mut Found<'a>,
 ) -> Result<(), AllocError>
-    requires { AreMeant (see_program program.now) met.now }
-    ensures callees { OnOk result (Adds (GoesTo (see_program program.now) (Contains (see_mets met.now))) found.old.callees.items found.new.callees.items) }
-    ensures calls { OnOk result (opening.keep ≡ true → Adds (IsCallBy (see_program program.now) file opening.node (Contains (see_mets met.now)))
+    requires { AreMeant program.now met.now }
+    ensures callees { OnOk result (Adds (GoesTo program.now (Contains (see_mets met.now))) found.old.callees.items found.new.callees.items) }
+    ensures calls { OnOk result (opening.keep ≡ true → Adds (IsCallBy program.now file opening.node (Contains (see_mets met.now)))
         (see_calls found.old.calls.items) (see_calls found.new.calls.items)) }
 {
     for one in met {

@@ -2,7 +2,6 @@
 
 ghost use Rattle.std.specs.Prelude.{◌≡◌, ◌<◌, [], length, slice_index_or};
 ghost use Rattle.std.proofs.Props.{props};
-ghost use Rattle.import_rules.specs.Program.{see_program};
 ghost use Rattle.call_edges.specs.CallLists.{ArePieces, AreListed};
 ghost use Rattle.call_edges.specs.Successors.{successor_lists};
 
@@ -19,7 +18,7 @@ pub struct CallLists<'a> {
     program: &'a Program,
     /// The lists, piece by piece.
     pieces: Vec<Piece>,
-    pub ghost listed: { AreListed (successor_lists (see_program program.now)) pieces.items } by { Prim.hlevel props },
+    pub ghost listed: { AreListed (successor_lists program.now) pieces.items } by { Prim.hlevel props },
 }
 
 impl<'a> CallLists<'a> {
@@ -27,15 +26,15 @@ impl<'a> CallLists<'a> {
 
     /// The lists of all predicates, which were opened piece by piece. It takes no memory.
     pub(crate) fn of_pieces(program: &'a Program, pieces: Vec<Piece>) -> CallLists<'a>
-        requires { ArePieces (see_program program.now) pieces.items }
-        ensures { see_call_lists result ≡ see_program program.now }
+        requires { ArePieces program.now pieces.items }
+        ensures { see_call_lists result ≡ program.now }
     {
         CallLists { program, pieces }
     }
 
     /// The program whose calls they are.
     pub(crate) fn program(&self) -> &'a Program
-        ensures { see_program result.now ≡ see_call_lists self.now }
+        ensures { result.now ≡ see_call_lists self.now }
     {
         self.program
     }

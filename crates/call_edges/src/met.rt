@@ -1,7 +1,6 @@
 //! What is met in the clauses of a predicate.
 
 ghost use Rattle.std.specs.Prelude.{◌≡◌, ◌<◌, ◌↔◌, All, Contains, length, map, IfOk, OnOk};
-ghost use Rattle.import_rules.specs.Program.{see_program};
 ghost use Rattle.call_edges.specs.Goals.{Adds, Met as Seen};
 ghost use Rattle.call_edges.specs.Meant.{AreMeant};
 ghost use Rattle.call_edges.specs.ProgramRows.{rows_of};
@@ -23,9 +22,9 @@ fn push_met<'a>(
     met: &mut Vec<Met<'a>>,
 ) -> Result<(), AllocError>
     requires { All IsLight (map see_body bodies.now) }
-    ensures met { OnOk result (Adds (IsAmong (IsMetInBody (rows_of (see_program program.now))) (map see_body bodies.now))
+    ensures met { OnOk result (Adds (IsAmong (IsMetInBody (rows_of program.now)) (map see_body bodies.now))
         (see_mets met.old.items) (see_mets met.new.items)) }
-    ensures meant { OnOk result (AreMeant (see_program program.now) met.old.items → AreMeant (see_program program.now) met.new.items) }
+    ensures meant { OnOk result (AreMeant program.now met.old.items → AreMeant program.now met.new.items) }
 {
     for body in bodies {
         walk(alloc, program, &body.term, body.owner, body.role, met)?;
@@ -40,9 +39,9 @@ pub fn met_in<'a>(
     program: &'a Program,
     node: u32,
 ) -> Result<Vec<Met<'a>>, AllocError>
-    requires { node < length (see_program program.now).predicates }
-    ensures met { IfOk result (λ met. (m : Seen) → Contains (see_mets met.items) m ↔ IsMetIn (see_program program.now) node m) }
-    ensures meant { IfOk result (λ met. AreMeant (see_program program.now) met.items) }
+    requires { node < length program.now.predicates }
+    ensures met { IfOk result (λ met. (m : Seen) → Contains (see_mets met.items) m ↔ IsMetIn program.now node m) }
+    ensures meant { IfOk result (λ met. AreMeant program.now met.items) }
 {
     program.is_known();
     let bodies = bodies_of(alloc, program, node)?;

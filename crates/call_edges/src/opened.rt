@@ -1,7 +1,6 @@
 //! What is found in the clauses of one predicate.
 
 ghost use Rattle.std.specs.Prelude.{◌≡◌, ◌<◌, ◌↔◌, true, All, Contains, length, map, OnOk};
-ghost use Rattle.import_rules.specs.Program.{see_program};
 ghost use Rattle.call_edges.specs.ProgramRows.{rows_of};
 ghost use Rattle.call_edges.specs.Goals.{Adds};
 ghost use Rattle.call_edges.specs.Calls.{GoesTo, IsAmong};
@@ -48,11 +47,11 @@ fn found_in<'a>(
 ) -> Result<(), AllocError>
     requires { All IsLight (map see_body bodies.now) }
     ensures callees { OnOk result (Adds
-        (GoesTo (see_program program.now) (IsAmong (IsMetInBody (rows_of (see_program program.now))) (map see_body bodies.now)))
+        (GoesTo program.now (IsAmong (IsMetInBody (rows_of program.now)) (map see_body bodies.now)))
         found.old.callees.items found.new.callees.items) }
-    ensures calls { OnOk result (opening.keep ≡ true → Adds (IsAmong (IsCalledIn (see_program program.now) opening.node) (map see_body bodies.now))
+    ensures calls { OnOk result (opening.keep ≡ true → Adds (IsAmong (IsCalledIn program.now opening.node) (map see_body bodies.now))
         (see_calls found.old.calls.items) (see_calls found.new.calls.items)) }
-    ensures faults { OnOk result (Adds (IsAmong (IsFaultIn (rows_of (see_program program.now))) (map see_body bodies.now)) faults.old.items faults.new.items) }
+    ensures faults { OnOk result (Adds (IsAmong (IsFaultIn (rows_of program.now)) (map see_body bodies.now)) faults.old.items faults.new.items) }
 {
     for body in bodies {
         met.clear();
@@ -74,11 +73,11 @@ pub fn open<'a>(
     found: &mut Found<'a>,
     faults: &mut Vec<(u32, u32)>,
 ) -> Result<(), AllocError>
-    requires { opening.node < length (see_program program.now).predicates }
-    ensures callees { OnOk result (IsOpened (see_program program.now) opening.node found.new.callees.items) }
+    requires { opening.node < length program.now.predicates }
+    ensures callees { OnOk result (IsOpened program.now opening.node found.new.callees.items) }
     ensures calls { OnOk result (opening.keep ≡ true → (c : CallAt)
-        → Contains (see_calls found.new.calls.items) c ↔ IsCallOf (see_program program.now) opening.node c) }
-    ensures faults { OnOk result (Adds (IsAmong (IsFaultIn (rows_of (see_program program.now))) (bodies_in (see_program program.now) opening.node))
+        → Contains (see_calls found.new.calls.items) c ↔ IsCallOf program.now opening.node c) }
+    ensures faults { OnOk result (Adds (IsAmong (IsFaultIn (rows_of program.now)) (bodies_in program.now opening.node))
         faults.old.items faults.new.items) }
 {
     program.is_known();

@@ -1,7 +1,6 @@
 //! What predicates call whose numbers stand side by side.
 
 ghost use Rattle.std.specs.Prelude.{◌≡◌, ◌∷◌, ◌++◌, ◌+◌, ◌*◌, ◌<◌, ◌↔◌, ℕ, [], length, IfOk, OnOk};
-ghost use Rattle.import_rules.specs.Program.{see_program};
 ghost use Rattle.call_edges.specs.declared.piece.TheConstants.{PIECE_SIZE};
 ghost use Rattle.call_edges.specs.OpenedPieces.{IsOpenedPiece};
 
@@ -79,8 +78,8 @@ pub fn open_piece<'a>(
     keep: bool,
     number: u32,
 ) -> Result<OpenedPiece<'a>, AllocError>
-    requires { number * PIECE_SIZE < length (see_program program.now).predicates }
-    ensures { IfOk result (IsOpenedPiece keep (see_program program.now) number) }
+    requires { number * PIECE_SIZE < length program.now.predicates }
+    ensures { IfOk result (IsOpenedPiece keep program.now number) }
 {
     let count = program.count();
     let from = number * PIECE_SIZE;

@@ -3,7 +3,6 @@
 ghost use Rattle.std.specs.Prelude.{◌≡◌, ◌≤◌, All, length, IfOk};
 ghost use Rattle.std.specs.List.{AllZip};
 ghost use Rattle.file_library.specs.Spots.{IsSpotPlace, texts_of};
-ghost use Rattle.import_rules.specs.Program.{see_program};
 ghost use Rattle.call_edges.specs.FaultPlaces.{AreFaultPlaces, IsPlaced};
 
 use clause_text::Cause;
@@ -40,8 +39,8 @@ pub fn placed(
     program: &Program,
     spots: &[(u32, u32)],
 ) -> Result<Vec<Fault>, AllocError>
-    requires { AreFaultPlaces (see_program program.now) spots.now }
-    ensures { IfOk result (λ faults. AllZip (IsPlaced (see_program program.now).loaded.texts) spots.now faults.items) }
+    requires { AreFaultPlaces program.now spots.now }
+    ensures { IfOk result (λ faults. AllZip (IsPlaced program.now.loaded.texts) spots.now faults.items) }
 {
     program.is_known();
     let places = program.places_of_spots(alloc, spots)?;

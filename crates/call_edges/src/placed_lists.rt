@@ -27,7 +27,7 @@ impl<'a> PlacedCallLists<'a> {
     ghost use Rattle.call_edges.specs.CallPlaces.{CallAt, IsCallOf};
     ghost use Rattle.call_edges.specs.PlacedLists.{see_placed_lists};
     ghost use Rattle.call_edges.specs.PlacedSeen.{see_calls};
-    ghost use Rattle.import_rules.specs.Program.{IsKnown, see_program};
+    ghost use Rattle.import_rules.specs.Program.{IsKnown};
 
     /// These lists, and the calls of all pieces. It takes no memory.
     pub(crate) fn of_pieces(
@@ -49,7 +49,7 @@ impl<'a> PlacedCallLists<'a> {
 
     /// The program whose calls they are.
     pub fn program(&self) -> &'a Program
-        ensures { see_program result.now ≡ see_placed_lists self.now }
+        ensures { result.now ≡ see_placed_lists self.now }
     {
         self.lists.program()
     }

@@ -4,7 +4,6 @@ ghost use Rattle.std.specs.Prelude.{◌≡◌, ◌↔◌, ◌<◌, ℕ, Some, Al
 ghost use Rattle.std.specs.List.Sorted.{IsStrictlyIncreasing};
 ghost use Rattle.module_table.specs.Facts.{see_facts};
 ghost use Rattle.file_library.specs.Asked.{AreInOrder};
-ghost use Rattle.import_rules.specs.Program.{see_program};
 ghost use Rattle.call_edges.specs.Goals.{Adds};
 ghost use Rattle.call_edges.specs.Calls.{IsAmong};
 ghost use Rattle.call_edges.specs.Roots.{AreMarked, HasMarked, IsDefinedByRoot, IsExportOf, IsExportedByRoot, IsGivenByRoot, IsPlainRoot, IsRoot};
@@ -23,7 +22,7 @@ fn push_exports(
     exports: &[Indicator],
     roots: &mut Vec<u32>,
 ) -> Result<(), AllocError>
-    ensures { OnOk result (Adds (IsAmong (IsExportOf (see_program program.now) owner.now) exports.now) roots.old.items roots.new.items) }
+    ensures { OnOk result (Adds (IsAmong (IsExportOf program.now owner.now) exports.now) roots.old.items roots.new.items) }
 {
     for export in exports {
         let Some(node) = program.find(owner, export.name.as_str(), export.arity) else {
@@ -44,8 +43,9 @@ fn is_among(names: &[Text], name: &Text) -> bool
 
 /// Adds the exports of the root files that are module files.
 fn push_all_exports(program: &Program, roots: &mut Vec<u32>) -> Result<(), AllocError>
-    ensures { OnOk result (Adds (IsAmong (IsExportedByRoot (see_program program.now)) (see_program program.now).loaded.files) roots.old.items roots.new.items) }
+    ensures { OnOk result (Adds (IsAmong (IsExportedByRoot program.now) program.now.loaded.files) roots.old.items roots.new.items) }
 {
+    program.is_known();
     let loaded = program.loaded();
     for file in &loaded.files {
         if !file.is_module {
@@ -72,8 +72,9 @@ fn is_plain_root(roots: &[Text], file: &FileFacts) -> bool
 
 /// For each file whether it is a root file and no module file.
 fn plain_roots(alloc: Global, program: &Program) -> Result<Vec<bool>, AllocError>
-    ensures { IfOk result (λ marks. AreMarked (see_program program.now) marks.items) }
+    ensures { IfOk result (λ marks. AreMarked program.now marks.items) }
 {
+    program.is_known();
     let loaded = program.loaded();
     let mut marks = Vec::with_capacity(alloc, loaded.files.len())?;
     for file in &loaded.files {
@@ -98,8 +99,8 @@ fn is_marked(marks: &[bool], places: &[(u32, u32)]) -> bool
 /// Adds the predicates that marked files define. They are found by their places, so no name is looked
 /// up.
 fn push_marked(program: &Program, marks: &[bool], roots: &mut Vec<u32>) -> Result<(), AllocError>
-    requires { AreMarked (see_program program.now) marks.now }
-    ensures { OnOk result (Adds (IsAmong (IsDefinedByRoot (see_program program.now)) (see_program program.now).loaded.files) roots.old.items roots.new.items) }
+    requires { AreMarked program.now marks.now }
+    ensures { OnOk result (Adds (IsAmong (IsDefinedByRoot program.now) program.now.loaded.files) roots.old.items roots.new.items) }
 {
     program.is_known();
     for node in 0..program.count() {
@@ -113,7 +114,7 @@ fn push_marked(program: &Program, marks: &[bool], roots: &mut Vec<u32>) -> Resul
 
 /// Adds what the root files give.
 fn push_all_given(alloc: Global, program: &Program, roots: &mut Vec<u32>) -> Result<(), AllocError>
-    ensures { OnOk result (Adds (IsAmong (IsGivenByRoot (see_program program.now)) (see_program program.now).loaded.files) roots.old.items roots.new.items) }
+    ensures { OnOk result (Adds (IsAmong (IsGivenByRoot program.now) program.now.loaded.files) roots.old.items roots.new.items) }
 {
     push_all_exports(program, roots)?;
     let marks = plain_roots(alloc, program)?;
@@ -124,8 +125,8 @@ fn push_all_given(alloc: Global, program: &Program, roots: &mut Vec<u32>) -> Res
 /// module files, what other root files define, and what goal directives of any file call.
 pub fn roots_of(alloc: Global, program: &Program) -> Result<Vec<u32>, AllocError>
     ensures ascending { IfOk result (λ roots. IsStrictlyIncreasing roots.items) }
-    ensures roots { IfOk result (λ roots. (q : ℕ) → Contains roots.items q ↔ IsRoot (see_program program.now) q) }
-    ensures below { IfOk result (λ roots. All (λ q. q < length (see_program program.now).predicates) roots.items) }
+    ensures roots { IfOk result (λ roots. (q : ℕ) → Contains roots.items q ↔ IsRoot program.now q) }
+    ensures below { IfOk result (λ roots. All (λ q. q < length program.now.predicates) roots.items) }
 {
     program.is_known();
     let mut roots = Vec::new(alloc);

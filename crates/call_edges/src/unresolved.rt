@@ -1,7 +1,6 @@
 //! Calls that go to no predicate.
 
 ghost use Rattle.std.specs.Prelude.{◌≡◌, ◌<◌, Contains, length, map, option_map, IfOk, OnOk};
-ghost use Rattle.import_rules.specs.Program.{see_program};
 ghost use Rattle.call_edges.specs.Goals.{Adds};
 ghost use Rattle.call_edges.specs.Seen.{see_met, see_mets};
 ghost use Rattle.call_edges.specs.Called.{see_called, unresolved};
@@ -23,7 +22,7 @@ struct Called<'a> {
 
 /// The name of a call that goes to no predicate.
 fn unresolved<'a>(program: &Program, met: Met<'a>) -> Option<Called<'a>>
-    ensures { option_map see_called result ≡ unresolved (see_program program.now) (see_met met.entry) }
+    ensures { option_map see_called result ≡ unresolved program.now (see_met met.entry) }
 {
     let Met::Call {
         module,
@@ -50,7 +49,7 @@ fn push_unresolved<'a>(
     met: &[Met<'a>],
     names: &mut Vec<Called<'a>>,
 ) -> Result<(), AllocError>
-    ensures { OnOk result (Adds (IsUnresolvedOf (see_program program.now) (Contains (see_mets met.now)))
+    ensures { OnOk result (Adds (IsUnresolvedOf program.now (Contains (see_mets met.now)))
         (map see_called names.old.items) (map see_called names.new.items)) }
 {
     for one in met {
@@ -84,8 +83,8 @@ pub fn unresolved_of(
     program: &Program,
     node: u32,
 ) -> Result<Vec<PredName>, AllocError>
-    requires { node < length (see_program program.now).predicates }
-    ensures { IfOk result (λ names. AreUnresolved (see_program program.now) node names.items) }
+    requires { node < length program.now.predicates }
+    ensures { IfOk result (λ names. AreUnresolved program.now node names.items) }
 {
     let met = met_in(alloc, program, node)?;
     let mut called = Vec::new(alloc);

@@ -9,7 +9,7 @@ ghost use Rattle.call_edges.specs.Goals.{atom_met, constant_met, curly_role, row
 ghost use Rattle.call_edges.specs.Meant.{AreMeant, IsMeant};
 ghost use Rattle.call_edges.specs.ProgramRows.{rows_of};
 ghost use Rattle.call_edges.specs.Seen.{see_met, see_mets, see_standing};
-ghost use Rattle.import_rules.specs.Program.{Seen, see_program};
+ghost use Rattle.import_rules.specs.Program.{Seen};
 
 use crate::apart::take_apart;
 use crate::role::{Meant, Met, Row, Standing};
@@ -153,9 +153,9 @@ pub fn walk<'a>(
     met: &mut Vec<Met<'a>>,
 ) -> Result<(), AllocError>
     requires { added role + 10 * weight (tree_of term.now) ≤ 4294967295 }
-    ensures met { OnOk result (AddsMet (rows_of (see_program program.now)) (place owner.now role (tree_of term.now))
+    ensures met { OnOk result (AddsMet (rows_of program.now) (place owner.now role (tree_of term.now))
         (see_mets met.old.items) (see_mets met.new.items)) }
-    ensures meant { OnOk result (AreMeant (see_program program.now) met.old.items → AreMeant (see_program program.now) met.new.items) }
+    ensures meant { OnOk result (AreMeant program.now met.old.items → AreMeant program.now met.new.items) }
 {
     match term.kind() {
         TermKind::Var => Ok(()),

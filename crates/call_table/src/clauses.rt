@@ -5,7 +5,6 @@ ghost use Rattle.std.specs.List.{flat_map};
 ghost use Rattle.file_library.specs.Spots.{StandsInText};
 ghost use Rattle.call_table.specs.Clauses.{AreClausesOf, clause_at, clauses_in};
 ghost use Rattle.call_table.specs.declared.clauses.ClauseAt.{ClauseAt as Clauses};
-ghost use Rattle.import_rules.specs.Program.{see_program};
 ghost use Rattle.clause_text.specs.Clauses.{clause_trees};
 
 use clause_text::Clause;
@@ -45,8 +44,8 @@ fn push_clauses(
 
 /// Adds where the clauses of a predicate start.
 fn push_clauses_of(program: &Program, node: u32, out: &mut Vec<ClauseAt>) -> Result<(), AllocError>
-    requires { node < length (see_program program.now).predicates }
-    ensures { OnOk result (out.new.items ≡ out.old.items ++ clauses_in (see_program program.now) node) }
+    requires { node < length program.now.predicates }
+    ensures { OnOk result (out.new.items ≡ out.old.items ++ clauses_in program.now node) }
 {
     let files = &program.loaded().files;
     for place in program.places_of(node) {
@@ -64,8 +63,8 @@ fn clauses_from(
     program: &Program,
     nodes: &[u32],
 ) -> Result<Vec<ClauseAt>, AllocError>
-    requires { All (λ p. p < length (see_program program.now).predicates) nodes.now }
-    ensures { IfOk result (λ clauses. clauses.items ≡ flat_map (clauses_in (see_program program.now)) nodes.now) }
+    requires { All (λ p. p < length program.now.predicates) nodes.now }
+    ensures { IfOk result (λ clauses. clauses.items ≡ flat_map (clauses_in program.now) nodes.now) }
 {
     let mut out = Vec::new(alloc);
     for node in nodes {
@@ -80,9 +79,9 @@ pub fn clauses_of(
     program: &Program,
     nodes: &[u32],
 ) -> Result<Vec<ClauseAt>, AllocError>
-    requires { All (λ p. p < length (see_program program.now).predicates) nodes.now }
-    ensures clauses { IfOk result (λ clauses. AreClausesOf (see_program program.now) nodes.now clauses.items) }
-    ensures stand { IfOk result (λ clauses. All (λ (c : Clauses). StandsInText (see_program program.now).loaded.texts c.file c.offset) clauses.items) }
+    requires { All (λ p. p < length program.now.predicates) nodes.now }
+    ensures clauses { IfOk result (λ clauses. AreClausesOf program.now nodes.now clauses.items) }
+    ensures stand { IfOk result (λ clauses. All (λ (c : Clauses). StandsInText program.now.loaded.texts c.file c.offset) clauses.items) }
 {
     program.is_known();
     let mut clauses = clauses_from(alloc, program, nodes)?;

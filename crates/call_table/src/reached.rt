@@ -5,7 +5,6 @@ ghost use Rattle.call_edges.specs.Opened.{see_call_lists};
 ghost use Rattle.call_edges.specs.Successors.{successor_lists};
 ghost use Rattle.call_table.specs.Reached.{AreNodes};
 ghost use Rattle.graph_law.specs.Graph.{Calls as ListCalls, lists_of};
-ghost use Rattle.import_rules.specs.Program.{see_program};
 ghost use Rattle.loop_report.specs.Reportable.{AreLeveled};
 
 use call_edges::CallLists;
@@ -29,11 +28,11 @@ pub fn groups_from(
     calls: &CallLists<'_>,
     roots: &[u32],
 ) -> Result<Reached, AllocError>
-    requires calls { see_call_lists calls.now ≡ see_program program.now }
-    requires below { All (λ q. q < length (see_program program.now).predicates) roots.now }
-    ensures groups { IfOk result (λ found. AreLeveled (ListCalls (successor_lists (see_program program.now)))
+    requires calls { see_call_lists calls.now ≡ program.now }
+    requires below { All (λ q. q < length program.now.predicates) roots.now }
+    ensures groups { IfOk result (λ found. AreLeveled (ListCalls (successor_lists program.now))
         roots.now (lists_of found.groups.items) found.levels.items) }
-    ensures nodes { IfOk result (λ found. AreNodes (length (see_program program.now).predicates) (lists_of found.groups.items)) }
+    ensures nodes { IfOk result (λ found. AreNodes (length program.now.predicates) (lists_of found.groups.items)) }
     ensures one_level_each { IfOk result (λ found. length found.levels.items ≡ length found.groups.items) }
 {
     let _program = program;

@@ -4,7 +4,6 @@ ghost use Rattle.std.specs.Prelude.{◌≡◌, ◌<◌, All, IfOk, length, map};
 ghost use Rattle.call_edges.specs.PlacedLists.{see_placed_lists};
 ghost use Rattle.call_table.specs.Table.{ArePlacedCalls, ArePlacedClauses, IsTable, clause_spot, kept_spot};
 ghost use Rattle.graph_law.specs.Graph.{lists_of};
-ghost use Rattle.import_rules.specs.Program.{see_program};
 
 use crate::clauses::{ClauseAt, clauses_of};
 use crate::memberships::groups_of;
@@ -56,8 +55,8 @@ fn clauses_with_places(
     program: &Program,
     nodes: &[u32],
 ) -> Result<(Vec<ClauseAt>, Vec<Place>), AllocError>
-    requires { All (λ p. p < length (see_program program.now).predicates) nodes.now }
-    ensures { IfOk result (λ found. ArePlacedClauses (see_program program.now) nodes.now found.0.items found.1.items) }
+    requires { All (λ p. p < length program.now.predicates) nodes.now }
+    ensures { IfOk result (λ found. ArePlacedClauses program.now nodes.now found.0.items found.1.items) }
 {
     let clauses = clauses_of(alloc, program, nodes)?;
     let spots = clause_spots(alloc, &clauses)?;

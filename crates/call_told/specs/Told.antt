@@ -6,7 +6,7 @@ use Rattle.std.specs.String.{string_bytes}
 use Rattle.std.specs.declared.alloc.Global.{Global}
 use Rattle.graph_law.specs.Graph.{Calls as ListCalls, lists_of}
 use Rattle.group_release.specs.declared.level.Level.{Level}
-use Rattle.import_rules.specs.Program.{Seen, see_program}
+use Rattle.import_rules.specs.Program.{Seen}
 use Rattle.call_edges.specs.PlacedSeen.{see_calls}
 use Rattle.call_edges.specs.Successors.{successor_lists}
 use Rattle.call_table.specs.Memberships.{AreGroupsOf}
@@ -30,7 +30,7 @@ pub record AreTold (count : ℕ) (nodes : List ℕ) (groups : List (List ℕ)) (
 
 -- the predicates, the groups and the places of these are those of one program
 abbrev pub IsTold : Told → Type 0
-IsTold told = AreTold (length (see_program told.program.now).predicates) told.nodes.items (lists_of told.groups.items) told.levels.items told.places.items
+IsTold told = AreTold (length told.program.now.predicates) told.nodes.items (lists_of told.groups.items) told.levels.items told.places.items
 
 -- the predicates that are told, ascending: all, or those whose place among the groups is not 0, which are in a group
 abbrev pub told_nodes : ℕ → List ℕ → Bool → List ℕ
@@ -43,7 +43,7 @@ pub record IsReach (asked : Asked) (seen : Seen) (roots : List ℕ) (groups : Li
   pub nodes_are : nodes ≡ told_nodes (length seen.predicates) places asked.settings.unreached
 
 abbrev pub ToldIs : Asked → List ℕ → Told → Type 0
-ToldIs asked roots told = IsReach asked (see_program told.program.now) roots (lists_of told.groups.items) told.levels.items told.places.items told.nodes.items
+ToldIs asked roots told = IsReach asked told.program.now roots (lists_of told.groups.items) told.levels.items told.places.items told.nodes.items
 
 -- the bytes of texts, one behind the other
 abbrev pub joined : List (String Global) → List ℕ

@@ -5,7 +5,6 @@ ghost use Rattle.std.specs.String.{string_bytes};
 ghost use Rattle.call_writer.specs.Lines.{predicate_line_of};
 ghost use Rattle.call_told.specs.Told.{IsTold, joined, predicate_lines};
 ghost use Rattle.graph_law.specs.Graph.{lists_of};
-ghost use Rattle.import_rules.specs.Program.{see_program};
 
 use crate::told::Told;
 use call_writer::push_predicate_line;
@@ -25,9 +24,9 @@ const ROOM: usize = 294_912;
 /// Adds the line of a predicate.
 fn push_told(text: &mut String, told: &Told<'_>, node: u32) -> Result<(), AllocError>
     requires told { IsTold told.now }
-    requires below { node < length (see_program told.now.program.now).predicates }
+    requires below { node < length told.now.program.now.predicates }
     ensures { OnOk result (string_bytes text.new ≡ string_bytes text.old
-        ++ predicate_line_of (see_program told.now.program.now).predicates (lists_of told.now.groups.items) told.now.levels.items node
+        ++ predicate_line_of told.now.program.now.predicates (lists_of told.now.groups.items) told.now.levels.items node
         (slice_index told.now.places.items node)) }
 {
     let place = told.places[node as usize];
@@ -37,9 +36,9 @@ fn push_told(text: &mut String, told: &Told<'_>, node: u32) -> Result<(), AllocE
 /// Adds the lines of these predicates.
 fn push_predicates(text: &mut String, told: &Told<'_>, nodes: &[u32]) -> Result<(), AllocError>
     requires told { IsTold told.now }
-    requires below { All (λ p. p < length (see_program told.now.program.now).predicates) nodes.now }
+    requires below { All (λ p. p < length told.now.program.now.predicates) nodes.now }
     ensures { OnOk result (string_bytes text.new ≡ string_bytes text.old
-        ++ predicate_lines (see_program told.now.program.now) (lists_of told.now.groups.items) told.now.levels.items told.now.places.items nodes.now) }
+        ++ predicate_lines told.now.program.now (lists_of told.now.groups.items) told.now.levels.items told.now.places.items nodes.now) }
 {
     for node in nodes {
         push_told(text, told, *node)?;
@@ -50,9 +49,9 @@ fn push_predicates(text: &mut String, told: &Told<'_>, nodes: &[u32]) -> Result<
 /// The lines of these predicates.
 fn predicate_text(alloc: Global, told: &Told<'_>, nodes: &[u32]) -> Result<String, AllocError>
     requires told { IsTold told.now }
-    requires below { All (λ p. p < length (see_program told.now.program.now).predicates) nodes.now }
+    requires below { All (λ p. p < length told.now.program.now.predicates) nodes.now }
     ensures { IfOk result (λ text. string_bytes text
-        ≡ predicate_lines (see_program told.now.program.now) (lists_of told.now.groups.items) told.now.levels.items told.now.places.items nodes.now) }
+        ≡ predicate_lines told.now.program.now (lists_of told.now.groups.items) told.now.levels.items told.now.places.items nodes.now) }
 {
     let mut text = String::with_capacity(alloc, ROOM)?;
     push_predicates(&mut text, told, nodes)?;
@@ -67,9 +66,9 @@ pub(crate) fn predicate_texts<R: Threads + Sync>(
     nodes: &[u32],
 ) -> Result<Vec<String>, AllocError>
     requires told { IsTold told.now }
-    requires below { All (λ p. p < length (see_program told.now.program.now).predicates) nodes.now }
+    requires below { All (λ p. p < length told.now.program.now.predicates) nodes.now }
     ensures { IfOk result (λ texts. joined texts.items
-        ≡ predicate_lines (see_program told.now.program.now) (lists_of told.now.groups.items) told.now.levels.items told.now.places.items nodes.now) }
+        ≡ predicate_lines told.now.program.now (lists_of told.now.groups.items) told.now.levels.items told.now.places.items nodes.now) }
 {
     nodes
         .par_chunks(SIZE)
@@ -77,9 +76,9 @@ pub(crate) fn predicate_texts<R: Threads + Sync>(
         .map(
             |part: &[u32]| -> Result<String, AllocError>
                 requires told { IsTold told.now }
-                requires below { All (λ p. p < length (see_program told.now.program.now).predicates) part.now }
+                requires below { All (λ p. p < length told.now.program.now.predicates) part.now }
                 ensures { IfOk result (λ text. string_bytes text
-                    ≡ predicate_lines (see_program told.entry.now.program.now) (lists_of told.entry.now.groups.items) told.entry.now.levels.items
+                    ≡ predicate_lines told.entry.now.program.now (lists_of told.entry.now.groups.items) told.entry.now.levels.items
                     told.entry.now.places.items part.now) }
             { predicate_text(alloc, told, part) },
         )

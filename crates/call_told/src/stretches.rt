@@ -5,7 +5,6 @@ ghost use Rattle.std.specs.List.{flat_map};
 ghost use Rattle.std.specs.String.{string_bytes};
 ghost use Rattle.call_told.specs.Stretches.{AreStretches, call_stretch, clause_stretch};
 ghost use Rattle.call_told.specs.Told.{call_lines, clause_lines, joined};
-ghost use Rattle.import_rules.specs.Program.{see_program};
 
 use call_edges::PlacedCall;
 use call_table::{CallTable, ClauseAt};
@@ -77,7 +76,7 @@ fn call_text(
     stretch: &Stretch<'_, PlacedCall<'_>>,
     undefined: bool,
 ) -> Result<String, AllocError>
-    ensures { IfOk result (λ text. string_bytes text ≡ call_stretch undefined (see_program program.now) stretch.now) }
+    ensures { IfOk result (λ text. string_bytes text ≡ call_stretch undefined program.now stretch.now) }
 {
     let mut text = String::with_capacity(alloc, ROOM)?;
     push_call_lines(
@@ -97,7 +96,7 @@ fn clause_text(
     program: &Program,
     stretch: &Stretch<'_, ClauseAt>,
 ) -> Result<String, AllocError>
-    ensures { IfOk result (λ text. string_bytes text ≡ clause_stretch (see_program program.now) stretch.now) }
+    ensures { IfOk result (λ text. string_bytes text ≡ clause_stretch program.now stretch.now) }
 {
     let mut text = String::with_capacity(alloc, ROOM)?;
     push_clause_lines(alloc, &mut text, program, stretch.rows, stretch.places)?;
@@ -112,14 +111,14 @@ fn each_call_text<R: Threads + Sync>(
     stretches: &[Stretch<'_, PlacedCall<'_>>],
     undefined: bool,
 ) -> Result<Vec<String>, AllocError>
-    ensures { IfOk result (λ texts. joined texts.items ≡ flat_map (call_stretch undefined (see_program program.now)) stretches.now) }
+    ensures { IfOk result (λ texts. joined texts.items ≡ flat_map (call_stretch undefined program.now) stretches.now) }
 {
     stretches
         .par_iter()
         .with_min_len(FEWEST)
         .map(
             |stretch: &Stretch<'_, PlacedCall<'_>>| -> Result<String, AllocError>
-                ensures { IfOk result (λ text. string_bytes text ≡ call_stretch undefined (see_program program.entry.now) stretch.now) }
+                ensures { IfOk result (λ text. string_bytes text ≡ call_stretch undefined program.entry.now stretch.now) }
             { call_text(alloc, program, stretch, undefined) },
         )
         .collect::<Result<Vec<String>, AllocError>>(rt, alloc)?
@@ -132,14 +131,14 @@ fn each_clause_text<R: Threads + Sync>(
     program: &Program,
     stretches: &[Stretch<'_, ClauseAt>],
 ) -> Result<Vec<String>, AllocError>
-    ensures { IfOk result (λ texts. joined texts.items ≡ flat_map (clause_stretch (see_program program.now)) stretches.now) }
+    ensures { IfOk result (λ texts. joined texts.items ≡ flat_map (clause_stretch program.now) stretches.now) }
 {
     stretches
         .par_iter()
         .with_min_len(FEWEST)
         .map(
             |stretch: &Stretch<'_, ClauseAt>| -> Result<String, AllocError>
-                ensures { IfOk result (λ text. string_bytes text ≡ clause_stretch (see_program program.entry.now) stretch.now) }
+                ensures { IfOk result (λ text. string_bytes text ≡ clause_stretch program.entry.now stretch.now) }
             { clause_text(alloc, program, stretch) },
         )
         .collect::<Result<Vec<String>, AllocError>>(rt, alloc)?
@@ -155,7 +154,7 @@ pub(crate) fn call_texts<R: Threads + Sync>(
     undefined: bool,
 ) -> Result<Vec<String>, AllocError>
     requires even { length table.now.calls.items ≡ length table.now.call_places.items }
-    ensures { IfOk result (λ texts. joined texts.items ≡ call_lines undefined (see_program program.now) table.now) }
+    ensures { IfOk result (λ texts. joined texts.items ≡ call_lines undefined program.now table.now) }
 {
     let cut = stretches(alloc, &table.calls, &table.call_places)?;
     let texts = each_call_text(rt, alloc, program, &cut, undefined)?;
@@ -170,7 +169,7 @@ pub(crate) fn clause_texts<R: Threads + Sync>(
     table: &CallTable<'_>,
 ) -> Result<Vec<String>, AllocError>
     requires even { length table.now.clauses.items ≡ length table.now.clause_places.items }
-    ensures { IfOk result (λ texts. joined texts.items ≡ clause_lines (see_program program.now) table.now) }
+    ensures { IfOk result (λ texts. joined texts.items ≡ clause_lines program.now table.now) }
 {
     let cut = stretches(alloc, &table.clauses, &table.clause_places)?;
     let texts = each_clause_text(rt, alloc, program, &cut)?;

@@ -13,7 +13,6 @@ ghost use Rattle.call_told.specs.Wanted.{see_wanted};
 ghost use Rattle.call_told.specs.declared.words.Form.TheVariants.{Lines, Undefined};
 ghost use Rattle.graph_law.specs.Classes.{group_at};
 ghost use Rattle.graph_law.specs.Graph.{lists_of};
-ghost use Rattle.import_rules.specs.Program.{see_program};
 
 use crate::predicate_texts::predicate_texts;
 use crate::stretches::{call_texts, clause_texts};
@@ -37,8 +36,8 @@ fn table_of<'a, R: Threads + Sync>(
     calls: &PlacedCallLists<'a>,
 ) -> Result<CallTable<'a>, AllocError>
     requires told { IsTold told.now }
-    requires calls { see_placed_lists calls.now ≡ see_program told.now.program.now }
-    ensures { IfOk result (IsTable (see_program told.now.program.now) told.now.nodes.items (lists_of told.now.groups.items)) }
+    requires calls { see_placed_lists calls.now ≡ told.now.program.now }
+    ensures { IfOk result (IsTable told.now.program.now told.now.nodes.items (lists_of told.now.groups.items)) }
 {
     call_table(rt, alloc, calls, &told.nodes, &told.groups)
 }
@@ -51,7 +50,7 @@ fn told_predicates<R: Threads + Sync>(
 ) -> Result<Vec<String>, AllocError>
     requires { IsTold told.now }
     ensures { IfOk result (λ texts. joined texts.items
-        ≡ predicate_lines (see_program told.now.program.now) (lists_of told.now.groups.items) told.now.levels.items told.now.places.items
+        ≡ predicate_lines told.now.program.now (lists_of told.now.groups.items) told.now.levels.items told.now.places.items
         told.now.nodes.items) }
 {
     predicate_texts(rt, alloc, told, &told.nodes)
@@ -65,10 +64,10 @@ fn table_beside_predicates<'a, R: Threads + Sync>(
     calls: &PlacedCallLists<'a>,
 ) -> Result<(CallTable<'a>, Vec<String>), AllocError>
     requires told { IsTold told.now }
-    requires calls { see_placed_lists calls.now ≡ see_program told.now.program.now }
-    ensures table { IfOk result (λ found. IsTable (see_program told.now.program.now) told.now.nodes.items (lists_of told.now.groups.items) found.0) }
+    requires calls { see_placed_lists calls.now ≡ told.now.program.now }
+    ensures table { IfOk result (λ found. IsTable told.now.program.now told.now.nodes.items (lists_of told.now.groups.items) found.0) }
     ensures lines { IfOk result (λ found. joined found.1.items
-        ≡ predicate_lines (see_program told.now.program.now) (lists_of told.now.groups.items) told.now.levels.items told.now.places.items
+        ≡ predicate_lines told.now.program.now (lists_of told.now.groups.items) told.now.levels.items told.now.places.items
         told.now.nodes.items) }
 {
     let (texts, table) = thread::join_mut(
@@ -76,12 +75,12 @@ fn table_beside_predicates<'a, R: Threads + Sync>(
         &mut || -> Result<Vec<String>, AllocError>
             requires { IsTold told.now }
             ensures { IfOk result (λ texts. joined texts.items
-                ≡ predicate_lines (see_program told.entry.now.program.now) (lists_of told.entry.now.groups.items) told.entry.now.levels.items
+                ≡ predicate_lines told.entry.now.program.now (lists_of told.entry.now.groups.items) told.entry.now.levels.items
                 told.entry.now.places.items told.entry.now.nodes.items) }
         { told_predicates(rt, alloc, told) },
         &mut || -> Result<CallTable<'_>, AllocError>
-            requires { IsTold told.now × (see_placed_lists calls.now ≡ see_program told.now.program.now) }
-            ensures { IfOk result (IsTable (see_program told.entry.now.program.now) told.entry.now.nodes.items (lists_of told.entry.now.groups.items)) }
+            requires { IsTold told.now × (see_placed_lists calls.now ≡ told.now.program.now) }
+            ensures { IfOk result (IsTable told.entry.now.program.now told.entry.now.nodes.items (lists_of told.entry.now.groups.items)) }
         { table_of(rt, alloc, told, calls) },
     );
     let table = table?;
@@ -96,8 +95,8 @@ fn lines_texts<R: Threads + Sync>(
     calls: &PlacedCallLists<'_>,
 ) -> Result<Vec<String>, AllocError>
     requires told { IsTold told.now }
-    requires calls { see_placed_lists calls.now ≡ see_program told.now.program.now }
-    ensures { IfOk result (λ texts. TellsForm Lines (see_program told.now.program.now) (lists_of told.now.groups.items) told.now.levels.items
+    requires calls { see_placed_lists calls.now ≡ told.now.program.now }
+    ensures { IfOk result (λ texts. TellsForm Lines told.now.program.now (lists_of told.now.groups.items) told.now.levels.items
         told.now.places.items told.now.nodes.items (joined texts.items)) }
 {
     let (table, mut texts) = table_beside_predicates(rt, alloc, told, calls)?;
@@ -117,8 +116,8 @@ fn undefined_texts<R: Threads + Sync>(
     calls: &PlacedCallLists<'_>,
 ) -> Result<Vec<String>, AllocError>
     requires told { IsTold told.now }
-    requires calls { see_placed_lists calls.now ≡ see_program told.now.program.now }
-    ensures { IfOk result (λ texts. TellsForm Undefined (see_program told.now.program.now) (lists_of told.now.groups.items) told.now.levels.items
+    requires calls { see_placed_lists calls.now ≡ told.now.program.now }
+    ensures { IfOk result (λ texts. TellsForm Undefined told.now.program.now (lists_of told.now.groups.items) told.now.levels.items
         told.now.places.items told.now.nodes.items (joined texts.items)) }
 {
     let table = table_of(rt, alloc, told, calls)?;
@@ -132,7 +131,7 @@ fn push_group(text: &mut String, told: &Told<'_>, place: usize) -> Result<(), Al
     requires told { IsTold told.now }
     requires within { place < length told.now.groups.items }
     ensures { OnOk result (string_bytes text.new ≡ string_bytes text.old
-        ++ cluster (see_program told.now.program.now).predicates (group_at (lists_of told.now.groups.items) place)) }
+        ++ cluster told.now.program.now.predicates (group_at (lists_of told.now.groups.items) place)) }
 {
     push_cluster(text, told.program, &told.groups[place])
 }
@@ -141,7 +140,7 @@ fn push_group(text: &mut String, told: &Told<'_>, place: usize) -> Result<(), Al
 fn push_clusters(text: &mut String, told: &Told<'_>) -> Result<(), AllocError>
     requires { IsTold told.now }
     ensures { OnOk result (string_bytes text.new ≡ string_bytes text.old
-        ++ flat_map (cluster (see_program told.now.program.now).predicates) (lists_of told.now.groups.items)) }
+        ++ flat_map (cluster told.now.program.now.predicates) (lists_of told.now.groups.items)) }
 {
     for place in 0..told.groups.len() {
         push_group(text, told, place)?;
@@ -152,9 +151,9 @@ fn push_clusters(text: &mut String, told: &Told<'_>) -> Result<(), AllocError>
 /// Adds the node of a predicate that is in no group, and nothing for another.
 fn push_ungrouped(text: &mut String, told: &Told<'_>, node: u32) -> Result<(), AllocError>
     requires told { IsTold told.now }
-    requires below { node < length (see_program told.now.program.now).predicates }
+    requires below { node < length told.now.program.now.predicates }
     ensures { OnOk result (string_bytes text.new ≡ string_bytes text.old
-        ++ ungrouped_line (see_program told.now.program.now) told.now.places.items node) }
+        ++ ungrouped_line told.now.program.now told.now.places.items node) }
 {
     if told.places[node as usize] != 0 {
         return Ok(());
@@ -166,7 +165,7 @@ fn push_ungrouped(text: &mut String, told: &Told<'_>, node: u32) -> Result<(), A
 fn push_all_ungrouped(text: &mut String, told: &Told<'_>) -> Result<(), AllocError>
     requires { IsTold told.now }
     ensures { OnOk result (string_bytes text.new ≡ string_bytes text.old
-        ++ flat_map (ungrouped_line (see_program told.now.program.now) told.now.places.items) told.now.nodes.items) }
+        ++ flat_map (ungrouped_line told.now.program.now told.now.places.items) told.now.nodes.items) }
 {
     for node in &told.nodes {
         push_ungrouped(text, told, *node)?;
@@ -182,10 +181,10 @@ fn push_callees(
     node: u32,
     callees: &mut Vec<u32>,
 ) -> Result<(), AllocError>
-    requires calls { see_call_lists calls.now ≡ see_program told.now.program.now }
-    requires below { node < length (see_program told.now.program.now).predicates }
+    requires calls { see_call_lists calls.now ≡ told.now.program.now }
+    requires below { node < length told.now.program.now.predicates }
     ensures { OnOk result (string_bytes text.new ≡ string_bytes text.old
-        ++ flat_map (edge_line node) (slice_index_or (successor_lists (see_program told.now.program.now)) node [])) }
+        ++ flat_map (edge_line node) (slice_index_or (successor_lists told.now.program.now) node [])) }
 {
     callees.clear();
     calls.expand(node, callees)?;
@@ -200,9 +199,9 @@ fn push_all_callees(
     calls: &CallLists<'_>,
 ) -> Result<(), AllocError>
     requires told { IsTold told.now }
-    requires calls { see_call_lists calls.now ≡ see_program told.now.program.now }
+    requires calls { see_call_lists calls.now ≡ told.now.program.now }
     ensures { OnOk result (string_bytes text.new ≡ string_bytes text.old
-        ++ flat_map (λ p. flat_map (edge_line p) (slice_index_or (successor_lists (see_program told.now.program.now)) p [])) told.now.nodes.items) }
+        ++ flat_map (λ p. flat_map (edge_line p) (slice_index_or (successor_lists told.now.program.now) p [])) told.now.nodes.items) }
 {
     let mut callees = Vec::new(alloc);
     for node in &told.nodes {
@@ -214,9 +213,9 @@ fn push_all_callees(
 /// The graph: a cluster for each group, the predicates that are in none, and what calls what.
 fn dot_graph(alloc: Global, told: &Told<'_>, calls: &CallLists<'_>) -> Result<String, AllocError>
     requires told { IsTold told.now }
-    requires calls { see_call_lists calls.now ≡ see_program told.now.program.now }
+    requires calls { see_call_lists calls.now ≡ told.now.program.now }
     ensures { IfOk result (λ text. string_bytes text
-        ≡ dot_graph (see_program told.now.program.now) (lists_of told.now.groups.items) told.now.places.items told.now.nodes.items) }
+        ≡ dot_graph told.now.program.now (lists_of told.now.groups.items) told.now.places.items told.now.nodes.items) }
 {
     let mut text = String::from_str(alloc, "digraph calls {\n")?;
     push_clusters(&mut text, told)?;
@@ -233,9 +232,9 @@ fn dot_texts(
     calls: &CallLists<'_>,
 ) -> Result<Vec<String>, AllocError>
     requires told { IsTold told.now }
-    requires calls { see_call_lists calls.now ≡ see_program told.now.program.now }
+    requires calls { see_call_lists calls.now ≡ told.now.program.now }
     ensures { IfOk result (λ texts. joined texts.items
-        ≡ dot_graph (see_program told.now.program.now) (lists_of told.now.groups.items) told.now.places.items told.now.nodes.items) }
+        ≡ dot_graph told.now.program.now (lists_of told.now.groups.items) told.now.places.items told.now.nodes.items) }
 {
     let text = dot_graph(alloc, told, calls)?;
     let mut texts = Vec::new(alloc);
@@ -252,8 +251,8 @@ fn texts_of<R: Threads + Sync>(
     calls: &PlacedCallLists<'_>,
 ) -> Result<Vec<String>, AllocError>
     requires told { IsTold told.now }
-    requires calls { see_placed_lists calls.now ≡ see_program told.now.program.now }
-    ensures { IfOk result (λ texts. TellsForm form (see_program told.now.program.now) (lists_of told.now.groups.items) told.now.levels.items
+    requires calls { see_placed_lists calls.now ≡ told.now.program.now }
+    ensures { IfOk result (λ texts. TellsForm form told.now.program.now (lists_of told.now.groups.items) told.now.levels.items
         told.now.places.items told.now.nodes.items (joined texts.items)) }
 {
     match form {
@@ -273,9 +272,9 @@ pub fn told_texts<R: Threads + Sync>(
     calls: &PlacedCallLists<'_>,
     roots: &[u32],
 ) -> Result<Vec<String>, AllocError>
-    requires calls { see_placed_lists calls.now ≡ see_program program.now }
-    requires below { All (λ q. q < length (see_program program.now).predicates) roots.now }
-    ensures { IfOk result (λ texts. TellsFrom (see_wanted wanted.now) (see_program program.now) roots.now (joined texts.items)) }
+    requires calls { see_placed_lists calls.now ≡ program.now }
+    requires below { All (λ q. q < length program.now.predicates) roots.now }
+    ensures { IfOk result (λ texts. TellsFrom (see_wanted wanted.now) program.now roots.now (joined texts.items)) }
 {
     let told = make_told(alloc, wanted, program, calls.lists(), roots)?;
     let texts = texts_of(rt, alloc, wanted.form, &told, calls)?;

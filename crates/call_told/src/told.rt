@@ -10,7 +10,6 @@ ghost use Rattle.call_told.specs.Told.{IsTold, ToldIs, told_nodes};
 ghost use Rattle.call_told.specs.Wanted.{see_wanted};
 ghost use Rattle.call_told.specs.declared.told.Told.{Told as ToldHere};
 ghost use Rattle.graph_law.specs.Graph.{Calls as ListCalls, lists_of};
-ghost use Rattle.import_rules.specs.Program.{see_program};
 
 use crate::words::Wanted;
 use call_edges::CallLists;
@@ -69,10 +68,10 @@ pub fn make_told<'a>(
     calls: &CallLists<'_>,
     roots: &[u32],
 ) -> Result<Told<'a>, AllocError>
-    requires calls { see_call_lists calls.now ≡ see_program program.now }
-    requires below { All (λ q. q < length (see_program program.now).predicates) roots.now }
+    requires calls { see_call_lists calls.now ≡ program.now }
+    requires below { All (λ q. q < length program.now.predicates) roots.now }
     ensures told { IfOk result IsTold }
-    ensures same { IfOk result (λ (told : ToldHere). see_program told.program.now ≡ see_program program.now) }
+    ensures same { IfOk result (λ (told : ToldHere). told.program.now ≡ program.now) }
     ensures is { IfOk result (ToldIs (see_wanted wanted.now) roots.now) }
 {
     let found = groups_from(alloc, program, calls, roots)?;
@@ -89,11 +88,11 @@ fn told_of<'a>(
     roots: &[u32],
     found: Reached,
 ) -> Result<Told<'a>, AllocError>
-    requires leveled { AreLeveled (ListCalls (successor_lists (see_program program.now))) roots.now (lists_of found.groups.items) found.levels.items }
-    requires nodes { AreNodes (length (see_program program.now).predicates) (lists_of found.groups.items) }
+    requires leveled { AreLeveled (ListCalls (successor_lists program.now)) roots.now (lists_of found.groups.items) found.levels.items }
+    requires nodes { AreNodes (length program.now.predicates) (lists_of found.groups.items) }
     requires levels { length found.levels.items ≡ length found.groups.items }
     ensures told { IfOk result IsTold }
-    ensures same { IfOk result (λ (told : ToldHere). see_program told.program.now ≡ see_program program.now) }
+    ensures same { IfOk result (λ (told : ToldHere). told.program.now ≡ program.now) }
     ensures is { IfOk result (ToldIs (see_wanted wanted.now) roots.now) }
 {
     let _roots = roots;

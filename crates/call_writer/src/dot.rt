@@ -6,7 +6,6 @@ ghost use Rattle.std.specs.String.{string_bytes};
 ghost use Rattle.call_writer.specs.Dot.{cluster, cluster_head, dot_char, dot_text, edge_line, label, node_line_of};
 ghost use Rattle.graph_law.specs.Classes.{least_member};
 ghost use Rattle.import_rules.specs.Parts.{see_name};
-ghost use Rattle.import_rules.specs.Program.{see_program};
 
 use crate::json::push_number;
 use import_rules::{NameView, Program};
@@ -51,8 +50,8 @@ fn push_label(text: &mut String, name: NameView<'_>) -> Result<(), AllocError>
 
 /// Adds the node of the predicate of that number.
 pub fn push_node(text: &mut String, program: &Program, node: u32) -> Result<(), AllocError>
-    requires { node < length (see_program program.now).predicates }
-    ensures { OnOk result (string_bytes text.new ≡ string_bytes text.old ++ node_line_of (see_program program.now).predicates node) }
+    requires { node < length program.now.predicates }
+    ensures { OnOk result (string_bytes text.new ≡ string_bytes text.old ++ node_line_of program.now.predicates node) }
 {
     text.push_str("  n")?;
     push_number(text, u64::from(node))?;
@@ -63,8 +62,8 @@ pub fn push_node(text: &mut String, program: &Program, node: u32) -> Result<(), 
 
 /// Adds the nodes of these predicates.
 fn push_nodes(text: &mut String, program: &Program, nodes: &[u32]) -> Result<(), AllocError>
-    requires { All (λ node. node < length (see_program program.now).predicates) nodes.now }
-    ensures { OnOk result (string_bytes text.new ≡ string_bytes text.old ++ flat_map (node_line_of (see_program program.now).predicates) nodes.now) }
+    requires { All (λ node. node < length program.now.predicates) nodes.now }
+    ensures { OnOk result (string_bytes text.new ≡ string_bytes text.old ++ flat_map (node_line_of program.now.predicates) nodes.now) }
 {
     for node in nodes {
         push_node(text, program, *node)?;
@@ -93,8 +92,8 @@ fn push_cluster_head(text: &mut String, least: u32) -> Result<(), AllocError>
 /// Adds a group as a cluster of its members, which is named by the least of them.
 pub fn push_cluster(text: &mut String, program: &Program, members: &[u32]) -> Result<(), AllocError>
     requires inhabited { 0 < length members.now }
-    requires below { All (λ node. node < length (see_program program.now).predicates) members.now }
-    ensures { OnOk result (string_bytes text.new ≡ string_bytes text.old ++ cluster (see_program program.now).predicates members.now) }
+    requires below { All (λ node. node < length program.now.predicates) members.now }
+    ensures { OnOk result (string_bytes text.new ≡ string_bytes text.old ++ cluster program.now.predicates members.now) }
 {
     push_cluster_head(text, least_of(members))?;
     push_nodes(text, program, members)?;

@@ -4,7 +4,6 @@
 ghost use Rattle.std.specs.Prelude.{◌≡◌, IsTrue, OnOk, slice_get};
 ghost use Rattle.std.specs.String.{string_bytes};
 ghost use Rattle.call_writer.specs.Lines.{after_file, after_module, file_name};
-ghost use Rattle.import_rules.specs.Program.{see_program};
 
 use crate::json::push_json_string;
 use import_rules::Program;
@@ -51,7 +50,7 @@ impl<'a> LastModule<'a> {
 
 /// The name of the file at that place among the files, or nothing where there is none.
 fn file_name(program: &Program, file: u32) -> &str
-    ensures { result.now ≡ file_name (slice_get (see_program program.now).loaded.texts file) }
+    ensures { result.now ≡ file_name (slice_get program.now.loaded.texts file) }
 {
     match program.loaded().texts.get(file as usize) {
         Some(text) => text.0.as_str(),
@@ -69,13 +68,13 @@ pub(crate) struct LastFile<'a> {
     file: u32,
     /// `,"file":"f.pl","line":`
     pub(crate) text: String,
-    ghost spelled: { IsTrue is_spelled → string_bytes text ≡ after_file (file_name (slice_get (see_program program.now).loaded.texts file)) },
+    ghost spelled: { IsTrue is_spelled → string_bytes text ≡ after_file (file_name (slice_get program.now.loaded.texts file)) },
 }
 
 impl<'a> LastFile<'a> {
     /// Before the first place. It takes no memory.
     pub(crate) fn none(alloc: Global, program: &'a Program) -> LastFile<'a>
-        ensures { see_program result.program.now ≡ see_program program.now }
+        ensures { result.program.now ≡ program.now }
     {
         LastFile {
             program,
@@ -88,8 +87,8 @@ impl<'a> LastFile<'a> {
     /// Makes the file at that place among the files the last one, and spells its name where it wasn't
     /// that before.
     pub(crate) fn take(&mut self, file: u32) -> Result<(), AllocError>
-        ensures text { OnOk result (string_bytes self.new.text ≡ after_file (file_name (slice_get (see_program self.old.program.now).loaded.texts file))) }
-        ensures program { OnOk result (see_program self.new.program.now ≡ see_program self.old.program.now) }
+        ensures text { OnOk result (string_bytes self.new.text ≡ after_file (file_name (slice_get self.old.program.now.loaded.texts file))) }
+        ensures program { OnOk result (self.new.program.now ≡ self.old.program.now) }
     {
         if self.is_spelled && self.file == file {
             return Ok(());

@@ -12,7 +12,6 @@ ghost use Rattle.graph_law.specs.Classes.{group_at, least_member};
 ghost use Rattle.graph_law.specs.Graph.{lists_of};
 ghost use Rattle.import_rules.specs.Names.{pred_name};
 ghost use Rattle.import_rules.specs.Parts.{see_name};
-ghost use Rattle.import_rules.specs.Program.{see_program};
 
 use crate::json::{push_inner, push_number};
 use crate::last::{Last, LastFile, LastModule};
@@ -31,8 +30,8 @@ fn push_spot(
     file: u32,
     place: Place,
 ) -> Result<(), AllocError>
-    ensures text { OnOk result (string_bytes text.new ≡ string_bytes text.old ++ (codes "," ++ spot_fields (see_program last.old.program.now) file place)) }
-    ensures program { OnOk result (see_program last.new.program.now ≡ see_program last.old.program.now) }
+    ensures text { OnOk result (string_bytes text.new ≡ string_bytes text.old ++ (codes "," ++ spot_fields last.old.program.now file place)) }
+    ensures program { OnOk result (last.new.program.now ≡ last.old.program.now) }
 {
     last.take(file)?;
     text.push_str(last.text.as_str())?;
@@ -139,8 +138,8 @@ fn push_call_line<'a, 'b>(
     place: Place,
 ) -> Result<(), AllocError>
     ensures text { OnOk result (string_bytes text.new
-        ≡ string_bytes text.old ++ call_line (see_program last.old.file.program.now) (see_call call.now) place) }
-    ensures program { OnOk result (see_program last.new.file.program.now ≡ see_program last.old.file.program.now) }
+        ≡ string_bytes text.old ++ call_line last.old.file.program.now (see_call call.now) place) }
+    ensures program { OnOk result (last.new.file.program.now ≡ last.old.file.program.now) }
 {
     let named = call.named;
     push_call_head(text, named.caller, call.callee)?;
@@ -166,8 +165,8 @@ fn push_call<'a, 'b>(
     undefined: bool,
 ) -> Result<(), AllocError>
     ensures text { OnOk result (string_bytes text.new
-        ≡ string_bytes text.old ++ call_line_if undefined (see_program last.old.file.program.now) (see_call call.now) place) }
-    ensures program { OnOk result (see_program last.new.file.program.now ≡ see_program last.old.file.program.now) }
+        ≡ string_bytes text.old ++ call_line_if undefined last.old.file.program.now (see_call call.now) place) }
+    ensures program { OnOk result (last.new.file.program.now ≡ last.old.file.program.now) }
 {
     if is_hidden(undefined, call.callee) {
         return Ok(());
@@ -186,7 +185,7 @@ pub fn push_call_lines(
     undefined: bool,
 ) -> Result<(), AllocError>
     ensures { OnOk result (string_bytes text.new
-        ≡ string_bytes text.old ++ flat_map (λ pair. call_line_if undefined (see_program program.now) pair.0 pair.1) (zip (see_calls calls.now) places.now)) }
+        ≡ string_bytes text.old ++ flat_map (λ pair. call_line_if undefined program.now pair.0 pair.1) (zip (see_calls calls.now) places.now)) }
 {
     let mut last = Last {
         file: LastFile::none(alloc, program),
@@ -205,8 +204,8 @@ fn push_clause(
     clause: ClauseAt,
     place: Place,
 ) -> Result<(), AllocError>
-    ensures text { OnOk result (string_bytes text.new ≡ string_bytes text.old ++ clause_line (see_program last.old.program.now) clause place) }
-    ensures program { OnOk result (see_program last.new.program.now ≡ see_program last.old.program.now) }
+    ensures text { OnOk result (string_bytes text.new ≡ string_bytes text.old ++ clause_line last.old.program.now clause place) }
+    ensures program { OnOk result (last.new.program.now ≡ last.old.program.now) }
 {
     text.push_str("{\"is\":\"clause\",\"predicate\":")?;
     push_number(text, u64::from(clause.node))?;
@@ -224,7 +223,7 @@ pub fn push_clause_lines(
     places: &[Place],
 ) -> Result<(), AllocError>
     ensures { OnOk result (string_bytes text.new
-        ≡ string_bytes text.old ++ flat_map (λ pair. clause_line (see_program program.now) pair.0 pair.1) (zip clauses.now places.now)) }
+        ≡ string_bytes text.old ++ flat_map (λ pair. clause_line program.now pair.0 pair.1) (zip clauses.now places.now)) }
 {
     let mut last = LastFile::none(alloc, program);
     for (clause, place) in clauses.iter().zip(places) {
@@ -326,12 +325,12 @@ pub fn push_predicate_line(
     node: u32,
     place: usize,
 ) -> Result<(), AllocError>
-    requires node { node < length (see_program program.now).predicates }
+    requires node { node < length program.now.predicates }
     requires one_level_each { length levels.now ≡ length groups.now }
     requires inhabited { All (λ members. 0 < length members) (lists_of groups.now) }
     requires within { place ≤ length groups.now }
     ensures { OnOk result (string_bytes text.new
-        ≡ string_bytes text.old ++ predicate_line_of (see_program program.now).predicates (lists_of groups.now) levels.now node place) }
+        ≡ string_bytes text.old ++ predicate_line_of program.now.predicates (lists_of groups.now) levels.now node place) }
 {
     push_named(text, groups, levels, node, program.name_of(node), place)?;
     Ok(())

@@ -4,7 +4,6 @@ ghost use Rattle.std.specs.Prelude.{◌≡◌, IfOk};
 ghost use Rattle.calls_tool.specs.Calls.{calls_tool};
 ghost use Rattle.call_told.specs.Told.{joined};
 ghost use Rattle.call_told.specs.Wanted.{AreAsked, see_wanted};
-ghost use Rattle.import_rules.specs.Program.{see_program};
 ghost use Rattle.tool_run.specs.Carrying.{ProgramComesTo};
 ghost use Rattle.tool_run.specs.Keeps.{LeavesOther, RunKeeps};
 ghost use Rattle.tool_run.specs.Run.{EndIs};
@@ -41,7 +40,7 @@ fn tell_program<R: Threads + Sync>(
     wanted: &Wanted,
     program: &Program,
 ) -> Result<Vec<Vec<u8>>, Stop>
-    ensures { ProgramComesTo calls_tool (see_wanted wanted.now) (see_program program.now) (end_of result) }
+    ensures { ProgramComesTo calls_tool (see_wanted wanted.now) program.now (end_of result) }
 {
     let calls = placed_call_lists(rt, alloc, program)?;
     let roots = roots_by(alloc, program, &wanted.options)?;

@@ -10,7 +10,6 @@ ghost use Rattle.tool_run.specs.Run.{EndIs};
 ghost use Rattle.tool_run.specs.Say.{concatenated};
 ghost use Rattle.tool_run.specs.Stop.{end_of, end_of_stop};
 ghost use Rattle.tool_run.specs.Wanted.{IsJust};
-ghost use Rattle.import_rules.specs.Program.{see_program};
 ghost use Rattle.loop_report.specs.Reportable.{AreGroups};
 
 use crate::asked::{Asked, Grouped};
@@ -78,8 +77,8 @@ fn asked_of<'p, R: Threads + Sync>(
     options: &Options,
     program: &'p Program,
 ) -> Result<Asked<'p>, Stop>
-    ensures asked { IfOk result (IsAskedOf (see_options options.now) (see_program program.now)) }
-    ensures stops { IfErr result (λ stop. ProgramComesTo groups_tool (see_options options.now) (see_program program.now) (end_of_stop stop)) }
+    ensures asked { IfOk result (IsAskedOf (see_options options.now) program.now) }
+    ensures stops { IfErr result (λ stop. ProgramComesTo groups_tool (see_options options.now) program.now (end_of_stop stop)) }
 {
     let calls = call_lists(rt, alloc, program)?;
     let roots = roots_by(alloc, program, options)?;
@@ -96,7 +95,7 @@ fn tell_alone<R: Threads + Sync>(
     program: &Program,
 ) -> Result<Vec<Vec<u8>>, Stop>
     requires { (words : List (List ℕ)) × AreLawful words (see_options options.now) }
-    ensures { ProgramComesTo groups_tool (see_options options.now) (see_program program.now) (end_of result) }
+    ensures { ProgramComesTo groups_tool (see_options options.now) program.now (end_of result) }
 {
     let asked = asked_of(rt, alloc, options, program)?;
     let groups = groups_alone(alloc, options, program, &asked.calls, &asked.roots)?;
@@ -114,7 +113,7 @@ fn tell<R: Threads + Wait + Sync, G: Gate>(
 ) -> Result<Vec<Vec<u8>>, Stop>
     requires lawful { (words : List (List ℕ)) × AreLawful words (see_options options.now) }
     requires workers { (see_options options.now).searches ≡ None }
-    ensures { ProgramComesTo groups_tool (see_options options.now) (see_program program.now) (end_of result) }
+    ensures { ProgramComesTo groups_tool (see_options options.now) program.now (end_of result) }
 {
     let asked = asked_of(rt, alloc, options, program)?;
     let texts = report_waiting(rt, alloc, options, program, &asked, gate)?;
@@ -132,8 +131,8 @@ fn report_waiting<R: Threads + Wait + Sync, G: Gate>(
 ) -> Result<Vec<Vec<u8>>, AllocError>
     requires lawful { (words : List (List ℕ)) × AreLawful words (see_options options.now) }
     requires workers { (see_options options.now).searches ≡ None }
-    requires asked { IsAskedOf (see_options options.now) (see_program program.now) asked.now }
-    ensures { IfOk result (λ texts. ReportsProgram (see_options options.now) (see_program program.now) (concatenated texts.items)) }
+    requires asked { IsAskedOf (see_options options.now) program.now asked.now }
+    ensures { IfOk result (λ texts. ReportsProgram (see_options options.now) program.now (concatenated texts.items)) }
 {
     if !options.stream {
         let groups = groups_by_workers(
@@ -175,11 +174,11 @@ fn report_groups<R: Threads + Sync>(
     asked: &Asked<'_>,
     groups: &[Vec<u32>],
 ) -> Result<Vec<Vec<u8>>, AllocError>
-    requires asked { IsAskedOf (see_options options.now) (see_program program.now) asked.now }
-    requires groups { AreGroups (ListCalls (successor_lists (see_program program.now))) asked.now.roots.items (lists_of groups.now) }
-    requires order { AreInScheduleOrder (see_options options.now).searches (successor_lists (see_program program.now)) asked.now.roots.items
+    requires asked { IsAskedOf (see_options options.now) program.now asked.now }
+    requires groups { AreGroups (ListCalls (successor_lists program.now)) asked.now.roots.items (lists_of groups.now) }
+    requires order { AreInScheduleOrder (see_options options.now).searches (successor_lists program.now) asked.now.roots.items
         (lists_of groups.now) }
-    ensures { IfOk result (λ texts. ReportsProgram (see_options options.now) (see_program program.now) (concatenated texts.items)) }
+    ensures { IfOk result (λ texts. ReportsProgram (see_options options.now) program.now (concatenated texts.items)) }
 {
     let levels = levels(alloc, &asked.calls, groups)?;
     let grouped = Grouped {

@@ -2,7 +2,6 @@
 
 ghost use Rattle.std.specs.Prelude.{◌≡◌, ◌<◌, ◌↔◌, ℕ, length, IfOk, IsBitSet};
 ghost use Rattle.std.specs.List.{filter_map};
-ghost use Rattle.import_rules.specs.Program.{see_program};
 ghost use Rattle.call_edges.specs.Called.{unresolved};
 ghost use Rattle.call_edges.specs.Seen.{see_met, see_mets};
 ghost use Rattle.group_tool.specs.Parts.{AreOwnKinds, IsOwnKinds, SomeHasKind, kinds_given};
@@ -20,7 +19,7 @@ const FEWEST: usize = 512;
 /// The kinds of a call that goes to no predicate. Few names have a kind, and no other is looked up in
 /// the program.
 fn kinds_met(program: &Program, met: Met) -> u64
-    ensures { result ≡ kinds_given (unresolved (see_program program.now) (see_met met.entry)) }
+    ensures { result ≡ kinds_given (unresolved program.now (see_met met.entry)) }
 {
     let Met::Call {
         module,
@@ -43,7 +42,7 @@ fn kinds_met(program: &Program, met: Met) -> u64
 
 /// The kinds of all calls that go to no predicate.
 fn kinds_in(program: &Program, met: &[Met]) -> u64
-    ensures { (kind : ℕ) → IsBitSet result kind ↔ SomeHasKind (filter_map (unresolved (see_program program.now)) (see_mets met.now)) kind }
+    ensures { (kind : ℕ) → IsBitSet result kind ↔ SomeHasKind (filter_map (unresolved program.now) (see_mets met.now)) kind }
 {
     let mut all = 0;
     for one in met {
@@ -56,8 +55,8 @@ fn kinds_in(program: &Program, met: &[Met]) -> u64
 /// The kinds that the predicate of that number has itself: those of the names that it calls and that
 /// mean no predicate.
 fn kinds_at(alloc: Global, program: &Program, node: u32) -> Result<u64, AllocError>
-    requires { node < length (see_program program.now).predicates }
-    ensures { IfOk result (IsOwnKinds (see_program program.now) node) }
+    requires { node < length program.now.predicates }
+    ensures { IfOk result (IsOwnKinds program.now node) }
 {
     let met = met_in(alloc, program, node)?;
     Ok(kinds_in(program, &met))
@@ -69,15 +68,15 @@ pub fn own_kinds<R: Threads + Sync>(
     alloc: Global,
     program: &Program,
 ) -> Result<Vec<u64>, AllocError>
-    ensures { IfOk result (λ own. AreOwnKinds (see_program program.now) own.items) }
+    ensures { IfOk result (λ own. AreOwnKinds program.now own.items) }
 {
     (0..program.count())
         .into_par_iter()
         .with_min_len(FEWEST)
         .map(
             |node: u32| -> Result<u64, AllocError>
-                requires { node < length (see_program program.now).predicates }
-                ensures { IfOk result (IsOwnKinds (see_program program.entry.now) node) }
+                requires { node < length program.now.predicates }
+                ensures { IfOk result (IsOwnKinds program.entry.now node) }
             { kinds_at(alloc, program, node) },
         )
         .collect::<Result<Vec<u64>, AllocError>>(rt, alloc)?

@@ -6,7 +6,6 @@ ghost use Rattle.group_words.specs.Settings.{see_options};
 ghost use Rattle.group_tool.specs.Asked.{IsGroupedOf};
 ghost use Rattle.group_tool.specs.Groups.{IsOutput, ReportsProgram};
 ghost use Rattle.group_tool.specs.Parts.{IsPart, IsPathPart, TellEffects, TellLoops};
-ghost use Rattle.import_rules.specs.Program.{see_program};
 ghost use Rattle.tool_run.specs.Say.{concatenated};
 
 use crate::asked::Grouped;
@@ -26,9 +25,9 @@ fn written(
     program: &Program,
     grouped: &Grouped<'_, '_>,
 ) -> Result<Vec<u8>, AllocError>
-    requires { IsGroupedOf (see_options options.now) (see_program program.now) grouped.now }
+    requires { IsGroupedOf (see_options options.now) program.now grouped.now }
     ensures { IfOk result (λ bytes. IsOutput (see_options options.now).make (see_options options.now).order (see_options options.now).unreached
-        (see_program program.now) (lists_of grouped.now.groups.now) grouped.now.levels.now bytes.items) }
+        program.now (lists_of grouped.now.groups.now) grouped.now.levels.now bytes.items) }
 {
     program.is_known();
     if options.make.is_some() {
@@ -61,9 +60,9 @@ fn effects_part<R: Threads + Sync>(
     program: &Program,
     grouped: &Grouped<'_, '_>,
 ) -> Result<Vec<u8>, AllocError>
-    requires { IsGroupedOf (see_options options.now) (see_program program.now) grouped.now }
+    requires { IsGroupedOf (see_options options.now) program.now grouped.now }
     ensures { IfOk result (λ bytes. IsPart (see_options options.now).effects
-        (TellEffects (see_program program.now) (lists_of grouped.now.groups.now) grouped.now.levels.now) bytes.items) }
+        (TellEffects program.now (lists_of grouped.now.groups.now) grouped.now.levels.now) bytes.items) }
 {
     if !options.effects {
         return Ok(Vec::new(alloc));
@@ -88,9 +87,9 @@ fn loops_part(
     program: &Program,
     grouped: &Grouped<'_, '_>,
 ) -> Result<Vec<u8>, AllocError>
-    requires { IsGroupedOf (see_options options.now) (see_program program.now) grouped.now }
+    requires { IsGroupedOf (see_options options.now) program.now grouped.now }
     ensures { IfOk result (λ bytes. IsPart (see_options options.now).loops
-        (TellLoops (see_program program.now) (lists_of grouped.now.groups.now) grouped.now.levels.now) bytes.items) }
+        (TellLoops program.now (lists_of grouped.now.groups.now) grouped.now.levels.now) bytes.items) }
 {
     if !options.loops {
         return Ok(Vec::new(alloc));
@@ -107,8 +106,8 @@ fn path_part(
     program: &Program,
     grouped: &Grouped<'_, '_>,
 ) -> Result<Vec<u8>, AllocError>
-    requires { IsGroupedOf (see_options options.now) (see_program program.now) grouped.now }
-    ensures { IfOk result (λ bytes. IsPathPart (see_options options.now).path (see_program program.now) bytes.items) }
+    requires { IsGroupedOf (see_options options.now) program.now grouped.now }
+    ensures { IfOk result (λ bytes. IsPathPart (see_options options.now).path program.now bytes.items) }
 {
     let _options = options;
     let Some((from, to)) = grouped.asked.ends else {
@@ -146,8 +145,8 @@ pub fn report_texts<R: Threads + Sync>(
     program: &Program,
     grouped: &Grouped<'_, '_>,
 ) -> Result<Vec<Vec<u8>>, AllocError>
-    requires { IsGroupedOf (see_options options.now) (see_program program.now) grouped.now }
-    ensures { IfOk result (λ texts. ReportsProgram (see_options options.now) (see_program program.now) (concatenated texts.items)) }
+    requires { IsGroupedOf (see_options options.now) program.now grouped.now }
+    ensures { IfOk result (λ texts. ReportsProgram (see_options options.now) program.now (concatenated texts.items)) }
 {
     let lines = written(alloc, options, program, grouped)?;
     let effects = effects_part(rt, alloc, options, program, grouped)?;

@@ -7,13 +7,13 @@ use Rattle.std.proofs.lemmas.List.Elements.{All-weaker}
 use Rattle.module_table.specs.Facts.{Facts}
 use Rattle.file_library.specs.SortedOut.{see_loaded}
 use Rattle.import_rules.specs.declared.names.PredName.{PredName}
-use Rattle.import_rules.specs.declared.program.Program.{Program}
+use Rattle.import_rules.specs.declared.tables.ProgramTables.{ProgramTables}
 use Rattle.import_rules.specs.Files.{AreNumbered, all_defined}
 use Rattle.import_rules.specs.Names.{is_same}
 use Rattle.import_rules.specs.Parts.{names_at}
 use Rattle.import_rules.specs.Program.{see_program, IsKnown, IsReadFrom}
 use Rattle.import_rules.proofs.Lists.{any_there, any_from}
-use Rattle.import_rules.proofs.Loaded.{was_read}
+use Rattle.import_rules.proofs.Loaded.{few_files, was_read}
 use Rattle.import_rules.proofs.NameOrder.{same_parts, same_itself}
 use Rattle.import_rules.proofs.Props.{read_prop, zip_prop}
 use Rattle.import_rules.proofs.Seen.{count_is}
@@ -37,12 +37,14 @@ numbered_from files predicates some = record {
   all = there_from (all_defined files) predicates (∥∥₁_elim some (hlevel props) (λ are. tested (all_defined files) predicates are.all));
 }
 
-pub known : (p : Program) → IsKnown (see_program p)
+pub known : (p : ProgramTables) → IsKnown (see_program p)
 unfolding see_program
 known p =
     let loaded = see_loaded p.loaded in record {
       numbered = numbered_from loaded.files (names_at p.loaded.files.items p.places.items) p.numbered;
       few = omega (arith, p.few, count_is p);
+      few_files = ∥∥₁_elim p.was_loaded (hlevel props) (λ was. few_files loaded was);
+      roots = ∥∥₁_elim p.was_loaded (hlevel props) (λ was. was.is.root_names.ordered);
       ordered = ∥∥₁_elim p.was_loaded (hlevel props) (λ was. was.is.ordered);
       read = ∥∥₁_elim p.was_loaded (zip_prop IsReadFrom read_prop loaded.texts loaded.files) (λ was. was_read loaded was);
     }

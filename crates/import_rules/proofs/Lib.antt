@@ -1,3 +1,4 @@
+pub mod Enough
 pub mod Examples
 pub mod Lists
 pub mod Ranges

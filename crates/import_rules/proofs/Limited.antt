@@ -6,7 +6,7 @@ use Rattle.file_library.specs.declared.limits.TheConstants.{MOST_FILES}
 use Rattle.file_library.specs.Loaded.{LoadedFiles, WasLoaded}
 use Rattle.file_library.specs.SortedOut.{see_loaded}
 use Rattle.file_library.specs.Spots.{AreLimited}
-use Rattle.import_rules.specs.declared.program.Program.{Program}
+use Rattle.import_rules.specs.declared.tables.ProgramTables.{ProgramTables}
 use Rattle.import_rules.specs.Program.{see_program}
 use Rattle.import_rules.proofs.AllFound.{small_each}
 use Rattle.import_rules.proofs.Known.{known}
@@ -14,7 +14,7 @@ use Rattle.import_rules.proofs.Known.{known}
 texts_few : (loaded : LoadedFiles) → WasLoaded loaded → length loaded.texts ≤ MOST_FILES
 texts_few loaded was = omega (arith, was.is.few)
 
-pub limited : (p : Program) → AreLimited (see_program p).loaded.texts
+pub limited : (p : ProgramTables) → AreLimited (see_program p).loaded.texts
 unfolding see_program
 limited p =
     let loaded = see_loaded p.loaded in record {

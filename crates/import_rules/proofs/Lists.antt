@@ -141,10 +141,6 @@ given_more {X} {Y} f xs i x before now next within here so_far more =
     ∙ (ap (λ ys. ys ++ f x) so_far
     ∙ (append_assoc before (flat_map f (take i xs)) (f x) ∙ ap (λ ys. before ++ ys) (sym (flat_map_next f xs i x within here))))
 
-pub kept_more : {X Y : Type 0} (p : Y → Bool) (f : X → List Y) (xs : List X) (i : ℕ) (x : X) (before now next : List Y) → i < length xs → x ≡ get_or xs i x
-    → now ≡ before ++ filter p (flat_map f (take i xs)) → next ≡ now ++ filter p (f x) → next ≡ before ++ filter p (flat_map f (take (i + 1) xs))
-kept_more {X} {Y} p f xs i x before now next within here so_far more =
-    more
-    ∙ (ap (λ ys. ys ++ filter p (f x)) so_far
-    ∙ (append_assoc before (filter p (flat_map f (take i xs))) (filter p (f x))
-    ∙ ap (λ ys. before ++ ys) (sym (ap (filter p) (flat_map_next f xs i x within here) ∙ filter-append p (flat_map f (take i xs)) (f x)))))
+pub kept_next : {X Y : Type 0} (p : Y → Bool) (f : X → List Y) (xs : List X) (i : ℕ) (x : X) → i < length xs → x ≡ get_or xs i x
+    → filter p (flat_map f (take (i + 1) xs)) ≡ filter p (flat_map f (take i xs)) ++ filter p (f x)
+kept_next {X} {Y} p f xs i x within here = ap (filter p) (flat_map_next f xs i x within here) ∙ filter-append p (flat_map f (take i xs)) (f x)

@@ -9,7 +9,7 @@ use Rattle.module_table.specs.declared.file_facts.FileFacts.{FileFacts}
 use Rattle.file_library.specs.SortedOut.{see_loaded}
 use Rattle.import_rules.specs.declared.names.PredName.{PredName}
 use Rattle.import_rules.specs.declared.places.Places.{Places}
-use Rattle.import_rules.specs.declared.program.Program.{Program}
+use Rattle.import_rules.specs.declared.tables.ProgramTables.{ProgramTables}
 use Rattle.import_rules.specs.Names.{is_same, pred_name}
 use Rattle.import_rules.specs.Find.{found_in, first_source, number_of, or_found}
 use Rattle.import_rules.specs.Numbers.{places_for, parts_in, see_places}
@@ -20,24 +20,24 @@ use Rattle.import_rules.specs.Files.{AreNumbered}
 use Rattle.import_rules.specs.Flaws.{AreFlaws}
 use Rattle.import_rules.specs.Program.{see_program, places_in, places_at, found, IsProgram}
 
-pub loaded_is : (p : Program) → (see_program p).loaded ≡ see_loaded p.loaded
+pub loaded_is : (p : ProgramTables) → (see_program p).loaded ≡ see_loaded p.loaded
 unfolding see_program
 loaded_is p = refl
 
-pub predicates_are : (p : Program) → (see_program p).predicates ≡ names_at p.loaded.files.items p.places.items
+pub predicates_are : (p : ProgramTables) → (see_program p).predicates ≡ names_at p.loaded.files.items p.places.items
 unfolding see_program
 predicates_are p = refl
 
-pub count_is : (p : Program) → length p.places.items ≡ length (see_program p).predicates
+pub count_is : (p : ProgramTables) → length p.places.items ≡ length (see_program p).predicates
 unfolding see_program
 count_is p = sym (length-map p.places.items (name_of_places p.loaded.files.items))
 
-pub unfound : (p : Program) (owner name : List ℕ) (arity : ℕ) → list_any (is_same (pred_name owner name arity)) (see_program p).predicates ≡ false
+pub unfound : (p : ProgramTables) (owner name : List ℕ) (arity : ℕ) → list_any (is_same (pred_name owner name arity)) (see_program p).predicates ≡ false
     → list_any (is_same (pred_name owner name arity)) p.imported ≡ false → found (see_program p) owner name arity ≡ None
 unfolding found see_program
 unfound p owner name arity other none = p.meant.unnamed (pred_name owner name arity) other none
 
-pub found_at : (p : Program) (owner name : List ℕ) (arity at : ℕ) → slice_get p.imported at ≡ Some (pred_name owner name arity)
+pub found_at : (p : ProgramTables) (owner name : List ℕ) (arity at : ℕ) → slice_get p.imported at ≡ Some (pred_name owner name arity)
     → found (see_program p) owner name arity ≡ Some (get_or p.targets.items at 0)
 unfolding found see_program
 found_at p owner name arity at is =
@@ -46,7 +46,7 @@ found_at p owner name arity at is =
     ∙ p.meant.named at wanted (slice_get_within p.imported at wanted is)
 
 -- what is kept of a name is what is found of it
-pub kept_found : (p : Program) (place number node arity : ℕ) (file : FileFacts) (owner name : List ℕ) → slice_get p.loaded.files.items place ≡ Some file
+pub kept_found : (p : ProgramTables) (place number node arity : ℕ) (file : FileFacts) (owner name : List ℕ) → slice_get p.loaded.files.items place ≡ Some file
     → (kept_at p.own_names.lists.items place number).after ≡ node + 1 → (kept_at p.own_names.lists.items place number).arity ≡ arity
     → name_at file.names number ≡ name → owner ≡ file.module → found (see_program p) owner name arity ≡ Some node
 unfolding found see_program
@@ -58,7 +58,7 @@ kept_found p place number node arity file owner name at_place after many spelled
     (ap (number_of predicates) (sym wanted) ∙ p.own_kept place number node file at_place after)
 
 -- the name that is read of the predicate of a number
-pub name_there : (p : Program) (node : ℕ) (v : Places) (name : PredName) → node < length (see_program p).predicates → v ≡ get_or p.places.items node v
+pub name_there : (p : ProgramTables) (node : ℕ) (v : Places) (name : PredName) → node < length (see_program p).predicates → v ≡ get_or p.places.items node v
     → name ≡ name_of_places p.loaded.files.items v → slice_get (see_program p).predicates node ≡ Some name
 unfolding see_program
 name_there p node v name below is read =
@@ -67,7 +67,7 @@ name_there p node v name below is read =
     ∙ ap (λ q. Some q)
     (get_or-map own p.places.items node v name (omega (arith, below, count_is p)) ∙ ap own (sym is) ∙ sym read)
 
-pub places_there : (p : Program) (node : ℕ) (v : Places) → node < length (see_program p).predicates → v ≡ get_or p.places.items node v
+pub places_there : (p : ProgramTables) (node : ℕ) (v : Places) → node < length (see_program p).predicates → v ≡ get_or p.places.items node v
     → see_places v ≡ places_in (see_program p) node
 unfolding see_program places_in
 places_there p node v below is =
@@ -80,7 +80,7 @@ places_there p node v below is =
     ∙ get_or-map (places_for parts) predicates node d [] below
     ∙ ap (places_at (see_loaded p.loaded).files) (sym (slice_get-get_or predicates node d below))
 
-pub is_program : (p : Program) → AreNumbered (see_loaded p.loaded).files (names_at p.loaded.files.items p.places.items)
+pub is_program : (p : ProgramTables) → AreNumbered (see_loaded p.loaded).files (names_at p.loaded.files.items p.places.items)
     → length p.places.items ≤ MOST_PREDICATES → AreFlaws (see_loaded p.loaded).files (see_loaded p.loaded).absent [] → IsProgram (see_loaded p.loaded) (see_program p)
 unfolding see_program
 is_program p numbered few sound = record {

@@ -2,6 +2,7 @@ pub mod Names
 pub mod Metas
 pub mod Files
 pub mod Clashes
+pub mod Enough
 pub mod Items
 pub mod Flaws
 pub mod Find
@@ -12,6 +13,7 @@ pub mod Parts
 pub mod NameTable
 pub mod Chained
 pub mod OwnNames
+pub mod TreeCode
 pub mod Program
 pub mod Findings
 pub mod KnownFiles

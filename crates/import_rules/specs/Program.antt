@@ -9,11 +9,12 @@ use Rattle.module_table.specs.Metas.{Declaration, IsSmall}
 use Rattle.module_table.specs.Facts.{Facts}
 use Rattle.module_table.specs.Placed.{ArePlacedIn}
 use Rattle.file_library.specs.Asked.{AreInOrder}
+use Rattle.file_library.specs.declared.limits.TheConstants.{MOST_FILES}
 use Rattle.prolog_tokens.specs.declared.limits.TheConstants.{MOST_BYTES}
 use Rattle.file_library.specs.Loaded.{LoadedFiles, NamedText}
 use Rattle.file_library.specs.SortedOut.{see_loaded}
 use Rattle.import_rules.specs.declared.names.PredName.{PredName}
-use Rattle.import_rules.specs.declared.program.Program.{Program}
+use Rattle.import_rules.specs.declared.tables.ProgramTables.{ProgramTables}
 use Rattle.import_rules.specs.declared.stop.ImportStop.{ImportStop}
 use Rattle.import_rules.specs.declared.stop.ImportStop.TheVariants.{Faults, TooManyPredicates, NoMemory}
 use Rattle.import_rules.specs.Names.{pred_name}
@@ -30,7 +31,7 @@ pub record Seen : Type 0 where
   pub loaded : LoadedFiles
   pub predicates : List PredName
 
-unfoldable pub see_program : Program → Seen
+unfoldable pub see_program : ProgramTables → Seen
 see_program p = record { loaded = see_loaded p.loaded; predicates = names_at p.loaded.files.items p.places.items }
 
 abbrev pub places_at : List Facts → Option PredName → List (ℕ × ℕ)
@@ -95,5 +96,7 @@ pub record IsReadFrom (text : NamedText) (facts : Facts) : Type 0 where
 pub record IsKnown (seen : Seen) : Type 0 where
   pub numbered : AreNumbered seen.loaded.files seen.predicates
   pub few : length seen.predicates ≤ MOST_PREDICATES
+  pub few_files : length seen.loaded.files ≤ MOST_FILES
+  pub roots : AreInOrder seen.loaded.roots
   pub ordered : AreInOrder (map (λ (text : NamedText). text.0) seen.loaded.texts)
   pub read : AllZip IsReadFrom seen.loaded.texts seen.loaded.files

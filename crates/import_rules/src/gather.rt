@@ -1,9 +1,10 @@
 //! What is wrong, and what modules import, file by file.
 
-ghost use Rattle.std.specs.Prelude.{◌≡◌, ◌++◌, map, filter, flat_map, IfOk, OnOk};
+ghost use Rattle.std.specs.Prelude.{◌≡◌, ◌++◌, List, map, filter, flat_map, IfOk, OnOk};
 ghost use Rattle.module_table.specs.Facts.{see_facts};
 ghost use Rattle.module_table.specs.Said.{see_load};
-ghost use Rattle.import_rules.specs.Clashes.{see_item};
+ghost use Rattle.import_rules.specs.Clashes.{see_item, Imports};
+ghost use Rattle.import_rules.specs.Enough.{AreEnough};
 ghost use Rattle.import_rules.specs.Findings.{see_findings};
 ghost use Rattle.import_rules.specs.Flaws.{file_flaws, load_flaws};
 ghost use Rattle.import_rules.specs.Items.{foreign_items, is_foreign, items_of_load};
@@ -15,11 +16,13 @@ use crate::item::Item;
 use crate::known_file::KnownFile;
 use crate::lookups::Lookups;
 use crate::taken::push_given;
-use module_table::{FileFacts, Load};
+use module_table::{FileFacts, Load, LoadKind};
+use prolog_tokens::Text;
 use std::alloc::{AllocError, Global};
+use std::collections::BTreeSet;
 
 /// What is wrong but for what is imported from two modules, and the import items whose predicates
-/// aren't local.
+/// aren't local, without those of a load that a load of the file before it makes useless.
 #[derive(Drop)]
 pub(crate) struct Gathered<'a> {
     pub flaws: Vec<Finding<'a>>,
@@ -34,20 +37,21 @@ pub(crate) fn gather<'a>(
     requires { IsReady lookups.now }
     ensures flaws { IfOk result (λ found. see_findings found.flaws.items
         ≡ flat_map (file_flaws (files_of lookups.now) (absent_of lookups.now)) (files_of lookups.now)) }
-    ensures items { IfOk result (λ found. map see_item found.items.items ≡ foreign_items (files_of lookups.now)) }
+    ensures items { IfOk result (λ found. AreEnough (foreign_items (files_of lookups.now)) (map see_item found.items.items)) }
 {
     let mut found = Gathered {
         flaws: Vec::new(alloc),
         items: Vec::new(alloc),
     };
     for file in &lookups.known {
-        push_file(lookups, file, &mut found)?;
+        push_file(alloc, lookups, file, &mut found)?;
     }
     Ok(found)
 }
 
-/// What is found in one file.
+/// What is found in one file. A file that was taken whole has nothing more to give.
 fn push_file<'a>(
+    alloc: Global,
     lookups: &Lookups<'a, '_>,
     file: &KnownFile<'a>,
     found: &mut Gathered<'a>,
@@ -56,34 +60,58 @@ fn push_file<'a>(
     requires known { IsKnownIn (files_of lookups.now) file.now }
     ensures flaws { OnOk result (see_findings found.new.flaws.items ≡ see_findings found.old.flaws.items
         ++ file_flaws (files_of lookups.now) (absent_of lookups.now) (see_known file.now)) }
-    ensures items { OnOk result (map see_item found.new.items.items ≡ map see_item found.old.items.items
-        ++ filter (is_foreign (files_of lookups.now)) (flat_map (items_of_load (files_of lookups.now) (see_known file.now)) (see_known file.now).loads)) }
+    ensures items { OnOk result ((before : List Imports) → AreEnough before (map see_item found.old.items.items) → AreEnough (before
+        ++ filter (is_foreign (files_of lookups.now)) (flat_map (items_of_load (files_of lookups.now) (see_known file.now)) (see_known file.now).loads))
+        (map see_item found.new.items.items)) }
 {
     push_module_flaws(file, &mut found.flaws)?;
     push_export_flaws(lookups, file.facts, &mut found.flaws)?;
+    let mut whole = BTreeSet::new(alloc);
     for load in &file.facts.loads {
-        push_load(lookups, file.facts, load, found)?;
+        push_load_flaws(lookups, file.facts, load, &mut found.flaws)?;
+        if whole.contains(&load.file) {
+            continue;
+        }
+        push_load_items(lookups, file.facts, load, &mut found.items)?;
+        if load.kind == LoadKind::UseSome {
+            continue;
+        }
+        whole.insert(Text::new(alloc, load.file.as_str())?)?;
     }
     Ok(())
 }
 
-/// What is found at one load.
-fn push_load<'a>(
+/// What is wrong at one load.
+fn push_load_flaws<'a>(
     lookups: &Lookups<'a, '_>,
     user: &'a FileFacts,
     load: &'a Load,
-    found: &mut Gathered<'a>,
+    flaws: &mut Vec<Finding<'a>>,
 ) -> Result<(), AllocError>
-    requires ready { IsReady lookups.now }
-    ensures flaws { OnOk result (see_findings found.new.flaws.items ≡ see_findings found.old.flaws.items
+    requires { IsReady lookups.now }
+    ensures { OnOk result (see_findings flaws.new.items ≡ see_findings flaws.old.items
         ++ load_flaws (files_of lookups.now) (absent_of lookups.now) (see_facts user.now) (see_load load.now)) }
-    ensures items { OnOk result (map see_item found.new.items.items ≡ map see_item found.old.items.items
-        ++ filter (is_foreign (files_of lookups.now)) (items_of_load (files_of lookups.now) (see_facts user.now) (see_load load.now))) }
 {
-    push_absent_flaws(lookups, user, load, &mut found.flaws)?;
+    push_absent_flaws(lookups, user, load, flaws)?;
     let Some(file) = lookups.file(&load.file) else {
         return Ok(());
     };
-    push_use_flaws(user, load, file, &mut found.flaws)?;
-    push_given(lookups, user, load, file, &mut found.items)
+    push_use_flaws(user, load, file, flaws)
+}
+
+/// What one load gives.
+fn push_load_items<'a>(
+    lookups: &Lookups<'a, '_>,
+    user: &'a FileFacts,
+    load: &'a Load,
+    items: &mut Vec<Item<'a>>,
+) -> Result<(), AllocError>
+    requires { IsReady lookups.now }
+    ensures { OnOk result (map see_item items.new.items ≡ map see_item items.old.items
+        ++ filter (is_foreign (files_of lookups.now)) (items_of_load (files_of lookups.now) (see_facts user.now) (see_load load.now))) }
+{
+    let Some(file) = lookups.file(&load.file) else {
+        return Ok(());
+    };
+    push_given(lookups, user, load, file, items)
 }

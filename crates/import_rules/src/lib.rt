@@ -37,6 +37,7 @@ mod program;
 mod resolve;
 mod spots;
 mod stop;
+mod tables;
 mod taken;
 
 pub use laws::{

@@ -6,7 +6,7 @@ ghost use Rattle.import_rules.specs.Program.{see_program};
 
 use crate::laws::found_means;
 use crate::names::{NameView, PredName};
-use crate::program::Program;
+use crate::tables::ProgramTables;
 
 /// Whether the names are those of one predicate.
 fn is_same(name: NameView<'_>, other: NameView<'_>) -> bool
@@ -21,9 +21,9 @@ fn is_same(name: NameView<'_>, other: NameView<'_>) -> bool
     name.module == other.module
 }
 
-impl Program {
+impl ProgramTables {
     /// The number of the predicate of that name. One that the module imports by it is none of it.
-    pub fn own(&self, name: &PredName) -> Option<u32>
+    pub(crate) fn own(&self, name: &PredName) -> Option<u32>
         ensures { MatchOption result
             (Contains (see_program self.now).predicates name.now → ⊥)
             (λ node. slice_get (see_program self.now).predicates node ≡ Some name.now) }

@@ -1,179 +1,123 @@
-ghost use Rattle.std.specs.Prelude.{◌≡◌, ◌<◌, ◌≤◌, ℕ, List, [], true, Some, IfSome, length, map, slice_get};
-ghost use Rattle.std.proofs.Props.{props};
-ghost use Rattle.file_library.specs.SortedOut.{see_loaded};
-ghost use Rattle.import_rules.specs.declared.resolve.TheConstants.{MOST_PREDICATES};
-ghost use Rattle.import_rules.specs.Chained.{AreChained};
-ghost use Rattle.import_rules.specs.Files.{AreNumbered};
-ghost use Rattle.import_rules.specs.Flaws.{AreFlaws};
-ghost use Rattle.file_library.specs.Loaded.{WasLoaded};
-ghost use Rattle.import_rules.specs.Meanings.{AreTargets};
-ghost use Rattle.import_rules.specs.Metas.{AreDeclared, metas_in};
-ghost use Rattle.import_rules.specs.Numbers.{lists_of, places_for, parts_in};
-ghost use Rattle.import_rules.specs.OwnNames.{AreOwn};
-ghost use Rattle.import_rules.specs.Parts.{names_at};
+//! The predicates of a program, as the layers above see them.
 
-use crate::name_table::{NameTable, name_hash};
-use crate::names::NameView;
-use crate::own_names::OwnNames;
-use crate::places::Places;
-use crate::predicates::{Chains, Predicates};
+ghost use Rattle.std.specs.Prelude.{◌≡◌, ◌<◌, ℕ, List, [], true, Some, Contains, MatchOption, length, slice_get, IfOk};
+ghost use Rattle.std.specs.List.{AllZip};
+ghost use Rattle.file_library.specs.SortedOut.{see_loaded};
+ghost use Rattle.file_library.specs.Spots.{AreSpots, IsSpotPlace};
+ghost use Rattle.import_rules.specs.Program.{see_program};
+
+use crate::names::{NameView, PredName};
+use crate::tables::ProgramTables;
 use file_library::Loaded;
 use module_table::GoalArg;
+use prolog_tokens::Place;
+use std::alloc::{AllocError, Global};
+use std::marker::Model;
 
 /// The predicates of all files that were loaded, numbered from 0 in order of module, name and
-/// arity, and what each name means in each module.
+/// arity, and what each name means in each module. In clauses it is what was loaded, and the names of
+/// the predicates by their numbers.
 #[derive(Drop)]
 pub struct Program {
-    pub(crate) loaded: Loaded,
-    /// The predicates, in the order of their numbers: the places at which each is defined. Their names
-    /// stand in the files alone.
-    pub(crate) places: Vec<Places>,
-    pub(crate) chains: Chains,
-    /// The predicates by the numbers of their names in their files.
-    pub(crate) own_names: OwnNames,
-    /// The names that modules import.
-    pub(crate) imported: NameTable,
-    /// For each imported name the number of the predicate that it means.
-    pub(crate) targets: Vec<u32>,
-    /// For each predicate the place of its declaration of goal arguments: that of a file, and one more
-    /// than that in the file; 0 where it has none. Empty where no predicate has one.
-    pub(crate) meta_places: Vec<(u32, u32)>,
-    pub ghost was_loaded: { ∥ WasLoaded (see_loaded loaded) ∥₁ },
-    pub ghost few: { length places.items ≤ MOST_PREDICATES },
-    pub ghost numbered: { ∥ AreNumbered (see_loaded loaded).files (names_at loaded.files.items places.items) ∥₁ },
-    pub ghost chained: { AreChained (names_at loaded.files.items places.items) chains } by { Prim.hlevel props },
-    pub ghost own_kept: { AreOwn loaded.files.items (names_at loaded.files.items places.items) own_names } by { Prim.hlevel props },
-    pub ghost faultless: { ∥ AreFlaws (see_loaded loaded).files (see_loaded loaded).absent [] ∥₁ },
-    pub ghost meant: { AreTargets (see_loaded loaded).files (names_at loaded.files.items places.items) imported targets.items } by { Prim.hlevel props },
-    pub ghost placed: { lists_of places.items ≡ map (places_for (parts_in (see_loaded loaded).files)) (names_at loaded.files.items places.items) },
-    pub ghost told: { AreDeclared (metas_in (see_loaded loaded).files) (names_at loaded.files.items places.items) meta_places.items } by { Prim.hlevel props },
+    tables: ProgramTables,
+}
+
+impl Model for Program {
+    ghost use Rattle.std.specs.Coded.{codes};
+    ghost use Rattle.import_rules.specs.Program.{Seen, see_program};
+    ghost use Rattle.import_rules.specs.TreeCode.{tree_code};
+    ghost use Rattle.import_rules.specs.contracts.names.PredName as pred_name;
+    ghost use Rattle.module_table.specs.contracts.goal_arg.GoalArg as goal_arg;
+    ghost use Rattle.module_table.specs.contracts.indicator.Indicator as indicator;
+    ghost use Rattle.module_table.specs.contracts.load.LoadKind as load_kind;
+
+    ghost Value = { Seen };
+
+    ghost coded = { Prim.hlevel (codes, tree_code, pred_name.the_row.coded, goal_arg.the_row.coded, indicator.the_row.coded, load_kind.the_row.coded) };
+
+    ghost view = { λ p. see_program p.tables };
 }
 
 impl Program {
     ghost use Rattle.import_rules.specs.Parts.{see_name};
-    ghost use Rattle.import_rules.specs.Program.{see_program, places_in, meta_in, meta_meant, found, IsKnown};
+    ghost use Rattle.import_rules.specs.Program.{places_in, meta_in, meta_meant, found, IsKnown};
+
+    /// The program of these tables.
+    pub(crate) fn of(tables: ProgramTables) -> Program
+        ensures { result ≡ see_program tables }
+    {
+        Program { tables }
+    }
 
     /// A program is few predicates in order, and files in order of name, each read from its text. It
     /// does nothing, and is called for this.
     pub fn is_known(&self)
-        ensures { IsKnown (see_program self.now) }
-    {}
+        ensures { IsKnown self.now }
+    {
+        self.tables.is_known();
+    }
 
     /// How many predicates there are.
     pub fn count(&self) -> u32
-        ensures { result ≡ length (see_program self.now).predicates }
+        ensures { result ≡ length self.now.predicates }
     {
-        self.places.len() as u32
+        self.tables.count()
     }
 
     /// The predicate of a number below the count.
     pub fn name_of(&self, node: u32) -> NameView<'_>
-        requires { node < length (see_program self.now).predicates }
-        ensures { slice_get (see_program self.now).predicates node ≡ Some (see_name result) }
+        requires { node < length self.now.predicates }
+        ensures { slice_get self.now.predicates node ≡ Some (see_name result) }
     {
-        self.places[node as usize].name(&self.loaded.files)
-    }
-
-    /// The predicates, as they are looked up.
-    fn predicates(&self) -> Predicates<'_>
-        ensures { result ≡ (see_program self.now).predicates }
-    {
-        Predicates {
-            files: &self.loaded.files,
-            places: &self.places,
-            chains: &self.chains,
-        }
+        self.tables.name_of(node)
     }
 
     /// What was loaded, as it was handed in.
     pub fn loaded(&self) -> &Loaded
-        ensures { (see_program self.now).loaded ≡ see_loaded result.now }
+        ensures { self.now.loaded ≡ see_loaded result.now }
     {
-        &self.loaded
+        self.tables.loaded()
     }
 
     /// The places at which the predicate of a number below the count is defined, ascending: the place
     /// of a file in `files`, and of the predicate in the `defined` of that file.
     pub fn places_of(&self, node: u32) -> &[(u32, u32)]
-        requires { node < length (see_program self.now).predicates }
-        ensures { result.now ≡ places_in (see_program self.now) node }
+        requires { node < length self.now.predicates }
+        ensures { result.now ≡ places_in self.now node }
     {
-        self.places[node as usize].as_slice()
+        self.tables.places_of(node)
     }
 
     /// How the arguments of goals of the predicate of a number below the count stand, by the first
     /// declaration for it; empty where there is none.
     pub fn meta_of(&self, node: u32) -> &[GoalArg]
-        requires { node < length (see_program self.now).predicates }
-        ensures { result.now ≡ meta_in (see_program self.now) node }
+        requires { node < length self.now.predicates }
+        ensures { result.now ≡ meta_in self.now node }
     {
-        if self.meta_places.is_empty() {
-            return &[];
-        }
-        let (file, place) = self.meta_places[node as usize];
-        if place == 0 {
-            return &[];
-        }
-        &self.loaded.files[file as usize].metas[place as usize - 1].args
+        self.tables.meta_of(node)
     }
 
     /// Whether no predicate has such a declaration. Then no name needs to be looked up for one.
     pub fn declares_nothing(&self) -> bool
-        ensures { result ≡ true → (owner name : List ℕ) (arity : ℕ) → meta_meant (see_program self.now) owner name arity ≡ [] }
+        ensures { result ≡ true → (owner name : List ℕ) (arity : ℕ) → meta_meant self.now owner name arity ≡ [] }
     {
-        self.meta_places.is_empty()
+        self.tables.declares_nothing()
     }
 
     /// Those of the predicate that a name means in a module. Where nothing is declared, no name is
     /// looked up.
     pub fn meta_meant(&self, module: &str, name: &str, arity: u32) -> &[GoalArg]
-        ensures { result.now ≡ meta_meant (see_program self.now) module.now name.now arity }
+        ensures { result.now ≡ meta_meant self.now module.now name.now arity }
     {
-        if self.meta_places.is_empty() {
-            return &[];
-        }
-        match self.find(module, name, arity) {
-            Some(node) => self.meta_of(node),
-            None => &[],
-        }
+        self.tables.meta_meant(module, name, arity)
     }
 
     /// The number of the predicate that a name means in a module: of the module's own predicate, else
     /// of the one that the module imports.
     pub fn find(&self, module: &str, name: &str, arity: u32) -> Option<u32>
-        ensures { result ≡ found (see_program self.now) module.now name.now arity }
+        ensures { result ≡ found self.now module.now name.now arity }
     {
-        let hash = name_hash(module, name, arity);
-        let predicates = self.predicates();
-        if let Some(node) = predicates.find_hashed(module, name, arity, hash) {
-            return Some(node);
-        }
-        let Some(at) = self.imported.find(module, name, arity, hash) else {
-            return None;
-        };
-        Some(self.targets[at])
-    }
-
-    /// The number of the predicate of a file's own module that is kept of the name of a number of the
-    /// file, where it is the predicate of that name.
-    fn find_kept(&self, file: u32, number: u32, module: &str, name: &str, arity: u32) -> Option<u32>
-        ensures { IfSome result (λ node. found (see_program self.now) module.now name.now arity ≡ Some node) }
-    {
-        let facts = self.loaded.files.get(file as usize)?;
-        let kept = self.own_names.get(file, number);
-        if kept.after == 0 {
-            return None;
-        }
-        if kept.arity != arity {
-            return None;
-        }
-        if !facts.names.is(number, name) {
-            return None;
-        }
-        if module != facts.module.as_str() {
-            return None;
-        }
-        Some(kept.after - 1)
+        self.tables.find(module, name, arity)
     }
 
     /// What `find` answers, mostly without a look-up of the texts: where the name is that of the number
@@ -187,11 +131,30 @@ impl Program {
         name: &str,
         arity: u32,
     ) -> Option<u32>
-        ensures { result ≡ found (see_program self.now) module.now name.now arity }
+        ensures { result ≡ found self.now module.now name.now arity }
     {
-        if let Some(node) = self.find_kept(file, number, module, name, arity) {
-            return Some(node);
-        }
-        self.find(module, name, arity)
+        self.tables.find_numbered(file, number, module, name, arity)
+    }
+
+    /// The number of the predicate of that name. One that the module imports by it is none of it.
+    pub fn own(&self, name: &PredName) -> Option<u32>
+        ensures { MatchOption result
+            (Contains self.now.predicates name.now → ⊥)
+            (λ node. slice_get self.now.predicates node ≡ Some name.now) }
+    {
+        self.tables.own(name)
+    }
+
+    /// The line and the column of each of the spots, which are in order of file and offset: one sweep
+    /// a file. A spot is the place of a file in `loaded().texts`, and a byte offset of its text.
+    pub fn places_of_spots(
+        &self,
+        alloc: Global,
+        spots: &[(u32, u32)],
+    ) -> Result<Vec<Place>, AllocError>
+        requires { AreSpots self.now.loaded.texts spots.now }
+        ensures { IfOk result (λ places. AllZip (IsSpotPlace self.now.loaded.texts) spots.now places.items) }
+    {
+        self.tables.places_of_spots(alloc, spots)
     }
 }

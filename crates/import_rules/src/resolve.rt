@@ -10,7 +10,7 @@ ghost use Rattle.file_library.specs.Loaded.{WasLoaded};
 ghost use Rattle.import_rules.specs.Meanings.{AreTargets};
 ghost use Rattle.import_rules.specs.Numbers.{AreNumbers, lists_of, parts_in};
 ghost use Rattle.import_rules.specs.Parts.{names_at};
-ghost use Rattle.import_rules.specs.Program.{see_program, IsProgram, IsImportStop};
+ghost use Rattle.import_rules.specs.Program.{IsProgram, IsImportStop};
 
 use crate::check::{Checked, check_imports};
 use crate::meanings::{Meanings, find_meanings};
@@ -21,6 +21,7 @@ use crate::part::parts_of;
 use crate::places::Places;
 use crate::predicates::{Chains, Predicates};
 use crate::program::Program;
+use crate::tables::ProgramTables;
 use crate::stop::ImportStop;
 use file_library::Loaded;
 use std::alloc::{AllocError, Global};
@@ -62,7 +63,7 @@ fn meanings<'a>(
 /// told before any import fault.
 pub fn resolve_all(alloc: Global, loaded: Loaded) -> Result<Program, ImportStop>
     requires { WasLoaded (see_loaded loaded) }
-    ensures ok { IfOk result (λ program. IsProgram (see_loaded loaded) (see_program program)) }
+    ensures ok { IfOk result (λ program. IsProgram (see_loaded loaded) program) }
     ensures refused { IfErr result (IsImportStop (see_loaded loaded)) }
 {
     let places = numbered(alloc, &loaded)?;
@@ -81,7 +82,7 @@ pub fn resolve_all(alloc: Global, loaded: Loaded) -> Result<Program, ImportStop>
         Ok(found) => found,
         Err(stop) => return Err(stop),
     };
-    Ok(Program {
+    let tables = ProgramTables {
         loaded,
         places,
         chains,
@@ -89,5 +90,6 @@ pub fn resolve_all(alloc: Global, loaded: Loaded) -> Result<Program, ImportStop>
         imported: names,
         targets,
         meta_places,
-    })
+    };
+    Ok(Program::of(tables))
 }

@@ -1,9 +1,9 @@
-use crate::program::Program;
+use crate::tables::ProgramTables;
 use file_library::places_of_spots;
 use prolog_tokens::Place;
 use std::alloc::{AllocError, Global};
 
-impl Program {
+impl ProgramTables {
     ghost use Rattle.std.specs.Prelude.{IfOk};
     ghost use Rattle.std.specs.List.{AllZip};
     ghost use Rattle.file_library.specs.Spots.{AreSpots, IsSpotPlace};
@@ -11,7 +11,7 @@ impl Program {
 
     /// The line and the column of each of the spots, which are in order of file and offset: one sweep
     /// a file. A spot is the place of a file in `loaded().texts`, and a byte offset of its text.
-    pub fn places_of_spots(
+    pub(crate) fn places_of_spots(
         &self,
         alloc: Global,
         spots: &[(u32, u32)],

@@ -3,23 +3,12 @@ use Rattle.std.proofs.Common.{◌≡◌, ℕ, ◌+◌, ◌≤◌, List, [], ◌�
 use Rattle.std.specs.List.{AllZip}
 use Rattle.std.specs.Ordering.{nat_cmp}
 use Rattle.std.specs.Cmp.Lexicographic.{slice_cmp}
-use Rattle.std.proofs.Math.Logic.{∥∥₁_elim}
-use Rattle.std.proofs.Props.{props}
 use Rattle.std.proofs.lemmas.Map.Keys.{Less-from_sorted}
 use Rattle.module_table.specs.Facts.{Facts}
 use Rattle.file_library.specs.Asked.{AreInOrder}
 use Rattle.file_library.specs.Loaded.{NamedText}
-use Rattle.import_rules.specs.declared.program.Program.{Program}
-use Rattle.import_rules.specs.Program.{see_program, IsReadFrom}
-use Rattle.import_rules.proofs.Seen.{loaded_is}
+use Rattle.import_rules.specs.Program.{IsReadFrom}
 use Rattle.loop_report.specs.ModuleGraph.{AreRising, file_names}
-
--- there are few texts
-pub few_texts : (p : Program) → length (see_program p).loaded.texts ≤ 1024
-few_texts p =
-    let few : length (see_program p).loaded.texts + length (see_program p).loaded.absent ≤ 1024 =
-    rw (loaded_is p) (∥∥₁_elim p.was_loaded (hlevel props) (λ was. was.is.few)) in
-    omega (arith, few)
 
 -- the files are named as their texts
 pub named_alike : (texts : List NamedText) (files : List Facts) → AllZip IsReadFrom texts files → file_names files ≡ map (λ (text : NamedText). text.0) texts

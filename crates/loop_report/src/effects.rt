@@ -5,7 +5,6 @@ ghost use Rattle.std.specs.String.{string_bytes};
 ghost use Rattle.graph_law.specs.Graph.{lists_of};
 ghost use Rattle.effect_flow.specs.Carriers.{first_at, flow_at};
 ghost use Rattle.effect_flow.specs.Seen.{see_flow, see_flows};
-ghost use Rattle.import_rules.specs.Program.{see_program};
 ghost use Rattle.loop_report.specs.Effects.{AreEffectLines, effect_line, group_effects, kind_word};
 ghost use Rattle.loop_report.specs.Reportable.{AreReportable};
 
@@ -46,10 +45,10 @@ fn push_effect<'a>(
     carrier: u32,
 ) -> Result<(), AllocError>
     requires kind { kind < 7 }
-    requires least { least < length (see_program program.now).predicates }
-    requires carrier { carrier < length (see_program program.now).predicates }
+    requires least { least < length program.now.predicates }
+    requires carrier { carrier < length program.now.predicates }
     ensures { OnOk result (string_bytes text.new
-        ≡ string_bytes text.old ++ effect_line (see_program program.now).predicates least (kind_word kind) (Some carrier)) }
+        ≡ string_bytes text.old ++ effect_line program.now.predicates least (kind_word kind) (Some carrier)) }
 {
     text.push_str("effect")?;
     push_member(text, program, last, least)?;
@@ -67,11 +66,11 @@ fn push_effects<'a>(
     least: u32,
     flow: Flow,
 ) -> Result<(), AllocError>
-    requires least { least < length (see_program program.now).predicates }
+    requires least { least < length program.now.predicates }
     requires carriers { (kind q : ℕ) → kind < 7
-        → first_at (see_flow flow) kind ≡ Some q → q < length (see_program program.now).predicates }
+        → first_at (see_flow flow) kind ≡ Some q → q < length program.now.predicates }
     ensures { OnOk result (string_bytes text.new
-        ≡ string_bytes text.old ++ group_effects (see_program program.now).predicates least (see_flow flow)) }
+        ≡ string_bytes text.old ++ group_effects program.now.predicates least (see_flow flow)) }
 {
     for kind in 0..KINDS {
         let Some(carrier) = flow.first(kind) else {
@@ -101,11 +100,11 @@ pub fn effect_lines(
     levels: &[Level],
     flows: &[Flow],
 ) -> Result<Vec<u8>, AllocError>
-    requires groups { AreReportable (length (see_program program.now).predicates) (lists_of groups.now) levels.now }
+    requires groups { AreReportable (length program.now.predicates) (lists_of groups.now) levels.now }
     requires each { length flows.now ≡ length groups.now }
     requires carriers { (place kind q : ℕ) → place < length groups.now → kind < 7
-        → first_at (flow_at (see_flows flows.now) place) kind ≡ Some q → q < length (see_program program.now).predicates }
-    ensures { IfOk result (λ bytes. AreEffectLines (see_program program.now).predicates (lists_of groups.now) levels.now
+        → first_at (flow_at (see_flows flows.now) place) kind ≡ Some q → q < length program.now.predicates }
+    ensures { IfOk result (λ bytes. AreEffectLines program.now.predicates (lists_of groups.now) levels.now
         (see_flows flows.now) bytes.items) }
 {
     let lines = lines_in_order(alloc, groups, levels)?;

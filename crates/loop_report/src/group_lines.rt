@@ -2,7 +2,6 @@ ghost use Rattle.std.specs.Prelude.{◌≡◌, ◌<◌, ◌++◌, OnOk, All, len
 ghost use Rattle.std.specs.List.{flat_map};
 ghost use Rattle.std.specs.String.{string_bytes};
 ghost use Rattle.graph_law.specs.Graph.{lists_of};
-ghost use Rattle.import_rules.specs.Program.{see_program};
 ghost use Rattle.loop_report.specs.Names.{member_name};
 ghost use Rattle.loop_report.specs.Report.{group_line, kind_of, place_line};
 
@@ -22,10 +21,10 @@ pub(crate) fn push_groups(
     order: &[usize],
 ) -> Result<(), AllocError>
     requires one_level_each { length levels.now ≡ length groups.now }
-    requires within { All (All (λ member. member < length (see_program program.now).predicates)) (lists_of groups.now) }
+    requires within { All (All (λ member. member < length program.now.predicates)) (lists_of groups.now) }
     requires places { All (λ place. place < length groups.now) order.now }
     ensures { OnOk result (string_bytes text.new
-        ≡ string_bytes text.old ++ flat_map (place_line (see_program program.now).predicates (lists_of groups.now) levels.now) order.now) }
+        ≡ string_bytes text.old ++ flat_map (place_line program.now.predicates (lists_of groups.now) levels.now) order.now) }
 {
     let mut last = LastModule::none(alloc);
     for &place in order {
@@ -41,9 +40,9 @@ fn push_group<'a>(
     members: &[u32],
     level: Level,
 ) -> Result<(), AllocError>
-    requires { All (λ member. member < length (see_program program.now).predicates) members.now }
+    requires { All (λ member. member < length program.now.predicates) members.now }
     ensures { OnOk result (string_bytes text.new
-        ≡ string_bytes text.old ++ group_line (see_program program.now).predicates members.now level) }
+        ≡ string_bytes text.old ++ group_line program.now.predicates members.now level) }
 {
     push_number(text, u64::from(level.height))?;
     text.push_str(kind_name(level.recursive))?;
@@ -65,9 +64,9 @@ pub(crate) fn push_members<'a>(
     last: &mut LastModule<'a>,
     members: &[u32],
 ) -> Result<(), AllocError>
-    requires { All (λ member. member < length (see_program program.now).predicates) members.now }
+    requires { All (λ member. member < length program.now.predicates) members.now }
     ensures { OnOk result (string_bytes text.new
-        ≡ string_bytes text.old ++ flat_map (member_name (see_program program.now).predicates) members.now) }
+        ≡ string_bytes text.old ++ flat_map (member_name program.now.predicates) members.now) }
 {
     for &member in members {
         push_member(text, program, last, member)?;

@@ -2,7 +2,6 @@ ghost use Rattle.std.specs.Prelude.{◌≡◌, ◌<◌, ◌++◌, IfOk, OnOk, Al
 ghost use Rattle.std.specs.List.{flat_map};
 ghost use Rattle.std.specs.String.{string_bytes};
 ghost use Rattle.graph_law.specs.Graph.{lists_of};
-ghost use Rattle.import_rules.specs.Program.{see_program};
 ghost use Rattle.loop_report.specs.ImportLoops.{AreImportLoops, names_at};
 ghost use Rattle.loop_report.specs.ModuleGraph.{texts_of};
 ghost use Rattle.loop_report.specs.Report.{loop_line, loop_names};
@@ -47,7 +46,7 @@ fn named(
 /// module other than `user` that loads itself. A module loads another where a file of the one loads a
 /// file of the other. The names of a loop ascend, and the loops are in order of their least names.
 pub fn import_loops(alloc: Global, program: &Program) -> Result<Vec<Vec<Text>>, AllocError>
-    ensures { IfOk result (λ loops. AreImportLoops (see_program program.now).loaded.files (lists_of loops.items)) }
+    ensures { IfOk result (λ loops. AreImportLoops program.now.loaded.files (lists_of loops.items)) }
 {
     program.is_known();
     let files = program.loaded().files.as_slice();

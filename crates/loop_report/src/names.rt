@@ -2,7 +2,6 @@ ghost use Rattle.std.specs.Prelude.{◌≡◌, ◌<◌, ◌+◌, ◌++◌, IfOk,
 ghost use Rattle.std.specs.Fmt.{decimal};
 ghost use Rattle.std.specs.String.{string_bytes};
 ghost use Rattle.import_rules.specs.Parts.{see_name};
-ghost use Rattle.import_rules.specs.Program.{see_program};
 ghost use Rattle.loop_report.specs.Names.{member_name, name_text, own_text};
 
 use crate::last_module::LastModule;
@@ -88,9 +87,9 @@ pub(crate) fn push_member<'a>(
     last: &mut LastModule<'a>,
     member: u32,
 ) -> Result<(), AllocError>
-    requires { member < length (see_program program.now).predicates }
+    requires { member < length program.now.predicates }
     ensures { OnOk result (string_bytes text.new
-        ≡ string_bytes text.old ++ member_name (see_program program.now).predicates member) }
+        ≡ string_bytes text.old ++ member_name program.now.predicates member) }
 {
     let predicate = program.name_of(member);
     last.take(predicate.module)?;

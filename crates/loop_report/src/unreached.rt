@@ -2,7 +2,6 @@ ghost use Rattle.std.specs.Prelude.{◌≡◌, ◌<◌, ◌++◌, IfOk, OnOk, Al
 ghost use Rattle.std.specs.List.{range_with_len};
 ghost use Rattle.std.specs.String.{string_bytes};
 ghost use Rattle.graph_law.specs.Graph.{lists_of};
-ghost use Rattle.import_rules.specs.Program.{see_program};
 ghost use Rattle.loop_report.specs.Report.{is_grouped, unreached_line, unreached_lines};
 
 use crate::last_module::LastModule;
@@ -30,9 +29,9 @@ fn push_line<'a>(
     last: &mut LastModule<'a>,
     node: u32,
 ) -> Result<(), AllocError>
-    requires { node < length (see_program program.now).predicates }
+    requires { node < length program.now.predicates }
     ensures { OnOk result (string_bytes text.new
-        ≡ string_bytes text.old ++ unreached_line (see_program program.now).predicates node) }
+        ≡ string_bytes text.old ++ unreached_line program.now.predicates node) }
 {
     text.push_str("unreached")?;
     push_member(text, program, last, node)?;
@@ -46,9 +45,9 @@ pub(crate) fn push_unreached(
     program: &Program,
     groups: &[Vec<u32>],
 ) -> Result<(), AllocError>
-    requires { All (All (λ member. member < length (see_program program.now).predicates)) (lists_of groups.now) }
+    requires { All (All (λ member. member < length program.now.predicates)) (lists_of groups.now) }
     ensures { OnOk result (string_bytes text.new
-        ≡ string_bytes text.old ++ unreached_lines (see_program program.now).predicates (lists_of groups.now)) }
+        ≡ string_bytes text.old ++ unreached_lines program.now.predicates (lists_of groups.now)) }
 {
     let marks = marks_of(alloc, program.count(), groups)?;
     let mut last = LastModule::none(alloc);

@@ -2,7 +2,6 @@ ghost use Rattle.std.specs.Prelude.{◌≡◌, ◌<◌, ◌++◌, IfOk, OnOk, Al
 ghost use Rattle.std.specs.List.{flat_map};
 ghost use Rattle.std.specs.String.{string_bytes};
 ghost use Rattle.graph_law.specs.Graph.{lists_of};
-ghost use Rattle.import_rules.specs.Program.{see_program};
 ghost use Rattle.loop_report.specs.Reportable.{AreReportable};
 ghost use Rattle.loop_report.specs.Walks.{AreCircuitLines, IsCircuitWithin, circuit_line, circuit_line_at, see_circuit, walk_line};
 
@@ -21,9 +20,9 @@ fn push_walk<'a>(
     word: &str,
     walk: &[u32],
 ) -> Result<(), AllocError>
-    requires { All (λ node. node < length (see_program program.now).predicates) walk.now }
+    requires { All (λ node. node < length program.now.predicates) walk.now }
     ensures { OnOk result (string_bytes text.new
-        ≡ string_bytes text.old ++ walk_line (see_program program.now).predicates word.now walk.now) }
+        ≡ string_bytes text.old ++ walk_line program.now.predicates word.now walk.now) }
 {
     text.push_str(word)?;
     push_members(text, program, last, walk)?;
@@ -38,8 +37,8 @@ pub fn walk_line(
     word: &str,
     walk: &[u32],
 ) -> Result<Vec<u8>, AllocError>
-    requires { All (λ node. node < length (see_program program.now).predicates) walk.now }
-    ensures { IfOk result (λ bytes. bytes.items ≡ walk_line (see_program program.now).predicates word.now walk.now) }
+    requires { All (λ node. node < length program.now.predicates) walk.now }
+    ensures { IfOk result (λ bytes. bytes.items ≡ walk_line program.now.predicates word.now walk.now) }
 {
     let mut text = String::new(alloc);
     let mut last = LastModule::none(alloc);
@@ -54,9 +53,9 @@ fn push_circuit<'a>(
     last: &mut LastModule<'a>,
     circuit: &Option<Vec<u32>>,
 ) -> Result<(), AllocError>
-    requires { IsCircuitWithin (length (see_program program.now).predicates) (see_circuit circuit.now) }
+    requires { IsCircuitWithin (length program.now.predicates) (see_circuit circuit.now) }
     ensures { OnOk result (string_bytes text.new
-        ≡ string_bytes text.old ++ circuit_line (see_program program.now).predicates (see_circuit circuit.now)) }
+        ≡ string_bytes text.old ++ circuit_line program.now.predicates (see_circuit circuit.now)) }
 {
     match circuit {
         Some(walk) => push_walk(text, program, last, "loop", walk),
@@ -72,10 +71,10 @@ fn push_circuits(
     circuits: &[Option<Vec<u32>>],
     order: &[usize],
 ) -> Result<(), AllocError>
-    requires within { All (IsCircuitWithin (length (see_program program.now).predicates)) (map see_circuit circuits.now) }
+    requires within { All (IsCircuitWithin (length program.now.predicates)) (map see_circuit circuits.now) }
     requires places { All (λ place. place < length circuits.now) order.now }
     ensures { OnOk result (string_bytes text.new
-        ≡ string_bytes text.old ++ flat_map (circuit_line_at (see_program program.now).predicates (map see_circuit circuits.now)) order.now) }
+        ≡ string_bytes text.old ++ flat_map (circuit_line_at program.now.predicates (map see_circuit circuits.now)) order.now) }
 {
     let mut last = LastModule::none(alloc);
     for &place in order {
@@ -94,10 +93,10 @@ pub fn circuit_lines(
     levels: &[Level],
     circuits: &[Option<Vec<u32>>],
 ) -> Result<Vec<u8>, AllocError>
-    requires groups { AreReportable (length (see_program program.now).predicates) (lists_of groups.now) levels.now }
+    requires groups { AreReportable (length program.now.predicates) (lists_of groups.now) levels.now }
     requires each { length circuits.now ≡ length groups.now }
-    requires within { All (IsCircuitWithin (length (see_program program.now).predicates)) (map see_circuit circuits.now) }
-    ensures { IfOk result (λ bytes. AreCircuitLines (see_program program.now).predicates (lists_of groups.now) levels.now
+    requires within { All (IsCircuitWithin (length program.now.predicates)) (map see_circuit circuits.now) }
+    ensures { IfOk result (λ bytes. AreCircuitLines program.now.predicates (lists_of groups.now) levels.now
         (map see_circuit circuits.now) bytes.items) }
 {
     let order = line_order(alloc, groups, levels)?;

@@ -1,6 +1,5 @@
 ghost use Rattle.std.specs.Prelude.{◌≡◌, ◌<◌, IfOk, All, length};
 ghost use Rattle.graph_law.specs.Graph.{lists_of};
-ghost use Rattle.import_rules.specs.Program.{see_program};
 ghost use Rattle.loop_report.specs.Report.{IsOrderReport, IsReport, IsReportIn};
 ghost use Rattle.loop_report.specs.Reportable.{ArePrintable, AreReportable};
 
@@ -24,9 +23,9 @@ pub fn report(
     levels: &[Level],
     unreached: bool,
 ) -> Result<Vec<u8>, AllocError>
-    requires { AreReportable (length (see_program program.now).predicates) (lists_of groups.now) levels.now }
+    requires { AreReportable (length program.now.predicates) (lists_of groups.now) levels.now }
     ensures { IfOk result (λ bytes.
-        IsReport (see_program program.now).predicates (see_program program.now).loaded.files (lists_of groups.now) levels.now unreached bytes.items) }
+        IsReport program.now.predicates program.now.loaded.files (lists_of groups.now) levels.now unreached bytes.items) }
 {
     let order = line_order(alloc, groups, levels)?;
     written(alloc, program, groups, levels, &order, unreached)
@@ -40,9 +39,9 @@ pub fn order_report(
     levels: &[Level],
     unreached: bool,
 ) -> Result<Vec<u8>, AllocError>
-    requires { AreReportable (length (see_program program.now).predicates) (lists_of groups.now) levels.now }
+    requires { AreReportable (length program.now.predicates) (lists_of groups.now) levels.now }
     ensures { IfOk result (λ bytes.
-        IsOrderReport (see_program program.now).predicates (see_program program.now).loaded.files (lists_of groups.now) levels.now unreached bytes.items) }
+        IsOrderReport program.now.predicates program.now.loaded.files (lists_of groups.now) levels.now unreached bytes.items) }
 {
     let order = order_given(alloc, groups.len())?;
     written(alloc, program, groups, levels, &order, unreached)
@@ -57,10 +56,10 @@ fn written(
     order: &[usize],
     unreached: bool,
 ) -> Result<Vec<u8>, AllocError>
-    requires printable { ArePrintable (length (see_program program.now).predicates) (lists_of groups.now) levels.now }
+    requires printable { ArePrintable (length program.now.predicates) (lists_of groups.now) levels.now }
     requires places { All (λ place. place < length groups.now) order.now }
     ensures { IfOk result (λ bytes.
-        IsReportIn (see_program program.now).predicates (see_program program.now).loaded.files
+        IsReportIn program.now.predicates program.now.loaded.files
         (lists_of groups.now) levels.now unreached order.now bytes.items) }
 {
     let mut text = String::with_capacity(alloc, 32 * program.count() as usize)?;

@@ -9,7 +9,7 @@ use Rattle.file_library.specs.Loaded.{LoadedFiles}
 use Rattle.file_library.specs.Asking.{LoadEnd, LoadEndIs, loaded, too_many, too_large, too_much, AreGiven, HasEnded, IsDecided}
 use Rattle.file_library.specs.Asking as of_load
 use Rattle.file_library.specs.SortedOut as of_library
-use Rattle.import_rules.specs.Program.{Seen, IsProgram, see_program}
+use Rattle.import_rules.specs.Program.{Seen, IsProgram}
 use Rattle.import_rules.specs.declared.program.Program.{Program}
 use Rattle.call_edges.specs.declared.goal_stop.GoalStop.{GoalStop}
 use Rattle.call_edges.specs.declared.goal_stop.GoalStop.TheVariants as of_check

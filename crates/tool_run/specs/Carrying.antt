@@ -3,7 +3,7 @@ use Rattle.std.specs.Prelude.{◌≡◌, ℕ, ◌⊎◌, List, Result, Ok, Err}
 use Rattle.file_library.specs.Asking.{LoadEnd}
 use Rattle.file_library.specs.Asking as of_load
 use Rattle.file_library.specs.Loaded.{LoadedFiles}
-use Rattle.import_rules.specs.Program.{Seen, IsProgram, see_program}
+use Rattle.import_rules.specs.Program.{Seen, IsProgram}
 use Rattle.import_rules.specs.declared.program.Program.{Program}
 use Rattle.tool_run.specs.declared.stop.Limit.TheVariants.{TooManyFiles, FileTooLarge, TooMuchText, TooManyPredicates}
 use Rattle.tool_run.specs.declared.stop.Stop.{Stop}
@@ -32,7 +32,7 @@ StopsAt of_load.no_memory end = end ≡ no_memory
 
 -- loaded files are this program, or none
 abbrev pub AreResolved : LoadedFiles → Result Program Stop → Type 0
-AreResolved found (Ok program) = IsProgram found (see_program program)
+AreResolved found (Ok program) = IsProgram found program
 AreResolved found (Err stop) = (end_of_stop stop ≡ no_memory) ⊎ AreNoProgram found (end_of_stop stop)
 
 -- files were asked for, and they are a program
@@ -49,7 +49,7 @@ pub record IsStopped (names : List (List ℕ)) (library : Asking) (end : End) : 
 
 -- the library was asked for files of these names and all that they lead to, and they are this program, or why there is none
 abbrev pub AreLoaded : List (List ℕ) → Asking → Result Program Stop → Type 0
-AreLoaded names library (Ok program) = IsLoadedProgram names library (see_program program)
+AreLoaded names library (Ok program) = IsLoadedProgram names library program
 AreLoaded names library (Err stop) = IsStopped names library (end_of_stop stop)
 
 -- whatever files the program is of, they come to this end, or memory was wanting
@@ -58,5 +58,5 @@ ProgramComesTo tool asked seen end = (found : LoadedFiles) → IsProgram found s
 
 -- what the program comes to is an end of this kind; where there is none, the stop is
 abbrev pub CarriesOn : {A : Type 0} → Tool A → A → (End → Type 0) → Result Program Stop → Type 0
-CarriesOn tool asked ends (Ok program) = (end : End) → ProgramComesTo tool asked (see_program program) end → ends end
+CarriesOn tool asked ends (Ok program) = (end : End) → ProgramComesTo tool asked program end → ends end
 CarriesOn tool asked ends (Err stop) = ends (end_of_stop stop)

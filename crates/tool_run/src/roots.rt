@@ -2,7 +2,6 @@
 
 ghost use Rattle.std.specs.Prelude.{◌≡◌, ◌<◌, ◌++◌, ◌∷◌, [], OnOk, All, Some, IfOk, IfErr, length};
 ghost use Rattle.std.specs.List.{AllZip};
-ghost use Rattle.import_rules.specs.Program.{see_program};
 ghost use Rattle.group_words.specs.Settings.{see_options};
 ghost use Rattle.tool_run.specs.Roots.{AreRootNumbers, HasRoots, IsNamed, IsRootStop, IsEndStop, AreEnds, asked_names};
 
@@ -49,8 +48,8 @@ fn push_root(roots: &mut Vec<u32>, node: u32) -> Result<(), AllocError>
 
 /// The numbers of the predicates that the list names, in its order, or the first name that is none.
 fn listed(alloc: Global, program: &Program, list: &[PredName]) -> Result<Vec<u32>, RootStop>
-    ensures ok { IfOk result (λ roots. AllZip (IsNamed (see_program program.now).predicates) list.now roots.items) }
-    ensures err { IfErr result (IsRootStop (Some list.now) (see_program program.now)) }
+    ensures ok { IfOk result (λ roots. AllZip (IsNamed program.now.predicates) list.now roots.items) }
+    ensures err { IfErr result (IsRootStop (Some list.now) program.now) }
 {
     let mut roots = Vec::new(alloc);
     for name in list {
@@ -64,10 +63,10 @@ fn listed(alloc: Global, program: &Program, list: &[PredName]) -> Result<Vec<u32
 
 /// The numbers of the predicates that the list names, ascending and each once.
 fn listed_roots(alloc: Global, program: &Program, list: &[PredName]) -> Result<Vec<u32>, RootStop>
-    ensures roots { IfOk result (λ roots. AreRootNumbers (Some list.now) (see_program program.now) roots.items) }
-    ensures below { IfOk result (λ roots. All (λ q. q < length (see_program program.now).predicates) roots.items) }
-    ensures rooted { IfOk result (λ _. HasRoots (Some list.now) (see_program program.now)) }
-    ensures err { IfErr result (IsRootStop (Some list.now) (see_program program.now)) }
+    ensures roots { IfOk result (λ roots. AreRootNumbers (Some list.now) program.now roots.items) }
+    ensures below { IfOk result (λ roots. All (λ q. q < length program.now.predicates) roots.items) }
+    ensures rooted { IfOk result (λ _. HasRoots (Some list.now) program.now) }
+    ensures err { IfErr result (IsRootStop (Some list.now) program.now) }
 {
     program.is_known();
     let mut roots = listed(alloc, program, list)?;
@@ -79,10 +78,10 @@ fn listed_roots(alloc: Global, program: &Program, list: &[PredName]) -> Result<V
 /// The predicates at which reach begins, ascending and each once: those that the options list, or
 /// where they list none those of the program.
 pub fn roots_by(alloc: Global, program: &Program, options: &Options) -> Result<Vec<u32>, RootStop>
-    ensures roots { IfOk result (λ roots. AreRootNumbers (see_options options.now).roots (see_program program.now) roots.items) }
-    ensures below { IfOk result (λ roots. All (λ q. q < length (see_program program.now).predicates) roots.items) }
-    ensures rooted { IfOk result (λ _. HasRoots (see_options options.now).roots (see_program program.now)) }
-    ensures err { IfErr result (IsRootStop (see_options options.now).roots (see_program program.now)) }
+    ensures roots { IfOk result (λ roots. AreRootNumbers (see_options options.now).roots program.now roots.items) }
+    ensures below { IfOk result (λ roots. All (λ q. q < length program.now.predicates) roots.items) }
+    ensures rooted { IfOk result (λ _. HasRoots (see_options options.now).roots program.now) }
+    ensures err { IfErr result (IsRootStop (see_options options.now).roots program.now) }
 {
     match &options.roots {
         Some(list) => listed_roots(alloc, program, list),
@@ -92,8 +91,8 @@ pub fn roots_by(alloc: Global, program: &Program, options: &Options) -> Result<V
 
 /// The number of the predicate of that name, or that there is none.
 fn end_of_path(alloc: Global, program: &Program, name: &PredName) -> Result<u32, RootStop>
-    ensures ok { IfOk result (IsNamed (see_program program.now).predicates name.now) }
-    ensures err { IfErr result (IsEndStop (see_program program.now).predicates name.now) }
+    ensures ok { IfOk result (IsNamed program.now.predicates name.now) }
+    ensures err { IfErr result (IsEndStop program.now.predicates name.now) }
 {
     let Some(node) = program.own(name) else {
         return Err(RootStop::NoPredicate(copied(alloc, name)?));
@@ -107,10 +106,10 @@ pub fn ends_by(
     program: &Program,
     options: &Options,
 ) -> Result<Option<(u32, u32)>, RootStop>
-    requires { HasRoots (see_options options.now).roots (see_program program.now) }
-    ensures ends { IfOk result (AreEnds (see_options options.now).path (see_program program.now)) }
-    ensures rooted { IfOk result (λ _. HasRoots (asked_names (see_options options.now).path (see_options options.now).roots) (see_program program.now)) }
-    ensures err { IfErr result (IsRootStop (asked_names (see_options options.now).path (see_options options.now).roots) (see_program program.now)) }
+    requires { HasRoots (see_options options.now).roots program.now }
+    ensures ends { IfOk result (AreEnds (see_options options.now).path program.now) }
+    ensures rooted { IfOk result (λ _. HasRoots (asked_names (see_options options.now).path (see_options options.now).roots) program.now) }
+    ensures err { IfErr result (IsRootStop (asked_names (see_options options.now).path (see_options options.now).roots) program.now) }
 {
     let Some(both) = &options.path else {
         return Ok(None);

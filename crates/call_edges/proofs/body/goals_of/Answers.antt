@@ -3,14 +3,13 @@ use Rattle.std.proofs.lemmas.List.{length-map}
 use Rattle.module_table.specs.Facts.{see_facts}
 use Rattle.file_library.specs.Loaded.{LoadedFiles}
 use Rattle.call_edges.specs.Bodies.{goals_of_file, goals_in}
-use Rattle.call_edges.proofs.KnownLemmas.{files_few}
 use Rattle.call_edges.proofs.GoalLemmas.{files_more, files_all}
 use Rattle.call_edges.proofs.body.goals_of.Goals as goal
 
 pub overflow_cast-place : goal.overflow_cast-place
 overflow_cast-place c =
     let files = c.loaded.result.now.files.items in
-    let few = files_few c.args.program.now in
+    let few = c.is_known.ensures.few_files in
     let count : length (map see_facts files) ≡ length files = length-map files see_facts in
     omega (arith, c.loop-place-test.true, ap length c.deref-file-items.ensures.value, count, ap (λ (l : LoadedFiles). length l.files) c.loaded.ensures, few)
 

@@ -1,6 +1,5 @@
 use Rattle.std.proofs.Common.{◌≡◌, ◌++◌, map, take}
 use Rattle.std.specs.List.{flat_map}
-use Rattle.import_rules.specs.Program.{see_program}
 use Rattle.call_edges.specs.Bodies.{see_body, bodies_at}
 use Rattle.call_edges.proofs.body.push_bodies_of.Given as goal
 
@@ -8,4 +7,4 @@ use Rattle.call_edges.proofs.body.push_bodies_of.Given as goal
 abbrev pub invariant-loop-place : goal.invariant-loop-place
 invariant-loop-place l =
     map see_body l.bodies.items
-    ≡ map see_body l.fn.bodies.items ++ flat_map (bodies_at (see_program l.fn.program).loaded.files) (take l.place-index l.place-items)
+    ≡ map see_body l.fn.bodies.items ++ flat_map (bodies_at l.fn.program.loaded.files) (take l.place-index l.place-items)

@@ -1,6 +1,5 @@
 use Rattle.std.proofs.Common.{◌≡◌, map, get_or, ap, sym, ◌∙◌, subst, arith}
 use Rattle.std.proofs.lemmas.List.{length-map, get_or-map}
-use Rattle.import_rules.specs.Program.{see_program}
 use Rattle.call_edges.specs.Meant.{AreMeant}
 use Rattle.call_edges.specs.Seen.{see_mets}
 use Rattle.call_edges.specs.Bodies.{see_body, IsLight}
@@ -20,12 +19,12 @@ walk-requires c =
 
 pub push_targets-requires : goal.push_targets-requires
 push_targets-requires c =
-    let seen = see_program c.args.program.now in
+    let seen = c.args.program.now in
     subst (AreMeant seen) (sym c.deref.ensures.value) (c.in_ok-walk.ensures.meant (none_meant seen c.clear.new.self.items c.clear.ensures.items))
 
 pub loop-body-preserved : goal.loop-body-preserved
 loop-body-preserved c =
-    let seen = see_program c.args.program.now in
+    let seen = c.args.program.now in
     let body = c.body-item.result in
     let out = c.loop-body.out.items in
     let called = c.push_targets.new.out.items in
@@ -35,7 +34,7 @@ loop-body-preserved c =
 
 pub returns : goal.returns
 returns c =
-    let seen = see_program c.args.program.now in
+    let seen = c.args.program.now in
     let bodies = c.args.bodies.now in
     let old = c.args.out.now.items in
     let out = c.loop-body.out.items in

@@ -1,14 +1,13 @@
 use Rattle.std.proofs.Common.{◌≡◌, ℕ, true, false, List, [], length, ap, sym, ◌∙◌, subst, arith}
 use Rattle.std.proofs.lemmas.Bool.{eqb-true, eq-eqb}
 use Rattle.std.proofs.lemmas.List.{nil_from_length}
-use Rattle.import_rules.specs.Program.{see_program}
 use Rattle.call_edges.specs.FaultPlaces.{AreFaultPlaces}
 use Rattle.call_edges.proofs.GoalFaultLemmas.{goal_faults, some_faults}
 use Rattle.call_edges.proofs.check.all_callable.Goals as goal
 
 pub returns-then-is_empty-clause-callable : goal.returns-then-is_empty-clause-callable
 returns-then-is_empty-clause-callable g c =
-    let seen = see_program c.args.program.now in
+    let seen = c.args.program.now in
     let faults = c.in_ok-faults.faults in
     let none = eqb-true faults.len 0 (sym c.is_empty.ensures ∙ c.if-is_empty.true) in
     let empty : faults.items ≡ [] = nil_from_length faults.items (omega (arith, none, faults.ok.0)) in
@@ -17,7 +16,7 @@ returns-then-is_empty-clause-callable g c =
 
 pub returns-clause-refused : goal.returns-clause-refused
 returns-clause-refused g c =
-    let seen = see_program c.args.program.now in
+    let seen = c.args.program.now in
     let faults = c.in_ok-faults.faults in
     let places = c.deref-2.result.now in
     let P : List (ℕ × ℕ) → Type 0 = λ xs. AreFaultPlaces seen xs in

@@ -1,5 +1,4 @@
 use Rattle.std.proofs.Common.{◌≡◌, ℕ, ◌++◌, List, ap, ◌∙◌}
-use Rattle.import_rules.specs.Program.{see_program}
 use Rattle.call_edges.proofs.CheckLemmas.{all_places}
 use Rattle.call_edges.proofs.check.fault_places.Goals as goal
 
@@ -8,7 +7,7 @@ joined_is all lists more others is same = is ∙ ap (λ xs. lists ++ xs) same
 
 pub returns : goal.returns
 returns c =
-    let seen = see_program c.args.program.now in
+    let seen = c.args.program.now in
     let lists = c.in_ok-faults.faults.items in
     let others = c.in_ok-others.others.items in
     let joins : c.extend_from_slice.new.self.items ≡ lists ++ others =

@@ -1,5 +1,4 @@
 use Rattle.std.proofs.Common.{List, sym, subst}
-use Rattle.import_rules.specs.Program.{see_program}
 use Rattle.call_edges.specs.declared.kept_calls.PieceCalls.{PieceCalls}
 use Rattle.call_edges.specs.declared.piece.Piece.{Piece}
 use Rattle.call_edges.specs.CallLists.{ArePieces}
@@ -9,7 +8,7 @@ use Rattle.call_edges.proofs.check.open_all.Goals as goal
 
 pub returns-clause-pieces : goal.returns-clause-pieces
 returns-clause-pieces g c =
-    let seen = see_program c.args.program.now in
+    let seen = c.args.program.now in
     let opened = c.in_ok-opened.opened.items in
     let are = all_opened c.args.keep seen c.in_ok-each.each.items opened c.in_ok-each.ensures c.in_ok-opened.ensures in
     let P : List Piece → Type 0 = λ pieces. ArePieces seen pieces in
@@ -17,7 +16,7 @@ returns-clause-pieces g c =
 
 pub returns-clause-kept : goal.returns-clause-kept
 returns-clause-kept g c keep =
-    let seen = see_program c.args.program.now in
+    let seen = c.args.program.now in
     let opened = c.in_ok-opened.opened.items in
     let are = all_opened c.args.keep seen c.in_ok-each.each.items opened c.in_ok-each.ensures c.in_ok-opened.ensures in
     let P : List PieceCalls → Type 0 = λ kept. AreKept seen kept in

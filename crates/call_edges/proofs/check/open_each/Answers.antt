@@ -5,7 +5,7 @@ use Rattle.rayon.specs.Lists.{min_len_base, range_start, range_end}
 use Rattle.rayon.specs.Numbers.{nat_range}
 use Rattle.rayon.proofs.ListFacts.{IfOk-then}
 use Rattle.rayon.proofs.ToStd.{nat_range-All}
-use Rattle.import_rules.specs.Program.{Seen, see_program}
+use Rattle.import_rules.specs.Program.{Seen}
 use Rattle.call_edges.specs.declared.piece.OpenedPiece.{OpenedPiece}
 use Rattle.call_edges.specs.OpenedPieces.{AreOpened, IsOpenedPiece}
 use Rattle.call_edges.proofs.CheckLemmas.{opened_of}
@@ -19,7 +19,7 @@ so_many seen count pieces is are = subst (λ (n : ℕ). (number : ℕ) → numbe
 pub returns : goal.returns
 returns g c =
     let ends = c.into_par_iter.ensures in
-    let seen = see_program c.args.program.now in
+    let seen = c.args.program.now in
     let keep = c.args.keep in
     let pieces = c.piece_count.result in
     let whole : pieces - 0 ≡ pieces = omega arith in
@@ -32,7 +32,7 @@ returns g c =
     ∙ ((λ i. nat_range (ends.0 i) (ends.1 i)) ∙ ap (range_with_len 0) whole))) in
     let Found : ℕ → Result OpenedPiece AllocError → Type 0 = λ number one. IfOk one (IsOpenedPiece keep seen number) in
     let made : AllZip Found chain.0 h.0 =
-    subst (λ f. AllZip (λ (number : ℕ) (one : Result OpenedPiece AllocError). IfOk one (IsOpenedPiece f.2.now (see_program f.1.now) number)) chain.0 h.0) c.map.ensures.f chain.2 in
+    subst (λ f. AllZip (λ (number : ℕ) (one : Result OpenedPiece AllocError). IfOk one (IsOpenedPiece f.2.now (f.1.now) number)) chain.0 h.0) c.map.ensures.f chain.2 in
     subst (λ (xs : List (Result OpenedPiece AllocError)). AreOpened keep seen xs) (sym h.2)
     (opened_of keep seen h.0 pieces (so_many seen c.count.result pieces c.count.ensures c.piece_count.ensures)
     (subst (λ (xs : List ℕ). AllZip Found xs h.0) places made)))
@@ -40,7 +40,7 @@ returns g c =
 pub collect-requires-clause-ready : goal.collect-requires-clause-ready
 collect-requires-clause-ready g c κs within =
     let ends = c.into_par_iter.ensures in
-    let seen = see_program c.args.program.now in
+    let seen = c.args.program.now in
     let pieces = c.piece_count.result in
     let inside = nat_range-All (λ i. i * 512 < length seen.predicates) 0 pieces (λ i low high. (so_many seen c.count.result pieces c.count.ensures c.piece_count.ensures i).0 high) in
     rw (c.map.ensures.base, c.map.ensures.f, c.with_min_len.ensures.base, ends.0, ends.1) (λ k d lt. (inside k d lt, λ y p. tt))

@@ -1,6 +1,5 @@
 use Rattle.std.proofs.Common.{◌≡◌, [], map, get_or, ap, sym, ◌∙◌, subst, arith}
 use Rattle.std.proofs.lemmas.List.{length-map, get_or-map}
-use Rattle.import_rules.specs.Program.{see_program}
 use Rattle.call_edges.specs.ProgramRows.{rows_of}
 use Rattle.call_edges.specs.Seen.{see_mets}
 use Rattle.call_edges.specs.Bodies.{see_body, IsLight}
@@ -21,11 +20,11 @@ pub loop-body-preserved : goal.loop-body-preserved
 loop-body-preserved c =
     let faults = c.loop-body.faults.items in
     let new = c.push_places.new.places.items in
-    among_more (IsSeenFault (rows_of (see_program c.args.program.now))) c.args.bodies.now c.loop-body.body-index c.body-item.result [] faults new c.loop-body-test.true c.body-item.is c.loop-body.invariant
-    (body_faults (rows_of (see_program c.args.program.now)) (see_body c.body-item.result) c.walk.new.met.items (see_mets c.clear.new.self.items) faults new (ap see_mets c.clear.ensures.items) c.in_ok-walk.ensures.met
+    among_more (IsSeenFault (rows_of c.args.program.now)) c.args.bodies.now c.loop-body.body-index c.body-item.result [] faults new c.loop-body-test.true c.body-item.is c.loop-body.invariant
+    (body_faults (rows_of c.args.program.now) (see_body c.body-item.result) c.walk.new.met.items (see_mets c.clear.new.self.items) faults new (ap see_mets c.clear.ensures.items) c.in_ok-walk.ensures.met
     (rw c.deref.ensures.value at c.in_ok-push_places.ensures))
 
 pub returns : goal.returns
 returns c =
     let bodies = c.args.bodies.now in
-    bodies_faults (rows_of (see_program c.args.program.now)) bodies c.loop-body.faults.items (among_all (IsSeenFault (rows_of (see_program c.args.program.now))) bodies c.loop-body.body-index [] c.loop-body.faults.items c.loop-body-test.false c.loop-body.invariant)
+    bodies_faults (rows_of c.args.program.now) bodies c.loop-body.faults.items (among_all (IsSeenFault (rows_of c.args.program.now)) bodies c.loop-body.body-index [] c.loop-body.faults.items c.loop-body-test.false c.loop-body.invariant)

@@ -8,7 +8,7 @@ use Rattle.clause_text.specs.Clauses.{clause_trees}
 use Rattle.module_table.specs.Defined.{see_defined}
 use Rattle.module_table.specs.Facts.{see_facts, Facts}
 use Rattle.file_library.specs.Loaded.{LoadedFiles}
-use Rattle.import_rules.specs.Program.{Seen, see_program, places_in}
+use Rattle.import_rules.specs.Program.{Seen, places_in}
 use Rattle.call_edges.specs.FileOrder.{first_offset}
 use Rattle.call_edges.proofs.BodyLemmas.{IsThere, places_there}
 use Rattle.call_edges.proofs.FileOrderLemmas.{starts_at, starts_nowhere}
@@ -24,7 +24,7 @@ there places at seen node first are =
 pub index-file-requires : goal.index-file-requires
 index-file-requires c =
     let at = c.in-Some.place.now in
-    let seen = see_program c.args.program.now in
+    let seen = c.args.program.now in
     let is = there c.places_of.result.now at seen c.args.node (sym c.in-Some.ensures.value) c.places_of.ensures in
     let files = c.loaded.result.now.files in
     let read : slice_get (map see_facts files.items) at.0 ≡ Some is.file = ap (λ (l : LoadedFiles). slice_get l.files at.0) (sym c.loaded.ensures) ∙ is.at_place in
@@ -33,7 +33,7 @@ index-file-requires c =
 pub index-predicate-requires : goal.index-predicate-requires
 index-predicate-requires c =
     let at = c.in-Some.place.now in
-    let seen = see_program c.args.program.now in
+    let seen = c.args.program.now in
     let is = there c.places_of.result.now at seen c.args.node (sym c.in-Some.ensures.value) c.places_of.ensures in
     let files = c.loaded.result.now.files in
     let file = c.index-file.result.now in
@@ -45,7 +45,7 @@ index-predicate-requires c =
 pub returns : goal.returns
 returns c =
     let at = c.in-Some.place.now in
-    let seen = see_program c.args.program.now in
+    let seen = c.args.program.now in
     let all = seen.loaded.files in
     let is = there c.places_of.result.now at seen c.args.node (sym c.in-Some.ensures.value) c.places_of.ensures in
     let files = c.loaded.result.now.files in
@@ -64,6 +64,6 @@ returns c =
 
 pub returns-in_default : goal.returns-in_default
 returns-in_default c =
-    let seen = see_program c.args.program.now in
+    let seen = c.args.program.now in
     starts_nowhere seen.loaded.files (places_in seen c.args.node)
     (ap (λ (ps : List (ℕ × ℕ)). slice_get ps 0) (sym c.places_of.ensures) ∙ sym c.in_default.ensures.value)

@@ -1,12 +1,11 @@
 use Rattle.std.proofs.Common.{◌++◌, ◌∷◌, [], map, take, get_or, ap, sym, ◌∙◌}
 use Rattle.std.proofs.lemmas.List.{map-append, take_all, take_more}
-use Rattle.import_rules.specs.Program.{see_program}
 use Rattle.call_edges.specs.FileOrder.{see_start, start_in}
 use Rattle.call_edges.proofs.file_order.starts_from.Goals as goal
 
 pub loop-node-preserved : goal.loop-node-preserved
 loop-node-preserved c =
-    let seen = see_program c.args.program.now in
+    let seen = c.args.program.now in
     let nodes = c.args.nodes.now in
     let k = c.loop-node.node-index in
     let node = get_or nodes k 0 in
@@ -19,6 +18,6 @@ loop-node-preserved c =
 
 pub returns : goal.returns
 returns c =
-    let seen = see_program c.args.program.now in
+    let seen = c.args.program.now in
     let nodes = c.args.nodes.now in
     c.loop-node.invariant ∙ ap (map (start_in seen)) (take_all c.loop-node.node-index nodes c.loop-node-test.false)

@@ -3,14 +3,13 @@ use Rattle.std.specs.List.{flat_map}
 use Rattle.std.specs.List.Sorted.{IsNonDecreasingBy}
 use Rattle.std.proofs.lemmas.List.{take-append-le, take_all}
 use Rattle.std.proofs.lemmas.List.Sorted.{IsNonDecreasingBy-from_sort_by_key, IsPermutation-map}
-use Rattle.import_rules.specs.Program.{see_program}
 use Rattle.call_edges.specs.FileOrder.{AreStarts, see_start, start_in}
 use Rattle.call_edges.specs.declared.file_order.Start.{Start}
 use Rattle.call_edges.proofs.file_order.starts_in_order.Goals as goal
 
 pub returns-clause-starts : goal.returns-clause-starts
 returns-clause-starts g c =
-    let seen = see_program c.args.program.now in
+    let seen = c.args.program.now in
     let nodes = c.args.nodes.now in
     let each = c.in_ok-each.each.items in
     let starts = c.in_ok-starts.starts.items in

@@ -1,5 +1,4 @@
 use Rattle.std.proofs.Common.{sym, ◌∙◌, subst}
-use Rattle.import_rules.specs.Program.{see_program}
 use Rattle.call_edges.specs.Goals.{Adds}
 use Rattle.call_edges.specs.PlacedSeen.{see_calls}
 use Rattle.call_edges.proofs.AmongLemmas.{among_next, among_all}
@@ -12,7 +11,7 @@ target-callee-requires c = c.requires c.loop-one.one-index _ c.loop-one-test.tru
 
 pub loop-one-preserved-in_default : goal.loop-one-preserved-in_default
 loop-one-preserved-in_default c =
-    let seen = see_program c.args.program.now in
+    let seen = c.args.program.now in
     let met = c.args.met.now in
     let i = c.loop-one.one-index in
     let file = c.args.file in
@@ -31,7 +30,7 @@ loop-one-preserved-in_default c =
 
 pub loop-one-preserved : goal.loop-one-preserved
 loop-one-preserved c =
-    let seen = see_program c.args.program.now in
+    let seen = c.args.program.now in
     let met = c.args.met.now in
     let i = c.loop-one.one-index in
     let file = c.args.file in
@@ -51,14 +50,14 @@ loop-one-preserved c =
 
 pub returns-clause-callees : goal.returns-clause-callees
 returns-clause-callees c =
-    let seen = see_program c.args.program.now in
+    let seen = c.args.program.now in
     let met = c.args.met.now in
     kept_go seen met c.args.found.now.callees.items c.loop-one.found.callees.items
     (among_all (HasTarget seen) met c.loop-one.one-index c.args.found.now.callees.items c.loop-one.found.callees.items c.loop-one-test.false c.loop-one.invariant.callees)
 
 pub returns-clause-calls : goal.returns-clause-calls
 returns-clause-calls c kept =
-    let seen = see_program c.args.program.now in
+    let seen = c.args.program.now in
     let met = c.args.met.now in
     let old = see_calls c.args.found.now.calls.items in
     let new = see_calls c.loop-one.found.calls.items in

@@ -1,6 +1,5 @@
 use Rattle.std.proofs.Common.{◌≡◌, map, get_or, ap, sym, ◌∙◌, subst, arith}
 use Rattle.std.proofs.lemmas.List.{length-map, get_or-map}
-use Rattle.import_rules.specs.Program.{see_program}
 use Rattle.call_edges.specs.ProgramRows.{rows_of}
 use Rattle.call_edges.specs.Seen.{see_mets}
 use Rattle.call_edges.specs.Bodies.{see_body, IsLight}
@@ -19,7 +18,7 @@ walk-requires c =
 
 pub loop-body-preserved : goal.loop-body-preserved
 loop-body-preserved c =
-    let T = rows_of (see_program c.args.program.now) in
+    let T = rows_of c.args.program.now in
     record {
       met = among_more (IsSeenMet T) c.args.bodies.now c.loop-body.body-index c.body-item.result (see_mets c.args.met.now.items) (see_mets c.loop-body.met.items)
           (see_mets c.walk.new.met.items) c.loop-body-test.true c.body-item.is c.loop-body.invariant.met c.in_ok-walk.ensures.met;
@@ -28,7 +27,7 @@ loop-body-preserved c =
 
 pub returns-clause-met : goal.returns-clause-met
 returns-clause-met c =
-    let T = rows_of (see_program c.args.program.now) in
+    let T = rows_of c.args.program.now in
     let bodies = c.args.bodies.now in
     let old = see_mets c.args.met.now.items in
     let new = see_mets c.loop-body.met.items in

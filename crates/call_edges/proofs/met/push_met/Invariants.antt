@@ -1,5 +1,4 @@
 use Rattle.std.proofs.Common.{take}
-use Rattle.import_rules.specs.Program.{see_program}
 use Rattle.call_edges.specs.Goals.{Adds}
 use Rattle.call_edges.specs.Meant.{AreMeant}
 use Rattle.call_edges.specs.ProgramRows.{rows_of}
@@ -11,6 +10,6 @@ use Rattle.call_edges.proofs.met.push_met.Given as goal
 -- what is met in the bodies so far, each with what it means
 abbrev pub invariant-loop-body : goal.invariant-loop-body
 invariant-loop-body l = record {
-  met : Adds (IsAmong (IsSeenMet (rows_of (see_program l.program))) (take l.body-index l.bodies)) (see_mets l.fn.met.items) (see_mets l.met.items);
-  meant : AreMeant (see_program l.program) l.fn.met.items → AreMeant (see_program l.program) l.met.items;
+  met : Adds (IsAmong (IsSeenMet (rows_of l.program)) (take l.body-index l.bodies)) (see_mets l.fn.met.items) (see_mets l.met.items);
+  meant : AreMeant l.program l.fn.met.items → AreMeant l.program l.met.items;
 }

@@ -1,6 +1,5 @@
 use Rattle.std.proofs.Common.{◌≡◌, map, get_or, ap, sym, ◌∙◌, subst, arith}
 use Rattle.std.proofs.lemmas.List.{length-map, get_or-map}
-use Rattle.import_rules.specs.Program.{see_program}
 use Rattle.call_edges.specs.ProgramRows.{rows_of}
 use Rattle.call_edges.specs.Meant.{AreMeant}
 use Rattle.call_edges.specs.Seen.{see_mets}
@@ -28,12 +27,12 @@ walk-requires c =
 
 pub push_found-requires : goal.push_found-requires
 push_found-requires c =
-    let seen = see_program c.args.program.now in
+    let seen = c.args.program.now in
     subst (AreMeant seen) (sym c.deref.ensures.value) (c.in_ok-walk.ensures.meant (none_meant seen c.clear.new.self.items c.clear.ensures.items))
 
 pub loop-body-preserved : goal.loop-body-preserved
 loop-body-preserved c =
-    let seen = see_program c.args.program.now in
+    let seen = c.args.program.now in
     let bodies = c.args.bodies.now in
     let k = c.loop-body.body-index in
     let body = c.body-item.result in
@@ -55,14 +54,14 @@ loop-body-preserved c =
           among_more Placed bodies k body (see_calls c.args.found.now.calls.items) calls kept c.loop-body-test.true c.body-item.is (so_far.calls keep)
           (body_called seen c.args.opening.node (see_body body) met (see_mets c.clear.new.self.items) calls kept empty c.in_ok-walk.ensures.met (added.calls keep));
       faults =
-          among_more (IsSeenFault (rows_of (see_program c.args.program.now))) bodies k body c.args.faults.now.items faults placed c.loop-body-test.true c.body-item.is so_far.faults
-          (body_faults (rows_of (see_program c.args.program.now)) (see_body body) met (see_mets c.clear.new.self.items) faults placed empty c.in_ok-walk.ensures.met
+          among_more (IsSeenFault (rows_of c.args.program.now)) bodies k body c.args.faults.now.items faults placed c.loop-body-test.true c.body-item.is so_far.faults
+          (body_faults (rows_of c.args.program.now) (see_body body) met (see_mets c.clear.new.self.items) faults placed empty c.in_ok-walk.ensures.met
           (rw c.deref-in-loop-body.ensures.value at c.in_ok-push_places.ensures));
     }
 
 pub returns-clause-callees : goal.returns-clause-callees
 returns-clause-callees c =
-    let seen = see_program c.args.program.now in
+    let seen = c.args.program.now in
     let bodies = c.args.bodies.now in
     let callees = c.loop-body.found.callees.items in
     bodies_go seen bodies c.args.found.now.callees.items callees
@@ -70,7 +69,7 @@ returns-clause-callees c =
 
 pub returns-clause-calls : goal.returns-clause-calls
 returns-clause-calls c keep =
-    let seen = see_program c.args.program.now in
+    let seen = c.args.program.now in
     let bodies = c.args.bodies.now in
     let node = c.args.opening.node in
     let Placed : BodyKept → CallAt → Type 0 = λ one. IsPlacedIn seen node (see_body one) in
@@ -85,4 +84,4 @@ returns-clause-faults c =
     let bodies = c.args.bodies.now in
     let faults = c.loop-body.faults.items in
     let old = c.args.faults.now.items in
-    seen_faults (rows_of (see_program c.args.program.now)) bodies old faults (among_all (IsSeenFault (rows_of (see_program c.args.program.now))) bodies c.loop-body.body-index old faults c.loop-body-test.false c.loop-body.invariant.faults)
+    seen_faults (rows_of c.args.program.now) bodies old faults (among_all (IsSeenFault (rows_of c.args.program.now)) bodies c.loop-body.body-index old faults c.loop-body-test.false c.loop-body.invariant.faults)

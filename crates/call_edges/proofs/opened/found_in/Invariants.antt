@@ -1,5 +1,4 @@
 use Rattle.std.proofs.Common.{◌≡◌, true, take}
-use Rattle.import_rules.specs.Program.{see_program}
 use Rattle.call_edges.specs.ProgramRows.{rows_of}
 use Rattle.call_edges.specs.Bodies.{see_body}
 use Rattle.call_edges.specs.Goals.{Adds}
@@ -13,10 +12,10 @@ use Rattle.call_edges.proofs.opened.found_in.Given as goal
 -- the calls of the bodies so far, and the places in them
 abbrev pub invariant-loop-body : goal.invariant-loop-body
 invariant-loop-body l = record {
-  callees : Adds (IsAmong (IsCalledIn (see_program l.program)) (take l.body-index l.bodies)) l.fn.found.callees.items l.found.callees.items;
+  callees : Adds (IsAmong (IsCalledIn l.program) (take l.body-index l.bodies)) l.fn.found.callees.items l.found.callees.items;
   calls :
       l.opening.keep ≡ true
-      → Adds (IsAmong (λ body. IsPlacedIn (see_program l.program) l.opening.node (see_body body)) (take l.body-index l.bodies)) (see_calls l.fn.found.calls.items)
+      → Adds (IsAmong (λ body. IsPlacedIn l.program l.opening.node (see_body body)) (take l.body-index l.bodies)) (see_calls l.fn.found.calls.items)
       (see_calls l.found.calls.items);
-  faults : Adds (IsAmong (IsSeenFault (rows_of (see_program l.program))) (take l.body-index l.bodies)) l.fn.faults.items l.faults.items;
+  faults : Adds (IsAmong (IsSeenFault (rows_of l.program)) (take l.body-index l.bodies)) l.fn.faults.items l.faults.items;
 }

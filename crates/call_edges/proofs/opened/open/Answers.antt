@@ -1,6 +1,5 @@
 use Rattle.std.proofs.Common.{◌≡◌, List, All, ◌++◌, map, ap, sym, ◌∙◌, subst}
 use Rattle.list_laws.proofs.SortedOnce.{sorted_rises, sorted_has}
-use Rattle.import_rules.specs.Program.{see_program}
 use Rattle.call_edges.specs.Goals.{Adds}
 use Rattle.call_edges.specs.ProgramRows.{rows_of}
 use Rattle.call_edges.specs.Calls.{IsAmong}
@@ -14,7 +13,7 @@ use Rattle.call_edges.proofs.opened.open.Goals as goal
 
 pub found_in-requires : goal.found_in-requires
 found_in-requires c =
-    let seen = see_program c.args.program.now in
+    let seen = c.args.program.now in
     let bodies = map see_body c.deref.result.now in
     let are : bodies ≡ bodies_in seen c.args.opening.node =
     ap (map see_body) c.deref.ensures.value ∙ (c.in_ok-push_bodies_of.ensures ∙ ap (λ bs. map see_body bs ++ bodies_in seen c.args.opening.node) c.clear-3.ensures.items) in
@@ -23,7 +22,7 @@ found_in-requires c =
 
 pub returns-clause-callees : goal.returns-clause-callees
 returns-clause-callees c =
-    let seen = see_program c.args.program.now in
+    let seen = c.args.program.now in
     let bodies = map see_body c.deref.result.now in
     let are : bodies ≡ bodies_in seen c.args.opening.node =
     ap (map see_body) c.deref.ensures.value ∙ (c.in_ok-push_bodies_of.ensures ∙ ap (λ bs. map see_body bs ++ bodies_in seen c.args.opening.node) c.clear-3.ensures.items) in
@@ -39,7 +38,7 @@ returns-clause-callees c =
 
 pub returns-clause-calls : goal.returns-clause-calls
 returns-clause-calls c keep =
-    let seen = see_program c.args.program.now in
+    let seen = c.args.program.now in
     let node = c.args.opening.node in
     let bodies = map see_body c.deref.result.now in
     let are : bodies ≡ bodies_in seen node =
@@ -51,7 +50,7 @@ returns-clause-calls c keep =
 
 pub returns-clause-faults : goal.returns-clause-faults
 returns-clause-faults c =
-    let seen = see_program c.args.program.now in
+    let seen = c.args.program.now in
     let bodies = map see_body c.deref.result.now in
     let are : bodies ≡ bodies_in seen c.args.opening.node =
     ap (map see_body) c.deref.ensures.value ∙ (c.in_ok-push_bodies_of.ensures ∙ ap (λ bs. map see_body bs ++ bodies_in seen c.args.opening.node) c.clear-3.ensures.items) in

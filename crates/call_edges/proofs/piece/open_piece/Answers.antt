@@ -1,6 +1,5 @@
 use Rattle.std.proofs.Common.{◌≡◌, ◌↔◌, ◌-◌, ◌*◌, ◌+◌, ◌<◌, ◌≤◌, ℕ, List, [], length, min, sym, subst, arith}
 use Rattle.std.specs.Prelude.{Contains}
-use Rattle.import_rules.specs.Program.{see_program}
 use Rattle.call_edges.specs.Goals.{Adds}
 use Rattle.call_edges.specs.CallLists.{piece_lists}
 use Rattle.call_edges.specs.CallPlaces.{CallAt, IsCallOf}
@@ -14,7 +13,7 @@ use Rattle.call_edges.proofs.piece.open_piece.Goals as goal
 
 pub loop-node-init : goal.loop-node-init
 loop-node-init c =
-    let seen = see_program c.args.program.now in
+    let seen = c.args.program.now in
     let from : ℕ = c.args.number * 512 in
     let piece = c.in_ok-piece.piece in
     let lists = piece_lists (successor_lists seen) c.args.number in
@@ -34,7 +33,7 @@ loop-node-init c =
 
 pub loop-node-preserved : goal.loop-node-preserved
 loop-node-preserved c =
-    let seen = see_program c.args.program.now in
+    let seen = c.args.program.now in
     let number = c.args.number in
     let node = c.loop-node.node in
     let piece = c.loop-node.piece in
@@ -60,7 +59,7 @@ loop-node-preserved c =
 
 pub returns : goal.returns
 returns c =
-    let seen = see_program c.args.program.now in
+    let seen = c.args.program.now in
     let number = c.args.number in
     let node = c.loop-node.node in
     let piece = c.loop-node.piece in

@@ -5,12 +5,10 @@ use Rattle.module_table.specs.declared.indicator.Indicator.{Indicator}
 use Rattle.module_table.specs.Facts.{see_facts}
 use Rattle.file_library.specs.Asked.{AreInOrder}
 use Rattle.file_library.specs.Loaded.{LoadedFiles}
-use Rattle.import_rules.specs.Program.{see_program}
 use Rattle.call_edges.specs.Goals.{Adds}
 use Rattle.call_edges.specs.Calls.{IsAmong}
 use Rattle.call_edges.proofs.AddsLemmas.{adds_as, adds_nothing}
 use Rattle.call_edges.proofs.AmongLemmas.{among_more, among_all}
-use Rattle.call_edges.proofs.KnownLemmas.{roots_rise}
 use Rattle.call_edges.proofs.RootLemmas.{IsExport}
 use Rattle.call_edges.proofs.PlainRoots.{IsExportedBy, exported_go}
 use Rattle.call_edges.proofs.roots.push_all_exports.Goals as goal
@@ -18,11 +16,11 @@ use Rattle.call_edges.proofs.roots.push_all_exports.Goals as goal
 pub is_among-requires : goal.is_among-requires
 is_among-requires c =
     let P : List (List ℕ) → Type 0 = λ names. AreInOrder names in
-    subst P (ap (λ (l : LoadedFiles). l.roots) c.loaded-loaded.ensures ∙ sym c.deref.ensures.value) (roots_rise c.args.program.now)
+    subst P (ap (λ (l : LoadedFiles). l.roots) c.loaded-loaded.ensures ∙ sym c.deref.ensures.value) c.is_known.ensures.roots
 
 pub loop-file-preserved-then-not-file : goal.loop-file-preserved-then-not-file
 loop-file-preserved-then-not-file c =
-    let seen = see_program c.args.program.now in
+    let seen = c.args.program.now in
     let file = c.file-item.result in
     let roots = c.loop-file.roots.items in
     among_more (IsExportedBy seen) c.deref-file-items.result.now c.loop-file.file-index file c.args.roots.now.items roots roots c.loop-file-test.true c.file-item.is c.loop-file.invariant
@@ -30,7 +28,7 @@ loop-file-preserved-then-not-file c =
 
 pub loop-file-preserved-then-not-is_among : goal.loop-file-preserved-then-not-is_among
 loop-file-preserved-then-not-is_among c =
-    let seen = see_program c.args.program.now in
+    let seen = c.args.program.now in
     let file = c.file-item.result in
     let roots = c.loop-file.roots.items in
     let names : seen.loaded.roots ≡ c.deref.result.now = ap (λ (l : LoadedFiles). l.roots) c.loaded-loaded.ensures ∙ sym c.deref.ensures.value in
@@ -40,7 +38,7 @@ loop-file-preserved-then-not-is_among c =
 
 pub loop-file-preserved : goal.loop-file-preserved
 loop-file-preserved c =
-    let seen = see_program c.args.program.now in
+    let seen = c.args.program.now in
     let file = c.file-item.result in
     let roots = c.loop-file.roots.items in
     let new = c.push_exports.new.roots.items in
@@ -55,7 +53,7 @@ loop-file-preserved c =
 
 pub returns : goal.returns
 returns c =
-    let seen = see_program c.args.program.now in
+    let seen = c.args.program.now in
     let items = c.deref-file-items.result.now in
     exported_go seen items seen.loaded.files c.args.roots.now.items c.loop-file.roots.items
     (ap (map see_facts) c.deref-file-items.ensures.value ∙ ap (λ (l : LoadedFiles). l.files) (sym c.loaded-loaded.ensures))

@@ -1,5 +1,5 @@
 use Rattle.std.proofs.Common.{◌≡◌, None, Some, ap, sym, ◌∙◌, subst}
-use Rattle.import_rules.specs.Program.{see_program, found}
+use Rattle.import_rules.specs.Program.{found}
 use Rattle.call_edges.specs.Goals.{Adds}
 use Rattle.call_edges.proofs.AmongLemmas.{among_more, among_all}
 use Rattle.call_edges.proofs.CallLemmas.{adds_given, adds_not}
@@ -8,7 +8,7 @@ use Rattle.call_edges.proofs.roots.push_exports.Goals as goal
 
 pub loop-export-preserved-in_default : goal.loop-export-preserved-in_default
 loop-export-preserved-in_default c =
-    let seen = see_program c.args.program.now in
+    let seen = c.args.program.now in
     let owner = c.args.owner.now in
     let item = c.export-item.result in
     let roots = c.loop-export.roots.items in
@@ -18,7 +18,7 @@ loop-export-preserved-in_default c =
 
 pub loop-export-preserved : goal.loop-export-preserved
 loop-export-preserved c =
-    let seen = see_program c.args.program.now in
+    let seen = c.args.program.now in
     let owner = c.args.owner.now in
     let item = c.export-item.result in
     let roots = c.loop-export.roots.items in
@@ -30,7 +30,7 @@ loop-export-preserved c =
 
 pub returns : goal.returns
 returns c =
-    let seen = see_program c.args.program.now in
+    let seen = c.args.program.now in
     let owner = c.args.owner.now in
     let items = c.args.exports.now in
     among_all (IsExport seen owner) items c.loop-export.export-index c.args.roots.now.items c.loop-export.roots.items c.loop-export-test.false c.loop-export.invariant

@@ -3,7 +3,6 @@ use Rattle.std.specs.Prelude.{Contains}
 use Rattle.std.proofs.lemmas.Bool.{false≢true}
 use Rattle.std.proofs.lemmas.List.Elements.{Contains-get_or}
 use Rattle.std.proofs.lemmas.Option.{slice_get_within}
-use Rattle.import_rules.specs.Program.{see_program}
 use Rattle.call_edges.specs.Roots.{IsDefinedByRoot, HasMarked}
 use Rattle.call_edges.specs.Calls.{IsAmong}
 use Rattle.call_edges.proofs.AddsLemmas.{adds_nothing}
@@ -14,18 +13,18 @@ use Rattle.call_edges.proofs.roots.push_marked.Goals as goal
 
 pub is_marked-requires : goal.is_marked-requires
 is_marked-requires c = λ k d lt.
-    let seen = see_program c.args.program.now in
+    let seen = c.args.program.now in
     let places = c.places_of.result.now in
     let at = get_or places k d in
     let is = places_there seen c.loop-node.node at (subst (λ (ps : List (ℕ × ℕ)). Contains ps at) c.places_of.ensures (Contains-get_or places k d lt)) in
     omega (arith, slice_get_within seen.loaded.files at.0 is.file is.at_place, marks_count seen c.args.marks.now c.requires)
 
 pub loop-node-init : goal.loop-node-init
-loop-node-init c = none_below (see_program c.args.program.now) c.args.roots.now.items
+loop-node-init c = none_below c.args.program.now c.args.roots.now.items
 
 pub loop-node-preserved-then-not-is_marked : goal.loop-node-preserved-then-not-is_marked
 loop-node-preserved-then-not-is_marked c =
-    let seen = see_program c.args.program.now in
+    let seen = c.args.program.now in
     let node = c.loop-node.node in
     let roots = c.loop-node.roots.items in
     let marks = c.args.marks.now in
@@ -39,7 +38,7 @@ loop-node-preserved-then-not-is_marked c =
 
 pub loop-node-preserved : goal.loop-node-preserved
 loop-node-preserved c =
-    let seen = see_program c.args.program.now in
+    let seen = c.args.program.now in
     let node = c.loop-node.node in
     let roots = c.loop-node.roots.items in
     let marks = c.args.marks.now in
@@ -50,6 +49,6 @@ loop-node-preserved c =
 
 pub returns : goal.returns
 returns c =
-    let seen = see_program c.args.program.now in
+    let seen = c.args.program.now in
     all_below seen c.loop-node.node c.args.roots.now.items c.loop-node.roots.items
     (λ q among. omega (arith, given_below seen among.one false q among.is.1, c.loop-node-test.false, c.count-node-end.ensures)) c.loop-node.invariant

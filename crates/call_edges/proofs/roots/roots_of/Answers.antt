@@ -1,7 +1,6 @@
 use Rattle.std.proofs.Common.{◌≡◌, List, All, map, get_or, ap, sym, ◌∙◌, subst}
 use Rattle.std.proofs.lemmas.List.Elements.{Contains-get_or}
 use Rattle.list_laws.proofs.SortedOnce.{sorted_rises, sorted_has}
-use Rattle.import_rules.specs.Program.{see_program}
 use Rattle.call_edges.specs.Bodies.{Body, see_body, goals_in, IsLight}
 use Rattle.call_edges.proofs.LightLemmas.{goals_light}
 use Rattle.call_edges.proofs.RootLemmas.{root_below, roots_are}
@@ -9,7 +8,7 @@ use Rattle.call_edges.proofs.roots.roots_of.Goals as goal
 
 pub push_called-requires : goal.push_called-requires
 push_called-requires c =
-    let seen = see_program c.args.program.now in
+    let seen = c.args.program.now in
     let are : map see_body c.deref.result.now ≡ goals_in seen.loaded.files = ap (map see_body) c.deref.ensures.value ∙ c.in_ok-goals.ensures in
     let P : List Body → Type 0 = λ bodies. All IsLight bodies in
     subst P (sym are) (goals_light seen c.is_known.ensures)
@@ -19,7 +18,7 @@ returns-clause-ascending c = sorted_rises c.sort_unstable.new.self.items c.dedup
 
 pub returns-clause-roots : goal.returns-clause-roots
 returns-clause-roots c = λ q.
-    let seen = see_program c.args.program.now in
+    let seen = c.args.program.now in
     let all = c.push_called.new.out.items in
     let are : map see_body c.deref.result.now ≡ goals_in seen.loaded.files = ap (map see_body) c.deref.ensures.value ∙ c.in_ok-goals.ensures in
     let has = sorted_has all c.sort_unstable.new.self.items c.dedup.new.self.items q c.sort_unstable.ensures.permutation c.dedup.ensures.filtered in
@@ -29,7 +28,7 @@ returns-clause-roots c = λ q.
 
 pub returns-clause-below : goal.returns-clause-below
 returns-clause-below c = λ k d lt.
-    let seen = see_program c.args.program.now in
+    let seen = c.args.program.now in
     let all = c.push_called.new.out.items in
     let kept = c.dedup.new.self.items in
     let q = get_or kept k d in

@@ -1,6 +1,5 @@
 use Rattle.std.proofs.Common.{◌≡◌, ◌++◌, ◌∷◌, [], map, ap, sym, ◌∙◌, subst}
 use Rattle.std.proofs.lemmas.List.{map-append}
-use Rattle.import_rules.specs.Program.{see_program}
 use Rattle.call_edges.specs.Goals.{Adds}
 use Rattle.call_edges.specs.Called.{see_called}
 use Rattle.call_edges.proofs.AmongLemmas.{among_next, among_all}
@@ -10,14 +9,14 @@ use Rattle.call_edges.proofs.unresolved.push_unresolved.Goals as goal
 
 pub loop-one-preserved-in_default : goal.loop-one-preserved-in_default
 loop-one-preserved-in_default c =
-    let seen = see_program c.args.program.now in
+    let seen = c.args.program.now in
     let names = map see_called c.loop-one.names.items in
     among_next (IsKeptName seen) c.args.met.now c.loop-one.one-index _ (map see_called c.args.names.now.items) names names c.loop-one-test.true c.loop-one.invariant
     (adds_not _ names (sym c.in_default.ensures))
 
 pub loop-one-preserved : goal.loop-one-preserved
 loop-one-preserved c =
-    let seen = see_program c.args.program.now in
+    let seen = c.args.program.now in
     let names = map see_called c.loop-one.names.items in
     let new = map see_called c.push.new.self.items in
     let is : new ≡ names ++ see_called c.in-Some.called ∷ [] = ap (map see_called) c.in_ok-push.ensures.items ∙ map-append see_called c.loop-one.names.items (c.in-Some.called ∷ []) in
@@ -26,7 +25,7 @@ loop-one-preserved c =
 
 pub returns : goal.returns
 returns c =
-    let seen = see_program c.args.program.now in
+    let seen = c.args.program.now in
     let met = c.args.met.now in
     let old = map see_called c.args.names.now.items in
     let new = map see_called c.loop-one.names.items in

@@ -1,5 +1,4 @@
 use Rattle.std.proofs.Common.{map, take}
-use Rattle.import_rules.specs.Program.{see_program}
 use Rattle.call_edges.specs.Goals.{Adds}
 use Rattle.call_edges.specs.Calls.{IsAmong}
 use Rattle.call_edges.specs.Called.{see_called}
@@ -8,4 +7,4 @@ use Rattle.call_edges.proofs.unresolved.push_unresolved.Given as goal
 
 -- the names of the calls so far
 abbrev pub invariant-loop-one : goal.invariant-loop-one
-invariant-loop-one l = Adds (IsAmong (IsKeptName (see_program l.program)) (take l.one-index l.met)) (map see_called l.fn.names.items) (map see_called l.names.items)
+invariant-loop-one l = Adds (IsAmong (IsKeptName l.program) (take l.one-index l.met)) (map see_called l.fn.names.items) (map see_called l.names.items)

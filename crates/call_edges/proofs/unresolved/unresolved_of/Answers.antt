@@ -1,6 +1,5 @@
 use Rattle.std.proofs.Common.{map, ap, ◌∙◌}
 use Rattle.rayon.proofs.ListFacts.{IfOk-then}
-use Rattle.import_rules.specs.Program.{see_program}
 use Rattle.call_edges.specs.Seen.{see_mets}
 use Rattle.call_edges.specs.Called.{see_called}
 use Rattle.call_edges.proofs.UnresolvedLemmas.{node_names, all_names}
@@ -8,7 +7,7 @@ use Rattle.call_edges.proofs.unresolved.unresolved_of.Goals as goal
 
 pub returns : goal.returns
 returns c =
-    let seen = see_program c.args.program.now in
+    let seen = c.args.program.now in
     let node = c.args.node in
     let called = c.push_unresolved.new.names.items in
     let told =

@@ -9,7 +9,6 @@ use Rattle.prolog_terms.specs.Weight.{weight}
 use Rattle.prolog_terms.proofs.ViewLemmas.{count_weight}
 use Rattle.module_table.specs.declared.goal_arg.GoalArg.{GoalArg}
 use Rattle.call_edges.specs.Goals.{atom_met, constant_met, place, taken, AddsMet}
-use Rattle.import_rules.specs.Program.{see_program}
 use Rattle.call_edges.specs.ProgramRows.{rows_of}
 use Rattle.call_edges.specs.Seen.{see_mets, see_taken}
 use Rattle.call_edges.proofs.AddedLemmas.{rows_within}
@@ -25,7 +24,7 @@ take_apart-taken-requires t c = omega (arith, c.requires, count_weight (trees_of
 
 pub walk-requires : goal.walk-requires
 walk-requires t c =
-    let T = rows_of (see_program c.args.program.now) in
+    let T = rows_of c.args.program.now in
     let v = c.in-Compound in
     let owner = c.args.owner.now in
     let role = c.args.role in
@@ -35,7 +34,7 @@ walk-requires t c =
     let here = see_taken c.take_apart-taken.result in
     let apart : here ≡ taken T span.from owner role v.name.now (trees_in args) =
     c.take_apart-taken.ensures.taken ∙ ap (λ (s : Span). taken T s.from owner role v.name.now (trees_in args)) c.span-in-Compound.ensures in
-    let within = rows_within (see_program c.args.program.now) c.is_known.ensures in
+    let within = rows_within c.args.program.now c.is_known.ensures in
     let own = tree_of c.in-Some.only in
     let one = sym c.in-Some.ensures.tree in
     let falls =
@@ -44,7 +43,7 @@ walk-requires t c =
 
 pub walk-requires-in-Some-pair : goal.walk-requires-in-Some-pair
 walk-requires-in-Some-pair t c =
-    let T = rows_of (see_program c.args.program.now) in
+    let T = rows_of c.args.program.now in
     let v = c.in-Compound in
     let owner = c.args.owner.now in
     let role = c.args.role in
@@ -54,7 +53,7 @@ walk-requires-in-Some-pair t c =
     let here = see_taken c.take_apart-taken.result in
     let apart : here ≡ taken T span.from owner role v.name.now (trees_in args) =
     c.take_apart-taken.ensures.taken ∙ ap (λ (s : Span). taken T s.from owner role v.name.now (trees_in args)) c.span-in-Compound.ensures in
-    let within = rows_within (see_program c.args.program.now) c.is_known.ensures in
+    let within = rows_within c.args.program.now c.is_known.ensures in
     let left = tree_of c.in-Some-pair.left in
     let right = tree_of c.in-Some-pair.right in
     let two = sym c.in-Some-pair.ensures.trees in
@@ -64,7 +63,7 @@ walk-requires-in-Some-pair t c =
 
 pub walk-requires-in-Some-pair-2 : goal.walk-requires-in-Some-pair-2
 walk-requires-in-Some-pair-2 t c =
-    let T = rows_of (see_program c.args.program.now) in
+    let T = rows_of c.args.program.now in
     let v = c.in-Compound in
     let owner = c.args.owner.now in
     let role = c.args.role in
@@ -74,7 +73,7 @@ walk-requires-in-Some-pair-2 t c =
     let here = see_taken c.take_apart-taken.result in
     let apart : here ≡ taken T span.from owner role v.name.now (trees_in args) =
     c.take_apart-taken.ensures.taken ∙ ap (λ (s : Span). taken T s.from owner role v.name.now (trees_in args)) c.span-in-Compound.ensures in
-    let within = rows_within (see_program c.args.program.now) c.is_known.ensures in
+    let within = rows_within c.args.program.now c.is_known.ensures in
     let left = tree_of c.in-Some-pair.left in
     let right = tree_of c.in-Some-pair.right in
     let two = sym c.in-Some-pair.ensures.trees in
@@ -84,7 +83,7 @@ walk-requires-in-Some-pair-2 t c =
 
 pub walk-requires-in-loop-at : goal.walk-requires-in-loop-at
 walk-requires-in-loop-at t c =
-    let T = rows_of (see_program c.args.program.now) in
+    let T = rows_of c.args.program.now in
     let v = c.in-Compound in
     let owner = c.args.owner.now in
     let role = c.args.role in
@@ -94,7 +93,7 @@ walk-requires-in-loop-at t c =
     let here = see_taken c.take_apart-taken.result in
     let apart : here ≡ taken T span.from owner role v.name.now (trees_in args) =
     c.take_apart-taken.ensures.taken ∙ ap (λ (s : Span). taken T s.from owner role v.name.now (trees_in args)) c.span-in-Compound.ensures in
-    let within = rows_within (see_program c.args.program.now) c.is_known.ensures in
+    let within = rows_within c.args.program.now c.is_known.ensures in
     let items = c.deref-arg-items.result.now in
     let are : map tree_of items ≡ trees_in args = ap (map tree_of) c.deref-arg-items.ensures.value ∙ c.in_ok-terms-in-Compound.ensures.trees in
     let k = c.loop-at.at in
@@ -107,7 +106,7 @@ walk-requires-in-loop-at t c =
 
 pub loop-at-init : goal.loop-at-init
 loop-at-init t c =
-    let seen = see_program c.args.program.now in
+    let seen = c.args.program.now in
     record {
       met =
           first_none (rows_of seen) (see_taken c.take_apart-taken.result) (map tree_of c.deref-arg-items.result.now) (see_mets c.args.met.now.items)
@@ -119,7 +118,7 @@ loop-at-init t c =
 
 pub loop-at-preserved : goal.loop-at-preserved
 loop-at-preserved t c =
-    let T = rows_of (see_program c.args.program.now) in
+    let T = rows_of c.args.program.now in
     let k = c.loop-at.at in
     let apart = see_taken c.take_apart-taken.result in
     let items = c.deref-arg-items.result.now in
@@ -137,7 +136,7 @@ loop-at-preserved t c =
 
 pub returns-then-is_silent-clause-met : goal.returns-then-is_silent-clause-met
 returns-then-is_silent-clause-met t c =
-    let T = rows_of (see_program c.args.program.now) in
+    let T = rows_of c.args.program.now in
     let v = c.in-Compound in
     let owner = c.args.owner.now in
     let role = c.args.role in
@@ -155,7 +154,7 @@ returns-then-is_silent-clause-met t c =
 
 pub returns-in-Some-clause-met : goal.returns-in-Some-clause-met
 returns-in-Some-clause-met t c =
-    let T = rows_of (see_program c.args.program.now) in
+    let T = rows_of c.args.program.now in
     let v = c.in-Compound in
     let owner = c.args.owner.now in
     let role = c.args.role in
@@ -178,7 +177,7 @@ returns-in-Some-clause-met t c =
 
 pub returns-in-Some-pair-clause-met : goal.returns-in-Some-pair-clause-met
 returns-in-Some-pair-clause-met t c =
-    let T = rows_of (see_program c.args.program.now) in
+    let T = rows_of c.args.program.now in
     let v = c.in-Compound in
     let owner = c.args.owner.now in
     let role = c.args.role in
@@ -205,7 +204,7 @@ returns-in-Some-pair-clause-met t c =
 
 pub returns-after-loop-at-clause-met : goal.returns-after-loop-at-clause-met
 returns-after-loop-at-clause-met t c =
-    let T = rows_of (see_program c.args.program.now) in
+    let T = rows_of c.args.program.now in
     let v = c.in-Compound in
     let owner = c.args.owner.now in
     let role = c.args.role in
@@ -224,7 +223,7 @@ returns-after-loop-at-clause-met t c =
 
 pub returns-in-Var-clause-met : goal.returns-in-Var-clause-met
 returns-in-Var-clause-met t c =
-    let T = rows_of (see_program c.args.program.now) in
+    let T = rows_of c.args.program.now in
     let owner = c.args.owner.now in
     let role = c.args.role in
     let tree = tree_of c.args.term.now in
@@ -234,7 +233,7 @@ returns-in-Var-clause-met t c =
 
 pub returns-in-Const-clause-met : goal.returns-in-Const-clause-met
 returns-in-Const-clause-met t c =
-    let T = rows_of (see_program c.args.program.now) in
+    let T = rows_of c.args.program.now in
     let owner = c.args.owner.now in
     let role = c.args.role in
     let tree = tree_of c.args.term.now in
@@ -248,7 +247,7 @@ returns-in-Const-clause-met t c =
 
 pub returns-in-Atom-clause-met : goal.returns-in-Atom-clause-met
 returns-in-Atom-clause-met t c =
-    let T = rows_of (see_program c.args.program.now) in
+    let T = rows_of c.args.program.now in
     let owner = c.args.owner.now in
     let role = c.args.role in
     let tree = tree_of c.args.term.now in
@@ -262,7 +261,7 @@ returns-in-Atom-clause-met t c =
 
 pub returns-in-List-clause-met : goal.returns-in-List-clause-met
 returns-in-List-clause-met t c =
-    let T = rows_of (see_program c.args.program.now) in
+    let T = rows_of c.args.program.now in
     let owner = c.args.owner.now in
     let role = c.args.role in
     let tree = tree_of c.args.term.now in
@@ -272,7 +271,7 @@ returns-in-List-clause-met t c =
 
 pub returns-in-Tailed-clause-met : goal.returns-in-Tailed-clause-met
 returns-in-Tailed-clause-met t c =
-    let T = rows_of (see_program c.args.program.now) in
+    let T = rows_of c.args.program.now in
     let owner = c.args.owner.now in
     let role = c.args.role in
     let tree = tree_of c.args.term.now in
@@ -282,7 +281,7 @@ returns-in-Tailed-clause-met t c =
 
 pub returns-in-Curly-clause-met : goal.returns-in-Curly-clause-met
 returns-in-Curly-clause-met t c =
-    let T = rows_of (see_program c.args.program.now) in
+    let T = rows_of c.args.program.now in
     let owner = c.args.owner.now in
     let role = c.args.role in
     let tree = tree_of c.args.term.now in
@@ -295,7 +294,7 @@ returns-in-Curly-clause-met t c =
 
 pub returns-in-Paren-clause-met : goal.returns-in-Paren-clause-met
 returns-in-Paren-clause-met t c =
-    let T = rows_of (see_program c.args.program.now) in
+    let T = rows_of c.args.program.now in
     let owner = c.args.owner.now in
     let role = c.args.role in
     let tree = tree_of c.args.term.now in
@@ -309,31 +308,31 @@ returns-in-Paren-clause-met t c =
 
 pub returns-in-Const-clause-meant : goal.returns-in-Const-clause-meant
 returns-in-Const-clause-meant t c =
-    let seen = see_program c.args.program.now in
+    let seen = c.args.program.now in
     on_ok c.push_met.result c.push_met.ensures.kept (λ more.
     meant_more seen c.args.met.now.items c.push_met.new.met.items c.constant_met.result more (c.constant_met.ensures.meant seen))
 
 pub returns-in-Atom-clause-meant : goal.returns-in-Atom-clause-meant
 returns-in-Atom-clause-meant t c =
-    let seen = see_program c.args.program.now in
+    let seen = c.args.program.now in
     on_ok c.push_met-in-Atom.result c.push_met-in-Atom.ensures.kept (λ more.
     meant_more seen c.args.met.now.items c.push_met-in-Atom.new.met.items c.atom_met.result more (c.atom_met.ensures.meant seen))
 
 pub returns-then-is_silent-clause-meant : goal.returns-then-is_silent-clause-meant
 returns-then-is_silent-clause-meant t c =
-    meant_more (see_program c.args.program.now) c.args.met.now.items c.push_met-in-Compound.new.met.items c.take_apart-taken.result.met
+    meant_more c.args.program.now c.args.met.now.items c.push_met-in-Compound.new.met.items c.take_apart-taken.result.met
     c.in_ok-push_met-in-Compound.ensures.kept c.take_apart-taken.ensures.meant
 
 pub returns-in-Some-clause-meant : goal.returns-in-Some-clause-meant
 returns-in-Some-clause-meant t c =
     let first =
-    meant_more (see_program c.args.program.now) c.args.met.now.items c.push_met-in-Compound.new.met.items c.take_apart-taken.result.met
+    meant_more c.args.program.now c.args.met.now.items c.push_met-in-Compound.new.met.items c.take_apart-taken.result.met
     c.in_ok-push_met-in-Compound.ensures.kept c.take_apart-taken.ensures.meant in
     on_ok c.walk.result c.walk.ensures.meant (λ more all. more (first all))
 
 pub returns-in-Some-pair-clause-meant : goal.returns-in-Some-pair-clause-meant
 returns-in-Some-pair-clause-meant t c =
     let first =
-    meant_more (see_program c.args.program.now) c.args.met.now.items c.push_met-in-Compound.new.met.items c.take_apart-taken.result.met
+    meant_more c.args.program.now c.args.met.now.items c.push_met-in-Compound.new.met.items c.take_apart-taken.result.met
     c.in_ok-push_met-in-Compound.ensures.kept c.take_apart-taken.ensures.meant in
     on_ok c.walk-in-Some-pair-2.result c.walk-in-Some-pair-2.ensures.meant (λ more all. more (c.in_ok-walk-in-Compound.ensures.meant (first all)))

@@ -9,7 +9,7 @@ use Rattle.clause_text.specs.Clauses.{clause_trees}
 use Rattle.module_table.specs.Defined.{see_defined}
 use Rattle.module_table.specs.Facts.{see_facts, Facts}
 use Rattle.file_library.specs.Loaded.{LoadedFiles}
-use Rattle.import_rules.specs.Program.{Seen, see_program, places_in}
+use Rattle.import_rules.specs.Program.{Seen, places_in}
 use Rattle.call_edges.proofs.BodyLemmas.{IsThere, places_there, flat_more}
 use Rattle.call_table.specs.Clauses.{clause_at, clauses_there}
 use Rattle.call_table.proofs.ClauseLemmas.{clauses_at}
@@ -26,7 +26,7 @@ index-file-requires c =
     let places = c.places_of-place-items.result.now in
     let k = c.loop-place.place-index in
     let at = get_or places k (0, 0) in
-    let seen = see_program c.args.program.now in
+    let seen = c.args.program.now in
     let is = there places k seen c.args.node c.places_of-place-items.ensures c.loop-place-test.true in
     let files = c.loaded.result.now.files in
     let read : slice_get (map see_facts files.items) at.0 ≡ Some is.file = ap (λ (l : LoadedFiles). slice_get l.files at.0) (sym c.loaded.ensures) ∙ is.at_place in
@@ -37,7 +37,7 @@ index-predicate-requires c =
     let places = c.places_of-place-items.result.now in
     let k = c.loop-place.place-index in
     let at = get_or places k (0, 0) in
-    let seen = see_program c.args.program.now in
+    let seen = c.args.program.now in
     let is = there places k seen c.args.node c.places_of-place-items.ensures c.loop-place-test.true in
     let files = c.loaded.result.now.files in
     let file = c.index-file.result.now in
@@ -51,7 +51,7 @@ loop-place-preserved c =
     let places = c.places_of-place-items.result.now in
     let k = c.loop-place.place-index in
     let at = get_or places k (0, 0) in
-    let seen = see_program c.args.program.now in
+    let seen = c.args.program.now in
     let all = seen.loaded.files in
     let is = there places k seen c.args.node c.places_of-place-items.ensures c.loop-place-test.true in
     let files = c.loaded.result.now.files in

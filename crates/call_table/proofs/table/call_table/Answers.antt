@@ -1,5 +1,5 @@
 use Rattle.std.proofs.Common.{◌≡◌, ◌<◌, List, ℕ, All, length, ap, sym, ◌∙◌, subst}
-use Rattle.import_rules.specs.Program.{Seen, see_program}
+use Rattle.import_rules.specs.Program.{Seen}
 use Rattle.graph_law.specs.Graph.{lists_of}
 use Rattle.call_edges.specs.PlacedLists.{see_placed_lists}
 use Rattle.call_table.specs.Memberships.{AreGroupsOf}

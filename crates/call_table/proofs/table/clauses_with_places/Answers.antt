@@ -1,6 +1,5 @@
 use Rattle.std.proofs.Common.{◌≡◌, map, ap, sym, ◌∙◌, subst}
 use Rattle.std.specs.List.{AllZip}
-use Rattle.import_rules.specs.Program.{see_program}
 use Rattle.file_library.specs.Spots.{AreSpots, IsSpotPlace}
 use Rattle.call_table.specs.Table.{clause_spot}
 use Rattle.call_table.proofs.SpotOrder.{clauses_are_spots}
@@ -8,7 +7,7 @@ use Rattle.call_table.proofs.table.clauses_with_places.Goals as goal
 
 pub places_of_spots-requires : goal.places_of_spots-requires
 places_of_spots-requires c =
-    let seen = see_program c.args.program.now in
+    let seen = c.args.program.now in
     let clauses = c.in_ok-clauses.clauses.items in
     let is : c.deref-2.result.now ≡ map clause_spot clauses =
     c.deref-2.ensures.value ∙ (c.in_ok-spots.ensures ∙ ap (map clause_spot) c.deref.ensures.value) in
@@ -16,7 +15,7 @@ places_of_spots-requires c =
 
 pub returns : goal.returns
 returns c =
-    let seen = see_program c.args.program.now in
+    let seen = c.args.program.now in
     let clauses = c.in_ok-clauses.clauses.items in
     let is : c.deref-2.result.now ≡ map clause_spot clauses =
     c.deref-2.ensures.value ∙ (c.in_ok-spots.ensures ∙ ap (map clause_spot) c.deref.ensures.value) in

@@ -7,7 +7,6 @@ use Rattle.std.specs.declared.alloc.AllocError.{AllocError}
 use Rattle.rayon.specs.Lists.{chunks_of, chunks_size, chunks_slice, min_len_base}
 use Rattle.rayon.proofs.ToStd.{slice-AllZip, chunks_of-concat}
 use Rattle.graph_law.specs.Graph.{lists_of}
-use Rattle.import_rules.specs.Program.{see_program}
 use Rattle.call_edges.proofs.SpreadLemmas.{all_in_parts}
 use Rattle.call_writer.specs.Lines.{predicate_line_of}
 use Rattle.call_told.specs.Told.{joined, predicate_lines}
@@ -19,7 +18,7 @@ returns g c =
     let told = c.args.told.now in
     let nodes = c.args.nodes.now in
     let parts = chunks_of 2048 nodes in
-    let lines : List ℕ → List ℕ = predicate_lines (see_program told.program.now) (lists_of told.groups.items) told.levels.items told.places.items in
+    let lines : List ℕ → List ℕ = predicate_lines told.program.now (lists_of told.groups.items) told.levels.items told.places.items in
     let h = c.in_ok-collect.ensures in
     let chain = h.1 in
     let shown : map (λ z. z.now) chain.0 ≡ parts =
@@ -30,9 +29,9 @@ returns g c =
     let made =
     subst
     (λ f. AllZip (λ (part : Bor (List ℕ)) (one : Result (String Global) AllocError). IfOk one
-    (λ text. string_bytes text ≡ predicate_lines (see_program f.1.now.program.now) (lists_of f.1.now.groups.items) f.1.now.levels.items f.1.now.places.items part.now)) chain.0 h.0)
+    (λ text. string_bytes text ≡ predicate_lines (f.1.now.program.now) (lists_of f.1.now.groups.items) f.1.now.levels.items f.1.now.places.items part.now)) chain.0 h.0)
     c.map.ensures.f chain.2 in
-    let line : ℕ → List ℕ = λ p. predicate_line_of (see_program told.program.now).predicates (lists_of told.groups.items) told.levels.items p (slice_index told.places.items p) in
+    let line : ℕ → List ℕ = λ p. predicate_line_of told.program.now.predicates (lists_of told.groups.items) told.levels.items p (slice_index told.places.items p) in
     let whole = parts_lines line parts ∙ ap (flat_map line) (chunks_of-concat 2048 nodes (omega arith)) in
     subst (λ bytes. IfOk c.in_ok-collect.field-0 (λ v. joined v.items ≡ bytes)) whole
     (texts_found (λ v. v.items) lines parts h.0 c.in_ok-collect.field-0
@@ -42,7 +41,7 @@ pub collect-requires-clause-ready : goal.collect-requires-clause-ready
 collect-requires-clause-ready g c κs within =
     let told = c.args.told.now in
     let nodes = c.args.nodes.now in
-    let Below : List ℕ → Type 0 = All (λ p. p < length (see_program told.program.now).predicates) in
-    let all = all_in_parts (λ p. p < length (see_program told.program.now).predicates) (chunks_of 2048 nodes) nodes (chunks_of-concat 2048 nodes (omega arith)) c.requires.below in
+    let Below : List ℕ → Type 0 = All (λ p. p < length told.program.now.predicates) in
+    let all = all_in_parts (λ p. p < length told.program.now.predicates) (chunks_of 2048 nodes) nodes (chunks_of-concat 2048 nodes (omega arith)) c.requires.below in
     rw (c.map.ensures.base, c.map.ensures.f, c.with_min_len.ensures.base, c.par_chunks.ensures.slice, c.par_chunks.ensures.size)
     (λ k d lt x is. ((c.requires.told, subst Below (sym is) (all k d lt)), λ y p. tt))

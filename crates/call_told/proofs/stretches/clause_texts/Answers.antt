@@ -1,6 +1,5 @@
 use Rattle.std.proofs.Common.{refl, ap, ◌∙◌}
 use Rattle.std.specs.List.{flat_map, zip}
-use Rattle.import_rules.specs.Program.{see_program}
 use Rattle.call_writer.specs.Lines.{clause_line}
 use Rattle.call_told.specs.Stretches.{clause_stretch}
 use Rattle.call_told.proofs.StretchLemmas.{all_lines}
@@ -8,7 +7,7 @@ use Rattle.call_told.proofs.stretches.clause_texts.Goals as goal
 
 pub returns : goal.returns
 returns g c =
-    let seen = see_program c.args.program.now in
+    let seen = c.args.program.now in
     let lines =
     all_lines (λ rows. rows) refl (λ a b. refl) (λ a. refl) (λ pair. clause_line seen pair.0 pair.1) c.deref.result.now c.deref-2.result.now c.in_ok-cut.cut.items
     c.in_ok-cut.ensures in

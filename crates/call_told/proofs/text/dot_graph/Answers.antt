@@ -2,7 +2,6 @@ use Rattle.std.proofs.Common.{[], ◌++◌, ap, ◌∙◌, codes, slice_index_or
 use Rattle.std.specs.List.{flat_map}
 use Rattle.std.specs.String.{string_bytes}
 use Rattle.graph_law.specs.Graph.{lists_of}
-use Rattle.import_rules.specs.Program.{see_program}
 use Rattle.call_edges.specs.Successors.{successor_lists}
 use Rattle.call_writer.specs.Dot.{cluster, edge_line}
 use Rattle.call_writer.proofs.Appended.{four}
@@ -12,7 +11,7 @@ use Rattle.call_told.proofs.text.dot_graph.Goals as goal
 pub returns : goal.returns
 returns c =
     let told = c.args.told.now in
-    let seen = see_program told.program.now in
+    let seen = told.program.now in
     let groups = flat_map (cluster seen.predicates) (lists_of told.groups.items) in
     let others = flat_map (ungrouped_line seen told.places.items) told.nodes.items in
     let edges = flat_map (λ p. flat_map (edge_line p) (slice_index_or (successor_lists seen) p [])) told.nodes.items in

@@ -2,7 +2,6 @@ use Rattle.std.proofs.Common.{◌≡◌, ℕ, ◌<◌, List, [], All, length, sy
 use Rattle.graph_law.specs.Classes.{group_at}
 use Rattle.graph_law.specs.Graph.{lists_of}
 use Rattle.graph_law.proofs.GraphLaws.{group_read, within_lists}
-use Rattle.import_rules.specs.Program.{see_program}
 use Rattle.call_told.proofs.text.push_group.Goals as goal
 
 pub push_cluster-requires-clause-inhabited : goal.push_cluster-requires-clause-inhabited
@@ -16,5 +15,5 @@ pub push_cluster-requires-clause-below : goal.push_cluster-requires-clause-below
 push_cluster-requires-clause-below c =
     let is : c.deref.result.now ≡ group_at (lists_of c.args.told.now.groups.items) c.args.place =
     group_read c.args.told.now.groups.items c.args.place c.index.result.now c.deref.result.now c.requires.within c.index.ensures c.deref.ensures.value in
-    subst (All (λ member. member < length (see_program c.args.told.now.program.now).predicates)) (sym is)
+    subst (All (λ member. member < length c.args.told.now.program.now.predicates)) (sym is)
     (c.requires.told.groups_are.below c.args.place [] (within_lists c.args.told.now.groups.items c.args.place c.requires.within))

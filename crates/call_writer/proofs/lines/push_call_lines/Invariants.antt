@@ -1,6 +1,5 @@
 use Rattle.std.proofs.Common.{◌≡◌, ◌++◌}
 use Rattle.std.specs.String.{string_bytes}
-use Rattle.import_rules.specs.Program.{see_program}
 use Rattle.call_edges.specs.PlacedSeen.{see_calls}
 use Rattle.call_writer.specs.Lines.{call_line_if}
 use Rattle.call_writer.proofs.LineLemmas.{lines_of}
@@ -9,7 +8,7 @@ use Rattle.call_writer.proofs.lines.push_call_lines.Given as goal
 -- the lines so far, with those to come
 abbrev pub invariant-loop-call : goal.invariant-loop-call
 invariant-loop-call l =
-    (see_program l.last.file.program.now ≡ see_program l.program)
+    (l.last.file.program.now ≡ l.program)
     × (string_bytes l.text
-    ++ lines_of (λ pair. call_line_if l.undefined (see_program l.program) pair.0 pair.1) (see_calls l.call-iterator.a.rest.now) l.call-iterator.b.rest.now
-    ≡ string_bytes l.initial.text ++ lines_of (λ pair. call_line_if l.undefined (see_program l.program) pair.0 pair.1) (see_calls l.calls) l.places)
+    ++ lines_of (λ pair. call_line_if l.undefined l.program pair.0 pair.1) (see_calls l.call-iterator.a.rest.now) l.call-iterator.b.rest.now
+    ≡ string_bytes l.initial.text ++ lines_of (λ pair. call_line_if l.undefined l.program pair.0 pair.1) (see_calls l.calls) l.places)

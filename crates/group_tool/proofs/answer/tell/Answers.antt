@@ -1,6 +1,5 @@
 use Rattle.std.proofs.Common.{inl, inr, refl}
 use Rattle.tool_run.specs.declared.stop.Stop.TheVariants.{NoMemory}
-use Rattle.import_rules.specs.Program.{see_program}
 use Rattle.group_words.specs.Settings.{see_options}
 use Rattle.group_tool.specs.Groups.{groups_tool}
 use Rattle.tool_run.specs.Answer.{IsLoadedEnd}
@@ -19,7 +18,7 @@ returns-in_err-texts g c found program =
 pub returns : goal.returns
 returns g c found program =
     inr (record {
-      seen = see_program c.args.program.now;
+      seen = c.args.program.now;
       program = record { program = program; callable = c.in_ok-asked.ensures.asked.callable };
       rooted = c.in_ok-asked.ensures.asked.rooted;
       tells = c.in_ok-texts.ensures;

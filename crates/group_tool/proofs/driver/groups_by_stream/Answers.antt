@@ -10,7 +10,7 @@ use Rattle.graph_law.specs.LegalOrder.{IsComplete, IsLegalOrder}
 use Rattle.graph_law.specs.Reach.{IsReached}
 use Rattle.group_release.specs.Level.{AreLevels}
 use Rattle.group_release.specs.declared.level.Level.{Level}
-use Rattle.import_rules.specs.Program.{Seen, see_program}
+use Rattle.import_rules.specs.Program.{Seen}
 use Rattle.call_edges.specs.Opened.{see_call_lists}
 use Rattle.call_edges.specs.Successors.{successor_lists}
 use Rattle.loop_report.specs.Reportable.{AreGroups}
@@ -20,7 +20,7 @@ use Rattle.group_tool.proofs.driver.groups_by_stream.Goals as goal
 pub drive_feed-requires-clause-roots : goal.drive_feed-requires-clause-roots
 drive_feed-requires-clause-roots g c κs within =
     subst (λ (s : Seen). All (λ root. root < length (successor_lists s)) c.args.roots.now) (sym c.requires.calls)
-    (roots_listed (see_program c.args.program.now) c.args.roots.now c.requires.roots)
+    (roots_listed c.args.program.now c.args.roots.now c.requires.roots)
 
 -- what was taken, in a legal order, is the list of groups, over the calls of the program
 fed : (seen called : Seen) (roots : List ℕ) (groups taken : List (List ℕ)) → called ≡ seen → taken ≡ groups → IsLegalOrder (Calls (successor_lists called)) taken
@@ -39,14 +39,14 @@ levels_fed seen called lists groups taken levels same own all are =
 
 pub returns-clause-groups : goal.returns-clause-groups
 returns-clause-groups g c =
-    fed (see_program c.args.program.now) (see_call_lists c.args.calls.now) c.args.roots.now (lists_of c.in_ok-groups.groups.items) c.drive_feed.new.taker.taken c.requires.calls
+    fed c.args.program.now (see_call_lists c.args.calls.now) c.args.roots.now (lists_of c.in_ok-groups.groups.items) c.drive_feed.new.taker.taken c.requires.calls
     c.in_ok-groups.ensures.taken c.in_ok-groups.ensures.part c.in_ok-groups.ensures.complete c.in_ok-groups.ensures.reached
 
 pub returns-clause-leveled : goal.returns-clause-leveled
 returns-clause-leveled g c = record {
-  are = fed (see_program c.args.program.now) (see_call_lists c.args.calls.now) c.args.roots.now (lists_of c.in_ok-groups.groups.items) c.drive_feed.new.taker.taken
+  are = fed c.args.program.now (see_call_lists c.args.calls.now) c.args.roots.now (lists_of c.in_ok-groups.groups.items) c.drive_feed.new.taker.taken
       c.requires.calls c.in_ok-groups.ensures.taken c.in_ok-groups.ensures.part c.in_ok-groups.ensures.complete c.in_ok-groups.ensures.reached;
-  leveled = levels_fed (see_program c.args.program.now) (see_call_lists c.args.calls.now) c.drive_feed.new.taker.lists (lists_of c.in_ok-groups.groups.items)
+  leveled = levels_fed c.args.program.now (see_call_lists c.args.calls.now) c.drive_feed.new.taker.lists (lists_of c.in_ok-groups.groups.items)
       c.drive_feed.new.taker.taken c.drive_feed.new.taker.levels c.requires.calls c.in_ok-groups.ensures.lists c.in_ok-groups.ensures.taken c.levels.ensures.are;
 }
 

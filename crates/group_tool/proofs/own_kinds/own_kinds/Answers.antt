@@ -2,7 +2,6 @@ use Rattle.std.proofs.Common.{◌≡◌, ℕ, ◌-◌, ◌<◌, List, length, If
 use Rattle.std.specs.List.{AllZip, range_with_len}
 use Rattle.rayon.specs.Numbers.{nat_range}
 use Rattle.rayon.proofs.ToStd.{nat_range-All}
-use Rattle.import_rules.specs.Program.{see_program}
 use Rattle.group_tool.proofs.KindLemmas.{each_found}
 use Rattle.group_tool.specs.Parts.{IsOwnKinds}
 use Rattle.group_tool.proofs.own_kinds.own_kinds.Goals as goal
@@ -10,7 +9,7 @@ use Rattle.group_tool.proofs.own_kinds.own_kinds.Goals as goal
 pub returns : goal.returns
 returns g c =
     let ends = c.into_par_iter.ensures in
-    let seen = see_program c.args.program.now in
+    let seen = c.args.program.now in
     let count = c.count.result in
     let whole : count - 0 ≡ count = omega arith in
     let h = c.in_ok-collect.ensures in
@@ -22,6 +21,6 @@ returns g c =
 pub collect-requires-clause-ready : goal.collect-requires-clause-ready
 collect-requires-clause-ready g c κs within =
     let ends = c.into_par_iter.ensures in
-    let seen = see_program c.args.program.now in
+    let seen = c.args.program.now in
     let inside = nat_range-All (λ i. i < length seen.predicates) 0 c.count.result (λ i low high. omega (arith, high, c.count.ensures)) in
     rw (c.map.ensures.base, c.map.ensures.f, c.with_min_len.ensures.base, ends.0, ends.1) (λ k d lt. (inside k d lt, λ y p. tt))

@@ -2,12 +2,14 @@ use Rattle.std.proofs.Common.{◌≡◌, ◌++◌, ◌∙◌, All, map, sym, ap,
 use Rattle.module_table.specs.Facts.{see_facts}
 use Rattle.file_library.specs.SortedOut.{see_loaded}
 use Rattle.import_rules.specs.Clashes.{AreClashes, see_item}
+use Rattle.import_rules.specs.Enough.{AreEnough}
 use Rattle.import_rules.specs.Findings.{see_findings}
 use Rattle.import_rules.specs.Flaws.{clash_flaw}
 use Rattle.import_rules.specs.Items.{foreign_items}
 use Rattle.import_rules.specs.KnownFiles.{AreKnown, AreRising, see_known}
 use Rattle.file_library.specs.Spots.{texts_of}
 use Rattle.import_rules.specs.PlacedFlaws.{ArePlacedFlaws, AreTexts, StandsIn}
+use Rattle.import_rules.proofs.Enough.{enough_clashes, enough_firsts}
 use Rattle.import_rules.proofs.AllFound.{files_rise, texts_are, ready, found_in_all, all_in_texts, are_faults}
 use Rattle.import_rules.proofs.check.check_imports.Goals as goal
 
@@ -28,7 +30,8 @@ placed-requires-clause-stand c =
     let files : map see_known c.in_ok-known_files.field-0.items ≡ loaded.files = c.in_ok-known_files.ensures.are ∙ ap (map see_facts) c.deref.ensures.value in
     let clashes = map see_item c.in_ok-imported.imported.clashes.items in
     let are : AreClashes (foreign_items loaded.files) clashes =
-    subst (λ items. AreClashes items clashes) (c.in_ok-found.ensures.items ∙ ap foreign_items files) c.in_ok-imported.ensures.clashes in
+    enough_clashes (foreign_items loaded.files) (map see_item c.in_ok-found.found.items.items) clashes
+    (subst (λ fs. AreEnough (foreign_items fs) (map see_item c.in_ok-found.found.items.items)) files c.in_ok-found.ensures.items) c.in_ok-imported.ensures.clashes in
     let all =
     found_in_all loaded c.requires.loaded (record { known = c.in_ok-known_files.field-0; absent = c.deref-2.result; predicates = c.args.predicates }) files c.deref-2.ensures.value
     (see_findings c.in_ok-found.found.flaws.items) (see_findings c.in_ok-flaws.flaws.items) clashes c.in_ok-found.ensures.flaws
@@ -42,10 +45,18 @@ returns-clause-faults c =
     let files : map see_known c.in_ok-known_files.field-0.items ≡ loaded.files = c.in_ok-known_files.ensures.are ∙ ap (map see_facts) c.deref.ensures.value in
     let clashes = map see_item c.in_ok-imported.imported.clashes.items in
     let are : AreClashes (foreign_items loaded.files) clashes =
-    subst (λ items. AreClashes items clashes) (c.in_ok-found.ensures.items ∙ ap foreign_items files) c.in_ok-imported.ensures.clashes in
+    enough_clashes (foreign_items loaded.files) (map see_item c.in_ok-found.found.items.items) clashes
+    (subst (λ fs. AreEnough (foreign_items fs) (map see_item c.in_ok-found.found.items.items)) files c.in_ok-found.ensures.items) c.in_ok-imported.ensures.clashes in
     let all =
     found_in_all loaded c.requires.loaded (record { known = c.in_ok-known_files.field-0; absent = c.deref-2.result; predicates = c.args.predicates }) files c.deref-2.ensures.value
     (see_findings c.in_ok-found.found.flaws.items) (see_findings c.in_ok-flaws.flaws.items) clashes c.in_ok-found.ensures.flaws
     (c.in_ok-flaws.ensures ∙ ap (λ items. see_findings c.in_ok-found.found.flaws.items ++ map clash_flaw (map see_item items)) c.deref-3.ensures.value) in
     are_faults loaded c.requires.loaded (see_findings c.in_ok-flaws.flaws.items) clashes c.in_ok-placed.field-0.items all are
     (subst (λ texts. ArePlacedFlaws (texts_of texts) (see_findings c.in_ok-flaws.flaws.items) c.in_ok-placed.field-0.items) c.deref-4.ensures.value c.in_ok-placed.ensures)
+
+pub returns-clause-imports : goal.returns-clause-imports
+returns-clause-imports c =
+    let loaded = see_loaded c.args.loaded.now in
+    let files : map see_known c.in_ok-known_files.field-0.items ≡ loaded.files = c.in_ok-known_files.ensures.are ∙ ap (map see_facts) c.deref.ensures.value in
+    enough_firsts (foreign_items loaded.files) (map see_item c.in_ok-found.found.items.items) (map see_item c.in_ok-imported.imported.firsts.items)
+    (subst (λ fs. AreEnough (foreign_items fs) (map see_item c.in_ok-found.found.items.items)) files c.in_ok-found.ensures.items) c.in_ok-imported.ensures.firsts

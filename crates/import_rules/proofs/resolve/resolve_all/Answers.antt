@@ -13,6 +13,7 @@ use Rattle.import_rules.specs.Names.{pred_cmp}
 use Rattle.import_rules.specs.Numbers.{lists_of}
 use Rattle.import_rules.specs.OwnNames.{AreOwn}
 use Rattle.import_rules.specs.Parts.{name_of_places, names_at}
+use Rattle.import_rules.specs.Program.{IsProgram}
 use Rattle.import_rules.proofs.Loaded.{few_files, few_metas_in_each}
 use Rattle.import_rules.proofs.NumberLemmas.{numbered_by}
 use Rattle.import_rules.proofs.Seen.{is_program}
@@ -56,8 +57,8 @@ meanings-requires-clause-few c =
       length-map places.items (name_of_places loaded.files.items),
     )
 
-pub invariant_of-result : goal.invariant_of-result
-invariant_of-result c =
+pub invariant_of-tables : goal.invariant_of-tables
+invariant_of-tables c =
     let places = c.in_ok-places.places in
     let loaded = c.args.loaded in
     let predicates = names_at loaded.files.items places.items in
@@ -90,8 +91,9 @@ returns-clause-ok c =
     let places = c.in_ok-places.places in
     let loaded = c.args.loaded in
     let predicates = names_at loaded.files.items places.items in
-    is_program _ (numbered_by (see_loaded loaded).files predicates (lists_of places.items) c.in_ok-places.ensures)
-    (omega (arith, c.if-len-gt-MOST_PREDICATES.false, c.len.ensures, places.ok.0)) c.in-Ok.ensures.faultless
+    subst (IsProgram (see_loaded loaded)) (sym c.of.ensures)
+    (is_program _ (numbered_by (see_loaded loaded).files predicates (lists_of places.items) c.in_ok-places.ensures)
+    (omega (arith, c.if-len-gt-MOST_PREDICATES.false, c.len.ensures, places.ok.0)) c.in-Ok.ensures.faultless)
 
 pub meta_places-requires-clause-few : goal.meta_places-requires-clause-few
 meta_places-requires-clause-few c =

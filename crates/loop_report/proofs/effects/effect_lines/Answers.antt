@@ -7,7 +7,6 @@ use Rattle.graph_law.specs.Graph.{lists_of}
 use Rattle.graph_law.proofs.GraphLaws.{length-lists_of}
 use Rattle.effect_flow.specs.Carriers.{first_at}
 use Rattle.effect_flow.specs.Seen.{see_flows}
-use Rattle.import_rules.specs.Program.{see_program}
 use Rattle.loop_report.specs.declared.line_order.Line.{Line}
 use Rattle.loop_report.specs.Effects.{group_effects, place_effects}
 use Rattle.loop_report.specs.Lines.{AreLines}
@@ -61,7 +60,7 @@ pub loop-line-preserved : goal.loop-line-preserved
 loop-line-preserved c =
     let groups = lists_of c.args.groups.now in
     let flows = see_flows c.args.flows.now in
-    let predicates = (see_program c.args.program.now).predicates in
+    let predicates = c.args.program.now.predicates in
     let items = c.deref-line-items.result.now in
     let n : ℕ = c.loop-line.line-index in
     let none : Line = record { height = 0; least = 0; place = 0 } in
@@ -76,7 +75,7 @@ loop-line-preserved c =
 pub returns : goal.returns
 returns c =
     let groups = lists_of c.args.groups.now in
-    let predicates = (see_program c.args.program.now).predicates in
+    let predicates = c.args.program.now.predicates in
     let effects : ℕ → List ℕ = place_effects predicates groups (see_flows c.args.flows.now) in
     let items = c.deref-line-items.result.now in
     let are = subst (AreLines groups c.args.levels.now) (sym c.deref-line-items.ensures.value) c.in_ok-lines.ensures in

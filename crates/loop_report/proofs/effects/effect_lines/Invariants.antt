@@ -3,7 +3,6 @@ use Rattle.std.specs.List.{flat_map}
 use Rattle.std.specs.String.{string_bytes}
 use Rattle.graph_law.specs.Graph.{lists_of}
 use Rattle.effect_flow.specs.Seen.{see_flows}
-use Rattle.import_rules.specs.Program.{see_program}
 use Rattle.loop_report.specs.declared.line_order.Line.{Line}
 use Rattle.loop_report.specs.Effects.{place_effects}
 use Rattle.loop_report.proofs.effects.effect_lines.Given as goal
@@ -12,4 +11,4 @@ use Rattle.loop_report.proofs.effects.effect_lines.Given as goal
 abbrev pub invariant-loop-line : goal.invariant-loop-line
 invariant-loop-line l =
     string_bytes l.text
-    ≡ flat_map (λ (line : Line). place_effects (see_program l.program).predicates (lists_of l.groups) (see_flows l.flows) line.place) (take l.line-index l.line-items)
+    ≡ flat_map (λ (line : Line). place_effects l.program.predicates (lists_of l.groups) (see_flows l.flows) line.place) (take l.line-index l.line-items)

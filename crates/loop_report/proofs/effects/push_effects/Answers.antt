@@ -3,7 +3,6 @@ use Rattle.std.specs.List.{flat_map, range_with_len}
 use Rattle.std.specs.String.{string_bytes}
 use Rattle.effect_flow.specs.Carriers.{first_at}
 use Rattle.effect_flow.specs.Seen.{see_flow}
-use Rattle.import_rules.specs.Program.{see_program}
 use Rattle.loop_report.specs.Effects.{effect_line, kind_word}
 use Rattle.loop_report.proofs.EffectLines.{kind_more, kind_none}
 use Rattle.loop_report.proofs.effects.push_effects.Goals as goal
@@ -14,14 +13,14 @@ push_effect-requires-clause-carrier c =
 
 pub loop-kind-preserved-in_default : goal.loop-kind-preserved-in_default
 loop-kind-preserved-in_default c =
-    let predicates = (see_program c.args.program.now).predicates in
+    let predicates = c.args.program.now.predicates in
     let line : ℕ → List ℕ = λ kind. effect_line predicates c.args.least (kind_word kind) (first_at (see_flow c.args.flow) kind) in
     kind_none line (string_bytes c.args.text.now) (string_bytes c.loop-kind.text) c.loop-kind.kind c.loop-kind.invariant
     (ap (effect_line predicates c.args.least (kind_word c.loop-kind.kind)) (sym c.in_default.ensures))
 
 pub loop-kind-preserved : goal.loop-kind-preserved
 loop-kind-preserved c =
-    let predicates = (see_program c.args.program.now).predicates in
+    let predicates = c.args.program.now.predicates in
     let line : ℕ → List ℕ = λ kind. effect_line predicates c.args.least (kind_word kind) (first_at (see_flow c.args.flow) kind) in
     kind_more line (string_bytes c.args.text.now) (string_bytes c.loop-kind.text) (string_bytes c.push_effect.new.text) c.loop-kind.kind c.loop-kind.invariant
     (c.in_ok-push_effect.ensures
@@ -29,7 +28,7 @@ loop-kind-preserved c =
 
 pub returns : goal.returns
 returns c =
-    let predicates = (see_program c.args.program.now).predicates in
+    let predicates = c.args.program.now.predicates in
     let line : ℕ → List ℕ = λ kind. effect_line predicates c.args.least (kind_word kind) (first_at (see_flow c.args.flow) kind) in
     let end : c.loop-kind.kind ≡ 7 = omega (arith, c.loop-kind-test.false, c.loop-kind.auto.kind-end) in
     c.loop-kind.invariant ∙ ap (λ n. string_bytes c.args.text.now ++ flat_map line (range_with_len 0 n)) end

@@ -2,7 +2,6 @@ use Rattle.std.proofs.Common.{◌≡◌, ℕ, ◌<◌, All, [], length, get_or, 
 use Rattle.graph_law.specs.Classes.{group_at}
 use Rattle.graph_law.specs.Graph.{lists_of}
 use Rattle.graph_law.proofs.GraphLaws.{group_read, within_lists}
-use Rattle.import_rules.specs.Program.{see_program}
 use Rattle.loop_report.proofs.group_lines.push_groups.Goals as goal
 
 pub push_group-requires : goal.push_group-requires
@@ -11,5 +10,5 @@ push_group-requires c =
     let within : place < length c.args.groups.now = c.requires.places c.loop-place.place-index 0 c.loop-place-test.true in
     let is : c.deref.result.now ≡ group_at (lists_of c.args.groups.now) place =
     group_read c.args.groups.now place c.index-groups-place.result c.deref.result.now within c.index-groups-place.is c.deref.ensures.value in
-    subst (All (λ member. member < length (see_program c.args.program.now).predicates)) (sym is)
+    subst (All (λ member. member < length c.args.program.now.predicates)) (sym is)
     (c.requires.within place [] (within_lists c.args.groups.now place within))

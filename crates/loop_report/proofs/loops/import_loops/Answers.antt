@@ -1,19 +1,17 @@
 use Rattle.std.proofs.Common.{◌≡◌, ◌<◌, All, length, map, sym, subst, ◌∙◌, ap, arith}
 use Rattle.std.proofs.lemmas.List.{length-map}
-use Rattle.std.proofs.lemmas.Slice.Zip.{AllZip-long}
 use Rattle.graph_law.specs.Graph.{lists_of}
 use Rattle.module_table.specs.Facts.{see_facts}
 use Rattle.file_library.specs.Loaded.{LoadedFiles, NamedText}
-use Rattle.import_rules.specs.Program.{see_program, IsReadFrom}
 use Rattle.loop_report.specs.ImportLoops.{AreImportLoops, names_at}
 use Rattle.loop_report.specs.ModuleGraph.{AreRising, AreLoadLists, AreRings, file_names, texts_of}
 use Rattle.loop_report.proofs.LoopsMade.{loops_made}
-use Rattle.loop_report.proofs.ProgramFiles.{few_texts, named_alike, rising_names}
+use Rattle.loop_report.proofs.ProgramFiles.{named_alike, rising_names}
 use Rattle.loop_report.proofs.loops.import_loops.Goals as goal
 
 pub module_graph-requires-clause-rising : goal.module_graph-requires-clause-rising
 module_graph-requires-clause-rising c =
-    let loaded = (see_program c.args.program.now).loaded in
+    let loaded = c.args.program.now.loaded in
     let files : loaded.files ≡ map see_facts c.as_slice-files.result.now =
     ap (λ (l : LoadedFiles). l.files) c.loaded.ensures ∙ ap (map see_facts) (sym c.as_slice-files.ensures.value) in
     subst (λ fs. AreRising (file_names fs)) files
@@ -22,11 +20,10 @@ module_graph-requires-clause-rising c =
 
 pub module_graph-requires-clause-few_files : goal.module_graph-requires-clause-few_files
 module_graph-requires-clause-few_files c =
-    let loaded = (see_program c.args.program.now).loaded in
+    let loaded = c.args.program.now.loaded in
     omega (
       arith,
-      few_texts c.args.program.now,
-      AllZip-long IsReadFrom loaded.texts loaded.files c.is_known.ensures.read,
+      c.is_known.ensures.few_files,
       ap (λ (l : LoadedFiles). length l.files) c.loaded.ensures,
       ap length c.as_slice-files.ensures.value,
       length-map c.loaded.result.now.files.items see_facts,
@@ -34,11 +31,10 @@ module_graph-requires-clause-few_files c =
 
 pub module_graph-requires-clause-few_modules : goal.module_graph-requires-clause-few_modules
 module_graph-requires-clause-few_modules c =
-    let loaded = (see_program c.args.program.now).loaded in
+    let loaded = c.args.program.now.loaded in
     omega (
       arith,
-      few_texts c.args.program.now,
-      AllZip-long IsReadFrom loaded.texts loaded.files c.is_known.ensures.read,
+      c.is_known.ensures.few_files,
       ap (λ (l : LoadedFiles). length l.files) c.loaded.ensures,
       ap length c.as_slice-files.ensures.value,
       length-map c.loaded.result.now.files.items see_facts,
@@ -56,7 +52,7 @@ named-requires c =
 
 pub returns : goal.returns
 returns c =
-    let loaded = (see_program c.args.program.now).loaded in
+    let loaded = c.args.program.now.loaded in
     let files : loaded.files ≡ map see_facts c.as_slice-files.result.now =
     ap (λ (l : LoadedFiles). l.files) c.loaded.ensures ∙ ap (map see_facts) (sym c.as_slice-files.ensures.value) in
     let facts = map see_facts c.as_slice-files.result.now in

@@ -3,7 +3,6 @@ use Rattle.std.specs.List.{range_with_len}
 use Rattle.std.specs.String.{string_bytes}
 use Rattle.std.proofs.lemmas.List.FromFn.{length-map-range_with_len, get_or-map-range_with_len}
 use Rattle.graph_law.specs.Graph.{lists_of}
-use Rattle.import_rules.specs.Program.{see_program}
 use Rattle.loop_report.specs.Report.{is_grouped, unreached_line}
 use Rattle.loop_report.proofs.Marks.{line_none, line_more}
 use Rattle.loop_report.proofs.unreached.push_unreached.Goals as goal
@@ -29,7 +28,7 @@ index-requires c =
 pub loop-node-preserved-then-index : goal.loop-node-preserved-then-index
 loop-node-preserved-then-index c =
     let groups = lists_of c.args.groups.now in
-    let line = unreached_line (see_program c.args.program.now).predicates in
+    let line = unreached_line c.args.program.now.predicates in
     let within : c.loop-node.node < c.count.result = omega (arith, c.count.ensures, c.count-node-end.ensures, c.loop-node-test.true) in
     let is = mark_is groups c.in_ok-marks.marks.items c.count.result c.loop-node.node c.index.result.now within c.in_ok-marks.ensures c.index.ensures in
     c.loop-node.invariant
@@ -38,7 +37,7 @@ loop-node-preserved-then-index c =
 pub loop-node-preserved : goal.loop-node-preserved
 loop-node-preserved c =
     let groups = lists_of c.args.groups.now in
-    let line = unreached_line (see_program c.args.program.now).predicates in
+    let line = unreached_line c.args.program.now.predicates in
     let within : c.loop-node.node < c.count.result = omega (arith, c.count.ensures, c.count-node-end.ensures, c.loop-node-test.true) in
     let is = mark_is groups c.in_ok-marks.marks.items c.count.result c.loop-node.node c.index.result.now within c.in_ok-marks.ensures c.index.ensures in
     line_more line groups c.loop-node.node c.index.result.now (string_bytes c.args.text.now) (string_bytes c.loop-node.text) (string_bytes c.push_line.new.text) is

@@ -2,7 +2,6 @@ use Rattle.std.proofs.Common.{◌≡◌, ◌++◌}
 use Rattle.std.specs.List.{flat_map}
 use Rattle.std.specs.String.{string_bytes}
 use Rattle.graph_law.specs.Graph.{lists_of}
-use Rattle.import_rules.specs.Program.{see_program}
 use Rattle.loop_report.specs.Report.{unreached_line, ungrouped}
 use Rattle.loop_report.proofs.unreached.push_unreached.Given as goal
 
@@ -10,4 +9,4 @@ use Rattle.loop_report.proofs.unreached.push_unreached.Given as goal
 abbrev pub invariant-loop-node : goal.invariant-loop-node
 invariant-loop-node l =
     string_bytes l.text
-    ≡ string_bytes l.initial.text ++ flat_map (unreached_line (see_program l.program).predicates) (ungrouped (lists_of l.groups) l.node)
+    ≡ string_bytes l.initial.text ++ flat_map (unreached_line l.program.predicates) (ungrouped (lists_of l.groups) l.node)

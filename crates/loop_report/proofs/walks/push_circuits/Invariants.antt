@@ -1,7 +1,6 @@
 use Rattle.std.proofs.Common.{◌≡◌, ◌++◌, take, map}
 use Rattle.std.specs.List.{flat_map}
 use Rattle.std.specs.String.{string_bytes}
-use Rattle.import_rules.specs.Program.{see_program}
 use Rattle.loop_report.specs.Walks.{circuit_line_at, see_circuit}
 use Rattle.loop_report.proofs.walks.push_circuits.Given as goal
 
@@ -9,4 +8,4 @@ use Rattle.loop_report.proofs.walks.push_circuits.Given as goal
 abbrev pub invariant-loop-place : goal.invariant-loop-place
 invariant-loop-place l =
     string_bytes l.text
-    ≡ string_bytes l.initial.text ++ flat_map (circuit_line_at (see_program l.program).predicates (map see_circuit l.circuits)) (take l.place-index l.order)
+    ≡ string_bytes l.initial.text ++ flat_map (circuit_line_at l.program.predicates (map see_circuit l.circuits)) (take l.place-index l.order)

@@ -1,6 +1,5 @@
 use Rattle.std.proofs.Common.{sym, subst}
 use Rattle.clause_text.proofs.Outcomes.{on_err}
-use Rattle.import_rules.specs.Program.{see_program}
 use Rattle.group_words.specs.Settings.{see_options}
 use Rattle.tool_run.specs.Roots.{IsRootStop, asked_names}
 use Rattle.tool_run.proofs.RootLemmas.{ends_there, from_stop, to_stop}
@@ -9,7 +8,7 @@ use Rattle.tool_run.proofs.roots.ends_by.Goals as goal
 pub returns-in_err-from-clause-err : goal.returns-in_err-from-clause-err
 returns-in_err-from-clause-err c =
     let settings = see_options c.args.options.now in
-    let seen = see_program c.args.program.now in
+    let seen = c.args.program.now in
     on_err c.from_residual.result _ _ c.from_residual.ensures.1
     (λ stop same.
     subst (IsRootStop (asked_names settings.path settings.roots) seen) (sym same)
@@ -18,7 +17,7 @@ returns-in_err-from-clause-err c =
 pub returns-in_err-to-clause-err : goal.returns-in_err-to-clause-err
 returns-in_err-to-clause-err c =
     let settings = see_options c.args.options.now in
-    let seen = see_program c.args.program.now in
+    let seen = c.args.program.now in
     on_err c.from_residual-in_err-to.result _ _ c.from_residual-in_err-to.ensures.1
     (λ stop same.
     subst (IsRootStop (asked_names settings.path settings.roots) seen) (sym same)
@@ -27,5 +26,5 @@ returns-in_err-to-clause-err c =
 pub returns-clause-rooted : goal.returns-clause-rooted
 returns-clause-rooted c =
     let settings = see_options c.args.options.now in
-    ends_there settings.path c.in-Some.both settings.roots (see_program c.args.program.now) c.in_ok-from.from c.in_ok-to.to c.in-Some.is c.requires c.in_ok-from.ensures.ok
+    ends_there settings.path c.in-Some.both settings.roots c.args.program.now c.in_ok-from.from c.in_ok-to.to c.in-Some.is c.requires c.in_ok-from.ensures.ok
     c.in_ok-to.ensures.ok

@@ -1,13 +1,12 @@
 use Rattle.std.proofs.Common.{get_or}
 use Rattle.std.proofs.lemmas.List.Elements.{Contains-get_or}
 use Rattle.list_laws.proofs.SortedOnce.{sorted_rises, sorted_has}
-use Rattle.import_rules.specs.Program.{see_program}
 use Rattle.tool_run.proofs.RootLemmas.{listed_are, named_below, zip_there}
 use Rattle.tool_run.proofs.roots.listed_roots.Goals as goal
 
 pub returns-clause-roots : goal.returns-clause-roots
 returns-clause-roots c =
-    let predicates = (see_program c.args.program.now).predicates in
+    let predicates = c.args.program.now.predicates in
     let all = c.in_ok-roots.roots.items in
     let sorted = c.sort_unstable.new.self.items in
     let kept = c.dedup.new.self.items in
@@ -21,7 +20,7 @@ returns-clause-roots c =
 
 pub returns-clause-below : goal.returns-clause-below
 returns-clause-below c = λ k d lt.
-    let predicates = (see_program c.args.program.now).predicates in
+    let predicates = c.args.program.now.predicates in
     let all = c.in_ok-roots.roots.items in
     let kept = c.dedup.new.self.items in
     let q = get_or kept k d in
@@ -31,4 +30,4 @@ returns-clause-below c = λ k d lt.
 
 pub returns-clause-rooted : goal.returns-clause-rooted
 returns-clause-rooted c =
-    zip_there (see_program c.args.program.now).predicates c.args.list.now c.in_ok-roots.roots.items c.in_ok-roots.ensures.ok
+    zip_there c.args.program.now.predicates c.args.list.now c.in_ok-roots.roots.items c.in_ok-roots.ensures.ok

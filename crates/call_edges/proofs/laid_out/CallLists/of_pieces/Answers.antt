@@ -1,12 +1,11 @@
 use Rattle.std.proofs.Common.{refl, arith}
-use Rattle.import_rules.specs.Program.{see_program}
 use Rattle.call_edges.specs.Opened.{see_call_lists}
 use Rattle.call_edges.proofs.SuccessorLemmas.{lists_count}
 use Rattle.call_edges.proofs.laid_out.CallLists.of_pieces.Goals as goal
 
 pub invariant_of-result : goal.invariant_of-result
 invariant_of-result c =
-    let seen = see_program c.args.program.now in
+    let seen = c.args.program.now in
     record {
       listed = record {
         as_many = λ number inside. c.requires.as_many number (omega (arith, inside, lists_count seen));

@@ -4,7 +4,7 @@ use Rattle.file_library.specs.Loaded.{LoadedFiles}
 use Rattle.file_library.specs.Spots.{AreLimited, AreSpots, IsSpotPlace, texts_of}
 use Rattle.import_rules.specs.Program.{see_program}
 use Rattle.import_rules.proofs.Limited.{limited}
-use Rattle.import_rules.proofs.program.Program.places_of_spots.Goals as goal
+use Rattle.import_rules.proofs.tables.ProgramTables.places_of_spots.Goals as goal
 
 pub places_of_spots-requires-clause-texts : goal.places_of_spots-requires-clause-texts
 places_of_spots-requires-clause-texts c =

@@ -5,7 +5,7 @@ use Rattle.prolog_names.specs.Names.{name_at}
 use Rattle.import_rules.specs.OwnNames.{kept_at}
 use Rattle.import_rules.proofs.OwnSteps.{same_bytes, same_from_not}
 use Rattle.import_rules.proofs.Seen.{kept_found}
-use Rattle.import_rules.proofs.program.Program.find_kept.Goals as goal
+use Rattle.import_rules.proofs.tables.ProgramTables.find_kept.Goals as goal
 
 pub returns : goal.returns
 returns c =

@@ -2,7 +2,7 @@ use Rattle.std.proofs.Common.{◌≡◌, sym, subst, ◌∙◌}
 use Rattle.import_rules.specs.Chained.{AreChained}
 use Rattle.import_rules.specs.Parts.{names_at}
 use Rattle.import_rules.proofs.Seen.{predicates_are}
-use Rattle.import_rules.proofs.program.Program.predicates.Goals as goal
+use Rattle.import_rules.proofs.tables.ProgramTables.predicates.Goals as goal
 
 pub invariant_of-result : goal.invariant_of-result
 invariant_of-result c =

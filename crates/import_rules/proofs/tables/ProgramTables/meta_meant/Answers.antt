@@ -2,7 +2,7 @@ use Rattle.std.proofs.Common.{sym, ap, ◌∙◌}
 use Rattle.import_rules.specs.Program.{see_program, found, meta_of_found}
 use Rattle.import_rules.proofs.FoundMeans.{below}
 use Rattle.import_rules.proofs.MetaTold.{no_places, meant_none}
-use Rattle.import_rules.proofs.program.Program.meta_meant.Goals as goal
+use Rattle.import_rules.proofs.tables.ProgramTables.meta_meant.Goals as goal
 
 pub returns-then-is_empty : goal.returns-then-is_empty
 returns-then-is_empty c =

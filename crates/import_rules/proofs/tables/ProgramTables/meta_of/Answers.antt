@@ -5,7 +5,7 @@ use Rattle.std.proofs.lemmas.Option.{slice_get_within}
 use Rattle.module_table.specs.Metas.{see_meta}
 use Rattle.module_table.specs.Facts.{see_facts}
 use Rattle.import_rules.proofs.MetaTold.{told_none, told_one, long_places, no_places, some_places, seen_at}
-use Rattle.import_rules.proofs.program.Program.meta_of.Goals as goal
+use Rattle.import_rules.proofs.tables.ProgramTables.meta_of.Goals as goal
 
 pub returns-then-is_empty : goal.returns-then-is_empty
 returns-then-is_empty c =

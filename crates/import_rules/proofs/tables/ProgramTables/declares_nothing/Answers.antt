@@ -2,7 +2,7 @@ use Rattle.std.proofs.Common.{sym}
 use Rattle.import_rules.specs.Program.{see_program, found}
 use Rattle.import_rules.proofs.FoundMeans.{below}
 use Rattle.import_rules.proofs.MetaTold.{no_places, meant_none}
-use Rattle.import_rules.proofs.program.Program.declares_nothing.Goals as goal
+use Rattle.import_rules.proofs.tables.ProgramTables.declares_nothing.Goals as goal
 
 pub returns : goal.returns
 returns c = λ empty owner name arity.

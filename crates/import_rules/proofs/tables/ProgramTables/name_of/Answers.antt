@@ -1,7 +1,7 @@
 use Rattle.std.proofs.Common.{ap, ◌∙◌, arith}
 use Rattle.import_rules.specs.Parts.{name_of_places, see_name}
 use Rattle.import_rules.proofs.Seen.{count_is, name_there}
-use Rattle.import_rules.proofs.program.Program.name_of.Goals as goal
+use Rattle.import_rules.proofs.tables.ProgramTables.name_of.Goals as goal
 
 pub index-requires : goal.index-requires
 index-requires c = omega (arith, c.requires, count_is c.args.self.now, c.args.self.now.places.ok.0)

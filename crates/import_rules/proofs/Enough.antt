@@ -1,0 +1,311 @@
+-- Import items of which some were left out: what they give, and that a second load of a file gives nothing more.
+use Rattle.std.proofs.Common.{◌≡◌, ◌≢◌, ℕ, Bool, true, false, not, ◌&&◌, List, [], ◌∷◌, ◌++◌, Option, Some, None, Contains, map, filter, refl, sym, ap, subst, ◌∙◌, inl, inr, ◌+◌, ◌<◌, cond, length, take, get_or, append_assoc}
+use Rattle.std.specs.List.{flat_map}
+use Rattle.std.specs.Prelude.{if◌then◌else◌, nat_eq}
+use Rattle.std.specs.Str.{bytes_eq}
+use Rattle.std.specs.Cmp.Lexicographic.{slice_cmp, texts_ties}
+use Rattle.std.specs.Ordering.{nat_cmp, is_eq}
+use Rattle.std.proofs.lemmas.List.{take_more}
+use Rattle.std.proofs.lemmas.Bool.{cases_Bool, false_from_ne_true}
+use Rattle.std.proofs.lemmas.Slice.Eq.{bytes_eq-Decides}
+use Rattle.std.proofs.lemmas.List.Elements.{All-contains, Contains-append_cases, Contains-append_left, Contains-append_right, filter-append}
+use Rattle.module_table.specs.declared.indicator.Indicator.{Indicator}
+use Rattle.module_table.specs.declared.load.LoadKind.{LoadKind}
+use Rattle.module_table.specs.declared.load.LoadKind.TheVariants.{UseAll, UseSome, Ensure}
+use Rattle.module_table.specs.Facts.{Facts}
+use Rattle.module_table.specs.Kinds.{first_of}
+use Rattle.module_table.specs.Said.{Loads}
+use Rattle.import_rules.specs.declared.names.PredName.{PredName}
+use Rattle.import_rules.specs.Clashes.{Imports, items_for, first_other, clash, AreClashes, AreFirsts}
+use Rattle.import_rules.specs.Enough.{AreEnough, IsTakenWhole}
+use Rattle.import_rules.specs.Files.{file_named, has_export, is_local}
+use Rattle.import_rules.specs.Items.{gives, given, is_foreign, item, items_of_load, taken}
+use Rattle.import_rules.specs.Names.{is_same}
+use Rattle.import_rules.proofs.Lists.{any_from, filter_none, filter_map_agrees, kept_next, kept_passes}
+use Rattle.import_rules.proofs.Members.{flat_map_has}
+use Rattle.import_rules.proofs.NameOrder.{same_itself, same_parts}
+use Rattle.list_laws.proofs.Members.{all_by, kept_in, kept_there, map_from, map_has}
+use Rattle.list_laws.proofs.OneOrder.{nothing_in, first_or_rest, in_first}
+
+-- the first of one list, else of another
+abbrev or_first : Option Imports → List Imports → Option Imports
+or_first (Some i) ys = Some i
+or_first None ys = first_of ys
+
+first_append : (xs ys : List Imports) → first_of (xs ++ ys) ≡ or_first (first_of xs) ys
+first_append [] ys = refl
+first_append (x ∷ xs) ys = refl
+
+-- whether an item is from another module than that of the first
+abbrev differs : Imports → Imports → Bool
+differs f i = not (bytes_eq i.from_module f.from_module)
+
+abbrev second_of : Option Imports → Option Imports → List Imports → Option Imports
+second_of None second ys = first_other ys
+second_of (Some f) second ys = or_first second (filter (differs f) ys)
+
+second_append : (xs ys : List Imports) → first_other (xs ++ ys) ≡ second_of (first_of xs) (first_other xs) ys
+second_append [] ys = refl
+second_append (f ∷ xs) ys = ap first_of (filter-append (differs f) xs ys) ∙ first_append (filter (differs f) xs) (filter (differs f) ys)
+
+-- what all give and some give stays the same with more of both
+
+pub enough_more : (all some more : List Imports) → AreEnough all some → AreEnough (all ++ more) (some ++ more)
+enough_more all some more enough = record {
+  each = all_by (Contains (all ++ more)) (some ++ more)
+      (λ i has. elim (Contains-append_cases some more i has) [
+        | inl old ↦ Contains-append_left all more i (All-contains (Contains all) some i enough.each old)
+        | inr new ↦ Contains-append_right all more i new
+      ]);
+  first = λ p.
+      ap first_of (split p some)
+      ∙ first_append (items_for p some) (items_for p more)
+      ∙ ap (λ o. or_first o (items_for p more)) (enough.first p)
+      ∙ sym (first_append (items_for p all) (items_for p more))
+      ∙ ap first_of (sym (split p all));
+  second = λ p.
+      ap first_other (split p some)
+      ∙ second_append (items_for p some) (items_for p more)
+      ∙ ap (λ o. second_of o (clash some p) (items_for p more)) (enough.first p)
+      ∙ ap (λ o. second_of (first_of (items_for p all)) o (items_for p more)) (enough.second p)
+      ∙ sym (second_append (items_for p all) (items_for p more))
+      ∙ ap first_other (sym (split p all));
+}
+  where
+    split : (p : PredName) (is : List Imports) → items_for p (is ++ more) ≡ items_for p is ++ items_for p more
+    split p is = filter-append (λ (i : Imports). is_same p i.into) is more
+
+-- an item that gives a predicate from a module that one of the others gives it from
+abbrev IsDouble : List Imports → Imports → Type 0
+IsDouble all i = (j : Imports) × Contains all j × (j.into ≡ i.into) × (j.from_module ≡ i.from_module)
+
+-- doubles change neither the first nor the first one from another module
+
+module _ (xs ds : List Imports) (doubles : (i : Imports) → Contains ds i → (j : Imports) × Contains xs j × (j.from_module ≡ i.from_module)) where
+  none_first : xs ≡ [] → ds ≡ []
+  none_first nil = elim ds as (λ es. ds ≡ es → es ≡ []) [
+    | [] ↦ λ is. refl
+    | d ∷ es ↦ λ is. let double = doubles d (subst (λ fs. Contains fs d) (sym is) (in_first d es)) in
+        absurd (nothing_in double.0 (subst (λ fs. Contains fs double.0) nil double.1))
+  ] refl
+
+no_first : (xs ds : List Imports) → ((i : Imports) → Contains ds i → (j : Imports) × Contains xs j × (j.from_module ≡ i.from_module)) → first_of xs ≡ first_of (xs ++ ds)
+no_first [] ds doubles = ap first_of (sym (none_first [] ds doubles refl))
+no_first (x ∷ xs) ds doubles = refl
+
+no_second : (xs ds : List Imports) → ((i : Imports) → Contains ds i → (j : Imports) × Contains xs j × (j.from_module ≡ i.from_module)) → first_other xs ≡ first_other (xs ++ ds)
+no_second [] ds doubles = ap first_other (sym (none_first [] ds doubles refl))
+no_second (f ∷ xs) ds doubles =
+    at (filter (differs f) xs) refl ∙ sym (ap first_of (filter-append (differs f) xs ds))
+  where
+    own : bytes_eq f.from_module f.from_module ≡ true
+    own = (bytes_eq-Decides f.from_module f.from_module).1 refl
+
+    like_other : filter (differs f) xs ≡ [] → (j : Imports) → Contains (f ∷ xs) j → differs f j ≡ false
+    like_other nil j has =
+        elim (first_or_rest f j xs has) [
+          | inl same ↦ ap (λ k. differs f k) (sym same) ∙ ap not own
+          | inr later ↦ false_from_ne_true (differs f j) (λ other. nothing_in j (subst (λ es. Contains es j) nil (kept_in (differs f) xs j later other)))
+        ]
+
+    all_like : filter (differs f) xs ≡ [] → filter (differs f) ds ≡ []
+    all_like nil =
+        filter_none (differs f) ds
+        (all_by (λ i. differs f i ≡ false) ds
+        (λ i has.
+        let double = doubles i has in
+        ap (λ m. not (bytes_eq m f.from_module)) (sym double.2) ∙ like_other nil double.0 double.1))
+
+    at : (ks : List Imports) → filter (differs f) xs ≡ ks → first_of (filter (differs f) xs) ≡ first_of (filter (differs f) xs ++ filter (differs f) ds)
+    at [] is = ap first_of is ∙ sym (ap first_of (ap (λ es. es ++ filter (differs f) ds) is ∙ all_like is))
+    at (k ∷ ks) is = ap first_of is ∙ sym (ap first_of (ap (λ es. es ++ filter (differs f) ds) is))
+
+pub enough_without : (all some more : List Imports) → AreEnough all some → ((i : Imports) → Contains more i → IsDouble all i) → AreEnough (all ++ more) some
+enough_without all some more enough doubles = record {
+  each = all_by (Contains (all ++ more)) some (λ i has. Contains-append_left all more i (All-contains (Contains all) some i enough.each has));
+  first = λ p. enough.first p ∙ no_first (items_for p all) (items_for p more) (for_one p) ∙ ap first_of (sym (split p));
+  second = λ p. enough.second p ∙ no_second (items_for p all) (items_for p more) (for_one p) ∙ ap first_other (sym (split p));
+}
+  where
+    split : (p : PredName) → items_for p (all ++ more) ≡ items_for p all ++ items_for p more
+    split p = filter-append (λ (i : Imports). is_same p i.into) all more
+
+    for_one : (p : PredName) (i : Imports) → Contains (items_for p more) i → (j : Imports) × Contains (items_for p all) j × (j.from_module ≡ i.from_module)
+    for_one p i has =
+        let double = doubles i (kept_there (λ (k : Imports). is_same p k.into) more i has) in
+        let named : is_same p double.0.into ≡ true = ap (is_same p) double.2 ∙ kept_passes (λ (k : Imports). is_same p k.into) more i has in
+        (double.0, kept_in (λ (k : Imports). is_same p k.into) all double.0 double.1 named, double.3)
+
+-- enough items give what all give
+
+some_for : (all some : List Imports) → AreEnough all some → (i : Imports) → Contains all i → (j : Imports) × Contains some j × (j.into ≡ i.into)
+some_for all some enough i has =
+    at (items_for i.into some) refl
+  where
+    there : Contains (items_for i.into all) i
+    there = kept_in (λ (k : Imports). is_same i.into k.into) all i has (same_itself i.into)
+
+    nonempty : (ks : List Imports) → Contains ks i → first_of ks ≡ None → ⊥
+    nonempty [] h none = nothing_in i h
+    nonempty (k ∷ ks) h none = cc
+
+    at : (ks : List Imports) → items_for i.into some ≡ ks → (j : Imports) × Contains some j × (j.into ≡ i.into)
+    at [] is = absurd (nonempty (items_for i.into all) there (sym (enough.first i.into) ∙ ap first_of is))
+    at (j ∷ ks) is =
+        let kept : Contains (items_for i.into some) j = subst (λ es. Contains es j) (sym is) (in_first j ks) in (
+          j,
+          kept_there (λ (k : Imports). is_same i.into k.into) some j kept,
+          sym (same_parts i.into j.into (kept_passes (λ (k : Imports). is_same i.into k.into) some j kept)),
+        )
+
+pub enough_firsts : (all some firsts : List Imports) → AreEnough all some → AreFirsts some firsts → AreFirsts all firsts
+enough_firsts all some firsts enough are = record {
+  in_order = are.in_order;
+  each = all_by (Contains all) firsts (λ i has. All-contains (Contains all) some i enough.each (All-contains (Contains some) firsts i are.each has));
+  all = all_by (λ (i : Imports). Contains (map (λ (f : Imports). f.into) firsts) i.into) all
+      (λ i has.
+      let j = some_for all some enough i has in
+      subst (Contains (map (λ (f : Imports). f.into) firsts)) j.2
+      (All-contains (λ (k : Imports). Contains (map (λ (f : Imports). f.into) firsts) k.into) some j.0 are.all j.1));
+}
+
+pub enough_clashes : (all some clashes : List Imports) → AreEnough all some → AreClashes some clashes → AreClashes all clashes
+enough_clashes all some clashes enough are = record {
+  predicates = are.predicates;
+  in_order = are.in_order;
+  each = all_by (Contains (map (λ (i : Imports). i.into) all)) are.predicates
+      (λ p has.
+      let from = map_from (λ (i : Imports). i.into) some p (All-contains (Contains (map (λ (i : Imports). i.into) some)) are.predicates p are.each has) in
+      subst (Contains (map (λ (i : Imports). i.into) all)) from.2
+      (map_has (λ (i : Imports). i.into) all from.0 (All-contains (Contains all) some from.0 enough.each from.1)));
+  all = all_by (λ (i : Imports). Contains are.predicates i.into) all
+      (λ i has.
+      let j = some_for all some enough i has in
+      subst (Contains are.predicates) j.2 (All-contains (λ (k : Imports). Contains are.predicates k.into) some j.0 are.all j.1));
+  are = are.are ∙ filter_map_agrees (clash some) (clash all) enough.second are.predicates;
+}
+
+pub enough_none : AreEnough [] []
+enough_none = record { each = all_by (Contains []) [] (λ i has. has); first = λ p. refl; second = λ p. refl }
+
+-- what a load gives is given where the file was taken whole
+
+export_of : (file : Facts) (i : Indicator) → has_export file i ≡ true → (e : Indicator) × Contains file.exports e × (e.name ≡ i.name) × (e.arity ≡ i.arity)
+export_of file i has =
+    let from = any_from (λ (e : Indicator). bytes_eq i.name e.name && nat_eq i.arity e.arity) file.exports has in
+    let same : is_same (record { «module» = []; name = i.name; arity = i.arity }) (record { «module» = []; name = from.0.name; arity = from.0.arity }) ≡ true = from.2 in
+    let is = same_parts (record { «module» = []; name = i.name; arity = i.arity }) (record { «module» = []; name = from.0.name; arity = from.0.arity }) same in
+    (from.0, from.1, sym (ap (λ (p : PredName). p.name) is), sym (ap (λ (p : PredName). p.arity) is))
+
+-- the item of the export is among those that a load of the whole file takes
+whole_has : (user file : Facts) (load : Loads) (kind : LoadKind) → kind ≢ UseSome → (e : Indicator) → Contains file.exports e
+    → Contains (taken user file load kind) (item user file load.from e)
+whole_has user file load UseSome whole e has = absurd (whole refl)
+whole_has user file load UseAll whole e has = map_has (item user file load.from) file.exports e has
+whole_has user file load Ensure whole e has = map_has (item user file load.from) file.exports e has
+
+-- each item that a load takes is that of an export
+taken_from : (user file : Facts) (load : Loads) (kind : LoadKind) (i : Imports) → Contains (taken user file load kind) i
+    → (e : Indicator) × Contains file.exports e × (record { «module» = user.module_; name = e.name; arity = e.arity } ≡ i.into) × (file.module_ ≡ i.from_module)
+taken_from user file load UseAll i has =
+    let from = map_from (item user file load.from) file.exports i has in
+    (from.0, from.1, ap (λ (k : Imports). k.into) from.2, ap (λ (k : Imports). k.from_module) from.2)
+taken_from user file load Ensure i has =
+    let from = map_from (item user file load.from) file.exports i has in
+    (from.0, from.1, ap (λ (k : Imports). k.into) from.2, ap (λ (k : Imports). k.from_module) from.2)
+taken_from user file load UseSome i has =
+    let from = map_from (λ (x : Indicator). item user file x.from x) (filter (has_export file) load.items) i has in
+    let export = export_of file from.0 (kept_passes (has_export file) load.items from.0 from.1) in (
+      export.0,
+      export.1,
+      ap (λ n. record { «module» = user.module_; name = n; arity = export.0.arity }) export.2
+          ∙ ap (λ a. record { «module» = user.module_; name = from.0.name; arity = a }) export.3
+          ∙ ap (λ (k : Imports). k.into) from.2,
+      ap (λ (k : Imports). k.from_module) from.2,
+    )
+
+load_doubles : (files : List Facts) (user : Facts) (one other : Loads) → one.file ≡ other.file → one.kind ≢ UseSome → (i : Imports)
+    → Contains (items_of_load files user other) i → (j : Imports) × Contains (items_of_load files user one) j × (j.into ≡ i.into) × (j.from_module ≡ i.from_module)
+load_doubles files user one other same whole i has =
+    let found = at (file_named files other.file) refl has in (
+      found.0,
+      subst (λ name. Contains (elim (file_named files name) [ Some file ↦ given files user one file | None ↦ [] ]) found.0) (sym same) found.1,
+      found.2,
+      found.3,
+    )
+  where
+    in_file : (file : Facts) (b : Bool) → Contains (if b then taken user file other other.kind else []) i
+        → (j : Imports) × Contains (if b then taken user file one one.kind else []) j × (j.into ≡ i.into) × (j.from_module ≡ i.from_module)
+    in_file file false h = absurd (nothing_in i h)
+    in_file file true h =
+        let from = taken_from user file other other.kind i h in
+        (item user file one.from from.0, whole_has user file one one.kind whole from.0 from.1, from.2, from.3)
+
+    at : (named : Option Facts) → file_named files other.file ≡ named → Contains (elim named [ Some file ↦ given files user other file | None ↦ [] ]) i
+        → (j : Imports) × Contains (elim named [ Some file ↦ given files user one file | None ↦ [] ]) j × (j.into ≡ i.into) × (j.from_module ≡ i.from_module)
+    at None is h = absurd (nothing_in i h)
+    at (Some file) is h = in_file file (gives files user file) h
+
+-- so a load of a file that one of the loads before took whole is left out
+pub load_left_out : (files : List Facts) (user : Facts) (loads : List Loads) (load : Loads) (before : List Imports) → IsTakenWhole loads load.file → (i : Imports)
+    → Contains (filter (is_foreign files) (items_of_load files user load)) i
+    → IsDouble (before ++ filter (is_foreign files) (flat_map (items_of_load files user) loads)) i
+load_left_out files user loads load before whole i has =
+    let double = load_doubles files user whole.0 load whole.2 whole.3 i (kept_there (is_foreign files) (items_of_load files user load) i has) in
+    let foreign : is_foreign files double.0 ≡ true =
+    ap (λ p. not (is_local files p)) double.2 ∙ kept_passes (is_foreign files) (items_of_load files user load) i has in (
+      double.0,
+      Contains-append_right before (filter (is_foreign files) (flat_map (items_of_load files user) loads)) double.0
+          (kept_in (is_foreign files) (flat_map (items_of_load files user) loads) double.0 (flat_map_has (items_of_load files user) loads whole.0 double.0 whole.1 double.1) foreign),
+      double.2,
+      double.3,
+    )
+
+-- the loads up to the next one
+
+next_loads : (loads : List Loads) (i : ℕ) (load : Loads) → i < length loads → load ≡ get_or loads i load → take (i + 1) loads ≡ take i loads ++ load ∷ []
+next_loads loads i load within here = take_more loads i load within ∙ ap (λ l. take i loads ++ l ∷ []) (sym here)
+
+pub whole_kept : (loads : List Loads) (i : ℕ) (load : Loads) (own : List ℕ) → i < length loads → load ≡ get_or loads i load → IsTakenWhole (take i loads) own
+    → IsTakenWhole (take (i + 1) loads) own
+whole_kept loads i load own within here whole =
+    subst (λ ls. IsTakenWhole ls own) (sym (next_loads loads i load within here))
+    (whole.0, Contains-append_left (take i loads) (load ∷ []) whole.0 whole.1, whole.2, whole.3)
+
+pub whole_more : (loads : List Loads) (i : ℕ) (load : Loads) (own : List ℕ) (new old : Bool) → i < length loads → load ≡ get_or loads i load → load.kind ≢ UseSome
+    → (old ≡ true → IsTakenWhole (take i loads) own) → new ≡ cond (is_eq (slice_cmp nat_cmp load.file own)) true old → new ≡ true → IsTakenWhole (take (i + 1) loads) own
+whole_more loads i load own new old within here whole before is there =
+    elim (cases_Bool (is_eq (slice_cmp nat_cmp load.file own))) [
+      | inl tie ↦
+          subst (λ ls. IsTakenWhole ls own) (sym (next_loads loads i load within here)) (
+            load,
+            Contains-append_right (take i loads) (load ∷ []) load (in_first load []),
+            (bytes_eq-Decides load.file own).0 (texts_ties load.file own ∙ tie),
+            whole,
+          )
+      | inr apart ↦ whole_kept loads i load own within here (before (sym (is ∙ ap (λ b. cond b true old) apart) ∙ there))
+    ]
+
+-- what the loads up to the next one give
+module _ (files : List Facts) (user : Facts) (loads : List Loads) (i : ℕ) (load : Loads) (within : i < length loads) (here : load ≡ get_or loads i load)
+    (before some : List Imports) where
+  abbrev so_far : ℕ → List Imports
+  so_far k = before ++ filter (is_foreign files) (flat_map (items_of_load files user) (take k loads))
+
+  abbrev more : List Imports
+  more = filter (is_foreign files) (items_of_load files user load)
+
+  grown : so_far i ++ more ≡ so_far (i + 1)
+  grown =
+      append_assoc before (filter (is_foreign files) (flat_map (items_of_load files user) (take i loads))) more
+      ∙ ap (λ ys. before ++ ys) (sym (kept_next (is_foreign files) (items_of_load files user) loads i load within here))
+
+  pub enough_step : (new : List Imports) → AreEnough (before ++ filter (is_foreign files) (flat_map (items_of_load files user) (take i loads))) some
+      → new ≡ some ++ filter (is_foreign files) (items_of_load files user load)
+      → AreEnough (before ++ filter (is_foreign files) (flat_map (items_of_load files user) (take (i + 1) loads))) new
+  enough_step new enough is = subst (λ all. AreEnough all new) grown (subst (AreEnough (so_far i ++ more)) (sym is) (enough_more (so_far i) some more enough))
+
+  pub enough_skip : AreEnough (before ++ filter (is_foreign files) (flat_map (items_of_load files user) (take i loads))) some → IsTakenWhole (take i loads) load.file
+      → AreEnough (before ++ filter (is_foreign files) (flat_map (items_of_load files user) (take (i + 1) loads))) some
+  enough_skip enough whole =
+      subst (λ all. AreEnough all some) grown (enough_without (so_far i) some more enough (load_left_out files user (take i loads) load before whole))

@@ -1,0 +1,196 @@
+ghost use Rattle.std.specs.Prelude.{◌≡◌, ◌<◌, ◌≤◌, ℕ, List, [], true, Some, IfSome, length, map, slice_get};
+ghost use Rattle.std.proofs.Props.{props};
+ghost use Rattle.file_library.specs.SortedOut.{see_loaded};
+ghost use Rattle.import_rules.specs.declared.resolve.TheConstants.{MOST_PREDICATES};
+ghost use Rattle.import_rules.specs.Chained.{AreChained};
+ghost use Rattle.import_rules.specs.Files.{AreNumbered};
+ghost use Rattle.import_rules.specs.Flaws.{AreFlaws};
+ghost use Rattle.file_library.specs.Loaded.{WasLoaded};
+ghost use Rattle.import_rules.specs.Meanings.{AreTargets};
+ghost use Rattle.import_rules.specs.Metas.{AreDeclared, metas_in};
+ghost use Rattle.import_rules.specs.Numbers.{lists_of, places_for, parts_in};
+ghost use Rattle.import_rules.specs.OwnNames.{AreOwn};
+ghost use Rattle.import_rules.specs.Parts.{names_at};
+
+use crate::name_table::{NameTable, name_hash};
+use crate::names::NameView;
+use crate::own_names::OwnNames;
+use crate::places::Places;
+use crate::predicates::{Chains, Predicates};
+use file_library::Loaded;
+use module_table::GoalArg;
+
+/// The tables of a program, and what is known of them.
+#[derive(Drop)]
+pub(crate) struct ProgramTables {
+    pub(crate) loaded: Loaded,
+    /// The predicates, in the order of their numbers: the places at which each is defined. Their names
+    /// stand in the files alone.
+    pub(crate) places: Vec<Places>,
+    pub(crate) chains: Chains,
+    /// The predicates by the numbers of their names in their files.
+    pub(crate) own_names: OwnNames,
+    /// The names that modules import.
+    pub(crate) imported: NameTable,
+    /// For each imported name the number of the predicate that it means.
+    pub(crate) targets: Vec<u32>,
+    /// For each predicate the place of its declaration of goal arguments: that of a file, and one more
+    /// than that in the file; 0 where it has none. Empty where no predicate has one.
+    pub(crate) meta_places: Vec<(u32, u32)>,
+    pub ghost was_loaded: { ∥ WasLoaded (see_loaded loaded) ∥₁ },
+    pub ghost few: { length places.items ≤ MOST_PREDICATES },
+    pub ghost numbered: { ∥ AreNumbered (see_loaded loaded).files (names_at loaded.files.items places.items) ∥₁ },
+    pub ghost chained: { AreChained (names_at loaded.files.items places.items) chains } by { Prim.hlevel props },
+    pub ghost own_kept: { AreOwn loaded.files.items (names_at loaded.files.items places.items) own_names } by { Prim.hlevel props },
+    pub ghost faultless: { ∥ AreFlaws (see_loaded loaded).files (see_loaded loaded).absent [] ∥₁ },
+    pub ghost meant: { AreTargets (see_loaded loaded).files (names_at loaded.files.items places.items) imported targets.items } by { Prim.hlevel props },
+    pub ghost placed: { lists_of places.items ≡ map (places_for (parts_in (see_loaded loaded).files)) (names_at loaded.files.items places.items) },
+    pub ghost told: { AreDeclared (metas_in (see_loaded loaded).files) (names_at loaded.files.items places.items) meta_places.items } by { Prim.hlevel props },
+}
+
+impl ProgramTables {
+    ghost use Rattle.import_rules.specs.Parts.{see_name};
+    ghost use Rattle.import_rules.specs.Program.{see_program, places_in, meta_in, meta_meant, found, IsKnown};
+
+    /// A program is few predicates in order, and files in order of name, each read from its text. It
+    /// does nothing, and is called for this.
+    pub(crate) fn is_known(&self)
+        ensures { IsKnown (see_program self.now) }
+    {}
+
+    /// How many predicates there are.
+    pub(crate) fn count(&self) -> u32
+        ensures { result ≡ length (see_program self.now).predicates }
+    {
+        self.places.len() as u32
+    }
+
+    /// The predicate of a number below the count.
+    pub(crate) fn name_of(&self, node: u32) -> NameView<'_>
+        requires { node < length (see_program self.now).predicates }
+        ensures { slice_get (see_program self.now).predicates node ≡ Some (see_name result) }
+    {
+        self.places[node as usize].name(&self.loaded.files)
+    }
+
+    /// The predicates, as they are looked up.
+    fn predicates(&self) -> Predicates<'_>
+        ensures { result ≡ (see_program self.now).predicates }
+    {
+        Predicates {
+            files: &self.loaded.files,
+            places: &self.places,
+            chains: &self.chains,
+        }
+    }
+
+    /// What was loaded, as it was handed in.
+    pub(crate) fn loaded(&self) -> &Loaded
+        ensures { (see_program self.now).loaded ≡ see_loaded result.now }
+    {
+        &self.loaded
+    }
+
+    /// The places at which the predicate of a number below the count is defined, ascending: the place
+    /// of a file in `files`, and of the predicate in the `defined` of that file.
+    pub(crate) fn places_of(&self, node: u32) -> &[(u32, u32)]
+        requires { node < length (see_program self.now).predicates }
+        ensures { result.now ≡ places_in (see_program self.now) node }
+    {
+        self.places[node as usize].as_slice()
+    }
+
+    /// How the arguments of goals of the predicate of a number below the count stand, by the first
+    /// declaration for it; empty where there is none.
+    pub(crate) fn meta_of(&self, node: u32) -> &[GoalArg]
+        requires { node < length (see_program self.now).predicates }
+        ensures { result.now ≡ meta_in (see_program self.now) node }
+    {
+        if self.meta_places.is_empty() {
+            return &[];
+        }
+        let (file, place) = self.meta_places[node as usize];
+        if place == 0 {
+            return &[];
+        }
+        &self.loaded.files[file as usize].metas[place as usize - 1].args
+    }
+
+    /// Whether no predicate has such a declaration. Then no name needs to be looked up for one.
+    pub(crate) fn declares_nothing(&self) -> bool
+        ensures { result ≡ true → (owner name : List ℕ) (arity : ℕ) → meta_meant (see_program self.now) owner name arity ≡ [] }
+    {
+        self.meta_places.is_empty()
+    }
+
+    /// Those of the predicate that a name means in a module. Where nothing is declared, no name is
+    /// looked up.
+    pub(crate) fn meta_meant(&self, module: &str, name: &str, arity: u32) -> &[GoalArg]
+        ensures { result.now ≡ meta_meant (see_program self.now) module.now name.now arity }
+    {
+        if self.meta_places.is_empty() {
+            return &[];
+        }
+        match self.find(module, name, arity) {
+            Some(node) => self.meta_of(node),
+            None => &[],
+        }
+    }
+
+    /// The number of the predicate that a name means in a module: of the module's own predicate, else
+    /// of the one that the module imports.
+    pub(crate) fn find(&self, module: &str, name: &str, arity: u32) -> Option<u32>
+        ensures { result ≡ found (see_program self.now) module.now name.now arity }
+    {
+        let hash = name_hash(module, name, arity);
+        let predicates = self.predicates();
+        if let Some(node) = predicates.find_hashed(module, name, arity, hash) {
+            return Some(node);
+        }
+        let Some(at) = self.imported.find(module, name, arity, hash) else {
+            return None;
+        };
+        Some(self.targets[at])
+    }
+
+    /// The number of the predicate of a file's own module that is kept of the name of a number of the
+    /// file, where it is the predicate of that name.
+    fn find_kept(&self, file: u32, number: u32, module: &str, name: &str, arity: u32) -> Option<u32>
+        ensures { IfSome result (λ node. found (see_program self.now) module.now name.now arity ≡ Some node) }
+    {
+        let facts = self.loaded.files.get(file as usize)?;
+        let kept = self.own_names.get(file, number);
+        if kept.after == 0 {
+            return None;
+        }
+        if kept.arity != arity {
+            return None;
+        }
+        if !facts.names.is(number, name) {
+            return None;
+        }
+        if module != facts.module.as_str() {
+            return None;
+        }
+        Some(kept.after - 1)
+    }
+
+    /// What `find` answers, mostly without a look-up of the texts: where the name is that of the number
+    /// in the names of the file of that place, and the file is one of the module and defines the
+    /// predicate, as in most calls. Any other number serves too, and then the texts are looked up.
+    pub(crate) fn find_numbered(
+        &self,
+        file: u32,
+        number: u32,
+        module: &str,
+        name: &str,
+        arity: u32,
+    ) -> Option<u32>
+        ensures { result ≡ found (see_program self.now) module.now name.now arity }
+    {
+        if let Some(node) = self.find_kept(file, number, module, name, arity) {
+            return Some(node);
+        }
+        self.find(module, name, arity)
+    }
+}
