@@ -13,7 +13,6 @@ pub mod Parts
 pub mod NameTable
 pub mod Chained
 pub mod OwnNames
-pub mod TreeCode
 pub mod Program
 pub mod Findings
 pub mod KnownFiles

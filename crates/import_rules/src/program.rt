@@ -25,7 +25,7 @@ pub struct Program {
 impl Model for Program {
     ghost use Rattle.std.specs.Coded.{codes};
     ghost use Rattle.import_rules.specs.Program.{Seen, see_program};
-    ghost use Rattle.import_rules.specs.TreeCode.{tree_code};
+    ghost use Rattle.prolog_terms.specs.TreeCode.{tree_code};
     ghost use Rattle.import_rules.specs.contracts.names.PredName as pred_name;
     ghost use Rattle.module_table.specs.contracts.goal_arg.GoalArg as goal_arg;
     ghost use Rattle.module_table.specs.contracts.indicator.Indicator as indicator;

@@ -1,4 +1,5 @@
 pub mod Tree
+pub mod TreeCode
 pub mod Views
 pub mod Weight
 pub mod Forest
