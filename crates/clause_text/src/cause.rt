@@ -1,7 +1,7 @@
 ghost use Rattle.std.specs.Prelude.{◌≡◌};
 ghost use Rattle.clause_text.specs.Cause.{cause_text};
 
-/// What is wrong with a program's files, in the order that breaks ties of one place.
+/// What is wrong with a program's files, in the order that breaks ties at one position.
 #[derive(Clone, Copy, Debug, PartialEq, Eq)]
 pub enum Cause {
     NotUtf8,
@@ -36,7 +36,7 @@ pub enum Cause {
 impl Cause {
     ghost use Rattle.clause_text.specs.Cause.{number_of};
 
-    /// The number of the cause, 1 to 27, by which faults at one place are put in order.
+    /// The number of the cause, 1 to 27. Errors at one position are sorted by it.
     pub fn number(self) -> u32
         ensures { result ≡ number_of self }
     {
@@ -72,7 +72,7 @@ impl Cause {
     }
 }
 
-/// The cause as a line of faults tells it.
+/// The message of the cause, as a line of errors prints it.
 pub fn cause_text(cause: Cause) -> &'static str
     ensures { result.now ≡ cause_text cause }
 {

@@ -1,4 +1,4 @@
-//! The tokens of a text, which are cut side by side where it is long.
+//! The tokens of a text, which is lexed in parallel if it is long.
 
 ghost use Rattle.std.specs.Prelude.{◌≡◌, ◌≢◌, ◌≤◌, length, All, IfOk, IfErr, IfSome};
 ghost use Rattle.prolog_tokens.specs.declared.limits.TheConstants.{MOST_BYTES};
@@ -12,13 +12,13 @@ use rayon::prelude::*;
 use std::alloc::{AllocError, Global};
 use std::thread::Threads;
 
-/// Texts of fewer bytes are cut in sequence: they are too short for threads to be worth it.
+/// Texts of fewer bytes are lexed in sequence: they are too short for threads to be worth it.
 const LONG: usize = 1_048_576;
 
 /// How few spans are worth a thread of their own.
 const FEWEST: usize = 1;
 
-/// The tokens of each of the spans of a text, side by side.
+/// The tokens of each of the spans of a text, lexed in parallel.
 fn rows_of<R: Threads + Sync>(
     rt: &R,
     alloc: Global,
@@ -41,7 +41,8 @@ fn rows_of<R: Threads + Sync>(
         .collect::<Result<Vec<TokenRow>, AllocError>>(rt, alloc)?
 }
 
-/// The tokens of a text of at most 8,388,608 bytes, or what is wrong first in it, as `tokens` tells.
+/// The tokens of a text of at most 8,388,608 bytes, or its first error, like `tokens`. The number
+/// of threads doesn't change them.
 pub fn cut_text<R: Threads + Sync>(
     rt: &R,
     alloc: Global,

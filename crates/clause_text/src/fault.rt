@@ -9,10 +9,10 @@ use prolog_terms::{ReadFault, Term, start_of};
 use prolog_tokens::TokenFault;
 use std::alloc::AllocError;
 
-/// Why a text isn't read.
+/// Why a text can't be read.
 #[derive(Clone, Copy, Debug, PartialEq, Eq)]
 pub enum TextFault {
-    /// A cause, and the byte offset where it is told.
+    /// A cause, and the byte offset at which it is reported.
     At(Cause, u32),
     NoMemory,
 }
@@ -58,7 +58,7 @@ impl From<ReadFault> for TextFault {
     }
 }
 
-/// Why an operator can't be set, told at the name.
+/// The error of an operator that can't be set, at the offset of its name.
 pub fn fault_of_ops(fault: OpFault, at: u32) -> TextFault
     ensures { result ≡ fault_of_ops fault at }
 {
@@ -70,7 +70,7 @@ pub fn fault_of_ops(fault: OpFault, at: u32) -> TextFault
     }
 }
 
-/// The cause, told where the term in all brackets round it starts.
+/// The error at the start of the term, inside all brackets round it.
 pub fn fault_at(cause: Cause, term: &Term) -> TextFault
     ensures { result ≡ TextFault.At cause (start_of (tree_of term.now)) }
 {

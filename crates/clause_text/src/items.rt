@@ -17,7 +17,7 @@ use std::alloc::{AllocError, Global};
 /// The greatest priority of an operator.
 const MOST_PRIORITY: u32 = 1200;
 
-/// The value of an integer without a minus, where it can be a priority.
+/// The value of an integer without minus, if it can be a priority.
 fn priority_when(kind: ConstKind, minus: bool, value: Option<u32>) -> Option<u32>
     ensures { result ≡ priority_when kind minus value }
 {
@@ -61,7 +61,7 @@ fn kind_of(term: &Term) -> Option<OpKind>
     kind_named(name)
 }
 
-/// The name of an atom, and where it stands.
+/// The name of an atom, and its byte offset.
 fn name_of<'a>(term: &Term<'a>) -> Option<(&'a str, u32)>
     ensures { option_map (λ name. record { text = name.0.now; at = name.1 }) result ≡ name_of (tree_of term.now) }
 {
@@ -81,7 +81,7 @@ fn are_names(terms: &[Term]) -> bool
     terms.iter().all(|term| is_name(term))
 }
 
-/// The terms of a list without a tail of nothing but atoms.
+/// The items of a list without a tail, if all are atoms.
 fn listed_names<'a>(alloc: Global, names: &Term<'a>) -> Result<Option<Vec<Term<'a>>>, AllocError>
     ensures { IfOk result (λ list. option_map (λ terms. map tree_of terms.items) list ≡ listed_names (tree_of names.now)) }
 {
@@ -95,7 +95,7 @@ fn listed_names<'a>(alloc: Global, names: &Term<'a>) -> Result<Option<Vec<Term<'
     Ok(Some(list))
 }
 
-/// Sets the operator at the name that the term is, where it is an atom.
+/// Sets the operator of the name that the term is, if it is an atom.
 fn set_name(
     alloc: Global,
     table: &mut OpTable,
@@ -116,7 +116,7 @@ fn set_name(
     }
 }
 
-/// Sets the operator at each of the terms that is an atom, in order.
+/// Sets the operator of each of the terms that is an atom, in order.
 fn set_each(
     alloc: Global,
     table: &mut OpTable,
@@ -134,7 +134,7 @@ fn set_each(
     Ok(())
 }
 
-/// Sets the operator at the names: an atom, or a list of atoms.
+/// Sets the operator of the names: an atom, or a list of atoms.
 fn set_names(
     alloc: Global,
     table: &mut OpTable,
@@ -155,7 +155,7 @@ fn set_names(
     }
 }
 
-/// Does what an operator item of these parts says.
+/// Sets the operators of an operator item with these arguments.
 fn apply_item(
     alloc: Global,
     table: &mut OpTable,
@@ -177,7 +177,7 @@ fn apply_item(
     set_names(alloc, table, names, op_kind, level)
 }
 
-/// Does what the term says where it is an operator item.
+/// Sets the operators of the term if it is an operator item.
 fn apply_operator(alloc: Global, table: &mut OpTable, term: &Term) -> Result<(), TextFault>
     ensures done { OnOk result (items_on (option_to_list (item_of (tree_of term.now))) (ops_of table.old) ≡ Ok (ops_of table.new)) }
     ensures refused { IfErr result (λ fault. fault ≢ TextFault.NoMemory → items_on (option_to_list (item_of (tree_of term.now))) (ops_of table.old)
@@ -189,7 +189,7 @@ fn apply_operator(alloc: Global, table: &mut OpTable, term: &Term) -> Result<(),
     }
 }
 
-/// Does what the operator items of a list that a module exports say, in order.
+/// Sets the operators of the operator items in a list of exports, in order.
 fn apply_exports(alloc: Global, table: &mut OpTable, exports: &Term) -> Result<(), TextFault>
     ensures done { OnOk result (items_on (exported_items (tree_of exports.now)) (ops_of table.old) ≡ Ok (ops_of table.new)) }
     ensures refused { IfErr result (λ fault. fault ≢ TextFault.NoMemory → items_on (exported_items (tree_of exports.now)) (ops_of table.old) ≡ Err fault) }
@@ -201,7 +201,7 @@ fn apply_exports(alloc: Global, table: &mut OpTable, exports: &Term) -> Result<(
     Ok(())
 }
 
-/// Does what the operator items of a goal of a directive say.
+/// Sets the operators of the operator items in a goal of a directive.
 fn apply_goal(alloc: Global, table: &mut OpTable, goal: &Term) -> Result<(), TextFault>
     ensures done { OnOk result (items_on (goal_items (tree_of goal.now)) (ops_of table.old) ≡ Ok (ops_of table.new)) }
     ensures refused { IfErr result (λ fault. fault ≢ TextFault.NoMemory → items_on (goal_items (tree_of goal.now)) (ops_of table.old) ≡ Err fault) }
@@ -212,7 +212,7 @@ fn apply_goal(alloc: Global, table: &mut OpTable, goal: &Term) -> Result<(), Tex
     }
 }
 
-/// Does what the operator items of a directive say, goal by goal.
+/// Sets the operators of the operator items in a directive, goal by goal.
 fn apply_directive(alloc: Global, table: &mut OpTable, directive: &Term) -> Result<(), TextFault>
     ensures done { OnOk result (items_on (directive_items (tree_of directive.now)) (ops_of table.old) ≡ Ok (ops_of table.new)) }
     ensures refused { IfErr result (λ fault. fault ≢ TextFault.NoMemory → items_on (directive_items (tree_of directive.now)) (ops_of table.old) ≡ Err fault) }
@@ -224,7 +224,8 @@ fn apply_directive(alloc: Global, table: &mut OpTable, directive: &Term) -> Resu
     apply_directive(alloc, table, &others)
 }
 
-/// Does what the operator items of a clause say. After a refusal those before it are done.
+/// Sets the operators of the operator items of a clause, in order. After an error those before it
+/// are set.
 pub fn apply_items(alloc: Global, table: &mut OpTable, clause: &Term) -> Result<(), TextFault>
     ensures done { OnOk result (items_on (items_of (tree_of clause.now)) (ops_of table.old) ≡ Ok (ops_of table.new)) }
     ensures refused { IfErr result (λ fault. fault ≢ TextFault.NoMemory → items_on (items_of (tree_of clause.now)) (ops_of table.old) ≡ Err fault) }
@@ -242,7 +243,7 @@ fn is_item(term: &Term) -> bool
     operator_item(term).is_some()
 }
 
-/// Whether a list that a module exports has operator items.
+/// Whether a list of exports has operator items.
 fn exports_items(alloc: Global, exports: &Term) -> Result<bool, AllocError>
     ensures { IfOk result (λ some. some ≡ has_some (exported_items (tree_of exports.now))) }
 {
@@ -273,8 +274,8 @@ fn directive_has_items(alloc: Global, directive: &Term) -> Result<bool, AllocErr
     directive_has_items(alloc, &others)
 }
 
-/// Whether a clause has operator items, so that another table may be left by it. Wants memory for the
-/// list that a module exports alone.
+/// Whether a clause has operator items, so that it may change the table. Memory is needed only for
+/// the list that a module exports.
 pub fn has_items(alloc: Global, clause: &Term) -> Result<bool, AllocError>
     ensures { IfOk result (λ some. some ≡ has_some (items_of (tree_of clause.now))) }
 {

@@ -1,4 +1,4 @@
-//! What holds of each text, as laws: functions with nothing to run.
+//! Theorems about each text: functions that do nothing, and are called for what they ensure.
 
 ghost use Rattle.std.specs.Prelude.{◌≡◌, ℕ, List, All};
 ghost use Rattle.prolog_terms.specs.Tree.{Tree};
@@ -10,22 +10,22 @@ ghost use Rattle.clause_text.specs.TextFault.{HasTextFault};
 use crate::cause::Cause;
 use crate::fault::TextFault;
 
-/// No two causes have one number.
+/// No two causes have the same number.
 pub fn numbers_differ()
     ensures { (a b : Cause) → number_of a ≡ number_of b → a ≡ b }
 {}
 
-/// A text reads as one list of clauses at most.
+/// A text has at most one list of clauses.
 pub fn one_reading()
     ensures { (text : List ℕ) (trees others : List Tree) → ReadsAs text trees → ReadsAs text others → trees ≡ others }
 {}
 
-/// A text has one fault at most.
+/// A text has at most one error.
 pub fn one_fault()
     ensures { (text : List ℕ) (fault second : TextFault) → HasTextFault text fault → HasTextFault text second → fault ≡ second }
 {}
 
-/// A text with a fault reads as no list of clauses.
+/// A text with an error has no list of clauses.
 pub fn fault_is_no_reading()
     ensures { (text : List ℕ) (fault : TextFault) (trees : List Tree) → HasTextFault text fault → ReadsAs text trees → ⊥ }
 {}

@@ -1,11 +1,12 @@
-//! Texts of Prolog: from bytes to clauses, each read with the operators that those before it leave.
+//! Reader of Prolog texts: from bytes to clauses, each read with the operators that the clauses
+//! before it leave.
 //!
-//! `read_text` answers the one list of clauses that a text is, with the names in it, or its one fault
-//! with the byte offset: of its bytes, else of its tokens, else of the first clause that can't be read
-//! or whose operators can't be set. `Cause` has all faults of a program's files, and `cause_text` their
-//! words.
+//! `read_text` returns the one list of clauses of a text, with the names in it, or its one error
+//! with the byte offset. The error is that of its bytes, or else of its tokens, or else of the
+//! first clause that can't be read or whose operators can't be set. `Cause` lists all errors of a
+//! program's files, and `cause_text` returns their messages.
 //!
-//! Of directives it sees the operators alone, and of files nothing but their bytes.
+//! Of directives it sees only the operators, and of files only their bytes.
 #![tactic(auto)]
 
 mod cause;

@@ -17,9 +17,9 @@ use prolog_tokens::{Kind, Token};
 use std::alloc::Global;
 use std::thread::Threads;
 
-/// How far the clauses of a text are kept: up to the place of a token. The stretch that they are read
-/// from ends at `until`, which is that place unless operators changed, and so many stretches may be
-/// read side by side next.
+/// How far the clauses of a text are final: up to the token `to`. The stretch that they are read
+/// from ends at `until`, which is `to` unless operators changed. The next `ahead` stretches may be
+/// read in parallel.
 #[derive(Clone, Copy)]
 struct Kept {
     to: usize,
@@ -27,10 +27,11 @@ struct Kept {
     ahead: usize,
 }
 
-/// Keeps the clauses of the pieces, whose names are these, up to the first that sets operators, which
-/// it then does: what was read behind it was read with other operators than it leaves, and the rest of
-/// its stretch comes next. Where no clause sets any, twice as many stretches may be read next, so that
-/// no more stretches are read for nothing than were kept.
+/// Takes over the clauses of the pieces up to the first that sets operators, and sets these.
+///
+/// What was read after that clause was read with other operators, so the rest of its stretch is
+/// read again. If no clause sets operators, twice as many stretches may be read next. So no more
+/// stretches are read in vain than were taken over.
 fn keep(
     alloc: Global,
     names: &Names,
@@ -76,7 +77,7 @@ fn keep(
     Ok(Kept { to, until, ahead })
 }
 
-/// How many of the tokens are Ends, and so how many clauses need room.
+/// How many of the tokens are Ends, and so how many clauses need capacity.
 fn count_ends(tokens: &[Token]) -> usize {
     tokens
         .iter()
@@ -84,8 +85,8 @@ fn count_ends(tokens: &[Token]) -> usize {
         .count()
 }
 
-/// The clauses that the tokens of the text are, each up to its End and read with the operators that
-/// those before it leave in the table, or the fault of the first part that is refused.
+/// The clauses of the tokens, each up to its End and read with the operators that those before it
+/// leave in the table, or the error of the first that can't be read.
 fn read_parts<R: Threads + Sync>(
     rt: &R,
     alloc: Global,
@@ -115,8 +116,8 @@ fn read_parts<R: Threads + Sync>(
     Ok(clauses)
 }
 
-/// The clauses that the tokens of the text are, from the operators on that each text begins with, and
-/// the names that the numbers of the tokens mean.
+/// The clauses of the tokens of a text in their order, with the names in them. The operators at its
+/// beginning are the opening ones.
 pub fn read_clauses<R: Threads + Sync>(
     rt: &R,
     alloc: Global,

@@ -1,4 +1,4 @@
-//! Clauses that stand side by side in a text, read under one table of operators.
+//! Adjacent clauses of a text, read under one table of operators.
 
 ghost use Rattle.std.specs.Prelude.{◌≡◌, ◌≢◌, ◌≤◌, ◌<◌, ◌++◌, ℕ, List, length, map, All, IfOk, IfErr, OnOk};
 ghost use Rattle.std.specs.Arc.{arc_value};
@@ -27,30 +27,30 @@ use std::alloc::{AllocError, Global};
 use std::sync::Arc;
 use std::thread::Threads;
 
-/// How many tokens a stretch has at least, but for the last one of a text.
+/// How many tokens a stretch has at least, except the last one of a text.
 const SIZE: usize = 4096;
 
 /// How few stretches are worth a thread of their own.
 const FEWEST: usize = 4;
 
-/// Nodes stay where they were read if they take at least three quarters of the room there.
+/// Nodes stay where they were read if they take at least three quarters of the capacity there.
 const LEAST_QUARTERS: usize = 3;
 
-/// Clauses side by side: from the place of a token up to another.
+/// Adjacent clauses, as yet unread: from one token index up to another.
 #[derive(Clone, Copy)]
 pub struct Stretch {
     pub from: usize,
     pub to: usize,
 }
 
-/// What stands behind the clauses of a piece.
+/// What follows the clauses of a piece.
 #[derive(Drop)]
 pub enum PieceEnd {
-    /// Nothing more: the stretch is read as a whole.
+    /// Nothing: the stretch is read completely.
     Whole,
-    /// A clause up to a place that sets operators, which aren't set yet.
+    /// A clause that sets operators, which aren't set yet, and the index of the token after it.
     AtOperators(Clause, usize),
-    /// A part of the tokens that is refused.
+    /// A clause that can't be read.
     Refused(TextFault),
 }
 
@@ -58,12 +58,12 @@ pub enum PieceEnd {
 #[derive(Drop)]
 pub struct Piece {
     pub clauses: Vec<Clause>,
-    /// Where the stretch ends.
+    /// The end of the stretch.
     pub to: usize,
     pub end: PieceEnd,
 }
 
-/// The place behind the first End from `from` on, or behind the last token.
+/// The token index after the first End from `from` on, or after the last token.
 fn part_end(tokens: &[Token], from: usize) -> usize
     requires { from < length tokens.now }
     ensures { EndsFirst tokens.now from result }
@@ -78,7 +78,7 @@ fn part_end(tokens: &[Token], from: usize) -> usize
     at + 1
 }
 
-/// Where a new stretch from a place on ends.
+/// The end of a new stretch that begins at the token index.
 fn stretch_end(tokens: &[Token], from: usize) -> usize
     requires { from < length tokens.now }
     ensures some { from < result }
@@ -88,8 +88,8 @@ fn stretch_end(tokens: &[Token], from: usize) -> usize
     part_end(tokens, from + size - 1)
 }
 
-/// Where the next stretch from a place on ends: at `until` if that is behind the place, which then
-/// stands within a stretch whose end isn't looked for again.
+/// The end of the next stretch from the token index on. It is `until` if that is after the index,
+/// which is within a stretch then.
 fn end_from(tokens: &[Token], at: usize, until: usize) -> usize
     requires within { at < length tokens.now }
     requires until { at < until → IsBehindClause tokens.now until }
@@ -102,8 +102,8 @@ fn end_from(tokens: &[Token], at: usize, until: usize) -> usize
     stretch_end(tokens, at)
 }
 
-/// The next stretches from a place on, at most so many, and one in any case. The first ends at `until`
-/// if that is behind the place.
+/// The next stretches from the token index `from` on: at least one, and at most `most`. The first
+/// ends at `until` if that is after `from`.
 pub fn stretches_from(
     alloc: Global,
     tokens: &[Token],
@@ -128,8 +128,8 @@ pub fn stretches_from(
     Ok(stretches)
 }
 
-/// Adds the nodes of the clause that the tokens up to an End are under the table, with the numbers of
-/// their names, and tells whether it sets operators.
+/// Adds the nodes of the clause that the tokens up to an End are under the table, with the numbers
+/// of their names. Returns whether it sets operators.
 fn read_part(
     alloc: Global,
     reader: &mut Reader,
@@ -154,19 +154,19 @@ fn read_part(
     Ok(sets)
 }
 
-/// What stands behind the clauses that were read of a stretch.
+/// What follows the clauses that were read of a stretch.
 #[derive(Clone, Copy)]
 enum ReadEnd {
-    /// Nothing more: the stretch is read as a whole.
+    /// Nothing: the stretch is read completely.
     Whole,
-    /// A clause up to a place that sets operators, which is the last of the nodes.
+    /// A clause that sets operators, the last of the nodes, and the index of the token after it.
     AtOperators(usize),
-    /// A part of the tokens that is refused.
+    /// A clause that can't be read.
     Refused(TextFault),
 }
 
 /// What is read of a stretch: nodes, how many of them there are up to the end of each clause, and
-/// what stands behind these clauses.
+/// what follows these clauses.
 #[derive(Drop)]
 struct ReadStretch {
     nodes: NodeList,
@@ -174,8 +174,8 @@ struct ReadStretch {
     end: ReadEnd,
 }
 
-/// What the stretch is read as under the table, up to a clause that sets operators or a fault. Its nodes
-/// are added to `nodes`.
+/// What the stretch is read as under the table, up to a clause that sets operators or an error. Its
+/// nodes are added to `nodes`.
 fn read_on(
     alloc: Global,
     table: &OpTable,
@@ -229,7 +229,7 @@ fn read_on(
     ReadStretch { nodes, ends, end }
 }
 
-/// The clauses that end at these places of the nodes, which they share.
+/// The clauses that end at these indices of the nodes, which they share.
 fn sharing(alloc: Global, nodes: &Arc<NodeList>, ends: &[usize]) -> Result<Vec<Clause>, AllocError>
     ensures { IfOk result (λ clauses. (names : List (List ℕ)) → clause_trees names clauses.items ≡ map (tree_in names (arc_value nodes.now)) ends.now) }
 {
@@ -241,7 +241,7 @@ fn sharing(alloc: Global, nodes: &Arc<NodeList>, ends: &[usize]) -> Result<Vec<C
     Ok(clauses)
 }
 
-/// What stands behind the clauses, where these are the nodes.
+/// What follows the clauses, if these are the nodes.
 fn piece_end(nodes: Arc<NodeList>, end: ReadEnd) -> PieceEnd
     ensures { (names : List (List ℕ)) (table : Ops) (text : List ℕ) (ts : List TokenOf) (at to : ℕ)
         → ReadEndIs names table text ts at to (arc_value nodes) end → EndIs names table text ts at to result }
@@ -256,8 +256,8 @@ fn piece_end(nodes: Arc<NodeList>, end: ReadEnd) -> PieceEnd
     }
 }
 
-/// The nodes as they are kept, where there was room for so many: as they are, or moved to where they
-/// have just their room, as those before a clause that sets operators, which mostly take little of it.
+/// The nodes as they are, if they take most of the capacity `room`, and a copy without spare
+/// capacity otherwise. Those before a clause that sets operators mostly take little of it.
 fn kept(alloc: Global, nodes: NodeList, room: usize) -> Result<NodeList, AllocError>
     ensures { IfOk result (λ kept. kept ≡ nodes) }
 {
@@ -267,8 +267,8 @@ fn kept(alloc: Global, nodes: NodeList, room: usize) -> Result<NodeList, AllocEr
     nodes.copied(alloc)
 }
 
-/// What was read of a stretch up to a place, as clauses that share their nodes, for which there was so
-/// much room.
+/// What was read of a stretch up to the token `to`, as clauses that share their nodes, which had
+/// the capacity `room`.
 fn shared(alloc: Global, read: ReadStretch, to: usize, room: usize) -> Result<Piece, AllocError>
     ensures { IfOk result (λ piece. (names : List (List ℕ)) (table : Ops) (text : List ℕ) (ts : List TokenOf) (from : ℕ)
         → IsRead names table text ts from to read → IsPiece names table text ts from to piece) }
@@ -300,7 +300,7 @@ fn read_stretch(
     shared(alloc, read, stretch.to, room)
 }
 
-/// A piece of a stretch up to that place for which there is no memory.
+/// The piece of a stretch up to the token `to` if memory runs out.
 fn unread(alloc: Global, to: usize) -> Piece
     ensures { (names : List (List ℕ)) (table : Ops) (text : List ℕ) (ts : List TokenOf) (from : ℕ)
         → from < to → IsBehindClause ts to → IsPiece names table text ts from to result }
@@ -312,7 +312,7 @@ fn unread(alloc: Global, to: usize) -> Piece
     }
 }
 
-/// What the stretch is read as under the table, or that there is no memory for it.
+/// What the stretch is read as under the table, or that memory ran out.
 fn piece_of(
     alloc: Global,
     table: &OpTable,
@@ -333,7 +333,8 @@ fn piece_of(
     }
 }
 
-/// What the stretches are read as under the table. They are read side by side, and share the names.
+/// What the stretches are read as under the table, in their order. They are read in parallel, and
+/// share the names.
 pub fn read_each<R: Threads + Sync>(
     rt: &R,
     alloc: Global,

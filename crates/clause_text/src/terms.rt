@@ -8,7 +8,8 @@ ghost use Rattle.clause_text.specs.Items.{item_of, directive_of};
 use prolog_terms::{Parts, Term, TermKind, inside};
 use std::alloc::{AllocError, Global};
 
-/// The priority, the kind and the names of a term that is an operator item.
+/// The priority, the kind and the names of an operator item `op(Priority, Kind, Names)` (ISO/IEC
+/// 13211-1, 7.4.2.4).
 pub fn operator_item<'a>(term: &Term<'a>) -> Option<(Term<'a>, Term<'a>, Term<'a>)>
     ensures { option_map (λ item. record { priority = tree_of item.0; kind = tree_of item.1; names = tree_of item.2 }) result ≡ item_of (tree_of term.now) }
 {
@@ -27,7 +28,7 @@ fn begins_directive(name: &str) -> bool
     name == ":-" || name == "?-"
 }
 
-/// What a clause has behind its `:-` or `?-`, where it has nothing before it.
+/// The directive after the `:-` or `?-` of a clause that has no head.
 pub fn directive_of<'a>(clause: &Term<'a>) -> Option<Term<'a>>
     ensures tree { option_map tree_of result ≡ directive_of (tree_of clause.now) }
     ensures within { IfSome result (IsOf clause.now.names.now clause.now.nodes.now) }
@@ -42,7 +43,7 @@ pub fn directive_of<'a>(clause: &Term<'a>) -> Option<Term<'a>>
     Some(directive)
 }
 
-/// The terms of a list without a tail, which isn't the atom `[]`.
+/// The items of a list without a tail that isn't the atom `[]`.
 pub fn written_items<'a>(term: &Term<'a>) -> Option<Parts<'a>>
     ensures trees { option_map (λ items. trees_in (trees_of items)) result ≡ written_items (tree_of term.now) }
     ensures within { IfSome result (IsPartsOf term.now.names.now term.now.nodes.now) }
@@ -53,7 +54,8 @@ pub fn written_items<'a>(term: &Term<'a>) -> Option<Parts<'a>>
     }
 }
 
-/// The terms of a list, with a tail or without.
+/// The items of a list, with or without a tail, in their order. There are none if the term is no
+/// list.
 pub fn listed<'a>(alloc: Global, term: &Term<'a>) -> Result<Vec<Term<'a>>, AllocError>
     ensures { IfOk result (λ terms. map tree_of terms.items ≡ listed_items (tree_of term.now)) }
 {

@@ -14,10 +14,13 @@ use prolog_names::number_names;
 use std::alloc::Global;
 use std::thread::Threads;
 
-/// The clauses of a text of at most 8,388,608 bytes, each read with the operators that the operator
-/// items of those before it leave. What is wrong with its bytes comes first, then what is wrong with
-/// its tokens, and then with its clauses in order, each of which is read before its operator items
-/// are done. Clauses between operator items are read side by side.
+/// The clauses of a text of at most 8,388,608 bytes in their order, each read with the operators
+/// that those before it leave (ISO/IEC 13211-1, 6.2).
+///
+/// An error of its bytes comes first, then one of its tokens, and then the first one of its
+/// clauses. Each clause is read before its operator items are done. Clauses between operator items
+/// are read in parallel, which doesn't change the result. In all at most twice as many stretches of
+/// tokens are read as the text has.
 pub fn read_text<R: Threads + Sync>(
     rt: &R,
     alloc: Global,

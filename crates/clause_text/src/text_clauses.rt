@@ -7,8 +7,9 @@ use prolog_names::Names;
 use prolog_terms::{NodeList, Term};
 use std::sync::Arc;
 
-/// A clause of a text, directives and grammar rules among them: the last of so many nodes, in which
-/// names are numbers in the text's names. Clauses that were read one after another share their nodes.
+/// A clause of a text, which may be a directive or a grammar rule: the last of the first `end`
+/// nodes. Its names are numbers in the names of the text. Clauses that were read together share
+/// their nodes.
 #[derive(Drop)]
 pub struct Clause {
     pub nodes: Arc<NodeList>,

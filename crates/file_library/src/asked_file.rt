@@ -2,8 +2,8 @@ use clause_text::Cause;
 use module_table::FileFacts;
 use prolog_tokens::Text;
 
-/// What a file that was asked for is found to be: its bytes with its facts, or with the cause and
-/// the byte offset of its fault.
+/// What a file turned out to be: its bytes with its facts, or with the cause and the byte offset of
+/// its error.
 #[derive(Drop)]
 pub(crate) enum Content {
     Absent,

@@ -17,8 +17,8 @@ use std::alloc::{AllocError, Global};
 use std::collections::BTreeSet;
 use std::thread::Threads;
 
-/// Asks for the roots and for all that the files load, wave by wave, each file once: what each is
-/// found to be, in the order in which they were asked for.
+/// Reads the roots and all files that they load, wave by wave (each wave is a level of a
+/// breadth-first search), each file once. Returns the files in the order in which they were read.
 pub(crate) fn ask_all<R: Threads + Sync, L: Library>(
     rt: &R,
     alloc: Global,
@@ -52,7 +52,7 @@ pub(crate) fn ask_all<R: Threads + Sync, L: Library>(
     Ok(files)
 }
 
-/// Keeps a wave and what was found, and gives the names that come next.
+/// Adds a wave and its files, and returns the names of the next wave.
 fn keep(
     alloc: Global,
     known: &mut BTreeSet<Text>,
@@ -94,7 +94,7 @@ fn bytes_of(file: &AskedFile) -> u32
     }
 }
 
-/// Asks for the files of a wave, when `total` bytes were read before.
+/// Reads the files of a wave, after `total` bytes in earlier ones.
 fn ask_wave<R: Threads + Sync, L: Library>(
     rt: &R,
     alloc: Global,

@@ -13,7 +13,7 @@ use std::rt::Files;
 use std::snapshot::Snapshot;
 use std::{fs, io};
 
-/// The files of the disk. What the disk holds isn't told, but what was read of it is.
+/// The files of the disk. Contracts know nothing of what the disk holds, but what was read of it.
 #[derive(Drop)]
 pub struct DiskLibrary<'a, R: Files> {
     rt: &'a R,
@@ -25,7 +25,7 @@ pub struct DiskLibrary<'a, R: Files> {
 }
 
 impl<'a, R: Files> DiskLibrary<'a, R> {
-    /// The disk, with nothing asked yet.
+    /// The disk, before any read.
     pub fn new(rt: &'a R, alloc: Global) -> DiskLibrary<'a, R>
         ensures asked { result.asked.items ≡ [] }
         ensures notes { result.notes.items ≡ [] }
@@ -43,7 +43,7 @@ impl<'a, R: Files> DiskLibrary<'a, R> {
     }
 }
 
-/// Reads the file into the empty room, or one byte more than `limit` where it is longer.
+/// Reads the file into the empty buffer, or one byte more than `limit` if it is longer.
 fn read_file<R: Files>(rt: &R, name: &str, limit: u32, room: &mut Vec<u8>) -> io::Result<()>
     requires { room.old.items ≡ [] }
     ensures { length room.new.items ≤ limit + 1 }
@@ -52,7 +52,7 @@ fn read_file<R: Files>(rt: &R, name: &str, limit: u32, room: &mut Vec<u8>) -> io
     read_first(&mut file, limit, room)
 }
 
-/// Reads all that the source gives into the empty room, or one byte more than `limit` where it is
+/// Reads all that the source gives into the empty buffer, or one byte more than `limit` if it is
 /// longer.
 fn read_first<S: io::Read>(source: &mut S, limit: u32, room: &mut Vec<u8>) -> io::Result<()>
     requires { room.old.items ≡ [] }

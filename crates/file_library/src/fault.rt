@@ -1,8 +1,8 @@
 use clause_text::Cause;
 use prolog_tokens::{Place, Text};
 
-/// What is wrong with a file, with its place: the byte offset, and the line and the column. A file
-/// that isn't there has line 0 and column 0.
+/// An error in a file, with its position: the byte offset, and the line and the column. An error
+/// for a file that isn't there has line 0 and column 0.
 #[derive(Debug, Drop)]
 pub struct Fault {
     pub file: Text,

@@ -1,11 +1,14 @@
-//! Files on demand: a library that is asked for files by name, in memory or on the disk, and
-//! `load_all`, which asks it for roots and for all that they lead to.
+//! Reading files on demand: a `Library` is a map from names to files, in memory or on the disk, and
+//! `load_all` reads the roots and all files that they load.
 //!
-//! A `Library` keeps the names that it was asked for and what it answered, and counts its misses and its
-//! faults. It may tell its map of files, as `MemoryLibrary` does; then a file is found exactly where the
-//! map has it, but where a read was ordered to fail. `DiskLibrary` tells nothing of what the disk holds,
-//! but what it handed over, by notes that have no bytes. What is loaded is so over the map that the
-//! answers are. `places_of_spots` tells the lines and columns of spots of what was loaded.
+//! A `Library` records the names that it was asked for and what it returned. It counts its misses
+//! and its read failures. `MemoryLibrary` declares its map of files to contracts: a file is found
+//! exactly if the map has it, unless a read was ordered to fail. `DiskLibrary` declares nothing
+//! about the disk, only what it returned, by notes that cost no bytes. What is loaded is stated
+//! over the map of what was returned. `places_of_spots` returns lines and columns of what was
+//! loaded.
+//!
+//! It sees no imports and no calls.
 #![tactic(auto)]
 
 mod answer;

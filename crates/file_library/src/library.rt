@@ -1,7 +1,7 @@
 ghost use Rattle.std.specs.Prelude.{◌≡◌, []};
 ghost use Rattle.file_library.specs.Library.{LibrarySeen, IsLater, ReadIs, AskedIs, AnsweredIs};
 
-/// What a library answers to a read.
+/// What a library returns for a read.
 #[derive(Clone, Copy, Debug, PartialEq, Eq)]
 pub enum Read {
     Found,
@@ -10,13 +10,17 @@ pub enum Read {
     NoMemory,
 }
 
-/// Files by name. A library may tell the map from names to bytes that it stands for, which
-/// doesn't change; it tells the names that it was asked for and what it answered, in order, and counts
-/// its faults and misses. It may count more than one for an answer, as one that tries again does.
+/// Files by name. Contracts see it as a `LibrarySeen`:
+///
+/// - the map from names to bytes that it stands for, if it declares one, which doesn't change;
+/// - the names that it was asked for and what it returned, in order;
+/// - its counts of read failures and of misses, which may rise by more than one for a read, as if
+///   it tried again.
 pub trait Library {
     ghost seen: { Self → LibrarySeen };
 
-    /// Reads the file into the room: its bytes, or one byte more than `limit` where it is longer.
+    /// Reads the file into the empty buffer: its bytes, or one byte more than `limit` if it is
+    /// longer.
     fn read(&mut self, name: &str, limit: u32, room: &mut Vec<u8>) -> Read
         requires { room.old.items ≡ [] }
         ensures answer { ReadIs (seen self.old) (seen self.new) name.now limit room.new.items result }

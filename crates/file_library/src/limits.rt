@@ -1,4 +1,4 @@
-/// How many files are asked for at most.
+/// How many files are read at most.
 pub const MOST_FILES: usize = 1024;
 
 /// How many bytes the files have together at most.

@@ -3,8 +3,9 @@ use module_table::FileFacts;
 use prolog_tokens::Text;
 use std::alloc::AllocError;
 
-/// What was loaded, each list in order of name: the facts of the files that are there, the names of
-/// those that aren't, the names that were given, and the name and the bytes of each file that is there.
+/// What was loaded, each list in ascending order of names: the facts of the files that are there,
+/// the names of those that aren't, the names of the roots, and the name and the bytes of each file
+/// that is there.
 #[derive(Drop)]
 pub struct Loaded {
     pub files: Vec<FileFacts>,
@@ -16,9 +17,9 @@ pub struct Loaded {
 /// Why nothing was loaded.
 #[derive(Drop)]
 pub enum LoadStop {
-    /// The faults of the files, in order of file.
+    /// The errors of the files, in order of file.
     Faults(Vec<Fault>),
-    /// The file that could not be read.
+    /// The file whose read failed.
     ReadFault(Text),
     /// More than 1,024 files are asked for.
     TooManyFiles,

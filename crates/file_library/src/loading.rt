@@ -19,8 +19,14 @@ use prolog_tokens::Text;
 use std::alloc::Global;
 use std::thread::Threads;
 
-/// Asks the library for the roots and for all that the files load, wave by wave and each file once:
-/// what was loaded, or why nothing was. A fault of one file hides no fault of another.
+/// Loads the roots and all files that they load, each file once: what was loaded, or why nothing
+/// was.
+///
+/// Files are read in waves, and the files of a wave are parsed in parallel. All files are read
+/// before errors are reported, so an error in one file hides no error in another. A root that isn't
+/// there is an error, but another file that isn't there is listed in `absent`. More than 1,024
+/// files, a file of more than 8,388,608 bytes, or more than 33,554,432 bytes in all end the
+/// loading.
 pub fn load_all<R: Threads + Sync, L: Library>(
     rt: &R,
     alloc: Global,
@@ -41,7 +47,7 @@ pub fn load_all<R: Threads + Sync, L: Library>(
     finish(alloc, roots, files)
 }
 
-/// What the files come to, all of them having been asked for.
+/// What was loaded or why nothing was, after all files were read.
 fn finish(alloc: Global, roots: &[Text], files: Vec<AskedFile>) -> Result<Loaded, LoadStop>
     requires apart { AreApart (answers_of (map see_file files.items)) }
     requires texts { All IsOfText (map see_file files.items) }

@@ -11,7 +11,7 @@ use std::alloc::{AllocError, Global};
 use std::collections::BTreeMap;
 use std::snapshot::Snapshot;
 
-/// Files in memory. The reads whose numbers, from 1, were ordered to fail answer `Failed`.
+/// Files in memory. Reads are numbered from 1, and those in `failing` return `Failed`.
 #[derive(Drop)]
 pub struct MemoryLibrary {
     alloc: Global,
@@ -23,7 +23,7 @@ pub struct MemoryLibrary {
     misses: u64,
 }
 
-/// How the copy of a file into a room went.
+/// How copying a file into a buffer ended.
 enum Copied {
     Whole,
     Missing,
@@ -55,7 +55,7 @@ fn copy_file(files: &BTreeMap<Text, Vec<u8>>, name: &Text, limit: u32, room: &mu
 impl MemoryLibrary {
     ghost use Rattle.file_library.specs.MemoryLibrary.{files_of, IsNewLibrary};
 
-    /// A library of these files. The reads whose numbers stand in `failing` will fail.
+    /// A library of these files. The reads with the numbers in `failing` will fail.
     pub fn new(
         alloc: Global,
         files: BTreeMap<Text, Vec<u8>>,

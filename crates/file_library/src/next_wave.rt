@@ -9,8 +9,8 @@ use prolog_tokens::Text;
 use std::alloc::{AllocError, Global};
 use std::collections::BTreeSet;
 
-/// Adds the name to the next ones, unless it was asked for. Where there are more than `room` of
-/// them already nothing is added, so that no great number of names is copied for nothing.
+/// Adds the name to the next ones, unless it was asked for. If there are already more than `room`
+/// of them nothing is added, since they are too many in any case.
 fn add_file(
     alloc: Global,
     asked: &BTreeSet<Text>,
@@ -49,7 +49,7 @@ fn add_loads(
     Ok(())
 }
 
-/// The loads of a file without a fault.
+/// The loads of a file without an error.
 fn loads_of(file: &AskedFile) -> &[Load]
     ensures { map (λ load. load.file) result.now ≡ loads_of (see_file file.now).found }
 {
@@ -59,7 +59,7 @@ fn loads_of(file: &AskedFile) -> &[Load]
     }
 }
 
-/// The names that the files load and that weren't asked for.
+/// The names that the files load and that weren't asked for, at most one more than `room`.
 pub(crate) fn next_wave(
     alloc: Global,
     asked: &BTreeSet<Text>,
@@ -75,7 +75,7 @@ pub(crate) fn next_wave(
     Ok(next)
 }
 
-/// The names, each once.
+/// The names, each once, and at most one more than `room`.
 pub(crate) fn name_set(
     alloc: Global,
     names: &[Text],

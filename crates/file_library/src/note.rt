@@ -5,15 +5,15 @@ use prolog_tokens::Text;
 use std::alloc::AllocError;
 use std::snapshot::Snapshot;
 
-/// A note of an answer that has no bytes: the name, and what the room held that was handed over, or that
-/// there is no such file.
+/// A note for contracts of what was returned: the name with what the buffer held, or that there is
+/// no such file. It has no bytes.
 #[derive(Drop)]
 pub enum Note {
     Found(Snapshot<Text>, Snapshot<Vec<u8>>),
     Absent(Snapshot<Text>),
 }
 
-/// Notes that the bytes were handed over for the name.
+/// Notes that the bytes were returned for the name.
 pub fn note_found(
     notes: &mut Vec<Note>,
     name: Snapshot<Text>,

@@ -13,10 +13,10 @@ use module_table::{FactFault, FileFacts, facts};
 use std::alloc::{AllocError, Global};
 use std::thread::{self, Threads};
 
-/// In how many lists of neighbours the files of a wave are cut at most, which are read side by side.
+/// Into how many lists the files of a wave are cut at most, which are parsed in parallel.
 const MOST_LISTS: usize = 64;
 
-/// What the files of the answers are, in the order of the answers. They are read side by side.
+/// The files with these bytes, in the same order. They are parsed in parallel.
 pub(crate) fn parse_wave<R: Threads + Sync>(
     rt: &R,
     alloc: Global,
@@ -34,7 +34,7 @@ pub(crate) fn parse_wave<R: Threads + Sync>(
     joined(alloc, parsed)
 }
 
-/// The answers in at most 64 lists of neighbours.
+/// The answers in at most 64 lists, in order.
 fn cut(alloc: Global, answers: Vec<Answer>) -> Result<Vec<Vec<Answer>>, AllocError>
     ensures all { IfOk result (λ lists. items_in lists.items ≡ answers.items) }
     ensures few { IfOk result (λ lists. length lists.items ≤ 64) }
@@ -100,7 +100,7 @@ fn parse_one<R: Threads + Sync>(
     Ok(AskedFile { name, content })
 }
 
-/// The bytes with the facts of the file of that name, or with its fault.
+/// The bytes with the facts of the file of that name, or with its error.
 fn content_of<R: Threads + Sync>(
     rt: &R,
     alloc: Global,
@@ -118,8 +118,8 @@ fn content_of<R: Threads + Sync>(
     }
 }
 
-/// The facts of the file of that name with the bytes. What is wrong with the text comes first, and
-/// then what is wrong with what its clauses say.
+/// The facts of the file of that name with these bytes. An error of the text comes first, and then
+/// an error of what its clauses say.
 fn file_facts<R: Threads + Sync>(
     rt: &R,
     alloc: Global,

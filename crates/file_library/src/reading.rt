@@ -11,7 +11,8 @@ use crate::loaded::LoadStop;
 use prolog_tokens::{MOST_BYTES, Text};
 use std::alloc::{AllocError, Global};
 
-/// Asks for the files of a wave in turn, when `total` bytes were read before.
+/// Reads the files of a wave one after another, after `total` bytes in earlier ones. Fails at the
+/// first file that can't be read or is too large, or if there are too many bytes.
 pub(crate) fn read_wave<L: Library>(
     alloc: Global,
     wave: &[Text],
@@ -47,7 +48,7 @@ fn push_answer(answers: &mut Vec<Answer>, answer: Answer) -> Result<(), AllocErr
     Ok(())
 }
 
-/// How many bytes were answered.
+/// How many bytes were returned.
 fn size_of(answer: &Answer) -> u32
     requires { bytes_of (see_answer answer.now) ≤ MOST_BYTES }
     ensures { result ≡ bytes_of (see_answer answer.now) }
@@ -58,7 +59,7 @@ fn size_of(answer: &Answer) -> u32
     }
 }
 
-/// Asks for one file, when `total` bytes were read before.
+/// Reads one file, after `total` bytes in earlier ones.
 fn read_one<L: Library>(
     alloc: Global,
     name: &Text,
@@ -86,7 +87,7 @@ fn read_one<L: Library>(
     }
 }
 
-/// The answer with these bytes, if they aren't too many.
+/// The answer with these bytes, unless they are too many.
 fn found(name: Text, bytes: Vec<u8>, total: u32) -> Result<Answer, LoadStop>
     requires { total ≤ MOST_TEXT }
     ensures answer { IfOk result (λ answer. see_answer answer ≡ record { name = name; text = Some bytes.items }) }

@@ -13,8 +13,8 @@ use prolog_tokens::{Place, Text, place_of};
 use std::alloc::{AllocError, Global};
 use std::collections::BTreeSet;
 
-/// Files put where they belong: facts and texts of those without a fault, names of those that aren't
-/// there, and faults.
+/// The files, sorted out: facts and texts of those without an error, names of those that aren't
+/// there, and errors.
 #[derive(Drop)]
 pub(crate) struct SortedOut {
     pub files: Vec<FileFacts>,
@@ -23,7 +23,7 @@ pub(crate) struct SortedOut {
     pub faults: Vec<Fault>,
 }
 
-/// The files in order of name.
+/// The files in ascending order of names.
 pub(crate) fn ordered(mut files: Vec<AskedFile>) -> Result<Vec<AskedFile>, AllocError>
     requires { AreApart (answers_of (map see_file files.items)) }
     ensures { IfOk result (λ ordered. AreOrdered (map see_file files.items) (map see_file ordered.items)) }
@@ -32,7 +32,7 @@ pub(crate) fn ordered(mut files: Vec<AskedFile>) -> Result<Vec<AskedFile>, Alloc
     Ok(files)
 }
 
-/// Puts each file where it belongs, in the order of the files.
+/// Sorts out the files, in their order.
 pub(crate) fn sorted_out(
     alloc: Global,
     roots: &BTreeSet<Text>,
@@ -54,7 +54,7 @@ pub(crate) fn sorted_out(
     Ok(out)
 }
 
-/// Puts one more file where it belongs.
+/// Sorts out one more file.
 fn put(
     alloc: Global,
     roots: &BTreeSet<Text>,
@@ -86,7 +86,7 @@ fn put(
     }
 }
 
-/// Puts a file that isn't there, which is a fault where it is a root.
+/// Sorts out a file that isn't there, which is an error if it is a root.
 fn put_absent(
     alloc: Global,
     roots: &BTreeSet<Text>,

@@ -1,4 +1,4 @@
-//! Lines and columns of spots of files.
+//! Lines and columns of spots: pairs of a file and a byte offset.
 
 ghost use Rattle.std.specs.Prelude.{◌≡◌, ◌≢◌, ◌++◌, ◌<◌, ◌≤◌, ℕ, All, List, length, map, slice_index_or, IfOk, OnOk};
 ghost use Rattle.std.specs.List.{AllZip};
@@ -30,7 +30,7 @@ fn offsets_of(alloc: Global, spots: &[(u32, u32)]) -> Result<Vec<u32>, AllocErro
     spots.iter().map(|spot| spot.1).collect(alloc)
 }
 
-/// Adds the lines and columns of these offsets of a file, which rise.
+/// Adds the lines and columns of these byte offsets of a file, which are in ascending order.
 fn push_places(
     alloc: Global,
     bytes: &[u8],
@@ -47,8 +47,10 @@ fn push_places(
     Ok(())
 }
 
-/// The line and the column of each of the spots of texts, which are in order of file and offset: one
-/// sweep a file. A spot is the place of a file among the texts, and a byte offset of its text.
+/// The line and the column of each spot, in the same order. A spot is the index of a file among the
+/// texts, and a byte offset in it.
+///
+/// Spots are in ascending order of file and offset. It takes one pass over the text of a file.
 pub fn places_of_spots(
     alloc: Global,
     texts: &[(Text, Vec<u8>)],

@@ -15,6 +15,7 @@ pub enum Clauses {
 }
 
 impl Clauses {
+    /// The clauses in the order of the text.
     pub fn as_slice(&self) -> &[Clause]
         ensures { result.now ≡ kept_clauses self.now }
     {

@@ -31,8 +31,8 @@ pub fn group(
 ) -> Result<Vec<Defined>, AllocError>
     ensures { IfOk result (λ defined. AreDefined (flat_map (see_run names.now) runs.items) (map (see_defined names.now) defined.items)) }
 {
-    // Mostly the clauses of each predicate stand together, and so each run is a predicate; and mostly
-    // runs are in order once the first bytes of their names are.
+    // Mostly the clauses of a predicate are adjacent, so each run is a predicate. And mostly runs
+    // are in order once the first bytes of their names are.
     sort_by_lead(names, &mut runs)?;
     if are_apart(names, &runs) {
         return Ok(runs);
@@ -72,7 +72,7 @@ fn comes_before(names: &Names, a: &Defined, b: &Defined) -> bool
     compare(names, a, b).is_lt()
 }
 
-/// Whether each run is of a predicate that comes before that of the next one.
+/// Whether the runs are strictly ascending: each is of a predicate before that of the next one.
 fn are_apart(names: &Names, runs: &[Defined]) -> bool
     ensures { OnTrue result (AreApart names.now runs.now) }
 {

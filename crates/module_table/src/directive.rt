@@ -1,4 +1,4 @@
-//! What directives say.
+//! What directives say (ISO/IEC 13211-1, 7.4.2).
 
 ghost use Rattle.std.specs.Prelude.{◌≡◌, ℕ, List, IfOk, IfErr, OnOk, Ok};
 ghost use Rattle.prolog_names.specs.Names.{name_at};
@@ -22,7 +22,7 @@ use clause_text::Cause;
 use prolog_terms::{Term, TermKind, inside, sides, start_of};
 use std::alloc::Global;
 
-/// Whether a directive is a goal, which is still to be kept, or has been told.
+/// Whether a directive is a goal, which is still to be added, or has been handled.
 #[derive(Clone, Copy)]
 pub enum Told {
     Goal,
@@ -64,7 +64,7 @@ fn push_use_some(
     }
 }
 
-/// A directive of one argument.
+/// Handles a directive of one argument.
 fn one_told(
     alloc: Global,
     user: &str,
@@ -113,7 +113,7 @@ fn one_told(
     Ok(Told::Goal)
 }
 
-/// A directive of two arguments that is no comma.
+/// Handles a directive of two arguments that is no comma.
 fn two_told(
     alloc: Global,
     user: &str,
@@ -151,7 +151,7 @@ fn two_told(
     Ok(Told::Goal)
 }
 
-/// A directive of three arguments.
+/// Handles a directive of three arguments.
 fn three_told(name: &str, directive: &Term) -> Result<Told, FactFault>
     ensures ok { IfOk result (λ told. (names : List (List ℕ)) (kinds : KindsOf)
         → IsTold names told kinds (three_said name.now (tree_of directive.now)) (tree_of directive.now) kinds) }
@@ -166,7 +166,7 @@ fn three_told(name: &str, directive: &Term) -> Result<Told, FactFault>
     Ok(Told::Goal)
 }
 
-/// A directive without brackets round it that is no comma.
+/// Handles a directive without brackets round it that is no comma.
 fn tell(
     alloc: Global,
     user: &str,
@@ -209,7 +209,7 @@ fn tell(
     }
 }
 
-/// Adds what a directive says; first tells whether it is the whole of the first clause.
+/// Adds what a directive says. `first` is whether it is the whole of the first clause.
 pub fn push_directive(
     alloc: Global,
     user: &str,

@@ -1,4 +1,4 @@
-//! What `dynamic` and `multifile` define.
+//! What `dynamic` and `multifile` define (ISO/IEC 13211-1, 7.4.2.1 and 7.4.2.2).
 
 ghost use Rattle.std.specs.Prelude.{◌≡◌, IfOk, IfErr, IfSome, OnOk, All, option_map, map};
 ghost use Rattle.prolog_names.specs.Names.{name_at};
@@ -16,8 +16,8 @@ use clause_text::Cause;
 use prolog_terms::{Term, atom_number, binary, sides};
 use std::alloc::{AllocError, Global};
 
-/// How a term stands in the directive: as all that it or a module in it declares, as one of the terms
-/// that commas join, or as an item of a list.
+/// The position of a term in the directive: all that it or a module in it declares, one of the
+/// terms that commas join, or an item of a list.
 #[derive(Clone, Copy)]
 pub enum Standing {
     Whole,
@@ -93,7 +93,7 @@ fn push_one(alloc: Global, owner: u32, term: &Term, kinds: &mut Kinds) -> Result
     Ok(())
 }
 
-/// The sides of a comma, where it may stand there.
+/// The sides of a comma, if it is allowed there.
 fn joint_sides<'a>(at: Standing, term: &Term<'a>) -> Option<(Term<'a>, Term<'a>)>
     ensures trees { option_map (λ pair. (tree_of pair.0, tree_of pair.1)) result ≡ joint_sides at (tree_of term.now) }
     ensures within { IfSome result (λ pair. IsOf term.now.names.now term.now.nodes.now pair.0 × IsOf term.now.names.now term.now.nodes.now pair.1) }
@@ -105,7 +105,7 @@ fn joint_sides<'a>(at: Standing, term: &Term<'a>) -> Option<(Term<'a>, Term<'a>)
     }
 }
 
-/// The items of a list, where it may stand there.
+/// The items of a list, if it is allowed there.
 fn whole_items<'a>(
     alloc: Global,
     at: Standing,
@@ -121,7 +121,8 @@ fn whole_items<'a>(
     }
 }
 
-/// Adds what a term defines that stands so in a module.
+/// Adds the predicates that the term declares in the module `owner`. Fails at a term that is no
+/// predicate indicator.
 pub fn push_dynamic(
     alloc: Global,
     at: Standing,

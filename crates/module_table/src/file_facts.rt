@@ -28,8 +28,8 @@ use prolog_tokens::Text;
 use std::alloc::Global;
 use std::sync::Arc;
 
-/// The goals of a directive: nodes in which it stands, and for each goal how many of them there are up
-/// to the goal's own.
+/// The goals of a directive: the nodes of its clause, and for each goal how many of them there are
+/// up to the goal's own.
 #[derive(Drop)]
 pub struct DirectiveGoals {
     pub nodes: Arc<NodeList>,
@@ -37,10 +37,10 @@ pub struct DirectiveGoals {
 }
 
 /// What a file says. A file without a module directive belongs to `user`, and then `module_from` is
-/// 0 and `exports` is empty; else `module_from` is the byte offset of the term `module(M, L)`.
+/// 0 and `exports` is empty. Otherwise `module_from` is the byte offset of the term `module(M, L)`.
 #[derive(Drop)]
 pub struct FileFacts {
-    /// The names of the terms, which are numbers in them.
+    /// The names of the terms: what numbers of names mean.
     pub names: Names,
     pub file: Text,
     pub module: Text,
@@ -51,7 +51,7 @@ pub struct FileFacts {
     pub loads: Vec<Load>,
     /// In order of module, name and arity, each once.
     pub defined: Vec<Defined>,
-    /// How arguments of goals stand, as it is declared, in the order of the text.
+    /// Declarations of arguments that are goals, in the order of the text.
     pub metas: Vec<Meta>,
     /// The goals of the directives that have some, in the order of the text.
     pub goals: Vec<DirectiveGoals>,
@@ -83,8 +83,8 @@ fn clause_head(owner: u32, clause: &Term) -> Result<OwnedHead, FactFault>
     }
 }
 
-/// Adds a clause that is no directive: to the last run, where that has clauses of the same
-/// predicate, and else as a run of its own.
+/// Adds a clause that is no directive. It joins the last run if that has clauses of the same
+/// predicate, and otherwise it is a run of its own.
 fn push_headed(
     alloc: Global,
     owner: u32,
@@ -119,8 +119,8 @@ fn push_headed(
     Ok(())
 }
 
-/// Adds what a clause says in a file of the module `owner`; first tells whether it is the first of the
-/// file.
+/// Adds what a clause says in a file of the module `owner`. `first` is whether it is the first of
+/// the file.
 fn push_clause(
     alloc: Global,
     file: &str,
@@ -188,7 +188,8 @@ fn said(
     Ok(kinds)
 }
 
-/// The facts of a file with the clauses of this text (ISO/IEC 13211-1, 7.4).
+/// The facts of a file with the clauses of this text (ISO/IEC 13211-1, 7.4), or the first error in
+/// the order of the text.
 pub fn facts(alloc: Global, file: &str, text: TextClauses) -> Result<FileFacts, FactFault>
     requires { All (λ tree. weight tree ≤ MOST_BYTES) (text_trees text) }
     ensures ok { IfOk result (λ found. AreFacts file.now (text_trees text) (see_facts found)) }

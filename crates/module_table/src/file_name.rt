@@ -6,9 +6,11 @@ ghost use Rattle.module_table.specs.FileName.{begins_with_slash, segments, folde
 use prolog_tokens::Text;
 use std::alloc::{AllocError, Global};
 
-/// The name of the file that `spec` means in the file named `using`, or `None` where no file's
-/// name is left. A `spec` that begins with `/` stands alone, any other follows the folder of
-/// `using`. In the path `.` and `..` are worked out, and `.pl` is added where it doesn't end so.
+/// The name of the file that `spec` means in the file named `using`, or `None` if no file name is
+/// left.
+///
+/// A `spec` that begins with `/` is absolute, and any other is relative to the folder of `using`.
+/// Segments `.` and `..` of the path are resolved, and `.pl` is added if the name doesn't end so.
 pub fn resolve_name(alloc: Global, using: &str, spec: &str) -> Result<Option<Text>, AllocError>
     ensures { IfOk result (λ name. name ≡ resolved «using».now spec.now) }
 {
@@ -51,7 +53,7 @@ fn push_folder(path: &mut String, name: &str) -> Result<(), AllocError>
     Ok(())
 }
 
-/// The segments of `path` that stay when `.` and `..` are worked out, in order.
+/// The segments of `path` that are left after `.` and `..` are resolved, in order.
 fn kept_segments<'a>(
     alloc: Global,
     path: &'a str,
@@ -66,7 +68,7 @@ fn kept_segments<'a>(
     Ok(kept)
 }
 
-/// Adds the segment, unless it says nothing or leads a level up.
+/// Adds the segment, unless it is empty, `.` or `..`; the last one goes a level up.
 fn keep<'a>(kept: &mut Vec<&'a str>, segment: &'a str, absolute: bool) -> Result<(), AllocError>
     ensures { OnOk result (last_first kept.new.items ≡ kept_with absolute (last_first kept.old.items) segment.now) }
 {
@@ -82,7 +84,8 @@ fn keep<'a>(kept: &mut Vec<&'a str>, segment: &'a str, absolute: bool) -> Result
     push_segment(kept, segment)
 }
 
-/// Leads a level up: above a relative path the segment `..` says so, above `/` there is none.
+/// Goes a level up. Above a relative path the segment `..` is added, and above `/` there is no
+/// level.
 fn go_up(kept: &mut Vec<&str>, absolute: bool) -> Result<(), AllocError>
     ensures { OnOk result (last_first kept.new.items ≡ gone_up absolute (last_first kept.old.items)) }
 {
@@ -117,7 +120,7 @@ fn pop_segment<'a>(kept: &mut Vec<&'a str>) -> Option<&'a str>
     kept.pop()
 }
 
-/// The file's name that the kept segments of a path give.
+/// The file name of the segments that are left of a path.
 fn name_of(alloc: Global, mut kept: Vec<&str>, absolute: bool) -> Result<Option<Text>, AllocError>
     ensures { IfOk result (λ name. name ≡ name_of absolute (last_first kept.entry.items)) }
 {

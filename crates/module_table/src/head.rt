@@ -1,4 +1,4 @@
-//! Heads of clauses.
+//! Heads of clauses (ISO/IEC 13211-1, 7.4.3).
 
 ghost use Rattle.std.specs.Prelude.{◌≡◌, ◌==◌, ◌&&◌, IfOk, IfErr, Ok, false, codes};
 ghost use Rattle.std.specs.Bool.{OnTrue};
@@ -35,7 +35,8 @@ fn is_headless(name: &str, arity: usize) -> bool
     }
 }
 
-/// Whether it is the cut, which alone of the names that no head has is none of the opening ones.
+/// Whether it is the cut. Of all names that can't be defined, only this one isn't among the opening
+/// names.
 fn is_cut(names: &Names, name: u32, arity: usize) -> bool
     ensures { result ≡ ((arity == 0) && bytes_eq (name_at names.now name) (codes "!")) }
 {
@@ -45,8 +46,8 @@ fn is_cut(names: &Names, name: u32, arity: usize) -> bool
     names.is(name, "!")
 }
 
-/// Whether its number tells that a head of this name may be defined: names that no head has are among
-/// the opening ones, but for the cut.
+/// Whether its number shows that a head of this name is allowed. Names that aren't allowed are
+/// among the opening ones, except the cut.
 fn is_surely_free(names: &Names, name: u32, arity: usize) -> bool
     ensures { OnTrue result ((is_among (control_names arity) (name_at names.now name) ≡ false)
         × (is_among (headless_names arity) (name_at names.now name) ≡ false)) }
@@ -58,7 +59,8 @@ fn is_surely_free(names: &Names, name: u32, arity: usize) -> bool
     name >= OPENING_COUNT
 }
 
-/// The number of the name and the number of arguments of what a head of this name defines.
+/// The number of the name and the arity of what a head of this name defines. Fails if it is a
+/// control construct, or no head at all.
 fn named_head(term: &Term, name: u32, arity: usize) -> Result<(u32, usize), FactFault>
     ensures ok { IfOk result (λ named. named_head (tree_of term.now) (name_at term.now.names.now name) arity
         ≡ Ok (record { name = name_at term.now.names.now named.0; arity = named.1 })) }
@@ -84,7 +86,8 @@ pub struct Within<'a> {
     pub term: Term<'a>,
 }
 
-/// The term behind the names of modules, in the innermost of these; in `owner` where none is named.
+/// The term after the names of modules, with the innermost of these, or with `owner` if there are
+/// none.
 fn behind_modules<'a>(owner: u32, term: &Term<'a>) -> Within<'a>
     ensures is { record { module_ = name_at term.now.names.now result.module; tree = tree_of result.term }
         ≡ behind_modules (name_at term.now.names.now owner) (tree_of term.now) }
@@ -105,7 +108,7 @@ fn behind_modules<'a>(owner: u32, term: &Term<'a>) -> Within<'a>
     }
 }
 
-/// The number of the name and the number of arguments of what a head without modules defines.
+/// The number of the name and the arity of what a head without modules defines.
 fn plain_head(term: &Term) -> Result<(u32, usize), FactFault>
     ensures ok { IfOk result (λ named. plain_head (tree_of term.now) ≡ Ok (record { name = name_at term.now.names.now named.0; arity = named.1 })) }
     ensures refused { IfErr result (λ fault. IsWhy (plain_head (tree_of term.now)) fault) }
@@ -116,8 +119,8 @@ fn plain_head(term: &Term) -> Result<(u32, usize), FactFault>
     }
 }
 
-/// The module, the name and the number of arguments of what a head defines. The names are numbers in
-/// those of the head.
+/// The module, the name and the arity of what a head defines. The names are numbers in those of the
+/// head.
 #[derive(Clone, Copy)]
 pub struct OwnedHead {
     pub module: u32,
@@ -125,7 +128,7 @@ pub struct OwnedHead {
     pub arity: usize,
 }
 
-/// What a head defines in a file of the module `owner`.
+/// The predicate that a head defines in a file of the module `owner`.
 pub fn head(owner: u32, term: &Term) -> Result<OwnedHead, FactFault>
     ensures ok { IfOk result (λ own. head (name_at term.now.names.now owner) (tree_of term.now)
         ≡ Ok (record { module_ = name_at term.now.names.now own.module; name = name_at term.now.names.now own.name; arity = own.arity })) }
@@ -142,7 +145,7 @@ pub fn head(owner: u32, term: &Term) -> Result<OwnedHead, FactFault>
     }
 }
 
-/// Whether the term may stand behind the comma in the head of a grammar rule.
+/// Whether the term can be the pushback of a grammar rule, after the comma in its head.
 fn is_pushback(term: &Term) -> bool
     ensures { result ≡ is_pushback (tree_of term.now) }
 {

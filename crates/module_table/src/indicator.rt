@@ -12,7 +12,7 @@ use prolog_terms::{ConstKind, Term, TermKind, atom_name, binary, inside, start_o
 use prolog_tokens::Text;
 use std::alloc::{AllocError, Global};
 
-/// A predicate indicator: a name and a number of arguments, with the byte offset at which it stands.
+/// A predicate indicator (ISO/IEC 13211-1, 7.1.6.6): a name and an arity, with its byte offset.
 #[derive(Drop)]
 pub struct Indicator {
     pub name: Text,
@@ -20,7 +20,7 @@ pub struct Indicator {
     pub from: u32,
 }
 
-/// The value of an integer without minus, and so many more, where that is an arity.
+/// The value of an integer without minus, plus `added`, if it is an arity.
 pub fn arity_of(term: &Term, added: u32) -> Option<u32>
     ensures { result ≡ arity_of (tree_of term.now) added }
 {
@@ -39,7 +39,7 @@ pub fn arity_of(term: &Term, added: u32) -> Option<u32>
     }
 }
 
-/// How many arguments an indicator of this name adds.
+/// How many arguments an indicator with this operator adds: none with `/`, and two with `//`.
 pub fn arguments_added(name: &str) -> Option<u32>
     ensures { result ≡ arguments_added name.now }
 {
@@ -75,7 +75,7 @@ fn read_indicator(alloc: Global, term: &Term) -> Result<Option<Indicator>, Alloc
     }))
 }
 
-/// Adds the indicator that the term is.
+/// Adds the indicator that the term is. Fails at the term if it is none.
 pub fn push_indicator(
     alloc: Global,
     term: &Term,
@@ -93,7 +93,7 @@ pub fn push_indicator(
     Ok(())
 }
 
-/// The indicators that the terms are.
+/// The indicators that the terms are, in their order. Fails at the first term that is none.
 pub fn indicators(alloc: Global, terms: &[Term]) -> Result<Vec<Indicator>, FactFault>
     ensures ok { IfOk result (λ found. indicators (map tree_of terms.now) ≡ Ok found.items) }
     ensures refused { IfErr result (λ fault. IsWhy (indicators (map tree_of terms.now)) fault) }
@@ -105,7 +105,8 @@ pub fn indicators(alloc: Global, terms: &[Term]) -> Result<Vec<Indicator>, FactF
     Ok(found)
 }
 
-/// The indicators of what must be a list without a tail.
+/// The indicators of a list without a tail, in its order. Fails at the term if it is no such list,
+/// and otherwise at the first item that is no indicator.
 pub fn listed_indicators(alloc: Global, term: &Term) -> Result<Vec<Indicator>, FactFault>
     ensures ok { IfOk result (λ found. listed_indicators (tree_of term.now) ≡ Ok found.items) }
     ensures refused { IfErr result (λ fault. IsWhy (listed_indicators (tree_of term.now)) fault) }

@@ -20,8 +20,9 @@ use prolog_tokens::Text;
 use std::alloc::{AllocError, Global};
 use std::sync::Arc;
 
-/// What a file says, by kind and each kind in order: of modules the first, and what it defines as
-/// runs. The ends are those of the goals of the directive under way, whose nodes are still to come.
+/// What a file says, by kind and each kind in the order of the text: of modules only the first, and
+/// its definitions as runs. `ends` are those of the goals of the current directive, whose nodes are
+/// added later.
 #[derive(Drop)]
 pub struct Kinds {
     pub declared: Option<Module>,
@@ -32,7 +33,7 @@ pub struct Kinds {
     pub ends: Vec<usize>,
 }
 
-/// Nothing said so far, with room for so many runs.
+/// Nothing said so far, with capacity for `room` runs.
 pub fn none_said(alloc: Global, room: usize) -> Result<Kinds, AllocError>
     ensures none { IfOk result (λ kinds. (names : List (List ℕ)) (nodes : List NodeOf) → see_kinds names nodes kinds ≡ none_said) }
     ensures ends { IfOk result (λ kinds. kinds.ends.items ≡ []) }
@@ -47,7 +48,7 @@ pub fn none_said(alloc: Global, room: usize) -> Result<Kinds, AllocError>
     })
 }
 
-/// Keeps the module, where none was there.
+/// Takes the module, if there was none.
 fn keep_module(kinds: &mut Kinds, own: Module)
     ensures { (names : List (List ℕ)) (nodes : List NodeOf) → see_kinds names nodes kinds.new
         ≡ with_part (see_kinds names nodes kinds.old) (declares (see_module own)) }
@@ -78,7 +79,7 @@ pub fn push_part(kinds: &mut Kinds, part: Part) -> Result<(), FactFault>
     }
 }
 
-/// Adds a goal of the directive under way, of which there are so many nodes up to the goal's own.
+/// Adds a goal of the current directive, which ends at the first `end` nodes.
 pub fn push_goal(kinds: &mut Kinds, end: usize) -> Result<(), AllocError>
     ensures { OnOk result ((names : List (List ℕ)) (nodes : List NodeOf) → see_kinds names nodes kinds.new
         ≡ with_part (see_kinds names nodes kinds.old) (goal (tree_in names nodes end))) }
@@ -87,7 +88,7 @@ pub fn push_goal(kinds: &mut Kinds, end: usize) -> Result<(), AllocError>
     Ok(())
 }
 
-/// Keeps the nodes in which a directive stands with its goals, where it has some.
+/// Adds the goals of the current directive with its nodes, if it has some.
 pub fn close_directive(
     alloc: Global,
     kinds: &mut Kinds,

@@ -1,4 +1,4 @@
-//! Runs in the order of the first bytes of their names, which few looks at texts find.
+//! Sorting runs by the first bytes of their names, which rarely reads the names themselves.
 
 ghost use Rattle.std.specs.Prelude.{◌≡◌, slice_index_or};
 ghost use Rattle.std.specs.List.Sorted.{IsPermutation, IsStableBy};
@@ -9,7 +9,7 @@ use crate::defined::Defined;
 use prolog_names::Names;
 use std::alloc::AllocError;
 
-/// The byte at a place, or 0 behind the last one.
+/// The byte at the index, or 0 past the last one.
 fn byte_at(bytes: &[u8], place: usize) -> u8
     ensures { result ≡ slice_index_or bytes.now place 0 }
 {
@@ -19,8 +19,8 @@ fn byte_at(bytes: &[u8], place: usize) -> u8
     }
 }
 
-/// The first eight bytes of a text as one number. Texts are in order where these numbers are, but for
-/// those that have one number.
+/// The first eight bytes of a text as one number. Texts are ordered as these numbers are, unless
+/// they have the same number.
 fn lead(text: &str) -> u64
     ensures { result ≡ lead text.now }
 {
@@ -37,8 +37,8 @@ fn lead(text: &str) -> u64
     ])
 }
 
-/// Puts the runs in the order of the first bytes of their names. Those of one predicate stay in the
-/// order that they have.
+/// Sorts the runs by the first bytes of their names. Those of one predicate stay in the order that
+/// they have.
 pub fn sort_by_lead(names: &Names, runs: &mut Vec<Defined>) -> Result<(), AllocError>
     ensures moved { IsPermutation runs.old.items runs.new.items }
     ensures stable { IsStableBy (comes_before names.now) runs.old.items runs.new.items }

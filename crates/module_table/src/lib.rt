@@ -1,10 +1,11 @@
-//! What a file of Prolog says: its module, its loads, the predicates that it defines and its goals.
+//! What a Prolog file says: its module, its loads, the predicates that it defines and the goals of
+//! its directives.
 //!
-//! `facts` answers the one record of facts that the clauses of a file are, or the first refusal with
-//! its byte offset: of `:- dynamic p.` the `p`, which is no predicate indicator. `resolve_name` is the
-//! file that a specification names: in `lib/a.pl`, `../x` is `x.pl`.
+//! `facts` returns the one record of facts of the clauses of a file, or the first error with its
+//! byte offset: for `:- dynamic p.` that of `p`, which is no predicate indicator. `resolve_name`
+//! returns the file that a specification names: in `lib/a.pl`, `../x` is `x.pl`.
 //!
-//! It sees one file at a time: whether another one is there, and what it exports, is for the layers
+//! It sees one file at a time. Whether another one is there, and what it exports, is for the layers
 //! above.
 #![tactic(auto)]
 

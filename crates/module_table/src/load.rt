@@ -23,11 +23,11 @@ pub enum LoadKind {
     UseAll,
     /// The indicators of a list.
     UseSome,
-    /// The file is loaded, and imported where it is a module file.
+    /// The file is loaded, and imported if it is a module file.
     Ensure,
 }
 
-/// A file to load: its resolved name, what is imported of it (for `UseSome` alone), and the byte
+/// A file to load: its resolved name, what is imported of it (only for `UseSome`), and the byte
 /// offset of its specification.
 #[derive(Drop)]
 pub struct Load {
@@ -58,7 +58,7 @@ fn path_text(alloc: Global, term: &Term) -> Result<Option<String>, AllocError>
     Ok(Some(path))
 }
 
-/// The file that a specification in a file names.
+/// The file that a specification in a file names, or None if it names none.
 fn file_of(alloc: Global, user: &str, spec: &Term) -> Result<Option<Text>, AllocError>
     ensures { IfOk result (λ found. found ≡ file_of user.now (tree_of spec.now)) }
 {
@@ -68,7 +68,8 @@ fn file_of(alloc: Global, user: &str, spec: &Term) -> Result<Option<Text>, Alloc
     }
 }
 
-/// Whether the specification is a term of one argument in functional notation.
+/// Whether the specification is a term of one argument in functional notation, such as
+/// `library(lists)`.
 fn is_system(spec: &Term) -> bool
     ensures { result ≡ is_system (tree_of spec.now) }
 {
@@ -81,7 +82,8 @@ fn is_system(spec: &Term) -> bool
     form == Form::Functional
 }
 
-/// Adds the load that the specification makes.
+/// Adds the load that the specification makes. Nothing is added for a library, and other terms that
+/// name no file fail.
 pub fn push_load(
     alloc: Global,
     user: &str,
@@ -108,7 +110,7 @@ pub fn push_load(
     push_part(kinds, Part::Load(load))
 }
 
-/// Adds one load for each specification.
+/// Adds one load for each specification, in their order.
 pub fn push_loads(
     alloc: Global,
     user: &str,

@@ -1,4 +1,4 @@
-//! Declarations of the arguments of predicates that are goals.
+//! Declarations of arguments that are goals (`meta_predicate`).
 
 ghost use Rattle.std.specs.Prelude.{◌≡◌, ◌++◌, ◌∷◌, [], map, IfOk, OnOk};
 ghost use Rattle.prolog_terms.specs.Terms.{tree_of};
@@ -12,8 +12,8 @@ use std::alloc::{AllocError, Global};
 /// The greatest number of added arguments that a declaration names.
 const MOST_ADDED: u32 = 9;
 
-/// How the arguments of the goals of a predicate stand, as a file declares it, with the byte offset
-/// of the declaration. Its number of arguments is that of the predicate.
+/// A declaration of the arguments of a predicate that are goals, with its byte offset. It has one
+/// entry for each argument.
 #[derive(Drop)]
 pub struct Meta {
     pub module: Text,
@@ -22,7 +22,7 @@ pub struct Meta {
     pub from: u32,
 }
 
-/// An integer of at most nine says how many arguments are added; any other constant says nothing.
+/// An integer of at most nine is how many arguments are added. Any other constant is no goal.
 fn digit_arg(kind: ConstKind, minus: bool, value: Option<u32>) -> GoalArg
     ensures { result ≡ digit_arg kind minus value }
 {
@@ -41,7 +41,7 @@ fn digit_arg(kind: ConstKind, minus: bool, value: Option<u32>) -> GoalArg
     GoalArg::Goal(number)
 }
 
-/// Of all names `^` and `//` alone say something.
+/// Of all names only `^` and `//` mean a goal.
 fn name_arg(name: &str) -> GoalArg
     ensures { result ≡ name_arg name.now }
 {
@@ -54,7 +54,7 @@ fn name_arg(name: &str) -> GoalArg
     GoalArg::Plain
 }
 
-/// What the argument of a declaration says of the argument that stands there in a goal.
+/// What the argument of a declaration means for the argument of a goal.
 fn goal_arg(term: &Term) -> GoalArg
     ensures { result ≡ goal_arg (tree_of term.now) }
 {
@@ -65,7 +65,7 @@ fn goal_arg(term: &Term) -> GoalArg
     }
 }
 
-/// One for each argument of a declaration.
+/// What each argument of a declaration means, in their order.
 fn goal_args(alloc: Global, terms: &[Term]) -> Result<Vec<GoalArg>, AllocError>
     ensures { IfOk result (λ args. args.items ≡ map goal_arg (map tree_of terms.now)) }
 {
@@ -76,7 +76,7 @@ fn goal_args(alloc: Global, terms: &[Term]) -> Result<Vec<GoalArg>, AllocError>
     Ok(args)
 }
 
-/// Adds the declaration that a compound of this name and these arguments makes.
+/// Adds the declaration of a compound with this name and these arguments.
 fn push_taking(
     alloc: Global,
     owner: &str,
@@ -97,7 +97,7 @@ fn push_taking(
     Ok(())
 }
 
-/// Adds what `meta_predicate` declares of the term in a module.
+/// Adds what `meta_predicate` declares in the module `owner`.
 pub fn push_takes(
     alloc: Global,
     owner: &str,

@@ -20,7 +20,7 @@ fn is_operator(item: &Term) -> bool
     operator_item(item).is_some()
 }
 
-/// The exports of a list, in which operators may stand too.
+/// The exports of a list, without the operators in it. Fails at the first item that is neither.
 fn exports(alloc: Global, list: &Term) -> Result<Vec<Indicator>, FactFault>
     ensures ok { IfOk result (λ found. exports (tree_of list.now) ≡ Ok found.items) }
     ensures refused { IfErr result (λ fault. IsWhy (exports (tree_of list.now)) fault) }
@@ -49,7 +49,7 @@ fn module_name<'a>(term: &Term<'a>) -> Option<&'a str>
     Some(name)
 }
 
-/// What `module/2` declares, whose term starts at `from`.
+/// The module that `module/2` declares, whose term starts at `from`.
 pub fn module_of(alloc: Global, name: &Term, list: &Term, from: u32) -> Result<Module, FactFault>
     ensures ok { IfOk result (λ own. module_said (tree_of name.now) (tree_of list.now) from ≡ Ok (declares (see_module own) ∷ [])) }
     ensures refused { IfErr result (λ fault. IsWhy (module_said (tree_of name.now) (tree_of list.now) from) fault) }

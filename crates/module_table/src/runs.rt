@@ -1,5 +1,5 @@
-//! Runs: a run is a predicate with those of its clauses that stand side by side in the text. A
-//! directive that defines a predicate makes a run without clauses, and no clause joins it.
+//! Runs: a run is a predicate with adjacent clauses of the text. A directive that defines a
+//! predicate makes a run without clauses, and no clause joins it.
 
 ghost use Rattle.std.specs.Prelude.{◌≡◌, ◌++◌, ◌∷◌, [], ◌&&◌, ℕ, List, None, nat_eq, flat_map, OnOk};
 ghost use Rattle.std.specs.Bool.{OnTrue};
@@ -18,7 +18,7 @@ fn is_named(run: &Defined, owner: u32, name: u32, arity: usize) -> bool
     run.arity as usize == arity && (run.name == name && run.module == owner)
 }
 
-/// Whether the runs end in one with clauses of the predicate with these numbers.
+/// Whether the last run has clauses, and is of the predicate with these numbers.
 pub fn end_in(runs: &[Defined], owner: u32, name: u32, arity: usize) -> bool
     ensures { OnTrue result (EndIn owner name arity runs.now) }
 {

@@ -10,7 +10,7 @@ use prolog_terms::{Term, start_of};
 use prolog_tokens::Text;
 use std::alloc::AllocError;
 
-/// Why the facts of a file aren't told: the first refusal, with its byte offset.
+/// Why there are no facts of a file: the first error, with its byte offset.
 #[derive(Clone, Copy, Debug, PartialEq, Eq)]
 pub enum FactFault {
     At(Cause, u32),
@@ -40,7 +40,7 @@ pub enum Part {
     Load(Load),
 }
 
-/// The refusal at the term.
+/// The error at the term, inside the brackets round it.
 pub fn refusal(cause: Cause, term: &Term) -> FactFault
     ensures { result ≡ FactFault.At cause (start_of (tree_of term.now)) }
 {

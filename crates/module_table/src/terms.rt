@@ -1,4 +1,4 @@
-//! What terms are, without the brackets round them.
+//! Views of terms that look through the brackets round them.
 
 ghost use Rattle.std.specs.Prelude.{◌≡◌, IfOk, IfSome, All, option_map, map};
 ghost use Rattle.std.specs.List.{list_any};
@@ -17,7 +17,7 @@ pub fn is_one_of(words: &[&str], name: &str) -> bool
     words.iter().any(|word| *word == name)
 }
 
-/// The items of a list without a tail.
+/// The items of a list without a tail, in their order, or None if the term is no such list.
 pub fn list_items<'a>(alloc: Global, term: &Term<'a>) -> Result<Option<Vec<Term<'a>>>, AllocError>
     ensures trees { IfOk result (λ found. option_map (λ items. map tree_of items.items) found ≡ list_of (tree_of term.now)) }
     ensures within { IfOk result (λ found. IfSome found (λ items. All (IsOf term.now.names.now term.now.nodes.now) items.items)) }

@@ -1,4 +1,5 @@
-//! What holds of each table and of numbers, as laws.
+//! Theorems about each table of names: functions that do nothing, and are called for what they
+//! ensure.
 
 ghost use Rattle.std.specs.Prelude.{◌≡◌, ◌≢◌, ◌<◌, ◌≤◌, ℕ, [], List, length, codes, slice_range};
 ghost use Rattle.prolog_tokens.specs.declared.token.Token.{Token as TokenOf};
@@ -7,8 +8,8 @@ ghost use Rattle.prolog_names.specs.Numbers.{AreNumbered};
 
 use crate::names::{BAR, COMMA, CURLY, EMPTY, MINUS, Names, OPENING_COUNT, SQUARE, USER};
 
-/// Each table begins with the opening names. No name stands twice in it, so a name that isn't empty is
-/// that of one number alone.
+/// Each table begins with the opening names. No name is in it twice, so a name that isn't empty has
+/// one number only.
 pub fn names_law(names: &Names)
     ensures opened { IsOpened names.now }
     ensures empty { name_at names.now EMPTY ≡ [] }
@@ -24,7 +25,7 @@ pub fn names_law(names: &Names)
     let _count = names.table.len();
 }
 
-/// The opening names have the same numbers in each table, and a name with a number at or beyond their
+/// The opening names have the same numbers in each table. A name whose number is at least their
 /// count is none of them.
 pub fn opening_law(names: &Names)
     ensures named { (k : ℕ) → k < OPENING_COUNT → name_at names.now k ≡ name_at opening_names k }
@@ -34,7 +35,7 @@ pub fn opening_law(names: &Names)
     names_law(names);
 }
 
-/// Of numbered tokens a part is numbered by the part of the numbers.
+/// A part of the numbers of tokens numbers the same part of the tokens.
 pub fn numbered_part()
     ensures { (text : List ℕ) (names : List (List ℕ)) (ts : List TokenOf) (numbers : List ℕ) (from to : ℕ) → AreNumbered text names ts numbers
         → from ≤ to → to ≤ length ts → AreNumbered text names (slice_range ts from to) (slice_range numbers from to) }

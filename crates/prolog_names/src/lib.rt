@@ -1,8 +1,9 @@
-//! Names as numbers: each name of a text stands once in a table, and its number is its place there.
+//! Names as numbers (string interning): each name of a text is once in a table, and its number is
+//! its index there.
 //!
-//! `number_names` gives each token of a text the number of its name, and the table. Two tokens have
-//! one number just where they have one name. The names that the reader asks for stand first in each
-//! table, so that their numbers are constants.
+//! `number_names` returns the table of a text, and for each token the number of its name. Two
+//! tokens have the same number exactly if they have the same name. The names that the reader asks
+//! for come first in each table, so that their numbers are constants.
 //!
 //! It knows no operators and no terms.
 #![tactic(auto)]

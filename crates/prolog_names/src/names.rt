@@ -5,7 +5,7 @@ ghost use Rattle.prolog_names.specs.Names.{name_at};
 use crate::table::NameTable;
 use std::marker::Model;
 
-/// The number of the empty name, and that of each token without a name.
+/// The number of the empty name, and of each token without a name.
 pub const EMPTY: u32 = 0;
 /// The number of `,`.
 pub const COMMA: u32 = 1;
@@ -19,11 +19,11 @@ pub const CURLY: u32 = 4;
 pub const MINUS: u32 = 5;
 /// The number of `user`.
 pub const USER: u32 = 51;
-/// How many names each table begins with. A number at or beyond it is that of no such name.
+/// How many names each table begins with. Their numbers are below it, and all others aren't.
 pub const OPENING_COUNT: u32 = 52;
 
-/// The names of a text, each once. A name's number is its place; the constants are numbers in each
-/// table.
+/// The names of a text, each once. The number of a name is its index. The constants of this crate
+/// are numbers in each table.
 #[derive(Drop)]
 pub struct Names {
     pub(crate) table: NameTable,
@@ -41,14 +41,14 @@ impl Model for Names {
 }
 
 impl Names {
-    /// The name of the number, or none for a number that is no name's.
+    /// The name with the number, or the empty name if no name has it.
     pub fn text(&self, number: u32) -> &str
         ensures { result.now ≡ name_at self.now number }
     {
         self.table.text(number as usize)
     }
 
-    /// Whether the name of the number is this one.
+    /// Whether the name with the number is this one.
     #[inline(always)]
     pub fn is(&self, number: u32, name: &str) -> bool
         ensures { result ≡ bytes_eq (name_at self.now number) name.now }

@@ -12,12 +12,12 @@ use crate::table::NameTable;
 use prolog_tokens::{Kind, Token, cut_fewer, cut_tokens, name_slice, name_text};
 use std::alloc::{AllocError, Global};
 
-/// How many tokens of a text one bucket is made for.
+/// How many tokens of a text share one bucket on average.
 const BUCKET_TOKENS: usize = 4;
 
-/// The names that each table begins with, whose places are constants: first those that the reader asks
-/// for, then the names of the operators that a text begins with, in the order of what stands beside
-/// them, then the name of a module.
+/// The names that each table begins with, whose indices are constants. First come those that the
+/// reader asks for, and then the names of the opening operators, in the order of their sides. The
+/// name of a module is last.
 const OPENING: [&str; OPENING_COUNT as usize] = [
     "",
     ",",
@@ -73,14 +73,14 @@ const OPENING: [&str; OPENING_COUNT as usize] = [
     "user",
 ];
 
-/// The numbers of a text's tokens, one for each, and the names that they mean.
+/// The names of a text, and for each of its tokens the number of its name.
 #[derive(Drop)]
 pub struct Numbered {
     pub names: Names,
     pub numbers: Vec<u32>,
 }
 
-/// The table of the opening names, with more than so many buckets.
+/// The table of the opening names, with more than `buckets` buckets.
 fn opening_table(alloc: Global, buckets: usize) -> Result<NameTable, AllocError>
     requires { buckets < 2 ^ 32 }
     ensures { IfOk result (λ table. table ≡ opening_names) }
@@ -90,8 +90,8 @@ fn opening_table(alloc: Global, buckets: usize) -> Result<NameTable, AllocError>
     Ok(table)
 }
 
-/// What stands between the quotes of a Quoted token, where it is the name as it stands: no quote is
-/// written twice in it, and no escape stands there.
+/// The text between the quotes of a Quoted token, if it is the name as it is: no quote is doubled
+/// in it, and there is no escape.
 fn plain_name(text: &str, token: Token) -> Option<&str>
     requires { IsQuoted text.now 39 token.start token.end }
     ensures { IfSome result (λ name. IsQuotedText text.now 39 token.start token.end name.now) }
@@ -110,7 +110,7 @@ fn plain_name(text: &str, token: Token) -> Option<&str>
     Some(inner)
 }
 
-/// The number of the token's name, which is put into the table where it isn't there yet.
+/// The number of the token's name. A name that isn't in the table yet is added.
 #[inline(always)]
 fn number_of(
     alloc: Global,
@@ -139,8 +139,11 @@ fn number_of(
     }
 }
 
-/// The number of the name of each token of a text of at most 8,388,608 bytes; 0 for a token without a
-/// name. Fails only where memory runs out.
+/// For each token of a text of at most 8,388,608 bytes the number of its name, in the order of the
+/// tokens, and 0 for a token without a name.
+///
+/// Fails only if memory runs out. A look-up passes at most 32 names of a chain, or else takes steps
+/// in the logarithm of the number of names.
 pub fn number_names(alloc: Global, text: &str, tokens: &[Token]) -> Result<Numbered, AllocError>
     requires small { length text.now ≤ MOST_BYTES }
     requires cut { IsCut text.now tokens.now }

@@ -1,4 +1,4 @@
-//! Names in chains, one for each bucket of a hash: a name is found by one look-up, without memory.
+//! A hash table of names with chains: a name is found by one look-up, which allocates nothing.
 
 ghost use Rattle.std.specs.Prelude.{◌≡◌, ◌<◌, ◌+◌, ◌-◌, ◌^◌, ◌++◌, [], ◌∷◌, ℕ, List, false, length, map, fold, IfOk, OnOk, MatchOption};
 ghost use Rattle.std.specs.Int.{IsPowerOfTwo};
@@ -12,15 +12,15 @@ use std::alloc::{AllocError, Global};
 use std::collections::BTreeMap;
 use std::marker::Model;
 
-/// How many bytes of names there is room for at first, for each bucket: those of a usual name.
+/// How many bytes of names are reserved at first for each bucket: those of a usual name.
 const NAME_BYTES: usize = 8;
 
-/// How many names a chain may have. Those that come to a full one stand in the last chain, and are found
-/// in order of their bytes: so each look-up is short, whatever names a text has.
+/// How many names a chain may have. Names whose chain is full are in the last chain instead, and
+/// are found in order of their bytes. So each look-up is short, whatever names a text has.
 const MOST_IN_CHAIN: usize = 32;
 
-/// Where a name starts and ends in the text of all names, its hash, and one more than the place of the
-/// name before it in its bucket; 0 where there is none.
+/// Where a name starts and ends in the text of all names, its hash, and one more than the index of
+/// the name before it in its bucket; 0 if there is none.
 #[derive(Clone, Copy)]
 struct Entry {
     start: u32,
@@ -29,17 +29,17 @@ struct Entry {
     next: u32,
 }
 
-/// Names with their places, each once. A name is found by the hash of its bytes. On the way the names
-/// of other hashes are passed without a look at their texts.
+/// Names with their indices, each once. A name is found by the hash of its bytes. Names of other
+/// hashes in its chain are skipped without reading their texts.
 #[derive(Drop)]
 pub struct NameTable {
-    /// The names, one behind the other, so that none needs a piece of memory of its own.
+    /// The names, one after the other, so that none needs an allocation of its own.
     texts: String,
     entries: Vec<Entry>,
-    /// For each bucket one more than the place of its last name; 0 where it has none. The last is no
-    /// bucket, but the chain of the far names.
+    /// For each bucket one more than the index of its last name; 0 if it has none. The last entry
+    /// is no bucket, but the chain of the far names.
     heads: Vec<u32>,
-    /// The names that came to a full chain, with their places.
+    /// The far names, whose chains were full, with their indices.
     far: BTreeMap<String, u32>,
 }
 
@@ -56,7 +56,7 @@ impl Model for NameTable {
     ghost invariant = { λ table. IsTable (string_bytes table.texts) table.entries.items table.heads.items (get_by_text table.far) };
 }
 
-/// The hash of a text. Texts that differ in their last byte alone have neighbouring hashes.
+/// The hash of a text. Texts that differ only in their last byte have neighbouring hashes.
 #[inline(always)]
 pub fn text_hash(text: &str) -> u32
     ensures { result ≡ text_hash text.now }
@@ -70,9 +70,9 @@ pub fn text_hash(text: &str) -> u32
     state
 }
 
-/// The bucket of a hash, of so many. Neighbouring hashes have neighbouring buckets, since names that
-/// stand side by side in a text mostly differ in their last byte alone. The count is a power of two,
-/// so that no division is needed.
+/// The bucket of a hash among `size` buckets. Neighbouring hashes have neighbouring buckets, since
+/// adjacent names of a text mostly differ only in their last byte. The size is a power of two, so
+/// that no division is needed.
 #[inline(always)]
 fn bucket_of(hash: u32, size: usize) -> usize
     requires { IsPowerOfTwo size }
@@ -91,7 +91,7 @@ fn name_in<'a>(texts: &'a str, entry: &Entry) -> &'a str
     &texts[entry.start as usize..entry.end as usize]
 }
 
-/// Whether the entry is that of the name of the hash. Where its own hash is another one, its text isn't
+/// Whether the entry is that of the name with the hash. If its own hash differs, its text isn't
 /// read.
 #[inline(always)]
 fn is_named(texts: &str, entry: &Entry, name: &str, hash: u32) -> bool
@@ -106,7 +106,8 @@ fn is_named(texts: &str, entry: &Entry, name: &str, hash: u32) -> bool
     name == name_in(texts, entry)
 }
 
-/// Whether a chain, from its head on, has fewer names than one may have. Either answer is a right one.
+/// Whether a chain, from its head on, has fewer names than it may have. Both results are right, so
+/// there is no contract.
 fn has_room(entries: &[Entry], head: u32) -> bool {
     let mut at = head;
     for _ in 0..MOST_IN_CHAIN {
@@ -121,8 +122,8 @@ fn has_room(entries: &[Entry], head: u32) -> bool {
     false
 }
 
-/// The chain that takes a name of that hash, which comes to that place: that of its bucket, where it has
-/// room, else the last one, and then the name is put to the far ones.
+/// The chain for a new name of that hash and index: that of its bucket, unless it is full. Then it
+/// is the last one, and the name is added to the far ones.
 fn chain_for(
     alloc: Global,
     entries: &[Entry],
@@ -149,7 +150,8 @@ fn chain_for(
 }
 
 impl NameTable {
-    /// A table without names, with more than so many buckets, and with room for as many names.
+    /// A table without names, with more than `buckets` buckets, and with capacity for as many
+    /// names.
     pub fn new(alloc: Global, buckets: usize) -> Result<NameTable, AllocError>
         requires { buckets < 2 ^ 32 }
         ensures { IfOk result (λ table. table ≡ []) }
@@ -171,7 +173,7 @@ impl NameTable {
         self.entries.len()
     }
 
-    /// The name at a place, or none behind the last one.
+    /// The name at the index, or the empty name past the last one.
     #[inline(always)]
     pub fn text(&self, place: usize) -> &str
         ensures { result.now ≡ name_at self.now place }
@@ -182,7 +184,7 @@ impl NameTable {
         }
     }
 
-    /// Whether the name at a place, or none behind the last one, is this one.
+    /// Whether the name at the index, or the empty one past the last, is this one.
     #[inline(always)]
     pub fn is(&self, place: usize, name: &str) -> bool
         ensures { result ≡ bytes_eq (name_at self.now place) name.now }
@@ -190,7 +192,7 @@ impl NameTable {
         self.text(place) == name
     }
 
-    /// The place of the name of that hash.
+    /// The index of the name with that hash, if it is there.
     #[inline(always)]
     fn find(&self, name: &str, hash: u32) -> Option<u32>
         requires { hash ≡ text_hash name.now }
@@ -219,8 +221,8 @@ impl NameTable {
         None
     }
 
-    /// Puts a name of that hash, which isn't there yet, behind the others, and tells its place. Room
-    /// for its entry is made first, so that where memory runs out no text stands without one.
+    /// Appends a name of that hash, which isn't there yet, and returns its index. Capacity for its
+    /// entry is reserved first, so that no text is without an entry if memory runs out.
     fn add(&mut self, name: &str, hash: u32) -> Result<u32, AllocError>
         requires hash { hash ≡ text_hash name.now }
         requires absent { list_any (bytes_eq name.now) self.old ≡ false }
@@ -253,7 +255,7 @@ impl NameTable {
         Ok(place)
     }
 
-    /// The place of the name, which is put behind the others where it isn't there yet.
+    /// The index of the name. A name that isn't there yet is appended.
     pub fn place_of(&mut self, name: &str) -> Result<u32, AllocError>
         requires room { length self.old < 4294967295 }
         requires few { bytes_of self.old + length name.now < 2 ^ 32 }
@@ -267,7 +269,7 @@ impl NameTable {
         self.add(name, hash)
     }
 
-    /// Puts each of the names behind the others where it isn't there yet.
+    /// Appends each of the names that isn't there yet, in their order.
     pub fn place_each(&mut self, names: &[&str]) -> Result<(), AllocError>
         requires room { length self.old + length names.now < 4294967296 }
         requires few { bytes_of self.old + bytes_of (map (λ name. name.now) names.now) < 2 ^ 32 }

@@ -1,9 +1,10 @@
-//! Prolog's operators: which names are operators at which place, with what priority.
+//! Prolog's operators (ISO/IEC 13211-1, 6.3.4): which names are operators, with what fixity and
+//! priority.
 //!
-//! An `OpTable` is a map from a place (before, between or behind operands) and a name to an operator.
-//! It begins as the table that each text begins with; `set` puts one pair in or takes it out, refuses
-//! exactly what can't be set, and leaves the table as it was where it refuses. In every table no name
-//! is both infix and postfix.
+//! An `OpTable` is a map from a fixity (prefix, infix or postfix) and a name to an operator. It
+//! begins as the table of every text. `set` adds, replaces or removes one entry. It rejects exactly
+//! what can't be set, and leaves the table unchanged then. In every table no name is both infix and
+//! postfix.
 //!
 //! It doesn't know what text the names come from.
 #![tactic(auto)]

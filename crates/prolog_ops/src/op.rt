@@ -1,5 +1,5 @@
-/// The kinds of operators of ISO/IEC 13211-1, 6.3.4: `f` stands for the operator, `y` for an operand
-/// of at most its priority, and `x` for one of a lesser priority.
+/// The kinds of operators of ISO/IEC 13211-1, 6.3.4. `f` is the operator, `y` an operand of at most
+/// its priority, and `x` an operand of a lower priority.
 #[derive(Clone, Copy, Debug, PartialEq, Eq)]
 pub enum OpKind {
     Xfx,

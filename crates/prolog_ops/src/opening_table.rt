@@ -1,4 +1,4 @@
-//! The operators that each text begins with.
+//! The operators that each text begins with: those of ISO/IEC 13211-1, 6.3.4.4, and some more.
 
 ghost use Rattle.std.specs.Prelude.{◌≡◌, IfOk};
 ghost use Rattle.prolog_ops.specs.ByName.{op_at};
@@ -8,6 +8,7 @@ use crate::op::OpKind;
 use crate::place_ops::PlaceOps;
 use std::alloc::{AllocError, Global};
 
+/// The prefix operators of the opening table.
 pub fn opening_prefixes(alloc: Global) -> Result<PlaceOps, AllocError>
     ensures { IfOk result (λ ops. op_at ops ≡ opening Prefix) }
 {
@@ -29,6 +30,7 @@ pub fn opening_prefixes(alloc: Global) -> Result<PlaceOps, AllocError>
     Ok(ops)
 }
 
+/// The infix operators of the opening table. No name is a postfix operator in it.
 pub fn opening_infixes(alloc: Global) -> Result<PlaceOps, AllocError>
     ensures { IfOk result (λ ops. op_at ops ≡ opening Infix) }
 {

@@ -6,7 +6,7 @@ use indexmap::IndexMap;
 use std::alloc::{AllocError, Global};
 use std::marker::Model;
 
-/// The operators of one place, by their names.
+/// The operators of one fixity, by their names.
 #[derive(Drop)]
 pub struct PlaceOps {
     ops: IndexMap<String, Op>,
@@ -23,6 +23,7 @@ impl Model for PlaceOps {
 }
 
 impl PlaceOps {
+    /// No operators.
     pub fn new(alloc: Global) -> PlaceOps
         ensures { op_at result ≡ no_op }
     {
@@ -31,13 +32,14 @@ impl PlaceOps {
         }
     }
 
+    /// The operator of the name, if it is one.
     pub fn get(&self, name: &str) -> Option<Op>
         ensures { result ≡ op_at self.now name.now }
     {
         self.ops.get(name).copied()
     }
 
-    /// Gives the name this operator, in place of the one that it has.
+    /// Makes the name this operator, and replaces the one that it is.
     fn put(&mut self, alloc: Global, name: &str, op: Op) -> Result<(), AllocError>
         ensures put { OnOk result (op_at self.new ≡ with_op (op_at self.old) name.now (Some op)) }
         ensures kept { OnErr result (self.new ≡ self.old) }
@@ -69,7 +71,7 @@ impl PlaceOps {
         self.ops.swap_remove(name);
     }
 
-    /// Gives the name this operator, or none where the priority is 0. To remove one takes no memory.
+    /// Makes the name this operator, or removes it if the priority is 0. Removing takes no memory.
     pub fn set(&mut self, alloc: Global, name: &str, op: Op) -> Result<(), AllocError>
         ensures set { OnOk result (op_at self.new ≡ with_op (op_at self.old) name.now (if op.priority == 0 then None else Some op)) }
         ensures kept { OnErr result (self.new ≡ self.old) }

@@ -9,7 +9,7 @@ use std::alloc::{AllocError, Global};
 use std::marker::Model;
 use thiserror::Error;
 
-/// Why an operator can't be set.
+/// Why `op/3` can't set an operator (ISO/IEC 13211-1, 8.14.3).
 #[derive(Debug, PartialEq, Eq, Drop, Error)]
 pub enum OpFault {
     /// The priority is over 1200.
@@ -18,7 +18,7 @@ pub enum OpFault {
     /// The name is `,`, `|`, `[]` or `{}`.
     #[error("operator cannot be changed")]
     FixedOp,
-    /// The name is an operator of the other of these two places.
+    /// The name is already an infix operator and would be postfix too, or the reverse.
     #[error("operator would be infix and postfix")]
     InfixAndPostfix,
     #[error("out of memory")]
@@ -36,14 +36,14 @@ impl From<AllocError> for OpFault {
 /// The greatest priority of an operator.
 const MOST_PRIORITY: u32 = 1200;
 
-/// Which names are operators (ISO/IEC 13211-1, 6.3.4): a map from a name and a place, which is
-/// prefix, infix or postfix, to an operator. No name is both infix and postfix.
+/// Which names are operators (ISO/IEC 13211-1, 6.3.4): a map from a name and a fixity to an
+/// operator. No name is both infix and postfix.
 #[derive(Drop)]
 pub struct OpTable {
     prefixes: PlaceOps,
     infixes: PlaceOps,
     postfixes: PlaceOps,
-    /// Whether an operator was set since the table began as the opening one.
+    /// Whether an operator was set since the table was the opening one.
     was_changed: bool,
 }
 
@@ -57,7 +57,7 @@ impl Model for OpTable {
     ghost invariant = { λ table. IsKept (record { prefixes = table.prefixes; infixes = table.infixes; postfixes = table.postfixes }) table.was_changed };
 }
 
-/// Whether the operators of the name can't be changed.
+/// Whether operators of the name can't be changed.
 fn is_fixed(name: &str) -> bool
     ensures { result ≡ is_fixed name.now }
 {
@@ -79,8 +79,8 @@ impl OpTable {
         })
     }
 
-    /// Whether the table is known to be the one that each text begins with: no operator was set in it.
-    /// A table in which one was set may still be the same; of it `false` promises nothing.
+    /// Whether the table is known to be the one that each text begins with, because no operator was
+    /// set in it. If the result is false, the table may still be that one.
     pub fn is_opening(&self) -> bool
         ensures opening { result ≡ true → ops_of self.now ≡ opening }
         ensures table { IsOps (ops_of self.now) }
@@ -88,7 +88,7 @@ impl OpTable {
         !self.was_changed
     }
 
-    /// The operator of the name before an operand. A look-up takes no memory.
+    /// The prefix operator of the name. A look-up takes no memory.
     pub fn prefix(&self, name: &str) -> Option<Op>
         ensures is { result ≡ ops_of self.now Prefix name.now }
         ensures table { IsOps (ops_of self.now) }
@@ -96,7 +96,7 @@ impl OpTable {
         self.prefixes.get(name)
     }
 
-    /// The operator of the name between two operands.
+    /// The infix operator of the name.
     pub fn infix(&self, name: &str) -> Option<Op>
         ensures is { result ≡ ops_of self.now Infix name.now }
         ensures table { IsOps (ops_of self.now) }
@@ -104,7 +104,7 @@ impl OpTable {
         self.infixes.get(name)
     }
 
-    /// The operator of the name behind an operand.
+    /// The postfix operator of the name.
     pub fn postfix(&self, name: &str) -> Option<Op>
         ensures is { result ≡ ops_of self.now Postfix name.now }
         ensures table { IsOps (ops_of self.now) }
@@ -112,9 +112,11 @@ impl OpTable {
         self.postfixes.get(name)
     }
 
-    /// Makes the name an operator of this kind and priority, in place of what it is at the kind's
-    /// place, or no operator there where the priority is 0, which takes no memory. A fault is told
-    /// also where memory is wanting. A refusal leaves the table as it was.
+    /// Makes the name an operator of this kind and priority, and replaces the operator of that
+    /// fixity. If the priority is 0 it is removed instead, which takes no memory.
+    ///
+    /// An operator that can't be set is reported even if memory runs out. After an error the table
+    /// is unchanged.
     pub fn set(
         &mut self,
         alloc: Global,
@@ -140,7 +142,7 @@ impl OpTable {
         }
     }
 
-    /// Why the operator can't be set, the first reason of them.
+    /// Why the operator can't be set: the first reason of several.
     fn set_fault(&self, name: &str, kind: OpKind, priority: u32) -> Option<OpFault>
         ensures { result ≡ set_fault (ops_of self.now) name.now kind priority }
     {
@@ -156,7 +158,7 @@ impl OpTable {
         None
     }
 
-    /// Whether the name is an operator at the other of infix and postfix.
+    /// Whether the name is an operator of the other fixity of infix and postfix.
     fn has_rival(&self, name: &str, kind: OpKind) -> bool
         ensures { result ≡ has_rival (ops_of self.now) (place_of kind) name.now }
     {

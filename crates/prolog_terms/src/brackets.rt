@@ -1,4 +1,4 @@
-//! Separators, closing brackets and the End, behind an operand.
+//! Separators, closing brackets and the End, after an operand.
 
 ghost use Rattle.std.specs.Prelude.{◌≡◌, ◌<◌, Some, IfOk};
 ghost use Rattle.prolog_terms.specs.Tree.{none};
@@ -19,7 +19,7 @@ use prolog_names::Names;
 use prolog_tokens::Kind;
 use std::alloc::AllocError;
 
-/// One argument or item more is wanted, behind so many.
+/// One argument or item more is wanted, after `count` of them.
 fn next_part(
     state: &mut State,
     opened: Opened,
@@ -60,8 +60,8 @@ fn comma_behind(state: &mut State, last: Operand) -> Result<bool, AllocError>
     }
 }
 
-/// A Comma: a separator where the innermost bracket has parts, else an operator (ISO/IEC 13211-1,
-/// 6.3.4.3).
+/// A Comma: a separator if the innermost bracket has parts, and otherwise an operator (ISO/IEC
+/// 13211-1, 6.3.4.3).
 pub fn comma(
     names: &Names,
     state: &mut State,
@@ -79,7 +79,7 @@ pub fn comma(
     comma_behind(state, last)
 }
 
-/// The tail of a list is wanted, behind so many items.
+/// The tail of a list is wanted, after `count` items.
 fn tail_part(state: &mut State, square: Word, count: u32, depth: usize) -> Result<bool, AllocError>
     ensures { IfOk result (λ goes. (names : NamesSeen) → see_step names state.new goes ≡ goes_seen
         (pushed (see_entries names (innermost state.old.stack) (without count (trees_in names state.old)))
@@ -94,7 +94,7 @@ fn tail_part(state: &mut State, square: Word, count: u32, depth: usize) -> Resul
     Ok(true)
 }
 
-/// The Bar of a list, behind its items (ISO/IEC 13211-1, 6.3.5.1).
+/// The Bar of a list, after its items (ISO/IEC 13211-1, 6.3.5.1).
 fn bar_behind(state: &mut State, last: Operand) -> Result<bool, AllocError>
     requires room { (names : NamesSeen) → parts_held (see_held names state.old last).stack < 4294967295 }
     ensures { IfOk result (λ goes. (names : NamesSeen) → see_step names state.new goes
@@ -121,8 +121,8 @@ fn bar_behind(state: &mut State, last: Operand) -> Result<bool, AllocError>
     }
 }
 
-/// A Bar: before a tail where the innermost bracket has parts, else an operator (ISO/IEC 13211-1,
-/// 6.3.4.3).
+/// A Bar: it precedes a tail if the innermost bracket has parts, and is an operator otherwise
+/// (ISO/IEC 13211-1, 6.3.4.3).
 pub fn bar(
     names: &Names,
     state: &mut State,
@@ -174,7 +174,7 @@ fn close_wrap(
     Ok(true)
 }
 
-/// The `)` behind arguments (ISO/IEC 13211-1, 6.3.3) or behind a term in brackets (6.3.4.1).
+/// The `)` after arguments (ISO/IEC 13211-1, 6.3.3) or after a term in brackets (6.3.4.1).
 pub fn round_behind(state: &mut State, last: Operand, word: Word) -> Result<bool, AllocError>
     requires room { (names : NamesSeen) → parts_held (see_held names state.old last).stack < 4294967295 }
     ensures { IfOk result (λ goes. (names : NamesSeen) → see_step names state.new goes
@@ -208,7 +208,7 @@ pub fn round_behind(state: &mut State, last: Operand, word: Word) -> Result<bool
     }
 }
 
-/// The `]` behind the tail of a list (ISO/IEC 13211-1, 6.3.5).
+/// The `]` after the tail of a list (ISO/IEC 13211-1, 6.3.5).
 fn close_tailed(
     state: &mut State,
     square: Word,
@@ -261,7 +261,7 @@ pub fn square_behind(state: &mut State, last: Operand, word: Word) -> Result<boo
     }
 }
 
-/// The `}` behind a term in curly brackets (ISO/IEC 13211-1, 6.3.6).
+/// The `}` after a term in curly brackets (ISO/IEC 13211-1, 6.3.6).
 pub fn curly_behind(state: &mut State, last: Operand, word: Word) -> Result<bool, AllocError>
     ensures { IfOk result (λ goes. (names : NamesSeen) → see_step names state.new goes
         ≡ curly_in (see_word names word) (see_held names state.old last).stack (see_held names state.old last).operand) }
@@ -282,7 +282,7 @@ pub fn curly_behind(state: &mut State, last: Operand, word: Word) -> Result<bool
     }
 }
 
-/// The End of the clause, where nothing is open (ISO/IEC 13211-1, 6.2.2).
+/// The End of the clause, if nothing is open (ISO/IEC 13211-1, 6.2.2).
 pub fn end_behind(state: &mut State, last: Operand) -> bool
     ensures { (names : NamesSeen) → see_step names state.new result ≡ end_in (see_held names state.old last).stack (see_held names state.old last).operand }
 {

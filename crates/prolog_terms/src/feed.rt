@@ -1,4 +1,4 @@
-//! The reader: one word at a time.
+//! The reader: one token at a time.
 
 ghost use Rattle.std.specs.Prelude.{◌≡◌, ◌&&◌, ◌<◌, ◌∷◌, [], not, IfOk, Some, None, false, true, MatchOption};
 ghost use Rattle.prolog_ops.specs.Table.{ops_of, IsOps};
@@ -24,7 +24,7 @@ use prolog_names::Names;
 use prolog_ops::OpTable;
 use std::alloc::AllocError;
 
-/// A name waits for the word behind it, with its sides where it is a prefix operator.
+/// A name waits for the token after it, with its sides if it is a prefix operator.
 #[inline(always)]
 fn wait(reader: &mut Reader, name: Word, prefix: Option<Sides>)
     ensures { (names : NamesSeen) → see_reader names reader.new ≡ named_seen (see_stack names reader.old.state) (see_word names name) prefix }
@@ -39,7 +39,7 @@ fn wait(reader: &mut Reader, name: Word, prefix: Option<Sides>)
     }
 }
 
-/// A word where nothing waits, which is no name where an operand is wanted.
+/// Reads a token while none waits. It isn't a name where an operand is wanted.
 fn step(table: &OpTable, names: &Names, reader: &mut Reader, word: Word) -> Result<bool, AllocError>
     requires law { IsOps (ops_of table.now) }
     requires room { parts_held (see_state names.now reader.old.state).stack < 4294967295 }
@@ -51,7 +51,7 @@ fn step(table: &OpTable, names: &Names, reader: &mut Reader, word: Word) -> Resu
     Ok(goes)
 }
 
-/// A word where nothing waits.
+/// Reads a token while none waits.
 #[inline(always)]
 fn enter(
     table: &OpTable,
@@ -74,7 +74,7 @@ fn enter(
     step(table, names, reader, word)
 }
 
-/// The sides of the word where it is an infix operator and no prefix operator.
+/// The sides of the token if it is an infix operator and no prefix operator.
 fn infix_only(table: &OpTable, names: &Names, word: Word) -> Option<Sides>
     ensures { MatchOption result (is_infix_only (table_of (ops_of table.now)) (see_word names.now word)
         ≡ false) (λ sides. (is_infix_only (table_of (ops_of table.now)) (see_word names.now word) ≡ true)
@@ -96,7 +96,7 @@ fn infix_fits(measure: Measure, sides: Sides) -> bool
     sides.priority <= measure.bound && measure.priority <= sides.left
 }
 
-/// The least depth of the clause with an infix operator behind the operand.
+/// The least depth of the clause with an infix operator after the operand.
 fn infix_floor(measure: Measure) -> usize
     ensures { result ≡ infix_floor measure }
 {
@@ -108,7 +108,7 @@ fn infix_floor(measure: Measure) -> usize
     measure.reach.max(inner)
 }
 
-/// Two names wait for the word behind them.
+/// Two names wait for the token after them.
 fn wait_in_doubt(
     reader: &mut Reader,
     first: Word,
@@ -130,7 +130,7 @@ fn wait_in_doubt(
     reader.waiting = Waiting::Doubt;
 }
 
-/// Two words that one more has to decide: an atom and its infix operator, or a prefix operator and
+/// Two tokens that one more has to decide: an atom and its infix operator, or a prefix operator and
 /// a functor.
 fn doubt(reader: &mut Reader, first: Word, prefix: Sides, second: Word, between: Sides) -> bool
     ensures { (names : NamesSeen) → see_fed names reader.new result ≡ doubt_step (see_stack names reader.old.state) (see_word names first) prefix
@@ -197,7 +197,7 @@ fn negative(reader: &mut Reader, minus: Word, word: Word) -> Result<bool, AllocE
     Ok(goes)
 }
 
-/// A name that is an atom, and the word behind it.
+/// A name that is an atom, and the token after it.
 #[inline(always)]
 fn behind_atom(
     table: &OpTable,
@@ -217,7 +217,7 @@ fn behind_atom(
     Ok(goes)
 }
 
-/// Whether the name and the number directly behind it are a negative number.
+/// Whether the name and the number directly after it are a negative number.
 #[inline(always)]
 fn is_negative(names: &Names, name: Word, word: Word) -> bool
     ensures { result ≡ (is_minus (see_word names.now name) && number_next (see_word names.now word ∷ [])) }
@@ -228,8 +228,8 @@ fn is_negative(names: &Names, name: Word, word: Word) -> bool
     is_minus(names, name)
 }
 
-/// A name that is no prefix operator, and the word behind it: a functor (ISO/IEC 13211-1, 6.3.3), the
-/// minus of a number (6.3.1.2) or an atom (6.3.1.3).
+/// A name that is no prefix operator, and the token after it. The name is a functor (ISO/IEC
+/// 13211-1, 6.3.3), the minus of a number (6.3.1.2) or an atom (6.3.1.3).
 #[inline(always)]
 fn feed_name(
     table: &OpTable,
@@ -252,8 +252,8 @@ fn feed_name(
     behind_atom(table, names, reader, name, word)
 }
 
-/// A prefix operator, and the word behind it, which leaves no doubt: as another name, or the operator
-/// (ISO/IEC 13211-1, 6.3.4.2).
+/// A prefix operator, and the token after it, which decides: it is a functor, the minus of a
+/// number, an atom, or the operator (ISO/IEC 13211-1, 6.3.4.2).
 fn enter_operator(
     table: &OpTable,
     names: &Names,
@@ -283,7 +283,7 @@ fn enter_operator(
     enter(table, names, reader, word)
 }
 
-/// A word behind a prefix operator.
+/// A token after a prefix operator.
 fn feed_operator(
     table: &OpTable,
     names: &Names,
@@ -303,7 +303,7 @@ fn feed_operator(
     }
 }
 
-/// An atom and the infix operator behind it.
+/// An atom and the infix operator after it.
 fn join(
     names: &Names,
     state: &mut State,
@@ -318,7 +318,7 @@ fn join(
     infix_step(names, state, made, second, between)
 }
 
-/// The one word more that decides the two in doubt.
+/// The one token more that decides the two in doubt.
 fn feed_doubt(
     table: &OpTable,
     names: &Names,
@@ -346,7 +346,7 @@ fn feed_doubt(
     enter(table, names, reader, word)
 }
 
-/// One word more. False where no clause goes on with it.
+/// Reads one token more. False if no clause continues with it.
 #[inline(always)]
 pub fn feed(
     table: &OpTable,
@@ -386,7 +386,7 @@ fn mode_floor(state: &State) -> usize
     }
 }
 
-/// The least depth of the clauses that go on from here.
+/// The least depth of the clauses that continue from here.
 pub fn waiting_floor(reader: &Reader) -> usize
     ensures { (names : NamesSeen) → result ≡ waiting_floor_seen (see_reader names reader.now) }
 {

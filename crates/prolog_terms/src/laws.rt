@@ -1,4 +1,4 @@
-//! What holds of each clause, as laws: functions with nothing to run.
+//! Theorems about each clause: functions that do nothing, and are called for what they ensure.
 
 ghost use Rattle.std.specs.Prelude.{◌≡◌, ◌++◌, ◌∷◌, [], ◌+◌, ◌≤◌, ℕ, List, length};
 ghost use Rattle.prolog_terms.specs.declared.reader.TheConstants.{DEEPEST};
@@ -11,7 +11,7 @@ ghost use Rattle.prolog_terms.specs.Weight.{weight};
 
 use prolog_tokens::Token;
 
-/// No two clauses have the same words, under any table of operators.
+/// No two clauses have the same tokens, under any table of operators.
 pub fn one_clause()
     ensures { (ops : Ops) → IsOps ops → (a b : Parse) (e f : Word) → IsClause (table_of ops) a e → IsClause (table_of ops) b f → yield a ++ e ∷ []
         ≡ yield b ++ f ∷ [] → a ≡ b }

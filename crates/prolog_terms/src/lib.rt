@@ -1,9 +1,10 @@
-//! Prolog terms, and what a list of tokens reads as.
+//! Reader of Prolog terms (ISO/IEC 13211-1, 6.3): an operator-precedence parser, and views of the
+//! terms that it reads.
 //!
 //! `read_clause` reads the tokens up to an End as the one clause that they are under a table of
-//! operators, or tells the first token with which no clause goes on: of `a ** b ** c.` the second
-//! operator. No two terms have the same tokens. A clause is one list of nodes, each behind its parts,
-//! and a `Term` is a view of one of them. Each part knows where it stands.
+//! operators. Otherwise it reports the first token with which no clause continues: for `a ** b **
+//! c.` the second operator. No two terms have the same tokens. A clause is one list of nodes, each
+//! after its parts, and a `Term` is a view of one of them. Each part has its position.
 //!
 //! It gives terms no meaning: directives, heads and goals are for the layers above.
 #![tactic(auto)]

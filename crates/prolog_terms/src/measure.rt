@@ -1,6 +1,9 @@
-/// What tests and depths need of a stack and the operand on it: how many operators and brackets
-/// are on the stack, the greatest priority of what stands on it, the least depth that it gives the
-/// clause, and the operand's priority and depth.
+/// What tests and depths need of a stack and the operand on it:
+///
+/// - `height`: how many operators and brackets are on the stack;
+/// - `bound`: the greatest priority of what may be on it;
+/// - `reach`: the least depth that it gives the clause;
+/// - `priority` and `depth` of the operand.
 #[derive(Clone, Copy)]
 pub struct Measure {
     pub height: usize,

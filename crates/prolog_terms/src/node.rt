@@ -3,8 +3,8 @@ ghost use Rattle.prolog_terms.specs.Forest.{taken};
 
 use crate::term::{ConstKind, Form, NO_SPAN, Span};
 
-/// What a term is, with the number of its name. It stands behind its parts: the `count` arguments of
-/// a compound, the `count` items of a list and then its tail, the term in brackets.
+/// What a term is, with the number of its name. It comes after its parts: the `count` arguments of
+/// a compound, the `count` items of a list and then its tail, or the term in brackets.
 #[derive(Clone, Copy)]
 pub enum Shape {
     Var,
@@ -31,8 +31,8 @@ pub enum Shape {
     Paren,
 }
 
-/// A term in a list of nodes, in which its parts stand before it. Its size is how many nodes it has,
-/// with itself: so many nodes further to the front stands the term before it.
+/// A term in a list of nodes, in which its parts come before it. Its size is how many nodes it has,
+/// with itself. So the term before it ends that many nodes further to the front.
 #[derive(Clone, Copy)]
 pub struct Node {
     pub shape: Shape,
@@ -40,7 +40,7 @@ pub struct Node {
     pub size: usize,
 }
 
-/// The node of a term where there is none: a variable at 0.
+/// The node of a term if there is none: a variable at 0.
 pub const NO_NODE: Node = Node {
     shape: Shape::Var,
     span: NO_SPAN,

@@ -1,4 +1,4 @@
-//! Terms as one list of nodes, each behind its parts.
+//! Terms as one list of nodes, each after its parts.
 
 ghost use Rattle.std.specs.Prelude.{◌≡◌, ◌≤◌, ◌<◌, ◌∷◌, ◌++◌, [], ℕ, List, Some, IfOk, OnOk, length, take, slice_get, MatchOption};
 ghost use Rattle.prolog_terms.specs.declared.node.Node.{Node as NodeOf};
@@ -12,8 +12,8 @@ use crate::term::Span;
 use std::alloc::{AllocError, Global};
 use std::marker::Model;
 
-/// Nodes, each behind its parts and with its size, and how many terms stand side by side in them. No
-/// term takes parts from what would stand before the nodes.
+/// Nodes, each after its parts and with its size, and how many adjacent terms they are. No term
+/// takes parts from before the nodes.
 #[derive(Drop)]
 pub struct NodeList {
     list: Vec<Node>,
@@ -32,7 +32,7 @@ impl Model for NodeList {
     ghost invariant = { λ nodes. AreTerms nodes.list.items nodes.terms };
 }
 
-/// The node at a place.
+/// The node at the index.
 #[inline(always)]
 fn node_at(list: &[Node], at: usize) -> Node
     requires { at < length list.now }
@@ -42,6 +42,7 @@ fn node_at(list: &[Node], at: usize) -> Node
 }
 
 impl NodeList {
+    /// No nodes.
     pub fn new(alloc: Global) -> NodeList
         ensures { result ≡ [] }
     {
@@ -51,7 +52,7 @@ impl NodeList {
         }
     }
 
-    /// No nodes yet, with room for so many, so that they needn't be moved while they come.
+    /// No nodes yet, with capacity for `count`, so that they needn't be moved while they are added.
     pub fn with_room(alloc: Global, count: usize) -> Result<NodeList, AllocError>
         ensures { IfOk result (λ nodes. nodes ≡ []) }
     {
@@ -73,7 +74,7 @@ impl NodeList {
         self.terms = 0;
     }
 
-    /// The last of so many nodes, and how many stand before it.
+    /// The last of the first `end` nodes, and how many come before it.
     #[inline(always)]
     pub(crate) fn last(&self, end: usize) -> Option<(Node, usize)>
         ensures { MatchOption result (take end self.now ≡ []) (λ last. take end self.now ≡ take last.1 self.now ++ last.0 ∷ []) }
@@ -85,7 +86,8 @@ impl NodeList {
         Some((node_at(&self.list, end - 1), end - 1))
     }
 
-    /// Up to which of so many nodes the last term of them stands without the brackets round it.
+    /// How many nodes there are up to the last term of the first `end` nodes, inside the brackets
+    /// round it.
     #[inline(always)]
     pub(crate) fn inside(&self, end: usize) -> usize
         ensures { (names : List (List ℕ)) → last_of (forest names (take result self.now)) ≡ inside (last_of (forest names (take end self.now))) }
@@ -100,7 +102,7 @@ impl NodeList {
         inner
     }
 
-    /// How many of so many nodes stand before the last term of them.
+    /// How many of the first `end` nodes come before their last term.
     #[inline(always)]
     pub(crate) fn before(&self, end: usize) -> usize
         ensures rest { (names : List (List ℕ)) → forest names (take result self.now) ≡ before_last (forest names (take end self.now)) }
@@ -109,7 +111,7 @@ impl NodeList {
         self.before_these(end.min(self.list.len()))
     }
 
-    /// How many of so many nodes stand before the last term of them, where there are as many.
+    /// How many of the first `end` nodes come before their last term, if there are as many nodes.
     #[inline(always)]
     fn before_these(&self, end: usize) -> usize
         requires { end ≤ length self.now }
@@ -122,7 +124,7 @@ impl NodeList {
         end - node_at(&self.list, end - 1).size
     }
 
-    /// How many of so many nodes stand before the last terms of them, as many as are counted.
+    /// How many of the first `end` nodes come before their last `count` terms.
     #[inline(always)]
     fn before_many(&self, end: usize, count: usize) -> usize
         requires { end ≤ length self.now }
@@ -136,7 +138,7 @@ impl NodeList {
         at
     }
 
-    /// How many terms stand side by side.
+    /// How many adjacent terms the nodes are.
     #[inline(always)]
     fn terms(&self) -> usize
         ensures { (names : List (List ℕ)) → result ≡ length (forest names self.now) }
@@ -153,7 +155,7 @@ impl NodeList {
         Ok(())
     }
 
-    /// Puts variables at 0 before all nodes, which missing terms are, until there are so many terms.
+    /// Puts variables at 0 before all nodes, for missing terms, until there are `count` terms.
     #[inline(always)]
     fn fill(&mut self, count: usize) -> Result<(), AllocError>
         ensures trees { OnOk result ((names : List (List ℕ)) → forest names self.new ≡ filled count (forest names self.old)) }
@@ -165,7 +167,7 @@ impl NodeList {
         Ok(())
     }
 
-    /// Adds a node of this shape behind its parts.
+    /// Adds a node of this shape after its parts.
     #[inline(always)]
     pub(crate) fn lay(&mut self, shape: Shape, span: Span) -> Result<(), AllocError>
         ensures { OnOk result ((names : List (List ℕ)) → forest names self.new
@@ -181,7 +183,8 @@ impl NodeList {
         Ok(())
     }
 
-    /// Adds other nodes, of which there is at least one then: the last of them is the last of all.
+    /// Appends other nodes, or a variable at 0 if there are none. The last of them is the last of
+    /// all.
     pub(crate) fn append(&mut self, others: &mut NodeList) -> Result<(), AllocError>
         ensures more { (more : List NodeOf) × (self.new ≡ self.old ++ more) }
         ensures root { OnOk result ((names : List (List ℕ)) → root_tree names self.new ≡ root_tree names others.old) }
@@ -192,7 +195,7 @@ impl NodeList {
         Ok(())
     }
 
-    /// The same nodes in just their room.
+    /// The same nodes without spare capacity.
     pub fn copied(&self, alloc: Global) -> Result<NodeList, AllocError>
         ensures { IfOk result (λ copy. copy ≡ self.now) }
     {

@@ -1,4 +1,4 @@
-//! The nodes that words, operators and brackets make, each behind its parts.
+//! The nodes that tokens, operators and brackets make, each after its parts.
 
 ghost use Rattle.std.specs.Prelude.{◌≡◌, List, IfOk, max};
 ghost use Rattle.prolog_names.specs.Names.{name_at};
@@ -53,7 +53,7 @@ fn lay(
     })
 }
 
-/// A word that stands for itself and is no name.
+/// The shape of a token that is a term by itself and isn't a name.
 fn leaf_shape(word: Word) -> Shape
     ensures tree { (names : NamesSeen) (span : SpanOf) (trees : List Tree) → node_tree names result span trees ≡ leaf_tree word.kind word.value span }
     ensures alone { taken result ≡ 0 }
@@ -91,7 +91,7 @@ pub fn leaf(nodes: &mut NodeList, word: Word) -> Result<Operand, AllocError>
     lay(nodes, leaf_shape(word), 0, 1, word.span)
 }
 
-/// A number behind its minus.
+/// The shape of a number after its minus.
 fn negative_shape(number: Word) -> Shape
     ensures tree { (names : NamesSeen) (span : SpanOf) (trees : List Tree) → node_tree names result span trees ≡ negative_tree number.kind number.value span }
     ensures alone { taken result ≡ 0 }
@@ -110,7 +110,7 @@ fn negative_shape(number: Word) -> Shape
     }
 }
 
-/// A minus and the number directly behind it (ISO/IEC 13211-1, 6.3.1.2).
+/// A minus and the number directly after it (ISO/IEC 13211-1, 6.3.1.2).
 pub fn negative(nodes: &mut NodeList, minus: Word, number: Word) -> Result<Operand, AllocError>
     ensures { IfOk result (λ operand. (names : NamesSeen) → see_made (forest names nodes.new) operand
         ≡ made (forest names nodes.old) (negative_operand (see_word names minus) (see_word names number))) }
@@ -119,7 +119,7 @@ pub fn negative(nodes: &mut NodeList, minus: Word, number: Word) -> Result<Opera
     lay(nodes, negative_shape(number), 0, 1, span)
 }
 
-/// A name that stands for itself, an atom (ISO/IEC 13211-1, 6.3.1.3).
+/// A name as a term: an atom (ISO/IEC 13211-1, 6.3.1.3).
 #[inline(always)]
 pub fn atom(nodes: &mut NodeList, word: Word) -> Result<Operand, AllocError>
     ensures { IfOk result (λ operand. (names : NamesSeen) → see_made (forest names nodes.new) operand
@@ -139,7 +139,7 @@ fn pair_name(names: &Names, kind: Kind) -> u32
     }
 }
 
-/// `[]` or `{}`, an atom of two words (ISO/IEC 13211-1, 6.3.1.3).
+/// `[]` or `{}`, an atom of two tokens (ISO/IEC 13211-1, 6.3.1.3).
 pub fn pair(
     nodes: &mut NodeList,
     names: &Names,
@@ -184,7 +184,7 @@ pub fn group(
     }
 }
 
-/// A list with a tail behind its bar (ISO/IEC 13211-1, 6.3.5).
+/// A list with a tail after its bar (ISO/IEC 13211-1, 6.3.5).
 pub fn tailed(
     nodes: &mut NodeList,
     square: Word,
@@ -252,7 +252,7 @@ fn prefixed(
     lay(nodes, shape, sides.priority, depth, span)
 }
 
-/// The name of an infix operator, which a Comma and a Bar may be (ISO/IEC 13211-1, 6.3.4.3).
+/// The name of an infix operator, which may be a Comma or a Bar (ISO/IEC 13211-1, 6.3.4.3).
 fn infix_name(names: &Names, word: Word) -> u32
     ensures { name_at names.now result ≡ infix_text word.kind (name_at names.now word.name) }
 {
@@ -290,7 +290,7 @@ fn infixed(
     lay(nodes, shape, sides.priority, depth, span)
 }
 
-/// An operator behind its operand (ISO/IEC 13211-1, 6.3.4.2).
+/// An operator after its operand (ISO/IEC 13211-1, 6.3.4.2).
 pub fn postfixed(
     nodes: &mut NodeList,
     left: Operand,

@@ -1,6 +1,6 @@
 use crate::term::{NO_SPAN, Span};
 
-/// What the reader keeps of a term beside its node: its priority and depth, and where it stands.
+/// What the reader keeps of a term in addition to its node: its priority, depth and position.
 /// Depths over the greatest number count as that number.
 #[derive(Clone, Copy)]
 pub struct Operand {
@@ -9,7 +9,7 @@ pub struct Operand {
     pub span: Span,
 }
 
-/// What stands where there is no operand.
+/// The value of no operand.
 pub const NO_OPERAND: Operand = Operand {
     priority: 0,
     depth: 0,

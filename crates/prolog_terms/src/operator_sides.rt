@@ -1,4 +1,4 @@
-//! Which words are operators, and what stands beside them.
+//! Which tokens are operators, and the priorities of their operands.
 
 ghost use Rattle.std.specs.Prelude.{◌≡◌, ℕ, List, Option, None, MatchOption, option_map};
 ghost use Rattle.prolog_ops.specs.Table.{Prefix, Infix, Postfix, ops_of, opening, IsOps};
@@ -12,7 +12,8 @@ use prolog_names::{BAR, COMMA, Names, OPENING_COUNT, names_law, opening_law};
 use prolog_ops::{Op, OpKind, OpTable};
 use prolog_tokens::Kind;
 
-/// An operator's priority, and the greatest priorities of its operands.
+/// The priority of an operator, and the greatest priorities of its left and right operands. A side
+/// without operand has 0.
 #[derive(Clone, Copy, Debug, PartialEq, Eq)]
 pub struct Sides {
     pub priority: u32,
@@ -20,21 +21,21 @@ pub struct Sides {
     pub right: u32,
 }
 
-/// What stands where there is no operator.
+/// The value of no operator.
 pub const NO_SIDES: Sides = Sides {
     priority: 0,
     left: 0,
     right: 0,
 };
 
-/// The sides of a Comma, an operator that can't be changed.
+/// The sides of a Comma, an operator that can't be changed (ISO/IEC 13211-1, 6.3.4.3).
 pub const COMMA_SIDES: Sides = Sides {
     priority: 1000,
     left: 999,
     right: 1000,
 };
 
-/// The sides of a Bar, an operator that can't be changed.
+/// The sides of a Bar, an operator that can't be changed (ISO/IEC 13211-1, 6.3.4.3).
 pub const BAR_SIDES: Sides = Sides {
     priority: 1100,
     left: 1099,
@@ -163,7 +164,7 @@ const QUALIFIER: Option<Sides> = Some(Sides {
     right: 200,
 });
 
-/// What each opening name is before an operand, where the table is the opening one.
+/// The prefix operator of each opening name in the opening table.
 static OPENING_PREFIXES: [Option<Sides>; OPENING_COUNT as usize] = [
     None, None, None, None, None, SIGN, DIRECTIVE, DECLARING, DECLARING, DECLARING, DECLARING,
     DECLARING, DECLARING, DECLARING, DECLARING, NEGATION, SIGN, DIRECTIVE, SIGN, None, None, None,
@@ -171,7 +172,7 @@ static OPENING_PREFIXES: [Option<Sides>; OPENING_COUNT as usize] = [
     None, None, None, None, None, None, None, None, None, None, None, None, None, None,
 ];
 
-/// What each opening name is between operands, where the table is the opening one.
+/// The infix operator of each opening name in the opening table.
 static OPENING_INFIXES: [Option<Sides>; OPENING_COUNT as usize] = [
     None, None, None, None, None, SUM, None, None, None, None, None, None, None, None, None, None,
     None, RULE, SUM, RULE, CHOICE, CONDITION, COMPARISON, COMPARISON, COMPARISON, COMPARISON,
@@ -180,8 +181,8 @@ static OPENING_INFIXES: [Option<Sides>; OPENING_COUNT as usize] = [
     PRODUCT, PRODUCT, PRODUCT, PRODUCT, POWER, QUALIFIER, QUALIFIER, None,
 ];
 
-/// The name as it is looked up in a table of operators: a name `,` or `|` isn't the Comma or Bar, and
-/// no operator.
+/// The name as it is looked up in a table of operators. A name `,` or `|` in quotes isn't the Comma
+/// or Bar, and so it is no operator.
 fn operator_name(names: &Names, name: u32) -> Option<&str>
     ensures { MatchOption result ((ops : List ℕ → Option OpSpec) → named_operator ops (name_at names.now name) ≡ None)
         (λ text. (ops : List ℕ → Option OpSpec) → named_operator ops (name_at names.now name) ≡ option_map sides (ops text.now)) }
@@ -196,7 +197,7 @@ fn operator_name(names: &Names, name: u32) -> Option<&str>
     Some(names.text(name))
 }
 
-/// What the name is before an operand in the opening table. No text is read.
+/// The prefix operator of the name in the opening table. No text is read.
 #[inline(always)]
 fn opening_prefix(names: &Names, name: u32) -> Option<Sides>
     ensures { result ≡ named_operator (opening Prefix) (name_at names.now name) }
@@ -208,7 +209,7 @@ fn opening_prefix(names: &Names, name: u32) -> Option<Sides>
     OPENING_PREFIXES[name as usize]
 }
 
-/// What the name is between operands in the opening table. No text is read.
+/// The infix operator of the name in the opening table. No text is read.
 #[inline(always)]
 fn opening_infix(names: &Names, name: u32) -> Option<Sides>
     ensures { result ≡ named_operator (opening Infix) (name_at names.now name) }
@@ -220,7 +221,7 @@ fn opening_infix(names: &Names, name: u32) -> Option<Sides>
     OPENING_INFIXES[name as usize]
 }
 
-/// What the name is before an operand, where the table isn't the opening one.
+/// The prefix operator of the name, if operators were set in the table.
 fn changed_prefix(table: &OpTable, names: &Names, name: u32) -> Option<Sides>
     ensures { result ≡ named_operator (ops_of table.now Prefix) (name_at names.now name) }
 {
@@ -229,7 +230,7 @@ fn changed_prefix(table: &OpTable, names: &Names, name: u32) -> Option<Sides>
     Some(sides_of(op))
 }
 
-/// What the name is between operands, where the table isn't the opening one.
+/// The infix operator of the name, if operators were set in the table.
 fn changed_infix(table: &OpTable, names: &Names, name: u32) -> Option<Sides>
     ensures { result ≡ named_operator (ops_of table.now Infix) (name_at names.now name) }
 {
@@ -269,7 +270,7 @@ fn named_postfix(table: &OpTable, names: &Names, name: u32) -> Option<Sides>
     Some(sides_of(op))
 }
 
-/// The word as an operator before an operand. In no table is the Comma or Bar one.
+/// The token as a prefix operator. In no table is the Comma or Bar one.
 #[inline(always)]
 pub fn prefix_of(table: &OpTable, names: &Names, word: Word) -> Option<Sides>
     ensures { result ≡ (table_of (ops_of table.now)).prefix (see_word names.now word) }
@@ -284,7 +285,7 @@ pub fn prefix_of(table: &OpTable, names: &Names, word: Word) -> Option<Sides>
     }
 }
 
-/// The word as an operator between two operands. The Comma and the Bar are the same in each table.
+/// The token as an infix operator. The Comma and the Bar are the same in each table.
 #[inline(always)]
 pub fn infix_of(table: &OpTable, names: &Names, word: Word) -> Option<Sides>
     ensures { result ≡ (table_of (ops_of table.now)).infix_ (see_word names.now word) }
@@ -299,7 +300,7 @@ pub fn infix_of(table: &OpTable, names: &Names, word: Word) -> Option<Sides>
     }
 }
 
-/// The word as an operator behind an operand. In no table is the Comma or Bar one.
+/// The token as a postfix operator. In no table is the Comma or Bar one.
 pub fn postfix_of(table: &OpTable, names: &Names, word: Word) -> Option<Sides>
     ensures { result ≡ (table_of (ops_of table.now)).postfix (see_word names.now word) }
 {

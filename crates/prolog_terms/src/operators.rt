@@ -1,4 +1,4 @@
-//! Operators behind an operand.
+//! Operators after an operand.
 
 ghost use Rattle.std.specs.Prelude.{◌≡◌, IfOk};
 ghost use Rattle.prolog_ops.specs.Table.{ops_of};
@@ -16,7 +16,7 @@ use prolog_names::Names;
 use prolog_ops::OpTable;
 use std::alloc::AllocError;
 
-/// Closes the open operators whose right bound is below the priority.
+/// Closes the open operators whose right side takes only lower priorities than this one.
 #[inline(always)]
 pub fn reduce(
     names: &Names,
@@ -95,7 +95,7 @@ fn postfix_behind(
     Ok(true)
 }
 
-/// An infix operator with its sides, behind the operators that it closes.
+/// An infix operator with its sides, after closing the operators that it closes.
 #[inline(always)]
 pub fn infix_step(
     names: &Names,
@@ -111,7 +111,7 @@ pub fn infix_step(
     infix_behind(state, left, word, sides)
 }
 
-/// A name behind an operand: an infix or a postfix operator (ISO/IEC 13211-1, 6.3.4.2).
+/// A name after an operand: an infix or a postfix operator (ISO/IEC 13211-1, 6.3.4.2).
 pub fn name_step(
     table: &OpTable,
     names: &Names,

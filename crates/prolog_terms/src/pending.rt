@@ -1,4 +1,4 @@
-//! What is open: operators and brackets that wait for what stands right of them.
+//! What is open: operators and brackets that wait for what is to the right of them.
 
 ghost use Rattle.std.specs.Prelude.{◌≡◌, List};
 ghost use Rattle.prolog_terms.specs.Tree.{Tree};
@@ -9,7 +9,7 @@ use crate::operand::Operand;
 use crate::operator_sides::Sides;
 use crate::word::Word;
 
-/// An operator that wants its right side.
+/// An operator that waits for its right side.
 #[derive(Clone, Copy)]
 pub enum Operator {
     Prefix {
@@ -23,7 +23,7 @@ pub enum Operator {
     },
 }
 
-/// What stands before arguments or items: a functor and its bracket, or a `[`.
+/// What comes before arguments or items: a functor and its bracket, or a `[`.
 #[derive(Clone, Copy)]
 pub enum Opened {
     Call(Word),
@@ -33,15 +33,15 @@ pub enum Opened {
 /// A bracket that isn't closed.
 #[derive(Clone, Copy)]
 pub enum Bracket {
-    /// It wants its first part.
+    /// It waits for its first part.
     First(Opened),
-    /// It wants one more part behind those that it has, with the depth of the deepest.
+    /// It waits for one more part after its `count` parts; the deepest of them has this depth.
     Next {
         opened: Opened,
         count: u32,
         depth: usize,
     },
-    /// A list that wants its tail behind its items, with the depth of the deepest.
+    /// A list that waits for its tail after its items; the deepest of them has this depth.
     Tail {
         square: Word,
         count: u32,
@@ -51,14 +51,14 @@ pub enum Bracket {
     Wrap(Word),
 }
 
-/// An operator or a bracket that waits for what stands right of it. Its terms are nodes already.
+/// An operator or a bracket that waits for what is to the right of it. Its terms are nodes already.
 #[derive(Clone, Copy)]
 pub enum Pending {
     Operator(Operator),
     Bracket(Bracket),
 }
 
-/// The depth of the deepest part that stands in it.
+/// The depth of the deepest part that is in it.
 #[inline(always)]
 pub fn inner_depth(pending: Pending) -> usize
     ensures { (names : Names) (trees : List Tree) → result ≡ inner_depth (see_pending names pending trees) }
@@ -73,7 +73,8 @@ pub fn inner_depth(pending: Pending) -> usize
     }
 }
 
-/// Whether the innermost bracket has parts, with this one on those below.
+/// Whether the innermost bracket has parts, if this one is on top of others; `below` says it of
+/// those.
 #[inline(always)]
 pub fn has_parts(pending: Pending, below: bool) -> bool
     ensures { (names : Names) (trees : List Tree) → result ≡ pending_has_parts (see_pending names pending trees) below }
@@ -109,7 +110,7 @@ pub fn priority_of(operator: Operator) -> u32
     }
 }
 
-/// The greatest priority of what stands right of it.
+/// The greatest priority of what may be to the right of it.
 #[inline(always)]
 pub fn pending_bound(pending: Pending) -> u32
     ensures { (names : Names) (trees : List Tree) → result ≡ pending_bound (see_pending names pending trees) }

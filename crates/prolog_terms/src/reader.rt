@@ -26,13 +26,13 @@ use thiserror::Error;
 /// Why tokens aren't a clause, each with its byte offset.
 #[derive(Clone, Copy, Debug, PartialEq, Eq, Error)]
 pub enum ReadFault {
-    /// The first token with which no clause goes on.
+    /// The first token with which no clause continues.
     #[error("no clause goes on with this token")]
     Stuck(u32),
-    /// The first token with which only clauses that are deeper than 1,000 go on.
+    /// The first token with which only clauses deeper than 1,000 continue.
     #[error("term is nested deeper than 1000")]
     TooDeep(u32),
-    /// The length of the text.
+    /// The length of the text: the tokens end before the clause does.
     #[error("clause has no end")]
     NoEnd(u32),
     #[error("out of memory")]
@@ -47,10 +47,10 @@ impl From<AllocError> for ReadFault {
     }
 }
 
-/// How deep a clause may be.
+/// The greatest depth of a clause.
 pub const DEEPEST: usize = 1000;
 
-/// That the tokens run out, at the length of the text.
+/// The tokens run out, at the length of the text.
 fn no_end(text: &str) -> ReadFault
     requires { length text.now ≤ MOST_BYTES }
     ensures { result ≡ ReadFault.NoEnd (length text.now) }
@@ -113,8 +113,10 @@ fn read_nodes(
     Ok(())
 }
 
-/// Reads the tokens as `read_clause` does, and adds the nodes of the clause, which is the last of all
-/// nodes then. The earlier ones stay as they are.
+/// Reads the tokens like `read_clause`, and appends the nodes of the clause. It is the last of all
+/// nodes then, and the earlier ones stay unchanged.
+///
+/// Its errors are those of `read_clause`.
 pub fn read_onto(
     reader: &mut Reader,
     table: &OpTable,
@@ -146,9 +148,15 @@ pub fn read_onto(
     Ok(())
 }
 
-/// Reads the tokens, a part of those of the text of at most 8,388,608 bytes, as one clause and its
-/// End (ISO/IEC 13211-1, 6.3). With each token comes the number of its name. The clause is the last of
-/// the nodes. What the reader has read before doesn't matter.
+/// Reads the tokens up to an End as one clause (ISO/IEC 13211-1, 6.3). The clause is the last of
+/// the nodes that it returns.
+///
+/// The tokens are a part of those of a text of at most 8,388,608 bytes, and `numbers` has the
+/// number of the name of each. What the reader has read before doesn't matter.
+///
+/// Fails with the byte offset of the first token with which no clause continues, or only one deeper
+/// than 1,000, or with the length of the text if the tokens end too early. The steps are linear in
+/// the tokens.
 pub fn read_clause(
     alloc: Global,
     reader: &mut Reader,

@@ -17,8 +17,8 @@ use crate::pending::{
 use prolog_tokens::Kind;
 use std::alloc::{AllocError, Global};
 
-/// An operator or bracket, the least depth that what stands in it and below it gives the clause, and
-/// whether the innermost bracket of it and those below has parts.
+/// An operator or bracket, with what it adds up to with those below: the least depth that it gives
+/// the clause, and whether the innermost bracket has parts.
 #[derive(Clone, Copy)]
 pub struct Entry {
     pub pending: Pending,
@@ -32,7 +32,7 @@ pub struct Stack {
     pub entries: Vec<Entry>,
 }
 
-/// The innermost of the lowest entries up to a place.
+/// The entry at the index, from the lowest on.
 #[inline(always)]
 fn entry_at(entries: &[Entry], at: usize) -> Entry
     requires { at < length entries.now }
@@ -41,7 +41,7 @@ fn entry_at(entries: &[Entry], at: usize) -> Entry
     entries[at]
 }
 
-/// The measure of so many of the lowest entries with an operand on them.
+/// The measure of the lowest `height` entries with an operand on them.
 fn measure_at(entries: &[Entry], height: usize, priority: u32, depth: usize) -> Measure
     requires { height ≤ length entries.now }
     ensures { (names : Names) (trees : List Tree) → result ≡ measure (see_entries names (reverse (take height entries.now)) trees) priority depth }
@@ -66,6 +66,7 @@ fn measure_at(entries: &[Entry], height: usize, priority: u32, depth: usize) -> 
 }
 
 impl Stack {
+    /// Nothing is open.
     pub fn new(alloc: Global) -> Stack
         ensures { innermost result ≡ [] }
     {
@@ -82,13 +83,14 @@ impl Stack {
     }
 
     #[inline(always)]
+    /// How many operators and brackets are open.
     pub fn height(&self) -> usize
         ensures { (names : Names) (trees : List Tree) → result ≡ length (see_entries names (innermost self.now) trees) }
     {
         self.entries.len()
     }
 
-    /// The greatest priority of what stands on the stack.
+    /// The greatest priority of what may be on the stack.
     #[inline(always)]
     pub fn bound(&self) -> u32
         ensures { (names : Names) (trees : List Tree) → result ≡ bound_seen (see_entries names (innermost self.now) trees) }
@@ -120,7 +122,7 @@ impl Stack {
         }
     }
 
-    /// The least depth of the clause where an operand of this depth stands on the stack.
+    /// The least depth of the clause if an operand of this depth is on the stack.
     #[inline(always)]
     pub fn floor(&self, depth: usize) -> usize
         ensures { (names : Names) (trees : List Tree) → result ≡ floor_seen (see_entries names (innermost self.now) trees) depth }
@@ -128,7 +130,7 @@ impl Stack {
         self.reach().max(depth.saturating_add(self.height()))
     }
 
-    /// The least depth of the clause where an operand is wanted: one of depth 1, or the closing
+    /// The least depth of the clause if an operand is wanted: one of depth 1, or the closing
     /// bracket of an empty pair.
     pub fn want_floor(&self) -> usize
         ensures { (names : Names) (trees : List Tree) → result ≡ want_floor_seen (see_entries names (innermost self.now) trees) }
@@ -157,7 +159,7 @@ impl Stack {
         }
     }
 
-    /// An operator or bracket is open.
+    /// Opens an operator or bracket.
     #[inline(always)]
     pub fn push(&mut self, pending: Pending) -> Result<(), AllocError>
         ensures { OnOk result ((names : Names) (trees : List Tree) → see_entries names (innermost self.new) trees
@@ -185,7 +187,7 @@ impl Stack {
         Some(top.pending)
     }
 
-    /// The innermost operator or bracket goes.
+    /// Removes the innermost operator or bracket.
     #[inline(always)]
     pub fn shorten(&mut self)
         ensures { (top : EntryKept) (below : List EntryKept) → innermost self.old ≡ top ∷ below → innermost self.new ≡ below }
@@ -193,7 +195,7 @@ impl Stack {
         let _ = self.entries.pop();
     }
 
-    /// The innermost operator, where no bracket is open inside it.
+    /// The innermost operator, if no bracket is open inside it.
     #[inline(always)]
     pub fn operator(&self) -> Option<&Operator>
         ensures { MatchOption result ((names : Names) (trees : List Tree) → is_operator_top (see_entries names (innermost self.now) trees) ≡ false)
@@ -207,8 +209,8 @@ impl Stack {
         }
     }
 
-    /// The innermost operator, where no bracket is open inside it and its right bound is below the
-    /// priority.
+    /// The innermost operator, if no bracket is open inside it and its right side takes only lower
+    /// priorities than this one.
     #[inline(always)]
     pub fn operator_below(&self, priority: u32) -> Option<&Operator>
         ensures { MatchOption result ((names : Names) (trees : List Tree)
@@ -228,7 +230,7 @@ impl Stack {
         }
     }
 
-    /// The innermost bracket, where no operator is open inside it.
+    /// Removes and returns the innermost bracket, if no operator is open inside it.
     pub fn pop_bracket(&mut self) -> Option<Bracket>
         ensures { MatchOption result ((names : Names) (trees : List Tree) → is_bracket_top (see_entries names (innermost self.old) trees)
             ≡ false) (λ found. (reach : ℕ) × (separates : Bool) × (innermost self.old
@@ -241,8 +243,8 @@ impl Stack {
         }
     }
 
-    /// What is left of the stack and of an atom on it, once the operators whose right bound is
-    /// below the priority are closed.
+    /// What is left of the stack with an atom on it, after the operators are closed whose right
+    /// side takes only lower priorities than this one.
     pub fn reduced_measure(&self, priority: u32) -> Measure
         ensures { (names : Names) (trees : List Tree) → result ≡ reduced_measure priority (see_entries names (innermost self.now) trees) 0 1 }
     {

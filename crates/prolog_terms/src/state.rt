@@ -1,11 +1,11 @@
-//! What is read of a clause, where no word waits.
+//! The state of the reader while no token waits.
 
 use crate::node_list::NodeList;
 use crate::operand::Operand;
 use crate::stack::Stack;
 use std::alloc::Global;
 
-/// What the next word meets.
+/// What the next token meets.
 #[derive(Clone, Copy)]
 pub enum Mode {
     /// An operand is wanted.
@@ -16,8 +16,8 @@ pub enum Mode {
     Done,
 }
 
-/// What is open, the terms that are complete as one list of nodes, what the next word meets, and the
-/// operand that is complete, where one is. The terms stand in the order in which the stack holds them.
+/// What is open, the complete terms as one list of nodes, what the next token meets, and the
+/// complete operand, if there is one. The terms are in the order in which the stack has them.
 #[derive(Drop)]
 pub struct State {
     pub stack: Stack,

@@ -1,4 +1,4 @@
-//! What one word makes of the state.
+//! What one token makes of the state.
 
 ghost use Rattle.std.specs.Prelude.{◌≡◌, ◌<◌, IfOk};
 ghost use Rattle.prolog_ops.specs.Table.{ops_of, IsOps};
@@ -24,7 +24,7 @@ use prolog_ops::OpTable;
 use prolog_tokens::Kind;
 use std::alloc::AllocError;
 
-/// The `)` behind an operand.
+/// The `)` after an operand.
 fn close_round(
     names: &Names,
     state: &mut State,
@@ -39,7 +39,7 @@ fn close_round(
     round_behind(state, last, word)
 }
 
-/// The `]` behind an operand.
+/// The `]` after an operand.
 fn close_square(
     names: &Names,
     state: &mut State,
@@ -54,7 +54,7 @@ fn close_square(
     square_behind(state, last, word)
 }
 
-/// The `}` behind an operand.
+/// The `}` after an operand.
 fn close_curly(
     names: &Names,
     state: &mut State,
@@ -68,7 +68,7 @@ fn close_curly(
     curly_behind(state, last, word)
 }
 
-/// The End behind an operand.
+/// The End after an operand.
 fn close_clause(names: &Names, state: &mut State, operand: Operand) -> Result<bool, AllocError>
     ensures { IfOk result (λ goes. see_step names.now state.new goes ≡ with_held (closed_seen (see_held names.now state.old operand).stack
         (see_held names.now state.old operand).operand) end_in) }
@@ -77,7 +77,7 @@ fn close_clause(names: &Names, state: &mut State, operand: Operand) -> Result<bo
     Ok(end_behind(state, last))
 }
 
-/// A word behind an operand: an operator, a separator, a closing bracket or the End.
+/// A token after an operand: an operator, a separator, a closing bracket or the End.
 #[inline(always)]
 pub fn have_step(
     table: &OpTable,
@@ -137,7 +137,7 @@ fn have_pair(names: &Names, state: &mut State, first: Word, last: Word) -> Resul
     Ok(true)
 }
 
-/// `]` where an operand is wanted: the end of `[]` (ISO/IEC 13211-1, 6.3.1.3).
+/// `]` instead of an operand: the end of `[]` (ISO/IEC 13211-1, 6.3.1.3).
 fn square_pair(names: &Names, state: &mut State, word: Word) -> Result<bool, AllocError>
     ensures { IfOk result (λ goes. see_step names.now state.new goes ≡ square_pair_seen (see_stack names.now state.old) (see_word names.now word)) }
 {
@@ -155,7 +155,7 @@ fn square_pair(names: &Names, state: &mut State, word: Word) -> Result<bool, All
     }
 }
 
-/// `}` where an operand is wanted: the end of `{}` (ISO/IEC 13211-1, 6.3.1.3).
+/// `}` instead of an operand: the end of `{}` (ISO/IEC 13211-1, 6.3.1.3).
 fn curly_pair(names: &Names, state: &mut State, word: Word) -> Result<bool, AllocError>
     ensures { IfOk result (λ goes. see_step names.now state.new goes ≡ curly_pair_seen (see_stack names.now state.old) (see_word names.now word)) }
 {
@@ -175,7 +175,7 @@ fn curly_pair(names: &Names, state: &mut State, word: Word) -> Result<bool, Allo
     }
 }
 
-/// A bracket opens, and what stands in it is wanted.
+/// A bracket opens, and its first part is wanted.
 fn open_bracket(state: &mut State, bracket: Bracket) -> Result<bool, AllocError>
     ensures { IfOk result (λ goes. (names : NamesSeen) → see_step names state.new goes ≡ goes_seen
         (pushed (see_entries names (innermost state.old.stack) (without (bracket_holds bracket) (trees_in names state.old)))
@@ -194,7 +194,7 @@ pub fn open_call(state: &mut State, functor: Word) -> Result<bool, AllocError>
     open_bracket(state, Bracket::First(Opened::Call(functor)))
 }
 
-/// A word that is no name where an operand is wanted: a variable, a number, a text or a bracket.
+/// A token that is no name and begins an operand: a variable, a number, a text or a bracket.
 fn want_other(names: &Names, state: &mut State, word: Word) -> Result<bool, AllocError>
     ensures { IfOk result (λ goes. see_step names.now state.new goes ≡ want_other_seen (see_stack names.now state.old) (see_word names.now word) word.kind) }
 {
@@ -213,7 +213,7 @@ fn want_other(names: &Names, state: &mut State, word: Word) -> Result<bool, Allo
     }
 }
 
-/// A prefix operator where an operand is wanted (ISO/IEC 13211-1, 6.3.4.2).
+/// A prefix operator that begins an operand (ISO/IEC 13211-1, 6.3.4.2).
 pub fn prefix_step(state: &mut State, word: Word, sides: Sides) -> Result<bool, AllocError>
     ensures { IfOk result (λ goes. (names : NamesSeen) → see_step names state.new goes
         ≡ prefix_step_seen (see_stack names state.old) (see_word names word) sides) }
@@ -228,7 +228,7 @@ pub fn prefix_step(state: &mut State, word: Word, sides: Sides) -> Result<bool, 
     Ok(true)
 }
 
-/// One word, which is no name where an operand is wanted. False where no clause goes on with it.
+/// Reads one token, which is no name if an operand is wanted. False if no clause continues with it.
 pub fn act(
     table: &OpTable,
     names: &Names,

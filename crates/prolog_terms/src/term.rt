@@ -10,14 +10,15 @@ use crate::node_list::NodeList;
 use prolog_names::Names;
 use std::alloc::{AllocError, Global};
 
-/// From the start of a term's first token to the end of its last, as byte offsets.
+/// The position of a term: from the start of its first token to the end of its last, as byte
+/// offsets.
 #[derive(Clone, Copy, Debug, PartialEq, Eq)]
 pub struct Span {
     pub from: u32,
     pub to: u32,
 }
 
-/// What stands where there is no place.
+/// The value of no position.
 pub const NO_SPAN: Span = Span { from: 0, to: 0 };
 
 /// How a compound term is written.
@@ -38,8 +39,8 @@ pub enum ConstKind {
     BackStr,
 }
 
-/// A term as it is written: the last of so many nodes of a list, with its parts before it. The names
-/// are those of its text.
+/// A term as it is written, with its position: the last of the first `end` nodes of a list, after
+/// its parts. The names are those of its text.
 #[derive(Clone, Copy)]
 pub struct Term<'a> {
     pub names: &'a Names,
@@ -47,8 +48,7 @@ pub struct Term<'a> {
     pub end: usize,
 }
 
-/// Terms that stand side by side in a term: the last ones of so many nodes of a list, as many as are
-/// counted.
+/// Adjacent terms within a term: the last `count` terms of the first `end` nodes of a list.
 #[derive(Clone, Copy)]
 pub struct Parts<'a> {
     pub names: &'a Names,
@@ -57,7 +57,7 @@ pub struct Parts<'a> {
     pub count: u32,
 }
 
-/// What a term is. `[]` and `{}` are atoms; `value` is that of an integer, where it is at most
+/// What a term is. `[]` and `{}` are atoms. `value` is that of an integer, if it is at most
 /// 4,294,967,295.
 #[derive(Clone, Copy)]
 pub enum TermKind<'a> {
@@ -103,7 +103,7 @@ impl<'a> Term<'a> {
         }
     }
 
-    /// The term's node, and how many nodes stand before it. Where there is no node, the term is a
+    /// The term's node, and how many nodes come before it. If there is no node, the term is a
     /// variable.
     #[inline(always)]
     pub(crate) fn node(&self) -> (Node, usize)
@@ -115,7 +115,7 @@ impl<'a> Term<'a> {
         }
     }
 
-    /// The parts of a term, as many as are counted, and so many nodes before its own.
+    /// The last `count` terms of the first `end` nodes, as parts of this term.
     #[inline(always)]
     pub(crate) fn parts(&self, end: usize, count: u32) -> Parts<'a>
         ensures trees { trees_of result ≡ parts_in self.now.names.now self.now.nodes.now end count }
@@ -129,7 +129,7 @@ impl<'a> Term<'a> {
         }
     }
 
-    /// The term that is the last of so many nodes.
+    /// The term that is the last of the first `end` nodes.
     #[inline(always)]
     pub(crate) fn part(&self, end: usize) -> Term<'a>
         ensures tree { tree_of result ≡ tree_in self.now.names.now self.now.nodes.now end }
@@ -142,7 +142,7 @@ impl<'a> Term<'a> {
         }
     }
 
-    /// What a term of this shape is that stands behind so many nodes.
+    /// What a term of this shape is, after the first `before` nodes.
     #[inline(always)]
     fn kind_of(&self, shape: Shape, before: usize) -> TermKind<'a>
         ensures tree { (span : SpanOf) → kind_tree result span
@@ -186,7 +186,7 @@ impl<'a> Term<'a> {
         self.kind_of(node.shape, before)
     }
 
-    /// Where the term stands, its brackets included.
+    /// The position of the term, with the brackets round it.
     #[inline(always)]
     pub fn span(&self) -> Span
         ensures { result ≡ span_of (tree_of self.now) }
@@ -195,7 +195,7 @@ impl<'a> Term<'a> {
         node.span
     }
 
-    /// What the term is, with its parts, which are of the same nodes, and where it stands.
+    /// What the term is, with its parts, which are of the same nodes, and its position.
     #[inline(always)]
     pub fn kind_at(&self) -> (TermKind<'a>, Span)
         ensures tree { kind_tree result.0 result.1 ≡ tree_of self.now }
@@ -230,7 +230,7 @@ impl<'a> Parts<'a> {
         Ok(terms)
     }
 
-    /// The term that is the last of so many nodes.
+    /// The term that is the last of the first `end` nodes.
     #[inline(always)]
     fn part(&self, end: usize) -> Term<'a>
         ensures tree { tree_of result ≡ tree_in self.now.names.now self.now.nodes.now end }
@@ -243,7 +243,7 @@ impl<'a> Parts<'a> {
         }
     }
 
-    /// The term, where it is the only one.
+    /// The term, if it is the only one.
     pub fn only(&self) -> Option<Term<'a>>
         ensures tree { option_map tree_of result ≡ only_of (trees_of self.now) }
         ensures within { IfSome result (IsOf self.now.names.now self.now.nodes.now) }
@@ -254,7 +254,7 @@ impl<'a> Parts<'a> {
         Some(self.part(self.end))
     }
 
-    /// The two terms, where there are two.
+    /// The two terms, if there are exactly two.
     #[inline(always)]
     pub fn pair(&self) -> Option<(Term<'a>, Term<'a>)>
         ensures trees { option_map (λ pair. (tree_of pair.0, tree_of pair.1)) result ≡ pair_of (trees_of self.now) }
@@ -267,7 +267,7 @@ impl<'a> Parts<'a> {
         Some((left, self.part(self.end)))
     }
 
-    /// The three terms, where there are three.
+    /// The three terms, if there are exactly three.
     pub fn triple(&self) -> Option<(Term<'a>, Term<'a>, Term<'a>)>
         ensures { option_map (λ three. (tree_of three.0, tree_of three.1, tree_of three.2)) result ≡ triple_of (trees_of self.now) }
     {

@@ -1,4 +1,4 @@
-//! What terms are, with the brackets round them passed through.
+//! Views of terms that look through the brackets round them.
 
 ghost use Rattle.std.specs.Prelude.{◌≡◌, option_map, IfSome};
 ghost use Rattle.prolog_names.specs.Names.{name_at};
@@ -9,7 +9,7 @@ use crate::binary_term::Binary;
 use crate::node::Shape;
 use crate::term::Term;
 
-/// The term in all brackets round it.
+/// The term inside all brackets round it.
 #[inline(always)]
 pub fn inside<'a>(term: &Term<'a>) -> Term<'a>
     ensures tree { tree_of result ≡ inner_tree (tree_of term.now) }
@@ -18,7 +18,7 @@ pub fn inside<'a>(term: &Term<'a>) -> Term<'a>
     term.part(term.nodes.inside(term.end))
 }
 
-/// Where the term starts, inside its brackets.
+/// The byte offset where the term starts, inside its brackets.
 pub fn start_of(term: &Term) -> u32
     ensures { result ≡ start_of (tree_of term.now) }
 {

@@ -1,4 +1,4 @@
-//! What waits for the next word.
+//! Names that wait for the next token.
 
 ghost use Rattle.std.specs.Prelude.{◌≡◌, []};
 ghost use Rattle.prolog_terms.specs.ReaderSeen.{ready_seen, wants};
@@ -12,7 +12,7 @@ use crate::state::{Mode, State};
 use crate::word::{NO_WORD, Word};
 use std::alloc::Global;
 
-/// Which words wait for the next word.
+/// Which tokens wait for the next one.
 #[derive(Clone, Copy)]
 pub enum Waiting {
     Nothing,
@@ -20,12 +20,12 @@ pub enum Waiting {
     Name,
     /// A prefix operator where an operand is wanted.
     Operator,
-    /// A prefix operator, and a name behind it that is an infix operator and no prefix operator.
+    /// A prefix operator, and a name after it that is an infix operator and no prefix operator.
     Doubt,
 }
 
-/// The words that wait, as many of them as do: a name, with its sides where it is a prefix operator, and
-/// a second name with its sides. With both the clause is at least `floor` deep.
+/// The tokens that wait: a name, with its sides if it is a prefix operator, and a second name with
+/// its sides. With both the clause is at least `floor` deep.
 #[derive(Clone, Copy)]
 pub struct Waited {
     pub name: Word,
@@ -35,7 +35,7 @@ pub struct Waited {
     pub floor: usize,
 }
 
-/// The words where none waits.
+/// The value if no token waits.
 const NOT_WAITED: Waited = Waited {
     name: NO_WORD,
     prefix: NO_SIDES,
@@ -44,8 +44,8 @@ const NOT_WAITED: Waited = Waited {
     floor: 0,
 };
 
-/// What is read of a clause, and what waits behind it. Clause after clause is read in the memory of
-/// one reader.
+/// What is read of a clause, and what waits after it. All clauses of a text are read with one
+/// reader, which reuses its memory.
 #[derive(Drop)]
 pub struct Reader {
     pub(crate) state: State,
@@ -54,6 +54,7 @@ pub struct Reader {
 }
 
 impl Reader {
+    /// A reader that has read nothing.
     pub fn new(alloc: Global) -> Reader {
         Reader {
             state: State {

@@ -9,9 +9,9 @@ use crate::term::{NO_SPAN, Span};
 use prolog_names::{MINUS, Names, names_law};
 use prolog_tokens::{Kind, Token, integer_value};
 
-/// A token as terms see it: its kind, whether layout stands directly before it, where it stands,
-/// the value of an Integer that has one, and the number of the name of a Name or Quoted token (of any
-/// other 0).
+/// A word: a token as terms see it. It has its kind, whether layout is directly before it, its
+/// position, the value of an Integer that has one, and the number of the name of a Name or Quoted
+/// token (0 for any other).
 #[derive(Clone, Copy)]
 pub struct Word {
     pub kind: Kind,
@@ -21,7 +21,7 @@ pub struct Word {
     pub name: u32,
 }
 
-/// What stands where there is no word.
+/// The value of no word.
 pub const NO_WORD: Word = Word {
     kind: Kind::End,
     after_layout: false,

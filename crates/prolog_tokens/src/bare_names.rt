@@ -6,7 +6,7 @@ ghost use Rattle.prolog_tokens.specs.BareNames.{all_are, is_letter_name, is_grap
 
 use crate::chars::{Class, class_at};
 
-/// Whether each character of the text goes on a word.
+/// Whether each character of the text continues a name.
 fn all_continue(text: &str) -> bool
     ensures { result ≡ all_are continues text.now }
 {
@@ -30,7 +30,7 @@ fn is_letter_name(name: &str) -> bool
     }
 }
 
-/// Whether the name is graphic characters that are no End and don't begin a comment.
+/// Whether the name is graphic characters that aren't the end token and don't begin a comment.
 fn is_graphic_name(name: &str) -> bool
     ensures { result ≡ is_graphic_name name.now }
 {
@@ -53,8 +53,10 @@ fn is_sign_name(name: &str) -> bool
     name == "!" || name == ";" || name == "[]" || name == "{}"
 }
 
-/// Whether the name is written as it is, without quotes (ISO/IEC 13211-1, 6.4.2): a letter name,
-/// graphic characters that don't begin with `/*` and aren't `.` alone, `!`, `;`, `[]` or `{}`.
+/// Whether an atom of this name needs no quotes (ISO/IEC 13211-1, 6.4.2).
+///
+/// It is then a letter name, graphic characters that don't begin with `/*` and aren't `.` alone,
+/// `!`, `;`, `[]` or `{}`.
 pub fn is_bare_name(name: &str) -> bool
     ensures { result ≡ is_bare_name name.now }
 {

@@ -4,14 +4,14 @@ ghost use Rattle.prolog_tokens.specs.Numbers.{IsChar};
 
 use unicode::properties::{GeneralCategory, is_xid_continue, is_xid_start};
 
-/// What a character is to the tokens (ISO/IEC 13211-1, 6.5). Those that go on a word come first, then the
-/// graphic ones, so that one comparison tells them.
+/// The class of a character for the lexer (ISO/IEC 13211-1, 6.5). Those that continue a name come
+/// first and the graphic ones next, so that one comparison decides each.
 #[derive(Clone, Copy, Debug, PartialEq, Eq)]
 pub enum Class {
     Small,
     Capital,
     Digit,
-    /// It goes on a word, and begins none.
+    /// It continues a name, but doesn't begin one.
     Further,
     /// A byte within a character.
     Inner,
@@ -38,7 +38,7 @@ pub enum Class {
 }
 
 impl Class {
-    /// Whether the character goes on a word.
+    /// Whether the character continues a name.
     #[inline(always)]
     pub fn continues(self) -> bool
         ensures { result ≡ continues self }
@@ -49,7 +49,7 @@ impl Class {
         }
     }
 
-    /// Whether graphic tokens are made of the character.
+    /// Whether the character occurs in graphic tokens.
     #[inline(always)]
     pub fn is_graphic(self) -> bool
         ensures { result ≡ is_graphic self }
@@ -202,7 +202,7 @@ fn ascii_class(byte: u8) -> Class
     ASCII_CLASSES[byte as usize]
 }
 
-/// The class of a letter past ASCII of this category.
+/// The class of a letter beyond ASCII, by its Unicode category.
 fn letter_class(category: GeneralCategory) -> Class
     ensures { result ≡ letter_class category }
 {
@@ -212,7 +212,7 @@ fn letter_class(category: GeneralCategory) -> Class
     }
 }
 
-/// The class of a character past ASCII.
+/// The class of a character beyond ASCII.
 fn past_ascii(c: char) -> Class
     ensures { result ≡ past_ascii c }
 {
@@ -231,7 +231,7 @@ fn past_ascii(c: char) -> Class
     Class::Other
 }
 
-/// The class of the character past ASCII that begins at a place, and `Inner` within one.
+/// The class of the character beyond ASCII that begins at the byte offset, and `Inner` within one.
 #[cold]
 fn far_class_at(text: &str, at: usize) -> Class
     requires within { at < length text.now }
@@ -247,8 +247,8 @@ fn far_class_at(text: &str, at: usize) -> Class
     }
 }
 
-/// The class of the character that begins at a place, `Inner` within a character, and `Other`
-/// past the end.
+/// The class of the character that begins at the byte offset. It is `Inner` within a character, and
+/// `Other` past the end.
 #[inline(always)]
 pub fn class_at(text: &str, at: usize) -> Class
     ensures { result ≡ class_of_place text.now at }
@@ -264,7 +264,7 @@ pub fn class_at(text: &str, at: usize) -> Class
     far_class_at(text, at)
 }
 
-/// Whether the byte at a place stands within a character.
+/// Whether the byte at the offset is within a character, and doesn't begin one.
 pub fn is_inner(bytes: &[u8], at: usize) -> bool
     requires { at < length bytes.now }
     ensures { IsTrue result ↔ (class_of_place bytes.now at ≡ Class.Inner) }
@@ -276,7 +276,7 @@ pub fn is_inner(bytes: &[u8], at: usize) -> bool
     byte < 192
 }
 
-/// The end of the character that begins at a place.
+/// The end of the character that begins at the byte offset.
 pub fn char_end(bytes: &[u8], at: usize) -> usize
     requires within { at < length bytes.now }
     requires begins { class_of_place bytes.now at ≢ Class.Inner }

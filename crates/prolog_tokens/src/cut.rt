@@ -12,15 +12,15 @@ use crate::spelling::spell;
 use crate::token::{Token, TokenFault};
 use std::alloc::Global;
 
-/// Whether layout or the beginning of the text stands directly before `start`, where the token
-/// before it ended at `at`.
+/// Whether layout or the beginning of the text is directly before `start`, if the token before it
+/// ended at `at`.
 fn stands_apart(at: usize, start: usize) -> bool
     ensures { IsTrue result ↔ ((at ≡ 0) ⊎ (at < start)) }
 {
     at == 0 || at < start
 }
 
-/// The token that stands next after `at`, behind layout, or None where the text ends.
+/// The next token after `at`, past layout, or None at the end of the text.
 pub fn next_token(text: &str, at: usize) -> Result<Option<Token>, TokenFault>
     requires small { length text.now ≤ MOST_BYTES }
     requires within { at ≤ length text.now }
@@ -40,8 +40,10 @@ pub fn next_token(text: &str, at: usize) -> Result<Option<Token>, TokenFault>
     }))
 }
 
-/// The tokens of a text of at most 8,388,608 bytes, or what is wrong first in it (ISO/IEC 13211-1,
-/// 6.4; `docs/syntax.md` has the profile).
+/// The tokens of a text of at most 8,388,608 bytes in their order, or its first error (ISO/IEC
+/// 13211-1, 6.4; `docs/syntax.md` lists the supported subset).
+///
+/// A text has either one list of tokens or one error. The steps are linear in the bytes.
 pub fn tokens(alloc: Global, text: &str) -> Result<Vec<Token>, TokenFault>
     requires { length text.now ≤ MOST_BYTES }
     ensures ok { IfOk result (λ found. IsCut text.now found.items) }

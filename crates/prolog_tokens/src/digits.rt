@@ -2,10 +2,10 @@ ghost use Rattle.std.specs.Prelude.{◌≡◌, ℕ, ◌-◌, ◌<◌, ◌≤◌,
 ghost use Rattle.std.specs.Char.{digit_value};
 ghost use Rattle.prolog_tokens.specs.Digits.{number_at};
 
-/// One more than the greatest value that `capped_number` tells from others.
+/// One more than the greatest value that `capped_number` returns as it is.
 pub const CAP: u64 = 4_294_967_296;
 
-/// The value of a digit or letter as a digit of a base of up to 36, and 36 of any other byte.
+/// The value of a digit or letter as a digit of a base of up to 36, and 36 for any other byte.
 pub fn digit_of(byte: u8) -> u8
     ensures { result ≡ digit_value byte }
 {
@@ -36,7 +36,7 @@ pub fn digits_end(bytes: &[u8], from: usize, base: u8) -> usize
     end
 }
 
-/// The number that the digits from `from` to `to` write, or `CAP` where that is less.
+/// The number that the digits from `from` to `to` write, but at most `CAP`.
 pub fn capped_number(bytes: &[u8], from: usize, to: usize, base: u8) -> u64
     requires order { from ≤ to }
     requires within { to ≤ length bytes.now }

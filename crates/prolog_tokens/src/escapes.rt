@@ -3,7 +3,7 @@ ghost use Rattle.prolog_tokens.specs.Escapes.{mark_of, IsCoded, IsEscape};
 
 use crate::digits::{capped_number, digits_end};
 
-/// What the byte behind a backslash says: that the escape means one character, or how it goes on.
+/// What the byte after a backslash means: one character, or how the escape goes on.
 #[derive(Clone, Copy, Debug, PartialEq, Eq)]
 pub enum Mark {
     Letter(char),
@@ -20,7 +20,7 @@ pub struct Escape {
     pub end: usize,
 }
 
-/// What a byte behind a backslash says.
+/// What a byte after a backslash means.
 pub fn mark_of(byte: u8) -> Mark
     ensures { result ≡ mark_of byte }
 {
@@ -43,8 +43,8 @@ pub fn mark_of(byte: u8) -> Mark
     }
 }
 
-/// The end of an escape by a number: digits of the base from `from` on that give a character,
-/// and a backslash.
+/// The escape by a number: digits of the base from `from` on that give a character, and a
+/// backslash.
 fn coded_at(bytes: &[u8], from: usize, base: u8) -> Option<Escape>
     requires from { from ≤ length bytes.now }
     requires some { 0 < base }
@@ -63,7 +63,8 @@ fn coded_at(bytes: &[u8], from: usize, base: u8) -> Option<Escape>
     })
 }
 
-/// The escape sequence whose backslash stands at `at`.
+/// The escape sequence whose backslash is at `at` (ISO/IEC 13211-1, 6.4.2.1), or None if there is
+/// none.
 pub fn escape_at(bytes: &[u8], at: usize) -> Option<Escape>
     requires within { at < length bytes.now }
     requires backslash { slice_index bytes.now at ≡ 92 }

@@ -1,4 +1,5 @@
-//! What holds of each cut of a text, as laws: functions with nothing to run.
+//! Theorems about the tokens of a text: functions that do nothing, and are called for what they
+//! ensure.
 
 ghost use Rattle.std.specs.Prelude.{◌≡◌, ℕ, ◌<◌, ◌≤◌, List, Some, length};
 ghost use Rattle.std.specs.List.{slice_get};
@@ -6,23 +7,23 @@ ghost use Rattle.prolog_tokens.specs.Cut.{IsNext, IsCut, HasFault, IsTokenOf, en
 
 use crate::token::{Token, TokenFault};
 
-/// Two cuts of a text are the same list.
+/// A text has at most one list of tokens.
 pub fn one_cut()
     ensures { (text : List ℕ) (ts us : List Token) → IsCut text ts → IsCut text us → ts ≡ us }
 {}
 
-/// Two faults of a text are the same.
+/// A text has at most one error.
 pub fn one_fault()
     ensures { (text : List ℕ) (fault second : TokenFault) → HasFault text fault → HasFault text second → fault ≡ second }
 {}
 
-/// A text with a fault has no cut.
+/// A text with an error has no list of tokens.
 pub fn fault_is_no_cut()
     ensures { (text : List ℕ) (fault : TokenFault) (ts : List Token) → HasFault text fault → IsCut text ts → ⊥ }
 {}
 
-/// Each token of a cut stands next behind those before it, is spelled, isn't empty and ends
-/// within the text, and a later one starts no earlier than an earlier one ends.
+/// Each token of a text is spelled correctly, isn't empty, ends within the text and is the next one
+/// after those before it. Tokens don't overlap.
 pub fn cut_tokens()
     ensures next { (text : List ℕ) (ts : List Token) → IsCut text ts → (k : ℕ) (t : Token) → slice_get ts k ≡ Some t → IsNext text (ended 0 ts k) t }
     ensures spelled { (text : List ℕ) (ts : List Token) → IsCut text ts → (k : ℕ) (t : Token) → slice_get ts k ≡ Some t → IsTokenOf text t }
@@ -32,7 +33,7 @@ pub fn cut_tokens()
         → slice_get ts j ≡ Some t → slice_get ts k ≡ Some u → t.end ≤ u.start }
 {}
 
-/// A cut has no more tokens than the text has bytes.
+/// A text has no more tokens than bytes.
 pub fn cut_fewer()
     ensures { (text : List ℕ) (ts : List Token) → IsCut text ts → length ts ≤ length text }
 {}

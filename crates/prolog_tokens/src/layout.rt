@@ -24,7 +24,7 @@ pub fn newline_at(bytes: &[u8], from: usize) -> usize
     end
 }
 
-/// Whether `/*` stands at a place.
+/// Whether `/*` is at the offset.
 fn begins_comment(bytes: &[u8], at: usize) -> bool
     requires { at < length bytes.now }
     ensures { IsTrue result ↔ IsOpener bytes.now at }
@@ -39,7 +39,7 @@ fn begins_comment(bytes: &[u8], at: usize) -> bool
     bytes[next] == b'*'
 }
 
-/// Whether `*/` stands at a place.
+/// Whether `*/` is at the offset.
 fn is_closer(bytes: &[u8], at: usize) -> bool
     requires { at < length bytes.now }
     ensures { IsTrue result ↔ IsCloser bytes.now at }
@@ -54,7 +54,7 @@ fn is_closer(bytes: &[u8], at: usize) -> bool
     bytes[next] == b'/'
 }
 
-/// The end of the bracketed comment that begins at `start`, or None where it isn't closed.
+/// The end of the bracketed comment that begins at `start`, or None if it isn't closed.
 fn bracketed_end(bytes: &[u8], start: usize) -> Option<usize>
     requires within { start < length bytes.now }
     requires opens { IsOpener bytes.now start }
@@ -70,7 +70,8 @@ fn bracketed_end(bytes: &[u8], start: usize) -> Option<usize>
     None
 }
 
-/// The end of the bracketed comment that begins at `at`, or None where none does.
+/// The end of the bracketed comment that begins at `at`, or None if none does. Fails if it isn't
+/// closed.
 fn comment_end(bytes: &[u8], at: usize) -> Result<Option<usize>, TokenFault>
     requires small { length bytes.now ≤ MOST_BYTES }
     requires within { at < length bytes.now }
@@ -85,7 +86,7 @@ fn comment_end(bytes: &[u8], at: usize) -> Result<Option<usize>, TokenFault>
     }
 }
 
-/// Whether `at` is the beginning of the text or stands directly behind the U+FEFF there.
+/// Whether `at` is the beginning of the text, or directly after the U+FEFF there.
 fn opens_text(text: &str, at: usize) -> bool
     requires { at < length text.now }
     ensures { IsTrue result ↔ ((at ≡ 0) ⊎ IsOrderMark text.now at) }
@@ -99,7 +100,8 @@ fn opens_text(text: &str, at: usize) -> bool
     }
 }
 
-/// Whether `#!` stands at a place where it begins layout.
+/// Whether `#!` is at the offset, and begins layout there: only the beginning of the text allows
+/// it.
 fn is_hash_bang(text: &str, at: usize) -> bool
     requires { at < length text.now }
     ensures { IsTrue result ↔ IsHashBang text.now at }
@@ -118,7 +120,7 @@ fn is_hash_bang(text: &str, at: usize) -> bool
     opens_text(text, at)
 }
 
-/// The end of the piece of layout that begins at `at`, or None where none does.
+/// The end of the piece of layout that begins at `at`, or None if none does.
 fn piece_end(text: &str, at: usize) -> Result<Option<usize>, TokenFault>
     requires small { length text.now ≤ MOST_BYTES }
     requires within { at ≤ length text.now }
@@ -145,7 +147,8 @@ fn piece_end(text: &str, at: usize) -> Result<Option<usize>, TokenFault>
     }
 }
 
-/// The end of the layout that begins at `from`.
+/// The end of the layout from `from` on (ISO/IEC 13211-1, 6.4.1). Fails at a bracketed comment that
+/// isn't closed.
 pub fn layout_end(text: &str, from: usize) -> Result<usize, TokenFault>
     requires small { length text.now ≤ MOST_BYTES }
     requires within { from ≤ length text.now }

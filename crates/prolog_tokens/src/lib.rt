@@ -1,11 +1,11 @@
-//! Tokens of Prolog text, and the small types that every layer above them uses.
+//! Lexer of Prolog text (ISO/IEC 13211-1, 6.4), and the small types that every layer above it uses.
 //!
-//! `tokens` cuts a text into the one list of tokens that it is, or tells its one fault with the byte
-//! offset: of `p('a` it tells the quote at 2. `name_text` and `integer_value` are what a token says,
-//! and `place_of` and `places_of` the lines and columns of offsets. `Text` is an owned text.
+//! `tokens` returns the one list of tokens of a text, or its one error with the byte offset: for
+//! `p('a` the quote at 2. `name_text` and `integer_value` decode a token. `place_of` and
+//! `places_of` turn byte offsets into lines and columns. `Text` is an owned text.
 //!
-//! It knows no operators and no terms: `- 1` and `-1` are two tokens each, and what they mean is for
-//! the layers above.
+//! It knows no operators and no terms. `- 1` and `-1` are two tokens each, and what they mean is
+//! for the layers above.
 #![tactic(auto)]
 
 mod bare_names;

@@ -1,2 +1,2 @@
-/// How many bytes a text has at most.
+/// The greatest length of a text in bytes.
 pub const MOST_BYTES: u32 = 8_388_608;

@@ -7,7 +7,7 @@ use crate::chars::{char_end, is_inner};
 use crate::digits::digits_end;
 use crate::escapes::escape_at;
 
-/// What stands behind `0'`: a character code and where it ends, a wrong escape, or no code.
+/// What follows `0'`: a character code and where it ends, a wrong escape, or no code.
 #[derive(Clone, Copy, Debug, PartialEq, Eq)]
 pub enum CodeEnd {
     Found(usize),
@@ -15,7 +15,7 @@ pub enum CodeEnd {
     Absent,
 }
 
-/// What a number is and where it ends, or that the escape behind its `0'` is wrong.
+/// The kind of a number and where it ends, or that the escape after its `0'` is wrong.
 #[derive(Clone, Copy, Debug, PartialEq, Eq)]
 pub enum NumberEnd {
     Whole(usize),
@@ -35,7 +35,7 @@ fn is_sign(byte: u8) -> bool
     byte == b'+' || byte == b'-'
 }
 
-/// Behind the sign that stands at `at`, if one does.
+/// The offset after the sign at `at`, or `at` if there is none.
 fn after_sign(bytes: &[u8], at: usize) -> usize
     requires { at ≤ length bytes.now }
     ensures is { result ≡ after_sign bytes.now at }
@@ -50,7 +50,7 @@ fn after_sign(bytes: &[u8], at: usize) -> usize
     at
 }
 
-/// The end of the exponent of a float that begins at `at`, and `at` where none does.
+/// The end of the exponent of a float that begins at `at`, or `at` if none does.
 fn exponent_end(bytes: &[u8], at: usize) -> usize
     requires { at ≤ length bytes.now }
     ensures exponent { IsExponent bytes.now at result }
@@ -70,7 +70,7 @@ fn exponent_end(bytes: &[u8], at: usize) -> usize
     end
 }
 
-/// The end of the fraction of a float that begins at `at`, or None where none does.
+/// The end of the fraction of a float that begins at `at`, or None if none does.
 fn fraction_end(bytes: &[u8], at: usize) -> Option<usize>
     requires { at ≤ length bytes.now }
     ensures fraction { MatchOption result ((e : ℕ) → IsFraction bytes.now at e → ⊥) (λ end. IsFraction bytes.now at end) }
@@ -90,7 +90,7 @@ fn fraction_end(bytes: &[u8], at: usize) -> Option<usize>
     Some(exponent_end(bytes, end))
 }
 
-/// The base that a letter behind a 0 tells.
+/// The base that a letter after a 0 stands for: `b`, `o` and `x`.
 pub fn base_of(letter: u8) -> Option<u8>
     ensures { result ≡ base_of letter }
 {
@@ -102,8 +102,7 @@ pub fn base_of(letter: u8) -> Option<u8>
     }
 }
 
-/// The end of the integer with the letter of a base that begins at `start`, or None where none
-/// does.
+/// The end of the integer with the letter of a base that begins at `start`, or None if none does.
 fn based_end(bytes: &[u8], start: usize) -> Option<usize>
     requires { start < length bytes.now }
     ensures based { MatchOption result ((base n e : ℕ) → IsBased base bytes.now start n e → ⊥) (EndsBased bytes.now start) }
@@ -124,7 +123,7 @@ fn based_end(bytes: &[u8], start: usize) -> Option<usize>
     Some(end)
 }
 
-/// How the character code that should stand at the quote at `at`, behind `0'`, goes on.
+/// The end of a character code that is a quote: after `0'` a quote at `at` must be doubled.
 fn doubled_end(bytes: &[u8], at: usize) -> CodeEnd
     requires within { at < length bytes.now }
     requires quote { slice_index bytes.now at ≡ 39 }
@@ -140,7 +139,7 @@ fn doubled_end(bytes: &[u8], at: usize) -> CodeEnd
     CodeEnd::Found(at + 2)
 }
 
-/// How the character code that should stand at `at`, behind `0'`, goes on.
+/// The end of the character code at `at`, after `0'`.
 fn code_end(bytes: &[u8], at: usize) -> CodeEnd
     requires { at ≤ length bytes.now }
     ensures { CodeEndIs bytes.now at result }
@@ -170,7 +169,7 @@ fn code_end(bytes: &[u8], at: usize) -> CodeEnd
     CodeEnd::Found(char_end(bytes, at))
 }
 
-/// Whether `0'` stands at `start`.
+/// Whether `0'` is at `start`.
 fn is_code_mark(bytes: &[u8], start: usize) -> bool
     requires { start < length bytes.now }
     ensures { IsTrue result ↔ IsCodeMark bytes.now start }
@@ -185,7 +184,7 @@ fn is_code_mark(bytes: &[u8], start: usize) -> bool
     bytes[next] == b'\''
 }
 
-/// The number that begins with the digit at `start`.
+/// The number that begins with the digit at `start` (ISO/IEC 13211-1, 6.4.4 and 6.4.5).
 pub fn number_end(bytes: &[u8], start: usize) -> NumberEnd
     requires within { start < length bytes.now }
     requires digit { digit_value (slice_index bytes.now start) < 10 }

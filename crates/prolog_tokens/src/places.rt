@@ -1,4 +1,4 @@
-//! Places in a text by lines and characters.
+//! Source positions: the lines and columns of byte offsets.
 
 ghost use Rattle.std.specs.Prelude.{◌≡◌, ◌≤◌, ◌+◌, All, IfOk, length, slice_index};
 ghost use Rattle.prolog_tokens.specs.declared.limits.TheConstants.{MOST_BYTES};
@@ -7,17 +7,17 @@ ghost use Rattle.prolog_tokens.specs.Places.{IsOffset, IsPlace, IsCounted, ArePl
 use crate::token::Place;
 use std::alloc::{AllocError, Global};
 
-/// The place where each text begins.
+/// The position where each text begins.
 const FIRST: Place = Place { line: 1, column: 1 };
 
-/// Whether a character begins with the byte, in text that is UTF-8.
+/// Whether the byte begins a character of UTF-8.
 fn begins_character(byte: u8) -> bool
     ensures { result ≡ begins_character byte }
 {
     byte < 128 || byte >= 192
 }
 
-/// The place of the offset `to`, where `place` is that of the offset `from`.
+/// The position of the offset `to`, if `place` is that of the offset `from`.
 fn advanced(bytes: &[u8], from: usize, place: Place, to: usize) -> Place
     requires small { length bytes.now ≤ MOST_BYTES }
     requires order { from ≤ to }
@@ -42,8 +42,10 @@ fn advanced(bytes: &[u8], from: usize, place: Place, to: usize) -> Place
     Place { line, column }
 }
 
-/// The place of an offset in a text of at most 8,388,608 bytes, where the bytes before the offset
-/// are UTF-8.
+/// The line and column of a byte offset in a text of at most 8,388,608 bytes. Both count from 1,
+/// and columns count characters.
+///
+/// The bytes before the offset must be UTF-8. The steps are linear in the offset.
 pub fn place_of(bytes: &[u8], offset: u32) -> Place
     requires small { length bytes.now ≤ MOST_BYTES }
     requires offset { IsOffset bytes.now offset }
@@ -53,7 +55,8 @@ pub fn place_of(bytes: &[u8], offset: u32) -> Place
     advanced(bytes, 0, FIRST, offset as usize)
 }
 
-/// The places of offsets that never fall, found in one sweep over the text.
+/// The lines and columns of byte offsets in ascending order, in the same order. It takes one pass
+/// over the text.
 pub fn places_of(alloc: Global, bytes: &[u8], offsets: &[u32]) -> Result<Vec<Place>, AllocError>
     requires small { length bytes.now ≤ MOST_BYTES }
     requires offsets { All (IsOffset bytes.now) offsets.now }

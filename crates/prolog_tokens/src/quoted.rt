@@ -4,7 +4,7 @@ ghost use Rattle.prolog_tokens.specs.Ends.{QuotedEndIs};
 
 use crate::escapes::escape_at;
 
-/// How a quoted item ends: behind its closing quote, not at all, or with a bad escape at a place.
+/// How a quoted item ends: after its closing quote, not at all, or with a bad escape at an offset.
 #[derive(Clone, Copy, Debug, PartialEq, Eq)]
 pub enum QuotedEnd {
     Closed(usize),
@@ -12,7 +12,7 @@ pub enum QuotedEnd {
     BadEscape(usize),
 }
 
-/// The end of the bytes from `from` on that stand for themselves.
+/// The end of the bytes from `from` on that mean themselves: up to a quote or a backslash.
 pub fn plain_end(bytes: &[u8], from: usize, quote: u8) -> usize
     requires { from ≤ length bytes.now }
     ensures from { from ≤ result }
@@ -35,7 +35,7 @@ pub fn plain_end(bytes: &[u8], from: usize, quote: u8) -> usize
     end
 }
 
-/// The end of the part of a quoted item that begins at `at`, or None where none does.
+/// The end of the part of a quoted item that begins at `at`, or None if none does.
 fn part_end(bytes: &[u8], at: usize, quote: u8) -> Option<usize>
     requires within { at ≤ length bytes.now }
     requires quote { IsQuote quote }

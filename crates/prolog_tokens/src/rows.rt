@@ -1,5 +1,5 @@
-//! Rows of tokens: a text is cut from several places on, as if a token began at each, and the rows are
-//! joined to the one cut.
+//! Lexing in parts: each span of a text is cut as if a token began at its start, and the rows of
+//! tokens are joined to the tokens of the text.
 
 ghost use Rattle.std.specs.Prelude.{◌≡◌, ◌≢◌, ◌+◌, ◌<◌, ◌≤◌, ◌⊎◌, ℕ, List, [], length, slice_index, All, IfOk, IfErr, IfSome, OnOk};
 ghost use Rattle.prolog_tokens.specs.declared.rows.TheConstants.{SPAN_BYTES};
@@ -13,29 +13,29 @@ use crate::layout::newline_at;
 use crate::token::{Token, TokenFault};
 use std::alloc::{AllocError, Global};
 
-/// How many bytes of a dense text a token takes, with the layout before it. Room for more tokens than a
-/// text has costs nothing while it isn't touched.
+/// How many bytes a token of a dense text takes, with the layout before it. Capacity for more
+/// tokens than a text has costs nothing while it isn't touched.
 const TOKEN_BYTES: usize = 3;
 
-/// How many bytes a span has at least, but for the last one of a text. A row that begins within a comment
-/// may look in vain for the end of a quoted item up to the end of the text, so spans aren't many.
+/// How many bytes a span has at least, except the last one of a text. A row that begins within a
+/// comment may search the rest of the text for a closing quote in vain, so there are few spans.
 const SPAN_BYTES: usize = 262_144;
 
-/// A part of a text, from where a character begins up to another place.
+/// A part of a text, from where a character begins up to another byte offset.
 #[derive(Clone, Copy)]
 pub struct Span {
     pub from: usize,
     pub to: usize,
 }
 
-/// Tokens that stand one after another, and where the last of them ends.
+/// Successive tokens, and where the last of them ends.
 #[derive(Drop)]
 pub struct TokenRow {
     pub tokens: Vec<Token>,
     pub end: usize,
 }
 
-/// Where the span from a place on ends: at a newline or at the end of the text.
+/// The end of the span from an offset on: at a newline or at the end of the text.
 fn span_end(text: &str, from: usize) -> usize
     requires { from < length text.now }
     ensures some { from < result }
@@ -48,8 +48,8 @@ fn span_end(text: &str, from: usize) -> usize
     newline_at(bytes, from + size)
 }
 
-/// The spans of a text, side by side from its beginning to its end. Each but the first begins with a newline,
-/// and each but the last has at least 262,144 bytes.
+/// Cuts a text into adjacent spans, from its beginning to its end. Each except the first begins
+/// with a newline, and each except the last has at least 262,144 bytes.
 pub fn spans(alloc: Global, text: &str) -> Result<Vec<Span>, AllocError>
     ensures spans { IfOk result (λ spans. All (IsSpan text.now) spans.items) }
     ensures whole { IfOk result (λ spans. StandSideBySide 0 spans.items (length text.now)) }
@@ -66,8 +66,8 @@ pub fn spans(alloc: Global, text: &str) -> Result<Vec<Span>, AllocError>
     Ok(spans)
 }
 
-/// Goes on with the row by the tokens that stand next and start before a place. Tells the token that stands
-/// next behind them, or None where the text ends.
+/// Extends the row by the next tokens that start before `to`. Returns the token after them, or None
+/// at the end of the text.
 fn go_on(text: &str, row: &mut TokenRow, to: usize) -> Result<Option<Token>, TokenFault>
     requires small { length text.now ≤ MOST_BYTES }
     requires begins { IsBegin text.now row.old.end }
@@ -87,8 +87,8 @@ fn go_on(text: &str, row: &mut TokenRow, to: usize) -> Result<Option<Token>, Tok
     Ok(None)
 }
 
-/// The tokens that stand one after another from the beginning of the span on, as many as start before its
-/// end. There are fewer where something is wrong behind them. Fails only where memory runs out.
+/// The successive tokens from the beginning of the span on, as many as start before its end. There
+/// are fewer if an error follows them. Fails only if memory runs out.
 pub fn tokens_in(alloc: Global, text: &str, span: &Span) -> Result<TokenRow, AllocError>
     requires small { length text.now ≤ MOST_BYTES }
     requires span { IsSpan text.now span.now }
@@ -108,8 +108,8 @@ pub fn tokens_in(alloc: Global, text: &str, span: &Span) -> Result<TokenRow, All
     }
 }
 
-/// Puts the tokens of a row behind those of another, with what stands between. Where the first of them
-/// isn't met, it was no token, and none of them is put there.
+/// Appends the tokens of a row to those of another, with the tokens between. If the first of them
+/// doesn't occur there, it was no token, and none of them is appended.
 fn join(text: &str, row: &mut TokenRow, mut next: TokenRow) -> Result<(), TokenFault>
     requires small { length text.now ≤ MOST_BYTES }
     requires begins { IsBegin text.now row.old.end }
@@ -137,8 +137,10 @@ fn join(text: &str, row: &mut TokenRow, mut next: TokenRow) -> Result<(), TokenF
     Ok(())
 }
 
-/// The tokens of a text of at most 8,388,608 bytes, or what is wrong first in it. What rows that were cut
-/// of the text have is taken from them: those of a row stand in the text if the first of them does.
+/// The tokens of a text of at most 8,388,608 bytes, or its first error, like `tokens`.
+///
+/// It reuses the tokens of rows that were cut from the text: those of a row are tokens of the text
+/// if its first one is.
 pub fn join_rows(alloc: Global, text: &str, rows: Vec<TokenRow>) -> Result<Vec<Token>, TokenFault>
     requires small { length text.now ≤ MOST_BYTES }
     requires rows { All (IsRow text.now) rows.items }

@@ -1,4 +1,4 @@
-//! Texts of few bytes.
+//! Texts of up to 24 bytes, without memory of their own.
 
 ghost use Rattle.std.specs.Prelude.{◌≡◌, ◌≤◌, length};
 ghost use Rattle.std.specs.Str.{bytes_eq};
@@ -9,16 +9,16 @@ use std::cmp::Ordering;
 use std::marker::Model;
 use std::str;
 
-/// How many bytes a short text has at most: three words, and with its length no more room than a
-/// `String` beside its variant.
+/// How many bytes a short text has at most: three machine words. With its length it takes no more
+/// space than a `String` and its variant.
 pub const MOST: usize = 24;
 
-/// Texts of fewer bytes are compared byte by byte: to gather so few bytes to numbers takes longer.
+/// Texts of fewer bytes are compared byte by byte: gathering so few bytes into numbers takes
+/// longer.
 const FEW: usize = 4;
 
-/// A text of few bytes. They stand in the value itself, so it needs no piece of memory of its own,
-/// as most names of a program are so short. Zeros stand behind them, so that two are compared as a
-/// whole.
+/// A text of up to 24 bytes, kept in the value itself: no allocation, since most names of a program
+/// are so short. Zeros follow the bytes, so that two texts are compared as a whole.
 #[derive(Drop)]
 pub struct Short {
     bytes: [u8; MOST],
@@ -51,13 +51,14 @@ impl Short {
         }
     }
 
+    /// The bytes as text.
     pub fn as_str(&self) -> &str
         ensures { result.now ≡ self.now }
     {
         unsafe { str::from_utf8_unchecked(&self.bytes[..self.len as usize]) }
     }
 
-    /// Whether the bytes are those of the text, of as many and of few bytes.
+    /// Whether the texts have the same bytes. Both have the same length, and few bytes.
     #[inline(always)]
     fn begins_with(&self, text: &str) -> bool
         requires { length text.now ≡ length self.now }
@@ -86,7 +87,7 @@ impl Short {
         self.as_str() == text
     }
 
-    /// Whether the two texts are the same.
+    /// Whether the two texts are equal.
     #[inline(always)]
     pub fn is_same(&self, other: &Short) -> bool
         ensures { result ≡ bytes_eq self.now other.now }
@@ -97,7 +98,7 @@ impl Short {
         self.bytes == other.bytes
     }
 
-    /// The order of the texts, byte by byte.
+    /// The order of the texts by their bytes.
     pub fn compare(&self, other: &Short) -> Ordering
         ensures { result ≡ slice_cmp nat_cmp self.now other.now }
     {

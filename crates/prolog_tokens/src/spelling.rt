@@ -20,7 +20,7 @@ pub struct Spelling {
     pub end: usize,
 }
 
-/// The end of the characters from `from` on that go on a word.
+/// The end of the characters from `from` on that continue a name.
 fn word_end(text: &str, from: usize) -> usize
     requires { from ≤ length text.now }
     ensures from { from ≤ result }
@@ -72,7 +72,7 @@ fn is_end(text: &str, start: usize, end: usize) -> bool
     }
 }
 
-/// The token that is the run of graphic characters from `start`.
+/// The graphic token that begins at `start`.
 fn spell_run(text: &str, start: usize) -> Spelling
     requires within { start < length text.now }
     requires graphic { is_graphic (class_of_place text.now start) ≡ true }
@@ -93,7 +93,8 @@ fn spell_run(text: &str, start: usize) -> Spelling
     }
 }
 
-/// The quoted item that begins with the quote at `start`, as a token of the kind.
+/// The quoted item that begins with the quote at `start`, as a token of the kind. Fails if the
+/// quote isn't closed or an escape is wrong.
 fn spell_quoted(bytes: &[u8], start: usize, quote: u8, kind: Kind) -> Result<Spelling, TokenFault>
     requires small { length bytes.now ≤ MOST_BYTES }
     requires within { start < length bytes.now }
@@ -108,7 +109,7 @@ fn spell_quoted(bytes: &[u8], start: usize, quote: u8, kind: Kind) -> Result<Spe
     }
 }
 
-/// The number that begins with the digit at `start`.
+/// The number that begins with the digit at `start`. Fails if the escape after `0'` is wrong.
 fn spell_number(bytes: &[u8], start: usize) -> Result<Spelling, TokenFault>
     requires small { length bytes.now ≤ MOST_BYTES }
     requires within { start < length bytes.now }
@@ -140,7 +141,7 @@ fn spell_one(start: usize, kind: Kind) -> Spelling
     }
 }
 
-/// The token that begins at `start`, where no layout does.
+/// The token that begins at `start`, which must not begin layout (ISO/IEC 13211-1, 6.4).
 pub fn spell(text: &str, start: usize) -> Result<Spelling, TokenFault>
     requires small { length text.now ≤ MOST_BYTES }
     requires within { start < length text.now }

@@ -8,14 +8,14 @@ use std::cmp::Ordering;
 use std::fmt;
 use std::marker::Model;
 
-/// Where the bytes of a text stand: of a short one, as most names are, in the value itself.
+/// Where the bytes of a text are: of a short one, as most names are, in the value itself.
 #[derive(Drop)]
 enum Room {
     Short(Short),
     Long(String),
 }
 
-/// A name, a word or a file's name. Texts are ordered by their bytes.
+/// An owned text: a name, an argument or a file name. Texts are ordered by their bytes.
 #[derive(Drop)]
 pub struct Text {
     room: Room,
@@ -45,8 +45,7 @@ impl Text {
         })
     }
 
-    /// The text of a string: of a long one without a copy. A short one is copied, and its memory
-    /// given back.
+    /// The text of a string. A long one isn't copied. A short one is, and its memory is freed.
     pub fn from_string(text: String) -> Text
         ensures { result ≡ string_bytes text }
     {
@@ -60,6 +59,7 @@ impl Text {
         }
     }
 
+    /// The bytes as text.
     pub fn as_str(&self) -> &str
         ensures { result.now ≡ self.now }
     {
@@ -69,7 +69,7 @@ impl Text {
         }
     }
 
-    /// Whether the text is this one.
+    /// Whether the text equals this one.
     #[inline(always)]
     pub fn is(&self, text: &str) -> bool
         ensures { result ≡ bytes_eq self.now text.now }

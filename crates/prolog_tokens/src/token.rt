@@ -4,7 +4,7 @@ ghost use Rattle.prolog_tokens.specs.Places.{fault_offset as offset_of};
 use std::alloc::{AllocError, AllocFailed};
 use thiserror::Error;
 
-/// A place in a text, counted from 1 by lines and characters.
+/// A source position: line and column, both from 1. Columns count characters.
 #[derive(Clone, Copy, Debug, PartialEq, Eq)]
 pub struct Place {
     pub line: u32,
@@ -32,8 +32,8 @@ pub enum Kind {
     End,
 }
 
-/// A token: its kind, whether layout or the beginning of the text stands directly before it, and
-/// where it starts and ends as byte offsets.
+/// A token: its kind, whether layout or the beginning of the text is directly before it, and its
+/// start and end as byte offsets.
 #[derive(Clone, Copy, Debug, PartialEq, Eq)]
 pub struct Token {
     pub kind: Kind,
@@ -54,7 +54,7 @@ pub enum TokenFault {
     /// A `/*` that isn't closed.
     #[error("comment is not closed")]
     OpenComment(u32),
-    /// The backslash of an escape that may not stand there.
+    /// The backslash of an escape that isn't allowed there.
     #[error("escape is not known")]
     BadEscape(u32),
     #[error("out of memory")]

@@ -16,7 +16,7 @@ use crate::text::Text;
 use crate::token::{Kind, Token};
 use std::alloc::{AllocError, Global};
 
-/// The name of a Name token, as it stands in the text (ISO/IEC 13211-1, 6.4.2).
+/// The name of a Name token, which is its text (ISO/IEC 13211-1, 6.4.2).
 pub fn name_slice<'a>(text: &'a str, token: Token) -> &'a str
     requires name { token.kind ≡ Kind.Name }
     requires spelled { IsSpelled text.now token.kind token.start token.end }
@@ -26,8 +26,8 @@ pub fn name_slice<'a>(text: &'a str, token: Token) -> &'a str
     &text[token.start as usize..token.end as usize]
 }
 
-/// The character that a part of a quoted item means and where that part ends, at a place where no
-/// byte stands that means itself. None where no part begins.
+/// The character that a part of a quoted item means, and the end of that part. It is called where a
+/// quote or a backslash is. None if no part begins there.
 fn meant_at(bytes: &[u8], at: usize, quote: u8) -> Option<Escape>
     requires within { at ≤ length bytes.now }
     requires quote { IsQuote quote }
@@ -53,8 +53,8 @@ fn meant_at(bytes: &[u8], at: usize, quote: u8) -> Option<Escape>
     })
 }
 
-/// What stands between the quotes of a quoted item, with the quote once where it is written twice
-/// and with escapes replaced.
+/// The text between the quotes of a quoted item. Doubled quotes are single in it, and escapes are
+/// replaced.
 fn unquoted(alloc: Global, text: &str, start: usize, quote: u8) -> Result<String, AllocError>
     requires quote { IsQuote quote }
     requires quoted { (end : ℕ) × IsQuoted text.now quote start end }
@@ -82,8 +82,8 @@ fn unquoted(alloc: Global, text: &str, start: usize, quote: u8) -> Result<String
     }
 }
 
-/// The name of a Name or Quoted token of the text, with quotes removed and escapes replaced
-/// (ISO/IEC 13211-1, 6.4.2). Fails only where memory runs out.
+/// The name of a Name or Quoted token: without quotes, and with escapes replaced (ISO/IEC 13211-1,
+/// 6.4.2). Fails only if memory runs out.
 pub fn name_text(alloc: Global, text: &str, token: Token) -> Result<Text, AllocError>
     requires named { (token.kind ≡ Kind.Name) ⊎ (token.kind ≡ Kind.Quoted) }
     requires spelled { IsSpelled text.now token.kind token.start token.end }
@@ -99,7 +99,7 @@ pub fn name_text(alloc: Global, text: &str, token: Token) -> Result<Text, AllocE
     }
 }
 
-/// The number that digits of a base write, where it is at most 4,294,967,295.
+/// The number that digits of a base write, if it is at most 4,294,967,295.
 fn digits_value(bytes: &[u8], from: usize, to: usize, base: u8) -> Option<u32>
     requires order { from ≤ to }
     requires within { to ≤ length bytes.now }
@@ -109,7 +109,7 @@ fn digits_value(bytes: &[u8], from: usize, to: usize, base: u8) -> Option<u32>
     u32::try_from(capped_number(bytes, from, to, base)).ok()
 }
 
-/// The number of the character that is written behind `0'` from `at` on.
+/// The code of the character that is written after `0'`, from `at` on.
 fn code_value(text: &str, at: usize) -> Option<u32>
     requires begins { class_at text.now at ≢ Class.Inner }
     ensures { (c b : ℕ) (how : Code) → IsCode text.now at c b how → IsRead c result }
@@ -150,8 +150,8 @@ fn number_value(text: &str, start: usize, end: usize) -> Option<u32>
     }
 }
 
-/// The value of an Integer token of the text (ISO/IEC 13211-1, 6.4.4). None where it is over
-/// 4,294,967,295, and for a token of another kind.
+/// The value of an Integer token (ISO/IEC 13211-1, 6.4.4). None if it is over 4,294,967,295, and
+/// for a token of another kind.
 #[inline(always)]
 pub fn integer_value(text: &str, token: Token) -> Option<u32>
     requires spelled { IsSpelled text.now token.kind token.start token.end }
