@@ -8,14 +8,15 @@ use crate::graph::Graph;
 use crate::reach::reached_from;
 use std::alloc::{AllocError, Global};
 
-/// The place of a group, and how many nodes it reaches. A group that another calls reaches fewer.
+/// The index of a group, and how many nodes it reaches. A group that another one calls reaches
+/// fewer.
 #[derive(Clone, Copy)]
 struct Ranked {
     place: usize,
     rank: usize,
 }
 
-/// The places of the groups, each after those of the groups that it calls.
+/// The indices of the groups, each after those of the groups that it calls.
 pub(crate) fn callees_first(
     alloc: Global,
     graph: &Graph,
@@ -30,7 +31,7 @@ pub(crate) fn callees_first(
     places_in(alloc, &ranked)
 }
 
-/// The groups with their ranks, in their own order.
+/// The groups with how many nodes they reach, in their own order.
 fn ranked_groups(
     alloc: Global,
     graph: &Graph,

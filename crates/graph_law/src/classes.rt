@@ -8,8 +8,8 @@ use crate::opener::Opener;
 use crate::reach::reached_from;
 use std::alloc::{AllocError, Global};
 
-/// The classes of mutual reach among the nodes that the roots reach: members ascending, classes in
-/// order of their least member. It takes a row of marks for each node.
+/// The SCCs of the nodes that the roots reach: members ascending, SCCs in the order of their least
+/// member. It is slow and for tests: it stores a row of marks for each node.
 pub fn classes_slow(alloc: Global, graph: &Graph) -> Result<Vec<Vec<u32>>, AllocError>
     ensures { IfOk result (λ classes. AreClasses (Calls graph.now.lists) graph.now.roots (lists_of classes.items)) }
 {
@@ -39,7 +39,7 @@ pub fn is_recursive(graph: &Graph, group: &[u32]) -> bool
     group.len() > 1
 }
 
-/// For each node, marks of what it reaches.
+/// For each node, a mark for each node that it reaches.
 fn reach_rows(alloc: Global, graph: &Graph) -> Result<Vec<Vec<bool>>, AllocError>
     ensures { IfOk result (λ rows.
         AreRows (Calls graph.now.lists) (length graph.now.lists) (length graph.now.lists) (lists_of rows.items)) }
@@ -61,7 +61,7 @@ fn reach_each_other(rows: &[Vec<bool>], first: u32, second: u32) -> bool
     rows[first as usize][second as usize] && rows[second as usize][first as usize]
 }
 
-/// Whether a node below this one is in its class.
+/// Whether a lesser node is in the SCC of this one.
 fn has_earlier(rows: &[Vec<bool>], node: u32) -> bool
     requires square { IsSquare (lists_of rows.now) }
     requires within { node < length rows.now }
@@ -75,7 +75,7 @@ fn has_earlier(rows: &[Vec<bool>], node: u32) -> bool
     false
 }
 
-/// The nodes of the class of this one, ascending.
+/// The nodes of the SCC of this one, ascending.
 fn class_of(alloc: Global, rows: &[Vec<bool>], node: u32) -> Result<Vec<u32>, AllocError>
     requires square { IsSquare (lists_of rows.now) }
     requires within { node < length rows.now }

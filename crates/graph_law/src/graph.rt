@@ -27,8 +27,8 @@ impl Model for Graph {
 }
 
 impl Graph {
-    /// The graph of these successor lists and roots. There is none where a successor or a root isn't
-    /// below the number of lists, or there are more than 1,048,576 lists.
+    /// The graph of these successor lists and roots. None if a successor or a root isn't below the
+    /// number of lists, or if there are more than 1,048,576 lists.
     pub fn new(succs: Vec<Vec<u32>>, roots: Vec<u32>) -> Option<Graph>
         ensures { SomeIff result (IsGraph (graph_of succs.items roots.items)) (graph_of succs.items roots.items) }
     {
@@ -47,7 +47,7 @@ impl Graph {
         Some(Graph { succs, roots })
     }
 
-    /// The nodes at which reach begins.
+    /// The nodes at which a search begins.
     pub fn roots(&self) -> &[u32]
         ensures roots { result.now ≡ self.now.roots }
         ensures graph { IsGraph self.now }

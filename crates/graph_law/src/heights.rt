@@ -10,9 +10,11 @@ use crate::opener::Opener;
 use crate::places::group_places;
 use std::alloc::{AllocError, Global};
 
-/// The height of each group: 0 where it calls no other group, else one more than the greatest height
-/// among the groups that it calls. The groups are the classes of what the roots reach. It goes over
-/// the nodes that each group reaches.
+/// The height of each group: 0 if it calls no other group, and otherwise one more than the greatest
+/// height of the groups that it calls.
+///
+/// The groups are the SCCs of what the roots reach, in any order. It is slow and for tests: it
+/// searches the nodes that each group reaches.
 pub fn heights_slow(
     alloc: Global,
     graph: &Graph,
@@ -30,7 +32,7 @@ pub fn heights_slow(
     Ok(heights)
 }
 
-/// The height of the group at `place`, where those of the other groups that it calls are known.
+/// The height of the group at `place`, if those of the other groups that it calls are known.
 fn height_of(graph: &Graph, group: &[u32], place: usize, places: &[usize], heights: &[u32]) -> u32
     requires members { All (λ member. member < length graph.now.lists) group.now }
     requires counted { length places.now ≡ length graph.now.lists }

@@ -1,10 +1,14 @@
-//! What a call graph means: reach, classes of mutual reach, heights and legal orders.
+//! What a call graph means: reachability, strongly connected components (SCCs; in short groups),
+//! their heights, and reverse topological orders (legal orders).
 //!
-//! An `Opener` stands for one fixed list of successor lists and opens it node by node; `Graph` is one
-//! that holds its lists, and refuses exactly what is no graph. The definitions say for any relation of
-//! calls which nodes reach each other, which classes they form, how high each class is, and which
-//! orders of them have callees first. `classes_slow` and `heights_slow` are these definitions as plain
-//! programs, for tests.
+//! An `Opener` is an implicit graph: it stands for one fixed list of successor lists, and expands
+//! one node at a time. `Graph` is one that has its lists in memory, and rejects exactly what is no
+//! graph.
+//!
+//! The definitions hold for any relation of calls: which nodes reach each other, which SCCs they
+//! form, the height of each SCC, and which orders of them have callees first. The height is the
+//! length of the longest path to a sink among the SCCs. `classes_slow` and `heights_slow` compute
+//! these definitions directly, for tests.
 //!
 //! Nothing here knows where a graph comes from or how it is searched.
 #![tactic(auto)]

@@ -3,18 +3,18 @@ ghost use Rattle.graph_law.specs.Graph.{IsClosed};
 
 use std::alloc::AllocError;
 
-/// A graph whose nodes are opened one at a time. It means a list of successor lists, one for each
-/// node, that doesn't change.
+/// An implicit graph, whose nodes are expanded one at a time. It means a list of successor lists,
+/// one for each node, which doesn't change.
 pub trait Opener: Sync {
     ghost lists: { Self → List (List ℕ) };
 
-    /// How many nodes there are. They are the numbers below it.
+    /// The number of nodes. They are the numbers below it.
     fn count(&self) -> u32
         ensures count { result ≡ length (lists self.now) }
         ensures closed { IsClosed (lists self.now) };
 
-    /// Puts the successors of `node` into `out`, which is empty. Where memory is wanting, `out`
-    /// stays empty.
+    /// Puts the successors of `node` into `out`, which is empty. If memory runs out, `out` stays
+    /// empty.
     fn expand(&self, node: u32, out: &mut Vec<u32>) -> Result<(), AllocError>
         requires below { node < length (lists self.now) }
         requires empty { out.old.items ≡ [] }

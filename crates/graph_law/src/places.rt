@@ -5,7 +5,7 @@ ghost use Rattle.graph_law.specs.CallOrder.{AreApart, AreGroupPlaces, AreZeroEls
 use crate::stamping::stamp;
 use std::alloc::{AllocError, Global};
 
-/// For each of `count` nodes, the place of the group that it is in; 0 for a node in no group.
+/// For each of `count` nodes, the index of the group that it is in; 0 for a node in no group.
 pub fn group_places(
     alloc: Global,
     count: usize,

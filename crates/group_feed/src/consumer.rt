@@ -8,8 +8,8 @@ use crate::taker::Taker;
 use std::alloc::AllocError;
 use std::sync::Wait;
 
-/// Gives the groups of the line to the taker, up to the end mark. Where the taker finds no memory, what
-/// comes behind stays on the line. The promise holds if the call returns.
+/// Passes the groups of the line to the taker, up to the end mark. If the taker finds no memory,
+/// the later ones stay on the line. The contract holds if the call returns.
 pub(crate) fn consume<N: Graph, R: Wait, T: Taker>(
     rt: &R,
     line: &Line<N>,

@@ -7,8 +7,8 @@ ghost use Rattle.group_feed.specs.Ordered.{AreOrdered};
 use group_release::{Book, Released};
 use std::alloc::{AllocError, Global};
 
-/// Copies the groups of the book that aren't copied yet, in their order, and goes over those alone that
-/// were released since. The copies are in a legal order at each moment.
+/// Copies the groups of the book that aren't copied yet, in their order, and visits only those that
+/// were released since. The copies are in reverse topological order at each moment.
 pub(crate) fn copy_new(alloc: Global, book: &Book, copies: &mut Released) -> Result<(), AllocError>
     requires count { copies.old.count ≡ length book.now.lists }
     requires ordered { AreOrdered book.now.lists copies.old.groups }
@@ -32,9 +32,9 @@ pub(crate) fn copy_new(alloc: Global, book: &Book, copies: &mut Released) -> Res
     Ok(())
 }
 
-// A place before which all groups are copied. There are as many copies as groups before it: where no
-// later group is a copy, each of those is one. No clause says that a later one is never a copy, so that
-// is looked up, and the very first place is the answer else.
+// An index before which all groups are copied. There are as many copies as groups before it, and if
+// no later group is a copy, each of those is one. No contract states that a later one is never a
+// copy, so that is checked. Otherwise the result is the very first index.
 fn first_new(book: &Book, copies: &Released) -> usize
     requires ordered { AreOrdered book.now.lists copies.now.groups }
     requires within { AreWithin copies.now.groups book.now.groups }
@@ -51,7 +51,7 @@ fn first_new(book: &Book, copies: &Released) -> usize
     copied
 }
 
-// The first member of the group at a place.
+// The first member of the group at the index.
 fn first_member(released: &Released, at: usize) -> u32
     requires { at < length released.now.groups }
     ensures { result ≡ least_member (group_at released.now.groups at) }
@@ -59,7 +59,7 @@ fn first_member(released: &Released, at: usize) -> u32
     released.groups()[at][0]
 }
 
-/// A copy of the group at a place.
+/// A copy of the group at the index.
 pub(crate) fn copy_at(alloc: Global, released: &Released, at: usize) -> Result<Vec<u32>, AllocError>
     requires { at < length released.now.groups }
     ensures { IfOk result (λ copy. copy.items ≡ group_at released.now.groups at) }

@@ -36,10 +36,12 @@ pub(crate) struct Parts {
     pub(crate) copies: Released,
 }
 
-/// The groups of all that the roots reach, in a legal order, found by `jobs` workers, 1 to 64. The taker
-/// gets each of them while the search goes on, in this order. Where memory is wanting, what it has taken
-/// is in a legal order. Where no thread can be made, the workers, the feeder and the taker run one after
-/// another. The promise holds if the call returns.
+/// The SCCs of all that the roots reach in reverse topological order, found by `jobs` workers, 1 to
+/// 64. The taker gets each of them while the search runs, in this order.
+///
+/// If memory runs out, what it has taken is in reverse topological order. If no thread can be
+/// started, the workers, the feeder and the taker run one after another. The contract holds if the
+/// call returns.
 pub fn drive_feed<R: Threads + Wait + Sync, O: Opener, G: Gate, T: Taker>(
     rt: &R,
     alloc: Global,
@@ -64,7 +66,7 @@ pub fn drive_feed<R: Threads + Wait + Sync, O: Opener, G: Gate, T: Taker>(
     drive_named::<Brand, R, O, G, T>(rt, alloc, opener, roots, jobs, gate, taker)
 }
 
-// The same, where `N` names the graph.
+// The same, if `N` names the graph.
 fn drive_named<N: Graph + Sync, R: Threads + Wait + Sync, O: Opener, G: Gate, T: Taker>(
     rt: &R,
     alloc: Global,
@@ -107,8 +109,8 @@ fn drive_named<N: Graph + Sync, R: Threads + Wait + Sync, O: Opener, G: Gate, T:
     Ok(groups)
 }
 
-// The taker in a thread of its own, and here the search and the feeder. Where no thread can be made,
-// `join_mut` runs what comes second first, which needs nothing of the taker.
+// Runs the taker in a thread of its own, and the search and the feeder here. If no thread can be
+// started, `join_mut` runs its second argument first, which needs nothing of the taker.
 fn run_three<N: Graph + Sync, R: Threads + Wait + Sync, O: Opener, G: Gate, T: Taker>(
     rt: &R,
     alloc: Global,
@@ -153,8 +155,8 @@ fn run_three<N: Graph + Sync, R: Threads + Wait + Sync, O: Opener, G: Gate, T: T
     Ok(found)
 }
 
-// The feeder in a thread of its own, and here the workers, which come first where no thread can be made
-// and need nothing of the feeder.
+// Runs the feeder in a thread of its own, and the workers here. If no thread can be started, the
+// workers come first, which need nothing of the feeder.
 fn search_and_feed<N: Graph + Sync, R: Threads + Wait + Sync, O: Opener, G: Gate>(
     rt: &R,
     alloc: Global,

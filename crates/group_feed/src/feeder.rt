@@ -21,10 +21,13 @@ use search_stack::Search;
 use std::alloc::{AllocError, Global};
 use std::sync::Wait;
 
-/// Puts the released groups on the line as they come, and then the end mark: once each root is in one
-/// of them, which are the answer then, or once the book has failed, of which the pass that comes back has
-/// told. Where memory is wanting here, it marks the book as failed. Between two turns it sleeps longer and
-/// longer, so that workers seldom find the turn taken by it. The promise holds if the call returns.
+/// Pushes the released groups on the line as they come, and at last the end mark. It ends if each
+/// root is in one of them, and returns them. It also ends if the book has failed, and returns the
+/// pass that knows it.
+///
+/// If memory runs out here, it marks the book as failed. Between two locks it sleeps longer and
+/// longer, so that workers seldom find the lock taken by it. The contract holds if the call
+/// returns.
 pub(crate) fn feed<N: Graph, R: Wait>(
     rt: &R,
     alloc: Global,
@@ -76,8 +79,9 @@ pub(crate) fn feed<N: Graph, R: Wait>(
     unreachable!()
 }
 
-// Copies under the turn what was released and isn't copied yet. It tells whether the book hasn't failed: then
-// all that the pass that comes back has seen is copied, else that pass has told of the failure.
+// Copies under the lock what was released and isn't copied yet. Returns whether the book hasn't
+// failed. If so, all that the returned pass has seen is copied, and otherwise that pass knows of
+// the failure.
 fn copy_turn(
     rt: &impl Wait,
     alloc: Global,
@@ -102,7 +106,7 @@ fn copy_turn(
     (turn.give(&Search::empty(alloc), None), goes_on)
 }
 
-// Copies what was released, or marks the book as failed. It tells whether the book hasn't failed.
+// Copies what was released, or marks the book as failed. Returns whether the book hasn't failed.
 fn copy_or_fail(alloc: Global, book: &mut Book, copies: &mut Released) -> bool
     requires count { copies.old.count ≡ length book.old.lists }
     requires ordered { AreOrdered book.old.lists copies.old.groups }
@@ -128,7 +132,8 @@ fn copy_or_fail(alloc: Global, book: &mut Book, copies: &mut Released) -> bool
     true
 }
 
-/// Marks the book as failed under a turn, so that the others end too. The pass that comes back has told of it.
+/// Marks the book as failed under the lock, so that the workers end too. The returned pass knows of
+/// it.
 pub(crate) fn fail_book(rt: &impl Wait, alloc: Global, claims: &Claims, pass: Pass) -> Pass
     requires { IsIdle claims.now pass }
     ensures { HasToldFailure claims.now result }
@@ -138,7 +143,7 @@ pub(crate) fn fail_book(rt: &impl Wait, alloc: Global, claims: &Claims, pass: Pa
     turn.give(&Search::empty(alloc), None)
 }
 
-// Puts the groups from a place on on the line.
+// Pushes the groups from an index on.
 fn push_from<N: Graph, R: Wait>(
     rt: &R,
     alloc: Global,
@@ -166,7 +171,7 @@ fn push_from<N: Graph, R: Wait>(
     Ok(())
 }
 
-// How many roots, from the first on, are in one of the groups, where `from` of them are.
+// How many roots, from the first on, are in one of the groups, if `from` of them are.
 fn copied_roots(copies: &Released, roots: &[u32], from: usize) -> usize
     requires within { from ≤ length roots.now }
     requires before { All (HasMember copies.now.groups) (take from roots.now) }

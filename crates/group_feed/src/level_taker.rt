@@ -9,8 +9,8 @@ use group_release::{Level, raised};
 use std::alloc::{AllocError, Global};
 use std::marker::Model;
 
-/// Finds the levels of groups as they come, in a legal order of the opener's graph. It is seen as this
-/// graph, the groups that it has taken and their levels.
+/// A consumer that computes the levels of groups as they come, in reverse topological order of the
+/// opener's graph. Contracts see it as this graph, the groups that it has taken and their levels.
 #[derive(Drop)]
 pub struct LevelTaker<'a, O: Opener> {
     opener: &'a O,
@@ -33,7 +33,7 @@ impl<'a, O: Opener> Model for LevelTaker<'a, O> {
 }
 
 impl<'a, O: Opener> LevelTaker<'a, O> {
-    /// It has taken nothing.
+    /// A consumer of groups of the opener's graph, which has taken none.
     pub fn new(alloc: Global, opener: &'a O) -> Result<LevelTaker<'a, O>, AllocError>
         ensures { IfOk result (λ made. made ≡ record { lists = O.lists opener.now; taken = []; levels = [] }) }
     {

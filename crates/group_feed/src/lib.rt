@@ -1,10 +1,13 @@
-//! A feed of released groups, for an analysis that goes on while the search does.
+//! A stream of finished SCCs (groups), for an analysis that runs while the search does.
 //!
-//! `drive_feed` searches with workers side by side, and hands each group to a `Taker` soon after it is
-//! released, callees first. A feeder copies the released groups from the book and puts them on a line,
-//! with an end mark behind the last; from there they come to the taker. The rule of the line: what was
-//! pushed is what was taken and then what the line holds, the groups that were pushed are in a legal
-//! order, and nothing is behind the end mark. `LevelTaker` finds the levels of groups as they come.
+//! `drive_feed` searches with workers in parallel, and passes each group to a consumer (`Taker`)
+//! soon after it is released, callees first. A feeder copies the released groups from the book, and
+//! pushes them on a bounded queue, the line, with an end mark after the last. The consumer pops
+//! them from there.
+//!
+//! The invariant of the line: what was pushed is what was popped and then what the line holds. The
+//! groups that were pushed are in reverse topological order, and nothing is after the end mark.
+//! `LevelTaker` is a consumer that computes the levels of groups.
 //!
 //! It doesn't see how workers search, nor what nodes stand for.
 #![tactic(auto)]

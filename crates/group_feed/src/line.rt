@@ -5,7 +5,7 @@ use crossbeam_queue::{Pass, RuledArrayQueue};
 use std::collections::LinkedList;
 use std::marker::{Brand, Model, PhantomData};
 
-/// A released group on its way to the taker. It is seen as its nodes.
+/// A released group on its way to the taker: an item of the line. Contracts see it as its nodes.
 #[derive(Drop)]
 pub struct Parcel {
     pub nodes: Vec<u32>,
@@ -19,9 +19,9 @@ impl Model for Parcel {
     ghost view = { λ parcel. parcel.nodes.items };
 }
 
-/// What a pass of the line may do, and what it has done: the groups that it pushed and whether the end
-/// mark came after them, and those that it took and whether the end mark came after them. No value of
-/// it is made.
+/// What a pass of the line may do, and what it has done. It has the groups that it pushed and
+/// whether the end mark came after them, and those that it took and whether the end mark came after
+/// them. No value of it is ever made.
 pub struct Hand {
     pub feeds: bool,
     pub takes: bool,
@@ -31,7 +31,7 @@ pub struct Hand {
     pub through: bool,
 }
 
-/// The graph whose groups go over the line.
+/// The graph whose groups are on the line.
 pub trait Graph {
     ghost lists: { List (List ℕ) };
 }
@@ -40,7 +40,7 @@ impl Graph for Brand {
     ghost lists = { [] };
 }
 
-/// The rule of the line. No value of these types is made.
+/// The invariant of the line. No value of these types is ever made.
 pub struct InOrder<N> {
     of: PhantomData<N>,
 }
@@ -108,7 +108,7 @@ impl<N: Graph> Lesson<Option<Parcel>, Hand> for Pop<N> {
     ghost fact = { λ v items. ⊤ };
 }
 
-/// What a pass knows that has pushed and taken.
+/// What a pass knows that has pushed and popped.
 pub struct Total;
 
 impl Lesson<Option<Parcel>, Hand> for Total {
@@ -118,6 +118,8 @@ impl Lesson<Option<Parcel>, Hand> for Total {
     ghost fact = { λ v items. parcels v.pushed v.ended ≡ parcels v.taken v.through ++ items };
 }
 
+/// The bounded queue between feeder and taker. `None` is the end mark.
 pub type Line<N> = RuledArrayQueue<Option<Parcel>, Hand, InOrder<N>>;
 
+/// The pass of one end of the line.
 pub type LinePass = Pass<Option<Parcel>, Hand>;

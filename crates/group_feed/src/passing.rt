@@ -7,8 +7,8 @@ use search_pool::pause;
 use std::alloc::{AllocError, Global};
 use std::sync::Wait;
 
-/// An empty line with room for a group for each node and for the end mark, the pass that may push, and
-/// the one that may take.
+/// An empty line with capacity for one group for each node and for the end mark, with the pass that
+/// may push and the pass that may pop.
 pub(crate) fn open_line<N: Graph>(
     alloc: Global,
     count: u32,
@@ -23,7 +23,7 @@ pub(crate) fn open_line<N: Graph>(
     Ok((line, feeder, taker))
 }
 
-/// Puts one parcel more on the line. There is always room.
+/// Pushes one item more on the line. There is always capacity.
 pub(crate) fn push<N: Graph, R: Wait>(
     rt: &R,
     line: &Line<N>,
@@ -44,7 +44,8 @@ pub(crate) fn push<N: Graph, R: Wait>(
     }
 }
 
-/// Waits for the next parcel, where the end mark wasn't taken yet. The promise holds if the call returns.
+/// Waits for the next item, if the end mark wasn't popped yet. The contract holds if the call
+/// returns.
 pub(crate) fn next<N: Graph, R: Wait>(rt: &R, line: &Line<N>, pass: &mut LinePass) -> Option<Parcel>
     requires queue { IsPassOf line.now pass.old }
     requires takes { (view pass.old).takes ≡ true }
@@ -63,7 +64,7 @@ pub(crate) fn next<N: Graph, R: Wait>(rt: &R, line: &Line<N>, pass: &mut LinePas
     unreachable!()
 }
 
-/// Puts the two passes together: what one pushed is what the other took.
+/// Joins the two passes: what one pushed is what the other popped.
 pub(crate) fn meet<N: Graph>(line: &Line<N>, mut feeder: LinePass, taker: LinePass)
     requires feeder { IsPassOf line.now feeder }
     requires taker { IsPassOf line.now taker }

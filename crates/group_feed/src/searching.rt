@@ -11,9 +11,10 @@ use std::alloc::Global;
 use std::sync::Wait;
 use std::thread::Threads;
 
-/// Searches with a worker for each pass, none of which holds back, and returns how each has ended. If
-/// there is no memory to start them, no worker marks the book as failed: the spare pass does, so that the
-/// feeder ends too, and comes back.
+/// Searches with a worker for each pass, none of which holds back, and returns how each has ended.
+///
+/// If there is no memory to start them, no worker marks the book as failed. Then the spare pass
+/// does, so that the feeder ends too, and is returned.
 pub(crate) fn search<R: Threads + Wait + Sync, O: Opener, G: Gate>(
     rt: &R,
     alloc: Global,

@@ -3,8 +3,8 @@ ghost use Rattle.std.specs.Prelude.{◌≡◌, ◌++◌, ◌∷◌, []};
 use boxcar::tag::{Names, Tag};
 use std::marker::Model;
 
-/// The groups that a taker has taken, in their order, for a taker that keeps none of them: clauses read
-/// the list, and it takes no memory.
+/// The groups that a taker has taken, in their order, for a taker that stores none of them. Only
+/// contracts read the list, and it takes no memory.
 #[derive(Drop)]
 pub struct Trail {
     groups: Tag,
@@ -27,7 +27,7 @@ struct Grown<'a> {
     group: &'a [u32],
 }
 
-// How a tag tells them.
+// How a tag lists them.
 struct OneMore;
 
 impl<'a> Names<Grown<'a>> for OneMore {
@@ -47,7 +47,7 @@ impl Trail {
         }
     }
 
-    /// One group more, behind the others.
+    /// Appends one group.
     pub fn add(&mut self, group: &[u32])
         ensures { self.new ≡ self.old ++ group.now ∷ [] }
     {

@@ -18,12 +18,13 @@ use std::marker::Model;
 
 mod keeping;
 
-/// Released groups of one graph, and the searches of it that are kept until a node is finished.
+/// The shared registry of searches of one graph: released groups, and searches that are suspended
+/// (kept) until a node is finished.
 ///
-/// It is seen with the graph and the roots that it was made with, how many of the roots were given
-/// out, whether it has failed, the kept searches and the groups. Each kept search is good for the
-/// released nodes, and the groups are a legal order of nodes that the roots reach. Only `make` and
-/// `suspend` take memory.
+/// Contracts see it with the graph and the roots that it was made with, how many of the roots were
+/// handed out, whether it has failed, the suspended searches and the groups. Each suspended search
+/// is well-formed for the released nodes. The groups are in reverse topological order, and the
+/// roots reach their nodes. Only `make` and `suspend` take memory.
 #[derive(Drop)]
 pub struct Book {
     lists: Tag,
@@ -47,7 +48,7 @@ impl Model for Book {
 }
 
 impl Book {
-    /// Nothing is kept, nothing is released, and all roots are to come.
+    /// A new book: nothing is suspended, nothing is released, and no root is handed out.
     pub fn make<O: Opener>(alloc: Global, opener: &O, roots: &[u32]) -> Result<Book, AllocError>
         requires { All (λ root. root < length (O.lists opener.now)) roots.now }
         ensures { IfOk result (λ book. book ≡ record {
@@ -70,7 +71,7 @@ impl Book {
         })
     }
 
-    /// The next of the roots, or none where all were given out.
+    /// The next of the roots, or none if all were handed out.
     pub fn next_root(&mut self) -> Option<u32>
         ensures next { result ≡ slice_get self.old.roots self.old.given }
         ensures given { IfSome result (λ _. self.new ≡ record self.old { given = self.old.given + 1 }) }
@@ -82,7 +83,7 @@ impl Book {
         Some(root)
     }
 
-    /// Marks the book as failed.
+    /// Marks the book as failed: workers that find the mark end. Nothing else changes.
     pub fn fail(&mut self)
         ensures { self.new ≡ record self.old { failed = true } }
     {
@@ -110,21 +111,21 @@ impl Book {
         &self.released
     }
 
-    /// The kept searches.
+    /// The suspended searches.
     pub fn blocked(&self) -> &Blocked
         ensures { result.now ≡ table_of self.now }
     {
         &self.blocked
     }
 
-    /// Whether a kept search is ready. It costs a constant.
+    /// Whether a suspended search is ready. It takes constant time.
     pub fn has_ready(&self) -> bool
         ensures { IsTrue result ↔ HasReady self.now.kept }
     {
         self.blocked.has_ready()
     }
 
-    /// What each book keeps. It does nothing, and is called for what it ensures.
+    /// The invariant of each book. The function does nothing, and is called for what it ensures.
     pub fn keeps(&self)
         ensures good { IsGoodBook self.now }
         ensures table { IsTable (table_of self.now) }
@@ -134,7 +135,7 @@ impl Book {
         self.released.groups();
     }
 
-    /// The released groups, which leave the book.
+    /// The released groups in reverse topological order, which leave the book.
     pub fn into_groups(self) -> Vec<Vec<u32>>
         ensures groups { lists_of result.items ≡ self.groups }
         ensures legal { IsLegalOrder (Calls self.lists) self.groups }

@@ -4,7 +4,7 @@ ghost use Rattle.group_release.specs.Coding.{numbers_of};
 use boxcar::tag::Names;
 use graph_law::Opener;
 
-/// The successor lists of an opener, which clauses read of a tag. They take no room.
+/// The successor lists of an opener, which contracts read from a tag. They take no memory.
 pub(crate) struct Lists;
 
 impl<O: Opener> Names<O> for Lists {

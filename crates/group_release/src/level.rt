@@ -8,17 +8,18 @@ ghost use Rattle.group_release.specs.Levels.{IsLevelOf, IsRaised, LeadDown};
 use graph_law::{Opener, stamp};
 use std::alloc::{AllocError, Global};
 
-/// The height of a group, which is 0 where it calls no other group, else one more than the greatest
-/// height that it calls; and whether it is recursive, as it is where it has two members or its one
-/// member calls itself.
+/// The level of a group: its height, and whether it is recursive.
+///
+/// The height is 0 if it calls no other group, and otherwise one more than the greatest height that
+/// it calls. It is recursive if it has two members, or if its one member calls itself.
 #[derive(Clone, Copy, Debug, PartialEq, Eq)]
 pub struct Level {
     pub height: u32,
     pub recursive: bool,
 }
 
-/// The level of each group. The groups are in a legal order: classes of mutual reach, each after
-/// those that it calls. Each node of them is opened once. Only memory can be wanting.
+/// The level of each group, in the same order. The groups are SCCs in reverse topological order.
+/// Each of their nodes is expanded once. Fails only if memory runs out, here or in the opener.
 pub fn levels<O: Opener>(
     alloc: Global,
     opener: &O,
@@ -39,8 +40,8 @@ pub fn levels<O: Opener>(
     Ok(levels)
 }
 
-/// The level of a group, where those of the groups before it are known, and the place of each callee.
-/// `callees` is room for the successors of one node at a time.
+/// The level of a group, if those of the groups before it are known, and the index of the group of
+/// each callee. `callees` is a buffer for the successors of one node at a time.
 fn level_of<O: Opener>(
     opener: &O,
     group: &[u32],
@@ -67,8 +68,8 @@ fn level_of<O: Opener>(
     Ok(Level { height, recursive })
 }
 
-/// The height, raised above each callee's group that has a level already. The group that is next has
-/// none, so its calls of itself raise nothing.
+/// The height, raised above each callee's group that has a level already. The group itself has none
+/// yet, so its calls of itself raise nothing.
 pub fn raised(mut height: u32, callees: &[u32], places: &[usize], levels: &[Level]) -> u32
     requires nodes { All (λ callee. callee < length places.now) callees.now }
     requires known { All (λ callee. slice_index places.now callee ≤ length levels.now) callees.now }

@@ -27,7 +27,7 @@ impl Model for Released {
 }
 
 impl Released {
-    /// No group yet, of nodes that are below `count`.
+    /// No group yet, for nodes below `count`.
     pub fn make(alloc: Global, count: u32) -> Result<Released, AllocError>
         ensures { IfOk result (λ made. made ≡ record { count = count; groups = [] }) }
     {
@@ -37,7 +37,7 @@ impl Released {
         })
     }
 
-    /// Puts a group last, with its members ascending. It takes no memory.
+    /// Appends a group with its members ascending. It takes no memory.
     pub fn append(&mut self, mut group: Vec<u32>)
         requires { IsNewGroup self.old group.items }
         ensures { IsAppended self.old group.items self.new }
@@ -62,7 +62,7 @@ impl Released {
         &self.groups
     }
 
-    /// The groups in the order of their release, which are all that is left.
+    /// The groups in the order of their release.
     pub fn into_groups(self) -> Vec<Vec<u32>>
         ensures { lists_of result.items ≡ self.groups }
     {

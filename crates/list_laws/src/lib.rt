@@ -1,5 +1,5 @@
-//! Laws on lists: that a rising list with given elements is one, over any total order, and how often a
-//! node stands in lists, the words in which several owners of nodes account for them.
+//! Theorems about lists. A strictly ascending list is determined by its elements, over any total
+//! order. Occurrences of a node in lists add up, by which several owners of nodes account for them.
 #![tactic(auto)]
 
 mod counts;

@@ -5,7 +5,8 @@ use group_release::Book;
 use std::alloc::{AllocError, Global};
 use std::marker::Model;
 
-/// A book in a box, so that a pass that takes it out of its slot moves a pointer. It is seen as the book.
+/// A book in a box, so that taking it out of its slot moves only a pointer. Contracts see it as the
+/// book.
 #[derive(Drop)]
 pub struct BoundBook {
     pub(crate) pages: Box<Book>,

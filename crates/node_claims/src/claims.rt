@@ -24,24 +24,24 @@ use std::sync::Wait;
 use std::sync::atomic::{AtomicU64, Ordering};
 use std::{hint, thread};
 
-// How often a pass that waits for the turn lets other threads go on before it sleeps.
+// How often a thread that waits for the lock yields before it sleeps.
 const TRIES: u32 = 64;
 
-// How often it only lets some time go by before that.
+// How often it spins before that.
 const SPINS: u32 = 256;
 
-/// What a claim found.
+/// What a claim found in the word of the node.
 #[derive(Clone, Copy, Debug, PartialEq, Eq)]
 pub enum Claimed {
-    /// Nobody had it: this pass has it now.
+    /// Nobody had it: the worker has it now.
     Won,
-    /// A pass or a kept search has it.
+    /// A worker or a suspended search has it.
     Held,
     /// It is released, or is about to be.
     Done,
 }
 
-/// What a look found.
+/// What a look found in the word of the node.
 #[derive(Clone, Copy, Debug, PartialEq, Eq)]
 pub enum Looked {
     Unseen,
@@ -49,11 +49,11 @@ pub enum Looked {
     Done,
 }
 
-/// A word for each node, and one book that one pass at a time may have. It is seen as the table of its
-/// words, and the graph and the roots that its book was made with.
+/// An atomic word for each node and for the lock, and the slot of the book. Contracts see it as the
+/// table of its words, with the graph and the roots of its book.
 #[derive(Drop)]
 pub struct Claims {
-    /// How many passes sleep, or are about to, until the turn is given back.
+    /// How many threads sleep, or are about to, until the lock is released.
     pub(crate) sleepers: AtomicU64,
     pub(crate) table: Table<Option<BoundBook>, View, Snapshot<Book>, ClaimRule, Global>,
 }
@@ -71,7 +71,7 @@ impl Model for Claims {
 }
 
 impl Claims {
-    /// No node is claimed, the book is new, and there is one pass, which has nothing.
+    /// A new table: no node is claimed, the book is new, and there is one pass, which has nothing.
     pub fn make<O: Opener>(
         alloc: Global,
         opener: &O,
@@ -100,7 +100,7 @@ impl Claims {
         }
     }
 
-    /// Claims a node by one exchange on its word. It takes no lock and never waits.
+    /// Claims a node by one compare-and-swap of its word. It takes no lock and never waits.
     pub fn claim(&self, pass: &mut Pass, node: u32) -> Claimed
         requires pass { IsPassOf self.now pass.old }
         requires node { node < length self.now.lists }
@@ -119,7 +119,7 @@ impl Claims {
         }
     }
 
-    /// Reads the word of a node once. It never waits.
+    /// Reads the word of a node by one atomic load. It never waits.
     pub fn look(&self, pass: &mut Pass, node: u32) -> Looked
         requires pass { IsPassOf self.now pass.old }
         requires node { node < length self.now.lists }
@@ -138,10 +138,13 @@ impl Claims {
         }
     }
 
-    /// Waits until no other pass has the turn, and lends the book. What the pass saw finished is
-    /// released in it; what the pass has is neither released in it nor kept; and it has failed where the
-    /// pass gave it back failed. Every book keeps the rest of its rule by itself, as `Book::keeps` tells.
-    /// The promise holds if the call returns.
+    /// Locks: waits until no other pass has the lock, and lends the book.
+    ///
+    /// All nodes that the pass saw finished are released in the book. No node of the pass is
+    /// released or suspended in it. If the pass gave back a failed book before, this book has
+    /// failed too. `Book::keeps` states the rest of its invariant.
+    ///
+    /// The contract holds if the call returns.
     pub fn turn(&self, rt: &impl Wait, pass: Pass) -> Turn<'_>
         requires { IsPassOf self.now pass }
         ensures table { result.table ≡ pass.table }
@@ -157,7 +160,7 @@ impl Claims {
         }
     }
 
-    /// A second pass, which has nothing yet.
+    /// Splits the pass: the second one has nothing yet.
     pub fn split(&self, pass: Pass) -> (Pass, Pass)
         requires { IsPassOf self.now pass }
         ensures first { result.0 ≡ pass }
@@ -168,7 +171,8 @@ impl Claims {
         (Pass { seat }, Pass { seat: other })
     }
 
-    /// One pass that has and knows what both did: of each list the left's and then the right's.
+    /// Joins two passes to one that has and knows what both did: of each list the left's and then
+    /// the right's.
     pub fn join(&self, left: Pass, right: Pass) -> Pass
         requires left { IsPassOf self.now left }
         requires right { IsPassOf self.now right }
@@ -179,8 +183,8 @@ impl Claims {
         Pass { seat }
     }
 
-    /// Takes the turn for the last time, and answers the released groups in their order. The promise
-    /// holds if the call returns.
+    /// Locks for the last time, and returns the SCCs in reverse topological order, members
+    /// ascending. The contract holds if the call returns.
     pub fn finish(self, rt: &impl Wait, pass: Pass) -> Vec<Vec<u32>>
         requires pass { IsPassOf self pass }
         requires idle { pass.view.nodes ≡ [] }
@@ -193,7 +197,7 @@ impl Claims {
         book.into_pages().into_groups()
     }
 
-    // Waits for the turn, and takes the book out of its slot.
+    // Waits for the lock, and takes the book out of its slot.
     fn take(&self, rt: &impl Wait, pass: Pass) -> (Seat<Option<BoundBook>, View>, BoundBook)
         requires { pass.table ≡ self.now.table }
         ensures { IsTaken pass result.0 result.1 }
@@ -215,9 +219,9 @@ impl Claims {
         unreachable!()
     }
 
-    // Lets other threads go on, or sleeps until the turn is given back where it has tried often enough.
-    // It counts as a sleeper before it looks at the word for the last time, so a pass that makes the word
-    // 0 after that look finds it counted and wakes it.
+    // Spins, yields, or sleeps until the lock is released, by the number of tries so far. It counts
+    // as a sleeper before it reads the lock's word for the last time. So a thread that stores 0
+    // after that finds it counted, and wakes it.
     fn pause(&self, rt: &impl Wait, tries: u32) -> u32 {
         if tries < SPINS {
             hint::spin_loop();

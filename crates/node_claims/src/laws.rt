@@ -1,9 +1,11 @@
-//! What holds of every table that keeps the rule, as laws: functions with nothing to run.
+//! Theorems about every table that keeps the rule: functions that do nothing, and are called for
+//! what they ensure.
 
 ghost use Rattle.node_claims.specs.Laws.{AreClaimedOnce, ClaimedStandOnce, ClosedStandOnce, FailureStays, StandSomewhere};
 
-/// No node is with two passes; a node whose word is 1 stands once, with a pass or on a kept search; and so
-/// does each node that was claimed, by its word or as one that is closed in this turn, until it is released.
+/// No node is with two passes. A node whose word is 1 is once with a pass or on a suspended search.
+/// So is each node that was claimed, until it is released. It was claimed if its word says so, or
+/// if it was closed under the current lock.
 pub fn nodes_are_claimed_once()
     ensures once { AreClaimedOnce }
     ensures somewhere { StandSomewhere }
@@ -11,8 +13,8 @@ pub fn nodes_are_claimed_once()
     ensures closed { ClosedStandOnce }
 {}
 
-/// Where a pass has told of a failure, a book that lies in the slot has failed; so each pass that takes
-/// it from then on finds the mark.
+/// If a pass gave back a failed book, the book in the slot has failed. So each pass that takes it
+/// from then on finds the mark.
 pub fn failure_stays()
     ensures { FailureStays }
 {}

@@ -1,9 +1,13 @@
-//! Claims on the nodes of a graph by several passes, and one book that they take in turns.
+//! Shared state of a concurrent search: an atomic word for each node, by which workers claim nodes,
+//! and one book under a lock.
 //!
-//! Each node has a word: 0 where nobody has it, 1 where it stands with a pass or on a kept search, 2
-//! where it is finished. `claim` and `look` make one step each and never wait. What needs the book (to
-//! keep a search, to release a group, to take a ready search) is done under the turn, which one pass
-//! has at a time. No node is claimed twice, and no word falls.
+//! The word of a node is 0 if nobody has it, 1 if a worker or a suspended search has it, and 2 if
+//! it is finished. `claim` is a compare-and-swap and `look` a load, and neither ever waits. What
+//! needs the book (suspending a search, releasing a group, taking a ready search) is done under the
+//! lock. `Turn` is its guard, and one worker has it at a time.
+//!
+//! No node is claimed twice, and no word is ever lowered. All steps are sequentially consistent
+//! (`SeqCst`), so there is one total order of them. Nothing here states that a wait ends.
 #![tactic(auto)]
 
 mod bound;

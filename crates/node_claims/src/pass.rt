@@ -3,8 +3,9 @@ use crate::view::View;
 use atomic_table::Seat;
 use std::marker::Model;
 
-/// One caller's token of the claims, of no bytes. It has the nodes that it claimed, and knows nodes
-/// that it saw finished. A pass that is dropped keeps its nodes for good.
+/// A worker's handle on the claims, of no bytes: only proofs use what it contains. It has the nodes
+/// that the worker claimed, and knows nodes that it saw finished. If a pass is dropped, its nodes
+/// are never free again.
 #[derive(Drop)]
 pub struct Pass {
     pub(crate) seat: Seat<Option<BoundBook>, View>,

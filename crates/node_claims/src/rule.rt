@@ -1,4 +1,5 @@
-//! The rule of the table of claims, and what each kind of step tells. No value of these types is made.
+//! The invariant of the table of claims, and what each kind of step changes. No value of these
+//! types is ever made.
 
 ghost use Rattle.std.specs.Prelude.{ℕ, List, []};
 
@@ -9,7 +10,7 @@ use group_release::Book;
 use std::marker::{Brand, PhantomData};
 use std::snapshot::Snapshot;
 
-/// Word 0 tells whether the turn is taken, and node x has word x + 1. The one slot has the book.
+/// The rule: word 0 is the lock, and node x has word x + 1. The one slot has the book.
 pub struct ClaimRule;
 
 impl TableRule<Option<BoundBook>, View, Snapshot<Book>> for ClaimRule {
@@ -21,7 +22,7 @@ impl TableRule<Option<BoundBook>, View, Snapshot<Book>> for ClaimRule {
     ghost first = { λ key. fresh key.value.lists key.value.roots };
 }
 
-/// A claim: one exchange of the word of a node, from 0 to 1.
+/// A claim: one compare-and-swap of the word of a node, from 0 to 1.
 pub(crate) struct Claim;
 
 impl Play<Option<BoundBook>, View> for Claim {
@@ -39,7 +40,7 @@ impl Play<Option<BoundBook>, View> for Look {
     ghost then = { looks_at };
 }
 
-/// A try to take the turn: one exchange of its word, from 0 to 1.
+/// A try to lock: one compare-and-swap of the lock's word, from 0 to 1.
 pub(crate) struct Take;
 
 impl Play<Option<BoundBook>, View> for Take {
@@ -48,7 +49,7 @@ impl Play<Option<BoundBook>, View> for Take {
     ghost then = { takes_turn };
 }
 
-/// A node is closed: one store of 2 in its word.
+/// Closing a node: one store of 2 to its word.
 pub(crate) struct Close;
 
 impl Play<Option<BoundBook>, View> for Close {
@@ -57,7 +58,7 @@ impl Play<Option<BoundBook>, View> for Close {
     ghost then = { closes };
 }
 
-/// The nodes that a pass has after it gave the turn back.
+/// The nodes that a pass has after it unlocked.
 pub trait Naming {
     ghost nodes: { List ℕ };
 }
@@ -66,7 +67,7 @@ impl Naming for Brand {
     ghost nodes = { [] };
 }
 
-/// The turn is given back: one store of 0 in its word. The pass has the nodes that `N` names.
+/// Unlocking: one store of 0 to the lock's word. The pass has the nodes that `N` names.
 pub(crate) struct Give<N> {
     of: PhantomData<N>,
 }
@@ -77,7 +78,7 @@ impl<N: Naming> Play<Option<BoundBook>, View> for Give<N> {
     ghost then = { gives_turn N.nodes };
 }
 
-/// One pass stays as it is, and the other is new.
+/// Splitting: one pass stays as it is, and the other is new.
 pub(crate) struct Part;
 
 impl Split<View> for Part {
@@ -88,7 +89,7 @@ impl Split<View> for Part {
     ghost right = { λ v. fresh v.lists v.roots };
 }
 
-/// One pass knows what both knew.
+/// Joining: one pass knows what both knew.
 pub(crate) struct Whole;
 
 impl Join<View> for Whole {

@@ -17,8 +17,8 @@ use search_stack::Search;
 use std::marker::{Brand, Model};
 use std::sync::atomic::Ordering;
 
-/// The turn: the book is out with one pass, which has to give it back. It is seen as what the pass
-/// knew, the book as it was taken with the nodes closed since, and the book as it is.
+/// The guard of the lock: the book is out with one pass, which has to give it back. Contracts see
+/// what the pass knew, the book as it was taken with the nodes closed since, and the book as it is.
 pub struct Turn<'a> {
     pub(crate) claims: &'a Claims,
     pub(crate) seat: Seat<Option<BoundBook>, View>,
@@ -40,7 +40,7 @@ impl<'a> Model for Turn<'a> {
 impl<'a> Turn<'a> {
     ghost use Rattle.node_claims.specs.Lending.{LendsBook};
 
-    /// The book.
+    /// The book, as long as the lock is held.
     pub fn book(&mut self) -> &mut Book
         ensures* lends { sem 𝓛 (LendsBook self.entry result) }
         ensures value { result.now ≡ self.old.book }
@@ -48,7 +48,7 @@ impl<'a> Turn<'a> {
         &mut self.book.pages
     }
 
-    /// Marks a released node as finished, by one store on its word.
+    /// Marks a released node as finished, by one store to its word.
     pub fn close(&mut self, node: u32)
         requires node { node < length self.old.view.lists }
         requires released { HasMember self.old.book.groups node }
@@ -62,9 +62,9 @@ impl<'a> Turn<'a> {
             .store::<Close>(&mut self.seat, node as usize + 1, 2);
     }
 
-    /// Puts the book back and lets the next pass have the turn. The pass has the nodes of `running`
-    /// then, with `unopened` last, which is a node that it won and hasn't pushed; it has seen all that is
-    /// released, and has told of a failure where the book has failed.
+    /// Unlocks: puts the book back. The pass then has the nodes of `running`, and last `unopened`,
+    /// which is a node that it won and hasn't pushed. It has seen all released nodes finished. If
+    /// the book has failed, the pass knows it.
     pub fn give(self, running: &Search, unopened: Option<u32>) -> Pass
         requires { MayGive self.view self.taken (outline_of self.book) (nodes_with running.now unopened) }
         ensures table { result.table ≡ self.entry.table }
@@ -77,7 +77,7 @@ impl<'a> Turn<'a> {
         self.give_named::<Brand>(running, unopened)
     }
 
-    // The same, where `N` names the nodes that the pass has then.
+    // The same, if `N` names the nodes that the pass has then.
     fn give_named<N: Naming>(self, running: &Search, unopened: Option<u32>) -> Pass
         requires named { nodes_with running.now unopened ≡ N.nodes }
         requires may { MayGive self.view self.taken (outline_of self.book) (nodes_with running.now unopened) }

@@ -1,10 +1,10 @@
-//! What a pass knows, as plain data. No value of these types is ever made: clauses and proofs alone
-//! speak of them.
+//! What a pass knows, as plain data. No value of these types is ever made: only contracts and
+//! proofs use them.
 
 use std::collections::LinkedList;
 
-/// A book as the rule sees it: its graph and its roots, whether it has failed, the nodes of its kept
-/// searches, the nodes that these want, and its released groups.
+/// A book as the rule sees it: its graph and its roots, whether it has failed, the nodes of its
+/// suspended searches, the nodes that these wait for, and its released groups.
 pub struct Outline {
     pub lists: LinkedList<LinkedList<u32>>,
     pub roots: LinkedList<u32>,
@@ -20,10 +20,16 @@ pub struct Taken {
     pub closed: LinkedList<u32>,
 }
 
-/// What a pass knows: the graph and the roots, the nodes that it claimed and has, those that it saw
-/// finished, what each of its claims and looks found, and the book that it took, if it has the turn.
-/// `told` says that it gave back a book that had failed, which each pass that takes the turn from then
-/// on finds failed. A pass that was joined into another isn't live.
+/// What a pass knows:
+///
+/// - the graph and the roots;
+/// - the nodes that it claimed and has, and those that it saw finished;
+/// - what each of its claims and looks found;
+/// - `told`: that it gave back a failed book, so each pass that locks from then on finds the book
+///   failed;
+/// - the book that it took, if it has the lock.
+///
+/// A pass that was joined into another isn't live.
 pub struct View {
     pub live: bool,
     pub lists: LinkedList<LinkedList<u32>>,

@@ -1,4 +1,5 @@
-//! What holds of the searches of each graph, as laws: functions with nothing to run.
+//! Theorems about the searches of each graph: functions that do nothing, and are called for what
+//! they ensure.
 
 ghost use Rattle.std.specs.Prelude.{◌≡◌, ◌<◌, ℕ, Bool, false, List, ◌∷◌, length, None, Some, All};
 ghost use Rattle.graph_law.specs.Classes.{HasMember};
@@ -10,7 +11,7 @@ ghost use Rattle.search_machine.specs.Events.{Asks, IsEvent, IsPlainEvent, Opens
 ghost use Rattle.search_machine.specs.Runs.{AreEvents, CanAct, IsRun, opening_state};
 ghost use Rattle.search_machine.specs.State.{State, IsGoodState, waiting_at};
 
-/// Each event keeps a good state, and so does each half of a claim.
+/// Each event keeps the invariant of a state, and so does each half of a claim.
 pub fn events_keep()
     ensures plain { (lists : List (List ℕ)) (roots : List ℕ) (place : ℕ) (s t : State) → IsGoodState lists roots false s
         → IsPlainEvent place s t → IsGoodState lists roots false t }
@@ -22,7 +23,7 @@ pub fn events_keep()
         → IsEvent lists place s t → IsGoodState lists roots false t }
 {}
 
-/// The opening state is good, and so is each state that a run comes to.
+/// The opening state satisfies the invariant, and so does each state of a run.
 pub fn runs_keep()
     ensures opening { (lists : List (List ℕ)) (roots : List ℕ) (places : ℕ) → IsClosed lists → All (λ root. root < length lists) roots
         → IsGoodState lists roots false (opening_state (length lists) roots places) }
@@ -30,8 +31,8 @@ pub fn runs_keep()
         → IsGoodState lists roots false s → IsRun lists x s states end → IsGoodState lists roots false end }
 {}
 
-/// A state that events lead to from a good one is good, whichever places made them; so from the opening
-/// state on the released groups are a legal order of nodes that the roots reach.
+/// States keep the invariant through events, whichever places made them. So from the opening state
+/// on, the released groups are SCCs in reverse topological order, and the roots reach their nodes.
 pub fn any_events_keep()
     ensures keep { (lists : List (List ℕ)) (roots : List ℕ) (s : State) (states : List State) (end : State)
         → IsGoodState lists roots false s → AreEvents lists s states end → IsGoodState lists roots false end }
@@ -43,8 +44,8 @@ pub fn any_events_keep()
         → (v : ℕ) → HasMember end.groups v → IsReached (Calls lists) roots v }
 {}
 
-/// In a good state the released groups are a legal order of nodes that the roots reach, and no kept
-/// searches want each other in a ring.
+/// In a state with the invariant, the released groups are SCCs in reverse topological order, and
+/// the roots reach their nodes. No suspended searches wait for each other in a cycle.
 pub fn good_states()
     ensures legal { (lists : List (List ℕ)) (roots : List ℕ) (failed : Bool) (s : State) → IsGoodState lists roots failed s
         → IsLegalOrder (Calls lists) s.groups }
@@ -54,8 +55,8 @@ pub fn good_states()
         → (v x : ℕ) (steps : List ℕ) → IsChain s.kept v (x ∷ steps) v → ⊥ }
 {}
 
-/// Where nothing can act, nothing is left: no search is kept, and every root is released. So it is where
-/// a run from the opening state stops.
+/// If no place can act, no search is suspended, and every root is released. So it is where a run
+/// from the opening state stops.
 pub fn nothing_left()
     ensures none_kept { (lists : List (List ℕ)) (roots : List ℕ) (failed : Bool) (s : State) → IsGoodState lists roots failed s
         → 0 < length s.running → ((place : ℕ) → waiting_at s place ≡ None) → ((place : ℕ) → CanAct s place → ⊥)

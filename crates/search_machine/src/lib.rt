@@ -1,10 +1,16 @@
-//! Many searches of one graph that take turns on one thread.
+//! Many searches of one graph that take turns on one thread: a deterministic model of the
+//! concurrent search.
 //!
-//! A state has a search or none at each place, the kept searches, the claimed nodes, the roots to come
-//! and the released groups. What one turn of a place makes of it is an event. The laws say of every
-//! graph that each event keeps a good state, whose groups are a legal order of what the roots reach, and
-//! that where no place can act every root is released. A `Machine` holds such a state, and lets a place
-//! act. `drive_many` lets the places act by a schedule that a seed draws, until none can.
+//! A state has places (slots for one search each), the suspended searches, the claimed nodes, the
+//! roots to come and the released groups. One step of a place is an event.
+//!
+//! The theorems hold for every graph. Each event keeps the invariant of a state (`IsGoodState`), by
+//! which its groups are SCCs in reverse topological order that the roots reach. If no place can
+//! act, every root is released.
+//!
+//! A `Machine` holds such a state, and lets a place act. `drive_many` lets the places act by a
+//! schedule that a seed determines, until none can. It uses no threads, and states nothing about
+//! them.
 #![tactic(auto)]
 
 mod laws;

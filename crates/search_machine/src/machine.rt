@@ -16,8 +16,8 @@ mod opening;
 
 /// Many searches of one graph, each at a place, which take turns on one thread.
 ///
-/// It is seen with the graph and the roots that it was made with, whether it has failed, and the state
-/// of its searches, which is always good.
+/// Contracts see it with the graph and the roots that it was made with, whether it has failed, and
+/// the state of its searches, which always satisfies its invariant.
 #[derive(Drop)]
 pub struct Machine {
     book: Book,
@@ -65,8 +65,8 @@ impl Machine {
         })
     }
 
-    /// Whether the machine hasn't failed, and the place can act: it waits for no opening, and has a
-    /// search or is idle while there is more to take.
+    /// Whether the place can act and the machine hasn't failed. The place waits for no node to be
+    /// expanded. It has a search, or it is idle while there is a ready search or a root to take.
     pub fn can_act(&self, place: u32) -> bool
         ensures { IsTrue result ↔ ((self.now.failed ≡ false) × CanAct self.now.state place) }
     {
@@ -88,8 +88,9 @@ impl Machine {
         self.given < self.book.roots().len()
     }
 
-    /// Lets a place act that can: it makes one event, or claims a node and waits for its opening. At
-    /// want of memory the machine has failed, and at most the edge that the place has begun is new.
+    /// Lets a place act that can: it makes one event, or claims a node and waits until it is
+    /// expanded. If memory runs out the machine has failed, and at most the edge that the place has
+    /// begun is new.
     pub fn act(&mut self, place: u32) -> Result<Step, AllocError>
         requires sound { self.old.failed ≡ false }
         requires can { CanAct self.old.state place }
@@ -107,7 +108,7 @@ impl Machine {
         }
     }
 
-    /// Marks the machine as failed.
+    /// Marks the machine as failed: no place can act any more.
     pub fn fail(&mut self)
         ensures { self.new ≡ record self.old { failed = true } }
     {
@@ -121,7 +122,7 @@ impl Machine {
         self.book.has_failed()
     }
 
-    /// The released groups.
+    /// The released groups, in the order of their release.
     pub fn released(&self) -> &Released
         ensures { result.now ≡ record { count = length self.now.lists; groups = self.now.state.groups } }
     {
@@ -142,14 +143,14 @@ impl Machine {
         self.book.roots()
     }
 
-    /// What each machine keeps. It does nothing, and is called for what it ensures.
+    /// The invariant of each machine. The function does nothing, and is called for what it ensures.
     pub fn keeps(&self)
         ensures { IsGoodState self.now.lists self.now.roots self.now.failed self.now.state }
     {
         let _waiting = &self.waiting;
     }
 
-    /// The released groups, which are all that is left.
+    /// The released groups, in the order of their release.
     pub fn into_groups(self) -> Vec<Vec<u32>>
         ensures { lists_of result.items ≡ self.state.groups }
     {
@@ -157,7 +158,7 @@ impl Machine {
     }
 }
 
-/// So many places without a search.
+/// `places` places without a search.
 fn no_searches(alloc: Global, places: usize) -> Result<Vec<Option<Search>>, AllocError>
     ensures { IfOk result (λ made. made.items ≡ replicate places None) }
 {

@@ -1,4 +1,5 @@
-//! Runs of a machine by a schedule that a seed draws: one place acts at a time, until none can.
+//! Runs of a machine by a schedule that a seed determines: one place acts at a time, until none
+//! can.
 
 mod actors;
 mod draw;

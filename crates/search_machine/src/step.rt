@@ -1,4 +1,4 @@
-/// What a place did: it made an event, or it claimed a node and waits for its opening.
+/// What a place did: it made an event, or it claimed a node and waits until it is expanded.
 #[derive(Clone, Copy)]
 pub enum Step {
     Done,

@@ -3,54 +3,54 @@ use std::sync::atomic::{AtomicU64, Ordering};
 use std::time::Duration;
 
 // The states of a crew. At first the others hold back. Once all search, it is also known what it
-// costs to expand a node: little, or nobody has seen it; or much.
+// costs to expand a node: little (or it is unknown), or much.
 const HOLDING_BACK: u64 = 0;
 
 const CHEAP: u64 = 1;
 
 const DEAR: u64 = 2;
 
-// How many microseconds the shortest and the longest nap between two looks take, and what the system
-// adds to each.
+// How many microseconds the shortest and the longest nap between two samples take, and what the
+// system adds to each.
 const SHORTEST_NAP: u64 = 50;
 
 const LONGEST_NAP: u64 = 1_000;
 
 const NAP_ADDS: u64 = 50;
 
-// If so many looks of a round find another expansion than the look before, before so many find none,
-// more than three quarters of the time go into expansions.
+// If this many samples of a round find a new expansion, before the number below find none, more
+// than three quarters of the time go into expansions.
 const MANY_EXPANDING: u32 = 12;
 
 const MANY_BETWEEN: u32 = 5;
 
-// For how many microseconds looks have to find the same expansion for it to be a long one. The system
-// may suspend a thread during a short one, but seldom for longer.
+// For how many microseconds samples have to find the same expansion for it to be a long one. The
+// system may suspend a thread during a short one, but seldom for longer.
 const LONG: u64 = 5_000;
 
-// From how many microseconds a node on it is dear to expand. Then a node that a worker expands beside
-// a giant group saves more than it costs to move it on top of that group's search, which is some two
-// microseconds.
+// From how many microseconds a node on it is dear to expand. Then a node that a worker expands
+// while another one searches a giant group saves more than it costs. Moving it on top of that
+// group's search takes some two microseconds.
 const DEAR_MICROS: u64 = 5;
 
-/// The workers of one run. The first that comes begins, and the others hold back: until expanding nodes
-/// takes most of its time, or one expansion lasts long, or it has ended. One of them looks at it now and
-/// then, and the rest sleep.
+/// The workers of one run. The first that comes begins, and the others hold back until more of them
+/// would gain. This is when expanding nodes takes most of the first one's time, when one expansion
+/// lasts long, or when it has ended. One of them samples it now and then, and the rest sleep.
 #[derive(Drop)]
 pub(crate) struct Crew {
     came: AtomicU64,
-    /// How many expansions the first has begun and ended: an odd number during one.
+    /// How many expansions the first one has begun and ended: an odd number during one.
     steps: AtomicU64,
     state: AtomicU64,
 }
 
 impl Crew {
-    /// A crew of which nobody has come yet.
+    /// A crew of which no worker has come yet.
     pub(crate) fn new() -> Crew {
         Crew::with_state(HOLDING_BACK)
     }
 
-    /// A crew of which nobody holds back, and nothing is known of what it costs to expand a node.
+    /// A crew of which nobody holds back. It isn't known what it costs to expand a node.
     pub(crate) fn at_work() -> Crew {
         Crew::with_state(CHEAP)
     }
@@ -63,8 +63,8 @@ impl Crew {
         }
     }
 
-    /// Lets a worker come. The first goes on at once, and the others when they are to search too. Returns
-    /// whether it is the first of a crew whose others hold back.
+    /// Lets a worker come. The first begins at once, and the others wait until they should search
+    /// too. Returns whether it is the first of a crew whose others hold back.
     pub(crate) fn come(&self, rt: &impl Wait) -> bool {
         if !self.holds_back() {
             return false;
@@ -77,7 +77,7 @@ impl Crew {
         false
     }
 
-    /// A worker has ended, so nobody holds back any longer.
+    /// Reports that a worker has ended, so nobody holds back any longer.
     pub(crate) fn leave(&self) {
         self.start_all(CHEAP);
     }
@@ -87,7 +87,8 @@ impl Crew {
         self.state.load(Ordering::Relaxed) == DEAR
     }
 
-    /// An expansion begins or ends. As long as the others hold back, the first worker alone calls this.
+    /// Reports that an expansion begins or ends. As long as the others hold back, only the first
+    /// worker calls this.
     pub(crate) fn step(&self) {
         if self.state.load(Ordering::Relaxed) == HOLDING_BACK {
             let steps = self.steps.load(Ordering::Relaxed);
@@ -108,8 +109,8 @@ impl Crew {
         }
     }
 
-    // Looks at the first worker until all search, in rounds. After a round that shows nothing the naps
-    // are longer, so that a worker whose expansions stay cheap is hardly looked at.
+    // Samples the first worker until all search, in rounds. After a round without a gain the naps
+    // are longer, so that a worker whose expansions stay cheap is hardly disturbed.
     fn watch(&self, rt: &impl Wait) {
         let mut nap = SHORTEST_NAP;
         for _ in rt.forever() {
@@ -120,7 +121,7 @@ impl Crew {
         }
     }
 
-    // One round of looks. Returns whether all search.
+    // One round of samples. Returns whether all search.
     fn watch_round(&self, rt: &impl Wait, shortest: u64) -> bool {
         let mut round = Round::new(self.steps.load(Ordering::Relaxed), shortest);
         for _ in rt.forever() {
@@ -141,7 +142,7 @@ impl Crew {
         unreachable!()
     }
 
-    // From now on all search, if they haven't before.
+    // Lets all search from now on, if they don't yet.
     fn start_all(&self, state: u64) {
         let starts = self
             .state
@@ -153,16 +154,16 @@ impl Crew {
     }
 }
 
-/// What a round of looks at the first worker has found.
+/// What a round of samples of the first worker has found.
 #[derive(Clone, Copy)]
 struct Round {
-    /// The first worker's steps at the beginning of the round, and at the last look.
+    /// The first worker's steps at the beginning of the round, and at the last sample.
     begun: u64,
     last: u64,
     /// How many microseconds the naps of the round last, at least and now.
     shortest: u64,
     nap: u64,
-    /// How many looks have found another expansion than the look before, and how many none.
+    /// How many samples have found a new expansion, and how many none.
     expanding: u32,
     between: u32,
     /// How many microseconds the round has taken, and for how many the same expansion was found.
@@ -184,8 +185,8 @@ impl Round {
         }
     }
 
-    // Looks after a nap, when the first worker has made so many steps. If the same expansion goes on, the
-    // next nap is longer.
+    // Takes a sample after a nap: `steps` are the steps of the first worker. If the same expansion
+    // goes on, the next nap is longer.
     fn look(&mut self, steps: u64) {
         let passed = self.nap.saturating_add(NAP_ADDS);
         self.took = self.took.saturating_add(passed);
@@ -219,7 +220,7 @@ impl Round {
     }
 }
 
-// The nap after one that showed nothing.
+// The nap after one that showed no gain.
 fn longer(nap: u64) -> u64 {
     nap.saturating_mul(2).min(LONGEST_NAP)
 }

@@ -16,13 +16,14 @@ use search_stack::{Opening, Search};
 use std::alloc::{AllocError, Global};
 use std::sync::Wait;
 
-// From how many nodes on a search gets more room than it needs, and for how many nodes at most.
+// From how many nodes on a search gets more capacity than it needs, and for how many nodes at most.
 const LARGE: u32 = 256;
 
 const MOST_ROOM: u32 = 262_144;
 
-/// Runs a search without the turn until it is ripe, wants a node of another search, or memory is
-/// wanting: it claims the node of each edge, opens those that it wins, and settles the others.
+/// Runs a search without the lock until its top segment is an SCC, it has to wait for a node of
+/// another search, or memory runs out. It claims the node of each edge, expands those that it wins,
+/// and settles the others.
 pub(crate) fn run_free<O: Opener, G: Gate>(
     rt: &impl Wait,
     alloc: Global,
@@ -57,9 +58,9 @@ pub(crate) fn run_free<O: Opener, G: Gate>(
     unreachable!()
 }
 
-// How much room a search of so many nodes of the graph is to have. Each time that a large one has doubled
-// it gets room for eight times as many, since far-off nodes compete for slots in a table that is hardly
-// larger than they are many. No more than the rest of the graph ever come.
+// How much capacity a search of this many nodes of the graph should have. Whenever a large one has
+// doubled, it gets capacity for eight times as many. In a table that is hardly larger than its
+// content, distant nodes compete for slots. There are never more nodes than the rest of the graph.
 fn room_for(nodes: u32, count: u32) -> u32
     ensures { 0 < result }
 {
@@ -73,8 +74,8 @@ fn room_for(nodes: u32, count: u32) -> u32
     more.min(count.saturating_sub(nodes)).max(1)
 }
 
-/// Claims the node of the edge that the top has begun last, and settles the edge where that can be
-/// done without the turn. Else it tells why the search stops.
+/// Claims the node of the last edge that the top has begun, and settles the edge if no lock is
+/// needed. Otherwise it returns why the search stops.
 fn settle<O: Opener, G: Gate>(
     alloc: Global,
     claims: &Claims,
@@ -111,8 +112,8 @@ fn settle<O: Opener, G: Gate>(
     }
 }
 
-/// Expands a node that the pass has won, and pushes it. If memory is out nothing has changed. To the
-/// crew the gate is a part of the expansion.
+/// Expands a node that the pass has won, and pushes it. If memory runs out, nothing has changed.
+/// For the crew, calling the gate is a part of the expansion.
 pub(crate) fn open_node<O: Opener, G: Gate>(
     alloc: Global,
     claims: &Claims,

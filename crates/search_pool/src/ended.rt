@@ -8,8 +8,8 @@ pub enum Ended {
     Finished {
         pass: Pass,
     },
-    /// Memory was wanting, here or at another worker, and the book has failed. The nodes of the pass are
-    /// those of the search, and the one that it won and that wasn't pushed, where there is one.
+    /// Memory ran out, here or at another worker, and the book has failed. The nodes of the pass
+    /// are those of the search, and `unopened`, which it won and didn't push, if there is one.
     NoMemory {
         pass: Pass,
         search: Search,

@@ -4,7 +4,7 @@ use std::marker::Model;
 use std::sync::atomic::{AtomicU64, Ordering};
 use std::{hint, thread};
 
-// What a `MeetGate` has come to.
+// The states of a `MeetGate`.
 const UNUSED: u64 = 0;
 
 const HOLDING: u64 = 1;
@@ -13,10 +13,10 @@ const PASSED: u64 = 2;
 
 const MET: u64 = 3;
 
-// How many loops a held opening makes before it lets other threads go on.
+// How many iterations a held expansion makes before it yields.
 const SPINS: u32 = 1024;
 
-/// What is told of each node that is opened.
+/// A callback, which is called before each node is expanded. Tests steer the interleaving by it.
 pub trait Gate: Sync {
     fn opened(&self, node: u32);
 }
@@ -29,8 +29,8 @@ impl Gate for OpenGate {
     fn opened(&self, _node: u32) {}
 }
 
-/// A gate that holds the first opening until a second one has entered, or a number of loops is over.
-/// It is seen as this number.
+/// A gate that holds the first expansion until a second one has begun, or for a number of
+/// iterations. Contracts see it as this number.
 #[derive(Drop)]
 pub struct MeetGate {
     turns: u32,
@@ -46,7 +46,7 @@ impl Model for MeetGate {
 }
 
 impl MeetGate {
-    /// A gate that nothing has entered. It takes no memory.
+    /// A gate that nothing has entered, which holds for `turns` iterations. It takes no memory.
     pub fn new(turns: u32) -> MeetGate
         ensures { result ≡ turns }
     {
@@ -56,13 +56,13 @@ impl MeetGate {
         }
     }
 
-    /// Whether a second opening entered while the first was held. No clause says what other threads
-    /// do.
+    /// Whether a second expansion began while the first was held. No contract states what other
+    /// threads do.
     pub fn met(&self) -> bool {
         self.state.load(Ordering::SeqCst) == MET
     }
 
-    // Moves from one state to another, where the gate is in the first.
+    // Moves from one state to another, if the gate is in the first. Returns whether it was.
     fn moves(&self, from: u64, to: u64) -> bool {
         self.state
             .compare_exchange(from, to, Ordering::SeqCst, Ordering::SeqCst)

@@ -1,4 +1,11 @@
-//! Workers that search one graph side by side, each with a search of its own, over claims on its nodes.
+//! Workers that search one graph in parallel: each runs its own depth-first searches, over claims
+//! on the nodes.
+//!
+//! `drive_workers` returns the SCCs that the roots reach in reverse topological order, with 1 to 64
+//! threads. `work` is one worker, and `Gate` a callback by which tests steer the interleaving.
+//!
+//! The contracts hold for every interleaving, if the call returns. They don't state that it
+//! returns, that workers run in parallel, or how many of them gain anything.
 #![tactic(auto)]
 
 mod crew;

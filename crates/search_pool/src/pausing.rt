@@ -3,11 +3,11 @@ use std::sync::atomic::AtomicU64;
 use std::thread;
 use std::time::Duration;
 
-// How often one who finds nothing lets other threads go on before it sleeps.
+// How often a worker that finds nothing yields before it sleeps.
 const TRIES: u32 = 16;
 
-/// Lets other threads go on, or sleeps where that was done often enough: longer each time, from ten
-/// microseconds up to a millisecond. `waits` says how often that was done.
+/// Backs off: yields, or sleeps if that was done often enough. It sleeps longer each time, from ten
+/// microseconds up to a millisecond. `waits` is how often it backed off before.
 pub fn pause(rt: &impl Wait, waits: u32) {
     if waits < TRIES {
         thread::yield_now();

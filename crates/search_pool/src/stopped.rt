@@ -1,12 +1,12 @@
-/// Why a search stopped that ran without the turn.
+/// Why a search stopped that ran without the lock.
 #[derive(Clone, Copy, Debug)]
 pub(crate) enum Stopped {
-    /// Its top segment is ripe.
+    /// Its top segment is an SCC.
     Ripe,
-    /// Its last edge leads to this node, which another search has.
+    /// It has to wait: its last edge leads to this node, which another search has.
     Wants(u32),
-    /// Memory was wanting for the successors of this node, which the pass has won.
+    /// Memory ran out for the successors of this node, which the pass has won.
     Unopened(u32),
-    /// Memory was wanting for one more entry.
+    /// Memory ran out for one more entry.
     NoRoom,
 }

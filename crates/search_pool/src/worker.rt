@@ -27,8 +27,9 @@ use running::go_on;
 use stretch::Stretch;
 use went::{Went, Worker};
 
-/// Works until the pass has seen each root finished, or memory is wanting. It calls the gate and then
-/// the opener for each node that it wins, without the turn. The promise holds if the call returns.
+/// Works until the pass has seen each root finished, or memory runs out, here or at another worker.
+/// For each node that it wins it calls the gate and then the opener, without the lock. The contract
+/// holds if the call returns.
 pub fn work<O: Opener, G: Gate>(
     rt: &impl Wait,
     alloc: Global,
@@ -45,8 +46,9 @@ pub fn work<O: Opener, G: Gate>(
     work_in(rt, alloc, claims, pass, opener, gate, &Crew::at_work(), 0)
 }
 
-/// The same, for a worker of a crew, which begins with room for so many nodes. If the crew's first worker has
-/// shown that expanding nodes is dear, it goes on beginning searches even if they have to wait at once.
+/// The same, for a worker of a crew, which begins with capacity for `room` nodes. If the crew's
+/// first worker has shown that expanding nodes is dear, it starts new searches even if they have to
+/// wait at once.
 pub(crate) fn work_in<O: Opener, G: Gate>(
     rt: &impl Wait,
     alloc: Global,
@@ -83,7 +85,7 @@ pub(crate) fn work_in<O: Opener, G: Gate>(
     unreachable!()
 }
 
-// A search with nothing on its stack. If there is no memory for so much room, it has none yet.
+// A search with an empty stack. If there is no memory for that capacity, it has none yet.
 fn begin_search(alloc: Global, room: u32) -> Search
     ensures stack { result.stack ≡ empty_stack }
     ensures wanted { result.wanted ≡ None }

@@ -17,9 +17,13 @@ use std::sync::Wait;
 use std::thread;
 use std::thread::Threads;
 
-/// The groups of all that the roots reach, in a legal order, found by `jobs` workers. One of them begins,
-/// and the others hold back as long as nodes are expanded so cheaply that they would gain nothing. If no
-/// thread can be made, they run one after another. The promise holds if the call returns.
+/// The SCCs of all that the roots reach in reverse topological order, members ascending, found by
+/// `jobs` workers, 1 to 64.
+///
+/// One worker begins, and the others hold back while nodes are expanded so cheaply that they would
+/// gain nothing. If no thread can be started, they run one after another. Each node is expanded at
+/// most once. Fails only if memory runs out, here or in the opener. The contract holds if the call
+/// returns.
 pub fn drive_workers<R: Threads + Wait + Sync, O: Opener, G: Gate>(
     rt: &R,
     alloc: Global,
@@ -66,8 +70,9 @@ pub fn split_for(
     Ok(passes)
 }
 
-/// Runs a worker for each pass, in a thread of its own if one can be made. None of them holds back. Returns
-/// how each has ended. The promise holds if the call returns.
+/// Runs a worker for each pass, in a thread of its own if one can be started. None of them holds
+/// back. Returns how each has ended, in the order of the passes. The contract holds if the call
+/// returns.
 pub fn run_all<R: Threads + Wait + Sync, O: Opener, G: Gate>(
     rt: &R,
     alloc: Global,

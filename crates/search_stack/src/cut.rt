@@ -10,8 +10,8 @@ pub struct Cut {
     pub frame: u32,
 }
 
-/// The greatest frame at or below the place such that no frame from it on has a low below its
-/// position. The first frame, which stands at place 0, is one.
+/// The greatest frame at or below the index such that no frame from it on has a low below its
+/// position. The first frame, at index 0, is one.
 pub(crate) fn greatest_cut(frames: &[Frame], place: u32) -> Cut
     requires some { 0 < length frames.now }
     requires few { length frames.now ≤ 2 ^ 32 }

@@ -1,7 +1,7 @@
 ghost use Rattle.std.specs.Prelude.{◌≡◌, ◌-◌, ◌<◌, length, slice_index_or};
 
-/// A frame of a search: the position of its entry, and the least position that its segment is known
-/// to lead back to.
+/// A frame of a search (an activation of the recursive algorithm): the position of its entry, and
+/// the least position that its segment is known to lead back to (the low-link).
 #[derive(Clone, Copy)]
 pub struct Frame {
     pub position: u32,

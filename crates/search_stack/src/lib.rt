@@ -1,14 +1,17 @@
-//! One depth-first search, kept as a value between its steps, and the groups that it finds.
+//! Tarjan's algorithm for strongly connected components (SCCs) in an iterative form: a depth-first
+//! search as a value that can be suspended between any two calls.
 //!
-//! A `Search` is a stack of nodes, cut into segments by frames. Each call says exactly what it makes
-//! of the stack, and keeps a search good for every graph, roots and finished nodes that it was good
-//! for. `groups_plain` runs one such search after another, and answers the classes of mutual reach of
-//! what the roots reach, members ascending and callees first, whatever the depth of the graph.
+//! A `Search` is a stack of nodes, cut into segments by frames. It uses no recursion, so it never
+//! overflows the machine's stack. Each call states exactly how it changes the stack. It keeps the
+//! search well-formed for every graph, roots and finished nodes for which it was (`IsGood`).
 //!
-//! A search that can't go on may be put aside, with the node that it wants. `cut` and `append` move
-//! the upper part of one search on top of another, where the wants of both make a ring.
+//! `groups_plain` runs one such search for each root. It returns the SCCs that the roots reach in
+//! reverse topological order, members ascending.
 //!
-//! A search holds no graph: it is handed each node with its successors.
+//! A search that can't continue may be suspended, with the node that it waits for. If two searches
+//! wait for each other, `cut` and `append` move the upper part of one on top of the other.
+//!
+//! A search holds no graph. Its caller hands it each node with its successors.
 #![tactic(auto)]
 
 mod cut;

@@ -2,13 +2,13 @@ ghost use Rattle.std.specs.Prelude.{◌≡◌};
 
 use std::hash::Hasher;
 
-/// How many entries a table holds for each of its places.
+/// How many consecutive nodes share a slot of the table.
 const NEIGHBOURS: u32 = 9;
 
-/// Hashes a node so that neighbours come to one place of a table, and next neighbours to the next
-/// place, and differ in the high bits that the table compares. A search that meets neighbours one
-/// after another then seldom waits for memory, and no two nodes compete for a place of a table that
-/// has room for all of them.
+/// Hashes a node so that consecutive nodes share a slot of a table, and the next ones the next
+/// slot. They differ in the high bits that the table compares. So a search that reaches consecutive
+/// nodes one after another seldom waits for memory. No two nodes compete for a slot of a table that
+/// has capacity for all of them.
 #[derive(Clone, Copy)]
 pub(crate) struct NodeHasher {
     node: u32,

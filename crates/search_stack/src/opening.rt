@@ -1,4 +1,4 @@
-/// A node with its successors, to be pushed.
+/// An expanded node: the node with its successors.
 #[derive(Drop)]
 pub struct Opening {
     pub node: u32,

@@ -14,9 +14,12 @@ use crate::search::Search;
 use graph_law::Opener;
 use std::alloc::{AllocError, Global};
 
-/// The groups of mutual reach of all that the roots reach, callees first, with the members of each
-/// ascending. It takes one search after another, in time linear in the graph but for the sort of
-/// the members, and goes no deeper on the machine's stack for a long chain of calls.
+/// The SCCs of all that the roots reach in reverse topological order, with the members of each
+/// ascending.
+///
+/// It runs one search after another. The steps are linear in the nodes and edges, except for
+/// sorting the members. It uses no recursion, so a long chain of calls doesn't overflow the
+/// machine's stack. Fails only if memory runs out, here or in the opener.
 pub fn groups_plain<O: Opener>(
     alloc: Global,
     opener: &O,
@@ -69,7 +72,7 @@ fn run_out<O: Opener>(
     Ok(())
 }
 
-/// Begins edges of the top node until one leads to an unseen node. None where all have begun.
+/// Begins edges of the top node until one leads to an unseen node. None if all have begun.
 fn next_unseen(search: &mut Search, seen: &[bool]) -> Option<u32>
     requires some { 0 < size search.old.stack }
     requires wants_nothing { search.old.wanted ≡ None }
@@ -93,7 +96,7 @@ fn next_unseen(search: &mut Search, seen: &[bool]) -> Option<u32>
     None
 }
 
-/// Pushes a node that isn't seen, with its successors, and marks it.
+/// Expands a node that isn't seen, pushes it and marks it.
 fn open_node<O: Opener>(
     alloc: Global,
     opener: &O,
@@ -121,7 +124,8 @@ fn open_node<O: Opener>(
     Ok(())
 }
 
-/// Takes the top segment off as a group where it is ripe, and else joins it to the one below.
+/// Removes the top segment as a group if it is complete (ripe), and otherwise joins it to the one
+/// below.
 fn finish_top(search: &mut Search, groups: &mut Vec<Vec<u32>>) -> Result<(), AllocError>
     requires done { IsDone search.old.stack }
     requires wants_nothing { search.old.wanted ≡ None }

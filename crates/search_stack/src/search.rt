@@ -18,18 +18,19 @@ use std::marker::Model;
 
 mod parts;
 
-/// The successors of a node on the stack, the first of which have begun.
+/// The successors of a node on the stack, of which the first ones have begun.
 #[derive(Drop)]
 pub(crate) struct Opened {
     pub(crate) succs: Vec<u32>,
     pub(crate) begun: usize,
 }
 
-/// A depth-first search that stands still.
+/// A depth-first search between two steps.
 ///
-/// It is seen as a stack of entries (a node, its successors, how many have begun) and of frames (a
-/// position, a low), a node that it wants or none, and a number of entries for which it has room. A
-/// segment runs from the position of a frame up to that of the next one. No node is on it twice.
+/// Contracts see it as a stack, a node that it waits for or none, and a spare capacity in entries.
+/// The stack has entries (a node, its successors, how many have begun) and frames (a position, a
+/// low). A segment is from the position of a frame up to that of the next one. No node is on it
+/// twice.
 #[derive(Drop)]
 pub struct Search {
     opened: IndexMap<u32, Opened, BuildHasherDefault<NodeHasher>>,
@@ -51,7 +52,7 @@ impl Model for Search {
 }
 
 impl Search {
-    /// A search with nothing on its stack. It takes no memory.
+    /// A search with an empty stack. It takes no memory.
     pub fn empty(alloc: Global) -> Search
         ensures { result ≡ record { stack = empty_stack; wanted = None; spare = 0 } }
     {
@@ -63,7 +64,7 @@ impl Search {
         }
     }
 
-    /// A search with nothing on its stack, with room for `room` entries.
+    /// A search with an empty stack, with capacity for `room` entries.
     pub fn with_room(alloc: Global, room: u32) -> Result<Search, AllocError>
         ensures empty { IfOk result (λ search. search.stack ≡ empty_stack) }
         ensures wants_nothing { IfOk result (λ search. search.wanted ≡ None) }
@@ -74,8 +75,8 @@ impl Search {
         Ok(search)
     }
 
-    /// Makes room for `more` entries. Where it is refused all stays. A search of 2^32 entries is
-    /// refused too, since a `u32` doesn't count them.
+    /// Reserves capacity for `more` entries. If that fails, nothing changes. It also fails if there
+    /// would be 2^32 entries, which a `u32` doesn't count.
     pub fn reserve(&mut self, more: u32) -> Result<(), AllocError>
         ensures stack { self.new.stack ≡ self.old.stack }
         ensures wanted { self.new.wanted ≡ self.old.wanted }
@@ -107,7 +108,7 @@ impl Search {
         ensures wants_nothing { self.new.wanted ≡ None }
         ensures spare { self.old.spare ≤ self.new.spare + 1 }
 
-        // A good search with the edge to the node left open is good again.
+        // A well-formed search whose edge to the node is open is well-formed again.
         ensures good { (lists : List (List ℕ)) (roots done : List ℕ) → IsGood lists roots done true self.old.stack
             → opening.succs.items ≡ slice_index_or lists opening.node []
             → (size self.old.stack ≡ 0 → IsReached (Calls lists) roots opening.node)
@@ -127,8 +128,8 @@ impl Search {
         self.spare -= 1;
     }
 
-    /// The next successor of the top frame's entry, which counts as begun then, or none where all
-    /// have begun.
+    /// The next successor of the top frame's entry, which counts as begun then. None if all have
+    /// begun.
     pub fn begin(&mut self) -> Option<u32>
         requires some { 0 < size self.old.stack }
         requires wants_nothing { self.old.wanted ≡ None }
@@ -140,7 +141,7 @@ impl Search {
         ensures wants_nothing { self.new.wanted ≡ None }
         ensures done { IfNone result (IsDone self.new.stack) }
 
-        // A good search stays good, with the edge that has begun left open.
+        // A well-formed search stays so, with the edge that has begun open.
         ensures good { (lists : List (List ℕ)) (roots done : List ℕ) → IsGood lists roots done false self.old.stack
             → IsGood lists roots done (is_some result) self.new.stack }
     {
@@ -155,8 +156,8 @@ impl Search {
         Some(node)
     }
 
-    /// Settles the last edge that has begun, which leads to `node`: true where the node is on the
-    /// stack, and then the top low falls to its position where that is less.
+    /// Settles the last edge that has begun, which leads to `node`. True if the node is on the
+    /// stack: then the low of the top becomes its position if that is less.
     pub fn back(&mut self, node: u32) -> bool
         requires some { 0 < size self.old.stack }
         requires wants_nothing { self.old.wanted ≡ None }
@@ -167,7 +168,8 @@ impl Search {
         ensures unchanged { OnFalse result (self.new ≡ self.old) }
         ensures wants_nothing { self.new.wanted ≡ None }
 
-        // A good search, with the edge open or not, is good where the node is on the stack or finished.
+        // A well-formed search, with the edge open or not, is well-formed if the node is on the
+        // stack or finished.
         ensures good { (lists : List (List ℕ)) (roots done : List ℕ) (opened : Bool)
             → IsGood lists roots done opened self.old.stack → IsTrue result ⊎ Contains done node
             → IsGood lists roots done false self.new.stack }
@@ -181,8 +183,8 @@ impl Search {
         true
     }
 
-    /// Whether the top frame's entry has begun all its successors and its low is its position. Its
-    /// segment is then a group.
+    /// Whether the top segment is an SCC (ripe): its frame's entry has begun all its successors,
+    /// and its low is its position.
     pub fn is_ripe(&self) -> bool
         ensures ripe { IsTrue result ↔ IsRipe self.now.stack }
         ensures shaped { IsShaped self.now.stack }
@@ -214,14 +216,16 @@ impl Search {
         frame.low = frame.low.min(joined.low);
     }
 
-    /// Takes the top segment off: its nodes in stack order. Where it is refused all stays.
+    /// Removes the top segment, and returns its nodes in the order of the stack. If memory runs
+    /// out, nothing changes.
     pub fn take_ripe(&mut self) -> Result<Vec<u32>, AllocError>
         requires { IsRipe self.old.stack }
         ensures group { IfOk result (λ group. group.items ≡ nodes_from self.old.stack (top self.old.stack)) }
         ensures taken { OnOk result (self.new ≡ record self.old { stack = below_frame self.old.stack (top self.old.stack) }) }
         ensures err { OnErr result (self.new ≡ self.old) }
 
-        // The segment of a good search may be released, and the rest is good with it finished.
+        // The segment of a well-formed search may be released, and the rest is well-formed with it
+        // finished.
         ensures releasable { IfOk result (λ group. (lists : List (List ℕ)) (roots done : List ℕ)
             → IsGood lists roots done false self.old.stack → IsReleasable lists roots done group.items) }
         ensures good { IfOk result (λ group. (lists : List (List ℕ)) (roots done : List ℕ)
@@ -251,7 +255,7 @@ impl Search {
         self.opened.is_empty()
     }
 
-    /// For how many more entries there is room.
+    /// For how many more entries there is capacity.
     pub fn spare(&self) -> u32
         ensures { result ≡ self.now.spare }
     {
@@ -273,7 +277,7 @@ impl Search {
         *self.opened.get_index(position as usize).unwrap().0
     }
 
-    /// The frame at a place in the list of frames.
+    /// The frame at the index, from the lowest on.
     pub fn frame_at(&self, frame: u32) -> Frame
         requires { frame < height self.now.stack }
         ensures position { result.position ≡ position_of self.now.stack frame }
@@ -282,7 +286,7 @@ impl Search {
         self.frames[frame as usize]
     }
 
-    /// A search that is good for some finished nodes is good for more of them.
+    /// A search that is well-formed for some finished nodes is so for more of them.
     pub fn stays_good()
         ensures { (lists : List (List ℕ)) (roots done more : List ℕ) (opened : Bool) (stack : Stack)
             → IsGood lists roots done opened stack → ((v : ℕ) → Contains done v → Contains more v)

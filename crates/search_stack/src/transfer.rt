@@ -1,4 +1,4 @@
-//! What moves where the upper part of one search comes on top of another.
+//! What moves if the upper part of one search is moved on top of another.
 
 ghost use Rattle.std.specs.Prelude.{◌≡◌, ◌+◌, ◌<◌, ◌≤◌, ◌-◌, ◌^◌, ℕ, ◌++◌, All, Contains, nat_eq, length, map, take, drop, vec_capacity};
 ghost use Rattle.std.specs.List.{IsDistinct};
@@ -15,7 +15,7 @@ use crate::search::Opened;
 use indexmap::IndexMap;
 use std::hash::BuildHasherDefault;
 
-/// Moves the entries from a place on behind those of another map. It takes no memory.
+/// Moves the entries from an index on to the end of another map. It takes no memory.
 pub(crate) fn move_entries(
     to: &mut IndexMap<u32, Opened, BuildHasherDefault<NodeHasher>>,
     from: &mut IndexMap<u32, Opened, BuildHasherDefault<NodeHasher>>,
@@ -36,8 +36,8 @@ pub(crate) fn move_entries(
     }
 }
 
-/// Moves the frames from a cut on behind those of another list, where the first of them then stands
-/// at `base`. It takes no memory.
+/// Moves the frames from a cut on to the end of another list, where the position of the first of
+/// them becomes `base`. It takes no memory.
 pub(crate) fn move_frames(to: &mut Vec<Frame>, from: &mut Vec<Frame>, cut: Cut, base: u32)
     requires within { cut.frame ≤ length from.old.items }
     requires room { length to.old.items + length from.old.items ≤ vec_capacity to.old + cut.frame }
@@ -60,7 +60,7 @@ pub(crate) fn move_frames(to: &mut Vec<Frame>, from: &mut Vec<Frame>, cut: Cut, 
     from.truncate(cut.frame as usize);
 }
 
-/// The last successor that the top frame's entry has begun, or none where there is no frame.
+/// The last successor that the top frame's entry has begun, or none if there is no frame.
 pub(crate) fn last_begun(
     opened: &IndexMap<u32, Opened, BuildHasherDefault<NodeHasher>>,
     frames: &[Frame],

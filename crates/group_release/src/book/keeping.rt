@@ -17,9 +17,9 @@ use search_stack::Search;
 use std::alloc::AllocError;
 
 impl Book {
-    /// Puts a search aside until a node is finished that its last edge leads to, or lets it go on with
-    /// what it waited for, as `Blocked::suspend` does. At want of memory the search comes back and all
-    /// stays.
+    /// Suspends a search until the node is finished that its last edge leads to, or returns it to
+    /// continue with what it waited for, like `Blocked::suspend`. If memory runs out, the search is
+    /// returned and nothing changes.
     pub fn suspend(&mut self, search: Search, on: u32) -> Result<Suspended, (AllocError, Search)>
         requires some { 0 < size search.stack }
         requires wants_nothing { search.wanted ≡ None }
@@ -35,7 +35,8 @@ impl Book {
         ensures back { IfErr result (λ failed. failed.1.stack ≡ search.stack) }
         ensures back_wants { IfErr result (λ failed. failed.1.wanted ≡ None) }
 
-        // In counts: no node is lost or doubled, and what is wanted anew is `on` or a node of the search that goes on.
+        // In counts: no node is lost or doubled. A node that is newly waited for is `on` or on the
+        // search that continues.
         ensures kept_count { IfOk result (λ suspended. (x : ℕ) → times x (kept_nodes self.new.kept) + times x (nodes_going suspended)
             ≡ times x (kept_nodes self.old.kept) + times x (nodes_on search.stack)) }
         ensures wanted_count { IfOk result (λ suspended. (x : ℕ) → 0 < times x (wanted_nodes self.new.kept)
@@ -45,7 +46,7 @@ impl Book {
         self.blocked.suspend(search, on)
     }
 
-    /// Takes a ready search from its place, where there is one.
+    /// Removes and returns a ready search, if there is one.
     pub fn take_ready(&mut self) -> Option<Search>
         ensures only { self.new ≡ record self.old { kept = self.new.kept } }
         ensures some { IfSome result (λ search. IsTaken self.old.kept self.new.kept search) }
@@ -53,7 +54,8 @@ impl Book {
         ensures none { IfNone result (HasReady self.old.kept → ⊥) }
         ensures unchanged { IfNone result (self.new ≡ self.old) }
 
-        // In counts: the nodes of the search leave the kept ones, and the same nodes are wanted.
+        // In counts: the nodes of the search leave the suspended ones, and the same nodes are
+        // waited for.
         ensures kept_count { IfSome result (λ search. (x : ℕ)
             → times x (kept_nodes self.new.kept) + times x (nodes_on search.stack) ≡ times x (kept_nodes self.old.kept)) }
         ensures wanted_count { (x : ℕ) → times x (wanted_nodes self.new.kept) ≡ times x (wanted_nodes self.old.kept) }
@@ -62,8 +64,8 @@ impl Book {
         self.blocked.take_ready()
     }
 
-    /// Puts a group last in the list of released ones, with its members ascending, and makes ready each
-    /// kept search that wants a node of it.
+    /// Appends a finished group, with its members ascending, to the released ones. Each suspended
+    /// search that waits for a node of it becomes ready.
     pub fn release(&mut self, group: Vec<u32>)
         requires new { IsNewGroup (released_of self.old) group.items }
         requires releasable { IsReleasable self.old.lists self.old.roots (flat self.old.groups) group.items }
@@ -72,7 +74,8 @@ impl Book {
         ensures appended { IsAppended (released_of self.old) group.items (released_of self.new) }
         ensures woken { IsWoken group.items self.old.kept self.new.kept }
 
-        // In counts: the nodes of the group are released, the kept ones stay, and no other node is wanted.
+        // In counts: the nodes of the group are released, the suspended ones stay, and no other
+        // node is waited for.
         ensures released_count { (x : ℕ) → times x (flat self.new.groups) ≡ times x (flat self.old.groups) + times x group.items }
         ensures kept_nodes { kept_nodes self.new.kept ≡ kept_nodes self.old.kept }
         ensures wanted_count { (x : ℕ) → times x (wanted_nodes self.new.kept) ≤ times x (wanted_nodes self.old.kept) }

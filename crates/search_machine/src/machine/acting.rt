@@ -12,8 +12,8 @@ use blocked_table::Suspended;
 use std::alloc::AllocError;
 
 impl Machine {
-    /// An idle place takes a ready search, or else the next root: it claims it and waits for its
-    /// opening, where it isn't claimed yet.
+    /// An idle place takes a ready search, or otherwise the next root. If the root isn't claimed
+    /// yet, it claims it and waits until it is expanded.
     pub(crate) fn start(&mut self, place: u32) -> Step
         requires sound { self.old.failed ≡ false }
         requires idle { IsIdle self.old.state place }
@@ -35,8 +35,8 @@ impl Machine {
         Step::Open(root)
     }
 
-    /// Begins an edge of the top of the search at the place, and settles it where it leads to a node
-    /// that is claimed. None where all edges have begun, and then all stays.
+    /// Begins an edge of the top of the search at the place. If it leads to a claimed node, it
+    /// settles the edge. None if all edges have begun, and then nothing changes.
     pub(crate) fn begin_edge(&mut self, place: u32) -> Result<Option<Step>, AllocError>
         requires sound { self.old.failed ≡ false }
         requires runs { (stack : Stack) × Runs self.old.state place stack }
@@ -78,8 +78,8 @@ impl Machine {
         }
     }
 
-    /// Joins the top segment of the search at the place to the one below, or releases it where it is
-    /// ripe.
+    /// Releases the top segment of the search at the place if it is complete (ripe), and otherwise
+    /// joins it to the one below.
     pub(crate) fn finish_top(&mut self, place: u32) -> Result<Step, AllocError>
         requires sound { self.old.failed ≡ false }
         requires runs { (stack : Stack) × Runs self.old.state place stack × IsDone stack }

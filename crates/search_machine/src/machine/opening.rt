@@ -7,8 +7,8 @@ use search_stack::{Opening, Search};
 use std::alloc::{AllocError, Global};
 
 impl Machine {
-    /// Pushes the node whose opening the place waits for. At want of memory the opening comes back, the
-    /// machine has failed, and all else stays.
+    /// Pushes the expanded node that the place waits for. If memory runs out, the opening is
+    /// returned and the machine has failed. Nothing else changes then.
     pub fn opened(
         &mut self,
         alloc: Global,
@@ -39,8 +39,8 @@ impl Machine {
     }
 }
 
-/// The search with room for one more entry, or an empty one with it where there is none. At want of
-/// memory what was there comes back.
+/// The search with capacity for one more entry, or an empty one with it if there is none. If memory
+/// runs out, what was there is returned.
 fn with_room_for_one(
     alloc: Global,
     there: Option<Search>,

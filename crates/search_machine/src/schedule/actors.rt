@@ -4,7 +4,7 @@ ghost use Rattle.search_machine.specs.Runs.{AreActors};
 use crate::Machine;
 use std::alloc::AllocError;
 
-/// Makes `places` the list of the places that can act, ascending.
+/// Fills `places` with the places that can act, ascending.
 pub(crate) fn list_actors(machine: &Machine, places: &mut Vec<u32>) -> Result<(), AllocError>
     requires { machine.now.failed ≡ false }
     ensures { OnOk result (AreActors machine.now.state places.new.items) }

@@ -16,10 +16,11 @@ use graph_law::Opener;
 use search_stack::Opening;
 use std::alloc::{AllocError, Global};
 
-/// The groups of all that the roots reach, members ascending, in the order in which so many searches
-/// release them that take turns on this thread, by the schedule of the seed. The order is legal. It
-/// answers `Err` where memory was wanting, to it or to the opener. A turn costs a scan of the places
-/// and one event.
+/// The SCCs of all that the roots reach in reverse topological order, members ascending, found by
+/// `searches` searches that take turns on this thread.
+///
+/// The order is that of their release, by the schedule of the seed. Fails only if memory runs out,
+/// here or in the opener. A turn costs a scan of the places and one event.
 pub fn drive_many<O: Opener>(
     alloc: Global,
     opener: &O,
@@ -52,7 +53,7 @@ pub fn drive_many<O: Opener>(
     }
 }
 
-/// Lets the place make one event. A node that it claims is opened at once.
+/// Lets the place make one event. A node that it claims is expanded at once.
 fn take_turn<O: Opener>(
     alloc: Global,
     opener: &O,

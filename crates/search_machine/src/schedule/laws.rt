@@ -1,4 +1,5 @@
-//! What holds of the turns of each graph, as laws: functions with nothing to run.
+//! Theorems about the runs of each graph: functions that do nothing, and are called for what they
+//! ensure.
 
 ghost use Rattle.std.specs.Prelude.{◌≡◌, ◌+◌, ◌<◌, ◌≤◌, ℕ, false, List, length, All};
 ghost use Rattle.list_laws.specs.Counts.{total};
@@ -14,8 +15,8 @@ ghost use Rattle.search_machine.specs.Work.{opening_work, work};
 
 use crate::{good_states, nothing_left, runs_keep};
 
-/// Each event leaves less work, so a run has no more turns than there was work: from the opening state
-/// three for each edge, two for each node, and one for each root.
+/// Each event leaves less work, so a run has no more events than there was work. From the opening
+/// state these are three for each edge, two for each node, and one for each root.
 pub fn runs_end()
     ensures falls { (lists : List (List ℕ)) (roots : List ℕ) (place : ℕ) (s t : State) → IsGoodState lists roots false s
         → IsEvent lists place s t → work lists t < work lists s }
@@ -25,7 +26,8 @@ pub fn runs_end()
         → work lists (opening_state (length lists) roots places) ≡ total opening_work lists + length roots }
 {}
 
-/// The groups that a schedule comes to are a legal order of just what the roots reach.
+/// The groups of a schedule are the SCCs of exactly what the roots reach, in reverse topological
+/// order.
 pub fn schedules_answer()
     ensures legal { (lists : List (List ℕ)) (roots : List ℕ) (searches seed : ℕ) (groups : List (List ℕ)) → IsClosed lists
         → All (λ root. root < length lists) roots → IsScheduled lists roots searches seed groups → IsLegalOrder (Calls lists) groups }

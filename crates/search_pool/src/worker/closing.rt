@@ -3,7 +3,7 @@ ghost use Rattle.search_pool.specs.Working.{MayCloseAll, last_group, with_closed
 
 use node_claims::Turn;
 
-/// Closes the nodes of the group that was released last.
+/// Closes the nodes of the last released group.
 pub(crate) fn close_group(turn: &mut Turn<'_>)
     requires { MayCloseAll turn.old }
     ensures { turn.new ≡ with_closed turn.old (last_group turn.old.book) }

@@ -10,8 +10,8 @@ use super::went::Worker;
 use node_claims::Turn;
 use search_stack::Search;
 
-/// Gives the turn back, and goes on with a search and with the roots of a stretch. So many of all roots,
-/// from the first on, are released or were seen finished.
+/// Unlocks, and continues with a search and with the roots of a stretch. The first `seen_roots` of
+/// all roots are released or were seen finished.
 pub(crate) fn give_back(
     turn: Turn<'_>,
     search: Search,

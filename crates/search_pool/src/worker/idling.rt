@@ -18,19 +18,21 @@ use node_claims::Claims;
 use std::alloc::{AllocError, Global};
 use std::sync::Wait;
 
-// In how many stretches the roots are handed out, where there are enough: four for each of 64 workers.
+// Into how many stretches the roots are handed out, if there are enough: four for each of 64
+// workers.
 const STRETCHES: usize = 256;
 
-// How many searches in a row may come to few nodes and wait before the worker waits too, if expanding
-// nodes is cheap.
+// How many searches in a row may have to wait after few nodes before the worker waits too, if
+// expanding nodes is cheap.
 const MOST_VAIN: u32 = 4;
 
-// The most roots of a stretch. A turn for so many costs next to nothing, and no worker is left with much.
+// The most roots of a stretch. One lock for this many costs next to nothing, and no worker is left
+// with much.
 const MOST_ROOTS: usize = 256;
 
-/// Begins at the next root that was handed out to the worker. Where it has claimed all of these, it takes
-/// a ready search, or else is handed more roots. Where there is neither, the worker has finished if each
-/// root is released, and else waits a little.
+/// Begins at the next root that was handed out to the worker. If it has claimed all of these, it
+/// takes a ready search, or otherwise is handed more roots. If there is neither, the worker has
+/// finished if each root is released, and otherwise it backs off.
 pub(crate) fn take_up<O: Opener, G: Gate>(
     rt: &impl Wait,
     alloc: Global,
@@ -86,16 +88,16 @@ pub(crate) fn take_up<O: Opener, G: Gate>(
     Went::On(worker)
 }
 
-// Whether the worker should begin no other search, since its last `vain` ones had to wait at once. Never
-// if expanding nodes is dear: the nodes that it expanded are moved on top of the search that it waits
-// for, which need not expand them.
+// Whether the worker should start no new search, because its last `vain` ones had to wait at once.
+// Never if expanding is dear: the nodes that it expanded are moved on top of the search that it
+// waits for, which need not expand them.
 fn are_too_many(vain: u32, crew: &Crew) -> bool {
     vain >= MOST_VAIN && !crew.finds_expansions_dear()
 }
 
-// Waits a little, where the worker's last searches all had to wait at once, and begins no other until the
-// node is released that the last of them waits for. That node is on a search that runs, or on one that
-// waits for such a search or for a ready one; and a ready one it takes.
+// Backs off if the worker's last searches all had to wait at once, and starts no other until the
+// node is released that the last of them waits for. That node is on a search that runs, or on one
+// that waits for such a search or for a ready one. A ready one is taken.
 fn hold_back(rt: &impl Wait, claims: &Claims, worker: Worker) -> Went
     requires at_work { IsAtWork claims.now worker false }
     requires idle { size worker.search.stack ≡ 0 }
@@ -130,16 +132,15 @@ fn hold_back(rt: &impl Wait, claims: &Claims, worker: Worker) -> Went
     Went::On(worker)
 }
 
-// How many roots are handed out at once: few enough that each of the workers is handed several stretches,
-// and one by one where the roots are few.
+// How many roots are handed out at once: few enough that each of the workers gets several
+// stretches. Few roots are handed out one by one.
 fn stretch_len(roots: usize) -> usize
     ensures { 0 < result }
 {
     (roots / STRETCHES).clamp(1, MOST_ROOTS)
 }
 
-// Hands out the next roots, where there are any that weren't handed out yet, to a worker that has claimed
-// all it was handed before.
+// Hands out the next roots, if some are left, to a worker that has claimed all its earlier ones.
 fn hand_out(book: &mut Book, stretch: &mut Stretch) -> Result<(), AllocError>
     requires used { length stretch.old.roots.items ≤ stretch.old.next }
     ensures only { book.new ≡ record book.old { given = book.new.given } }
@@ -159,7 +160,7 @@ fn hand_out(book: &mut Book, stretch: &mut Stretch) -> Result<(), AllocError>
     Ok(())
 }
 
-// So many roots, from the first on, are released, where `from` of them are.
+// How many roots, from the first on, are released, if `from` of them are.
 fn released_roots(book: &Book, from: usize) -> usize
     requires within { from ≤ length book.now.roots }
     requires before { All (λ root. HasMember book.now.groups root) (take from book.now.roots) }

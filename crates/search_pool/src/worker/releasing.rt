@@ -12,9 +12,9 @@ use search_stack::Search;
 use std::alloc::AllocError;
 use std::sync::Wait;
 
-/// Releases the ripe top segment and closes its nodes, again and again as long as the top segment of what
-/// is left is ripe: a group is often the last that its caller has waited for, and one turn serves both.
-/// The worker goes on with the rest.
+/// Releases the top segment, which is an SCC, and closes its nodes, again and again while the new
+/// top segment is one too. A group is often the last that its caller has waited for, and so one
+/// lock serves both. The worker continues with the rest.
 pub(crate) fn release(rt: &impl Wait, claims: &Claims, worker: Worker) -> Went
     requires at_work { IsAtWork claims.now worker false }
     requires ripe { IsRipe worker.search.stack }
@@ -45,7 +45,7 @@ pub(crate) fn release(rt: &impl Wait, claims: &Claims, worker: Worker) -> Went
     unreachable!()
 }
 
-/// Releases the ripe top segment, and closes its nodes. If memory is out nothing has changed.
+/// Releases the top segment, and closes its nodes. If memory runs out, nothing has changed.
 fn release_top(turn: &mut Turn<'_>, search: &mut Search) -> Result<(), AllocError>
     requires ripe { IsRipe search.old.stack }
     requires under { (claims : ClaimsValue) × (n : ℕ) × HasTurn claims turn.old search.old n }

@@ -13,8 +13,8 @@ use node_claims::{Claimed, Claims};
 use std::alloc::Global;
 use std::sync::Wait;
 
-/// Claims the next of the roots that were handed out to the worker, without the turn, until one is won,
-/// and begins a search at that. Where others have all of these roots it is idle still.
+/// Claims the next of the roots that were handed out to the worker, without the lock, until one is
+/// won, and begins a search there. If others have all of these roots, the worker is still idle.
 pub(crate) fn open_next<O: Opener, G: Gate>(
     rt: &impl Wait,
     alloc: Global,
@@ -39,8 +39,8 @@ pub(crate) fn open_next<O: Opener, G: Gate>(
     Went::On(worker)
 }
 
-// Claims the next root that was handed out to the worker, and answers it where it is won. Where another
-// has it or it is finished, there is nothing to do.
+// Claims the next root that was handed out to the worker, and returns it if it is won. If another
+// worker has it or it is finished, there is nothing to do.
 fn claim_next(claims: &Claims, worker: &mut Worker) -> Option<u32>
     requires at_work { IsAtWork claims.now worker.old false }
     requires some { worker.old.stretch.next < length worker.old.stretch.roots.items }

@@ -16,7 +16,7 @@ use node_claims::Claims;
 use std::alloc::Global;
 use std::sync::Wait;
 
-/// Runs the search that the worker has, or takes one up where it is idle, up to the end of a turn.
+/// Runs the worker's search, or takes one up if the worker is idle, up to the next time it unlocks.
 pub(crate) fn go_on<O: Opener, G: Gate>(
     rt: &impl Wait,
     alloc: Global,
@@ -36,7 +36,7 @@ pub(crate) fn go_on<O: Opener, G: Gate>(
     run(rt, alloc, claims, worker, opener, gate, crew)
 }
 
-// Runs the search without the turn as far as it goes, and then does what needs the turn.
+// Runs the search without the lock as far as possible, and then does what needs the lock.
 fn run<O: Opener, G: Gate>(
     rt: &impl Wait,
     alloc: Global,

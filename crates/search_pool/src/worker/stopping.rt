@@ -10,7 +10,7 @@ use node_claims::{Claims, Pass, Turn};
 use search_stack::Search;
 use std::sync::Wait;
 
-/// Marks the book as failed, so that the others end too, and ends with what the worker has.
+/// Marks the book as failed, so that the other workers end too, and ends with what this one has.
 pub(crate) fn give_up(
     rt: &impl Wait,
     claims: &Claims,
@@ -25,7 +25,7 @@ pub(crate) fn give_up(
     stop(turn, search, unopened)
 }
 
-/// The same, for a worker that has the turn.
+/// The same, for a worker that has the lock.
 pub(crate) fn stop(mut turn: Turn<'_>, search: Search, unopened: Option<u32>) -> Ended
     requires { MayGive turn.view turn.taken (outline_of turn.book) (nodes_with search unopened) }
     ensures { (claims : ClaimsValue) → IsTurnOf claims turn.entry → EndsWell claims result }

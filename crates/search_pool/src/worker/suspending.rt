@@ -12,11 +12,12 @@ use search_stack::Search;
 use std::alloc::Global;
 use std::sync::Wait;
 
-// A search that has to wait with no more nodes than these was hardly worth its turns.
+// A search that has to wait with no more nodes than these was hardly worth the locks that it took.
 const FEW: u32 = 8;
 
-/// Puts the search aside until the node is finished that its last edge leads to. Where the node is
-/// released by now, the search goes on; where what it waits for waits for it, that comes on top of it.
+/// Suspends the search until the node is finished that its last edge leads to. If the node is
+/// released by now, the search continues. If what it waits for waits for it, that is moved on top
+/// of it.
 pub(crate) fn suspend(
     rt: &impl Wait,
     alloc: Global,
@@ -61,7 +62,7 @@ pub(crate) fn suspend(
     }
 }
 
-// How many searches in a row were in vain, with one of so many nodes that has to wait.
+// How many searches in a row were in vain, after one with `nodes` nodes that has to wait.
 fn vain_with(vain: u32, nodes: u32) -> u32 {
     if nodes > FEW {
         return 0;

@@ -8,9 +8,9 @@ use crate::cut::{Cut, greatest_cut};
 use crate::transfer::{last_begun, move_entries, move_frames};
 
 impl Search {
-    /// Where the search is cut at a node: the greatest frame, at or below that of the node's segment,
-    /// such that no frame from it on has a low below its position. None where the node isn't on the
-    /// stack.
+    /// Where the search is cut for a node: the greatest frame, at or below that of the node's
+    /// segment, such that no frame from it on has a low below its position. None if the node isn't
+    /// on the stack.
     pub fn cut(&self, node: u32) -> Option<Cut>
         ensures none { IfNone result (IsOn self.now.stack node → ⊥) }
         ensures cut { IfSome result (λ cut. IsCut self.now.stack node cut.frame) }
@@ -22,7 +22,7 @@ impl Search {
         Some(greatest_cut(&self.frames, place as u32))
     }
 
-    /// Whether the node is on the stack. It costs a constant.
+    /// Whether the node is on the stack. It takes constant time.
     pub fn holds(&self, node: u32) -> bool
         ensures { IsTrue result ↔ IsOn self.now.stack node }
     {
@@ -32,9 +32,11 @@ impl Search {
         true
     }
 
-    /// Puts the part of the donor from a cut on, where the donor has the node that this search's last
-    /// edge leads to, on top of this search. The donor keeps the rest, and wants the last successor
-    /// that its new top has begun; with no rest it wants nothing. It takes no memory.
+    /// Moves the part of the donor from the cut on, which has the node that this search's last edge
+    /// leads to, on top of this search.
+    ///
+    /// The donor keeps the rest, and waits for the last successor that its new top has begun.
+    /// Without a rest it waits for nothing. It takes no memory.
     pub fn append(&mut self, donor: &mut Search, cut: Cut)
         requires last { (v : ℕ) × IsLastBegun self.old.stack v × IsCut donor.old.stack v cut.frame }
         requires position { cut.position ≡ position_of donor.old.stack cut.frame }
@@ -46,7 +48,7 @@ impl Search {
         ensures rest { donor.new.stack ≡ below_frame donor.old.stack cut.frame }
         ensures rest_wants { donor.new.wanted ≡ last_begun_on donor.new.stack }
 
-        // Good searches stay good: this one with its last edge open, and the rest too.
+        // Well-formed searches stay so: this one with its last edge open, and the rest too.
         ensures good { (lists : List (List ℕ)) (roots done : List ℕ) (opened : Bool) → IsGood lists roots done true self.old.stack
             → IsGood lists roots done opened donor.old.stack → IsGood lists roots done true self.new.stack }
         ensures good_rest { (lists : List (List ℕ)) (roots done : List ℕ) (opened : Bool) → IsGood lists roots done opened donor.old.stack
@@ -61,14 +63,14 @@ impl Search {
         donor.wanted = last_begun(&donor.opened, &donor.frames);
     }
 
-    /// The node that the search wants, or none.
+    /// The node that the search waits for, or none.
     pub fn wanted(&self) -> Option<u32>
         ensures { result ≡ self.now.wanted }
     {
         self.wanted
     }
 
-    /// Lets the search want the node that the last edge of its top leads to.
+    /// Makes the search wait for the node that the last edge of its top leads to.
     pub fn set_wanted(&mut self, on: u32)
         requires { IsLastBegun self.old.stack on }
         ensures { self.new ≡ record self.old { wanted = Some on } }
@@ -76,7 +78,7 @@ impl Search {
         self.wanted = Some(on);
     }
 
-    /// Lets the search want nothing.
+    /// Makes the search wait for nothing.
     pub fn clear_wanted(&mut self)
         ensures { self.new ≡ record self.old { wanted = None } }
     {
