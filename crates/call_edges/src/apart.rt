@@ -1,4 +1,4 @@
-//! What a compound is to the body that it stands in.
+//! What a compound is as a part of a body.
 
 ghost use Rattle.std.specs.Prelude.{◌≡◌, ◌≤◌, ◌+◌, IfSome};
 ghost use Rattle.prolog_terms.specs.Tree.{count};
@@ -29,7 +29,7 @@ fn added(role: GoalArg) -> u32
     }
 }
 
-/// How a goal stands once the `V^`s before it are passed.
+/// What a role is once the `V^`s before the goal are skipped.
 fn settled(role: GoalArg) -> GoalArg
     ensures { result ≡ settled role }
 {
@@ -63,7 +63,7 @@ fn goal_way(controls: bool, name: &str, count: usize) -> Way
     Way::Calling
 }
 
-/// What a compound of this name, with so many arguments, is where it stands so.
+/// What a compound of this name with `count` arguments is, in this role.
 fn way_of(role: GoalArg, name: &str, count: usize) -> Way
     ensures { result ≡ way role name.now count }
 {
@@ -130,7 +130,7 @@ fn qualified<'a>(owner: &'a str, role: GoalArg, args: &Parts<'a>) -> Taken<'a>
     }
 }
 
-/// What a name means in a module, and what that predicate declares. It is looked up only where a
+/// What a name means in a module, and what that predicate declares. The name is looked up only if a
 /// predicate declares something.
 fn meaning_of<'a>(program: &'a Program, owner: &'a str, name: &'a str, arity: u32) -> Meaning<'a>
     ensures meant { IsMeaning (found program.now owner.now name.now arity) result.meant }
@@ -154,7 +154,8 @@ fn meaning_of<'a>(program: &'a Program, owner: &'a str, name: &'a str, arity: u3
     }
 }
 
-/// How the arguments of a goal stand: as the predicate declares them that it calls, else by the table.
+/// How the arguments of a goal are goals: as the predicate that it calls declares, or otherwise by
+/// the table.
 fn standing_by<'a>(declared: &'a [GoalArg], name: &str, arity: u32) -> Standing<'a>
     ensures { see_standing result ≡ standing_by (row name.now arity) declared.now }
 {
@@ -167,8 +168,8 @@ fn standing_by<'a>(declared: &'a [GoalArg], name: &str, arity: u32) -> Standing<
     }
 }
 
-/// What is met at a compound that starts at this byte offset and stands so in a body of the module
-/// `owner`, and how its arguments stand. `number` is that of its name in the names of its text.
+/// The goal at a compound that starts at this byte offset and has this role in a body of the module
+/// `owner`, and how its arguments are goals. `number` is that of its name in the names of its text.
 pub fn take_apart<'a>(
     program: &'a Program,
     at: u32,

@@ -14,7 +14,7 @@ use prolog_names::Names;
 use prolog_terms::{Term, binary};
 use std::alloc::{AllocError, Global};
 
-/// A body of a module: the place of its file among the files, the module, how the term stands, and
+/// A body in a module: the index of its file among the files, the module, the role of the term, and
 /// the term.
 #[derive(Clone, Copy)]
 pub struct Body<'a> {
@@ -49,7 +49,7 @@ fn body_of<'a>(file: u32, owner: &'a str, clause: &Term<'a>) -> Option<Body<'a>>
     None
 }
 
-/// Adds the bodies of clauses of a module, in which names are numbers in these names.
+/// Adds the bodies of clauses of a module, whose names are numbers in `names`.
 fn push_bodies<'a>(
     file: u32,
     owner: &'a str,
@@ -145,7 +145,7 @@ fn push_goals<'a>(
     Ok(())
 }
 
-/// The goals of all directives, file by file.
+/// The goals of all directives, file by file, in the order of the text.
 pub fn goals_of<'a>(alloc: Global, program: &'a Program) -> Result<Vec<Body<'a>>, AllocError>
     ensures { IfOk result (λ bodies. map see_body bodies.items ≡ goals_in program.now.loaded.files) }
 {

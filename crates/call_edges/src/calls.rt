@@ -1,4 +1,4 @@
-//! What the predicates of a program call.
+//! The call graph of a program, which is computed node by node.
 
 ghost use Rattle.std.specs.Prelude.{◌≡◌, ◌<◌, ◌↔◌, ℕ, [], All, Contains, length, map, OnOk, OnErr};
 ghost use Rattle.std.specs.List.Sorted.{IsStrictlyIncreasing};
@@ -16,7 +16,7 @@ use graph_law::Opener;
 use import_rules::Program;
 use std::alloc::AllocError;
 
-/// The predicate that a call in that file goes to. Its name is looked up where it wasn't yet.
+/// The predicate that a call in that file goes to. Its name is looked up if it wasn't yet.
 pub fn target(program: &Program, file: u32, met: Met) -> Option<u32>
     requires { IsMeant program.now met }
     ensures { result ≡ target program.now (see_met met.entry) }
@@ -39,7 +39,7 @@ pub fn target(program: &Program, file: u32, met: Met) -> Option<u32>
     }
 }
 
-/// Adds the predicates that calls go to that are met in the file of that place.
+/// Adds the predicates that the calls among these goals of a file go to.
 pub fn push_targets(
     program: &Program,
     file: u32,
@@ -90,8 +90,8 @@ fn push_callees(program: &Program, node: u32, out: &mut Vec<u32>) -> Result<(), 
     push_called(program, &bodies, out)
 }
 
-/// Puts the predicates that a predicate calls into `out`, which is empty, ascending and each once.
-/// Where memory is wanting, `out` stays empty.
+/// Puts the predicates that a predicate calls into `out`, which is empty, strictly ascending. If
+/// memory runs out, `out` stays empty.
 fn callees(program: &Program, node: u32, out: &mut Vec<u32>) -> Result<(), AllocError>
     requires below { node < length program.now.predicates }
     requires empty { out.old.items ≡ [] }
@@ -112,7 +112,8 @@ fn callees(program: &Program, node: u32, out: &mut Vec<u32>) -> Result<(), Alloc
     }
 }
 
-/// What the predicates of a program call, as a graph: its nodes are the numbers of the predicates.
+/// The call graph of a program: its nodes are the numbers of the predicates. Expanding a node walks
+/// the clauses of the predicate.
 #[derive(Clone, Copy)]
 pub struct Calls<'a> {
     program: &'a Program,
@@ -121,7 +122,7 @@ pub struct Calls<'a> {
 impl<'a> Calls<'a> {
     ghost use Rattle.call_edges.specs.Opened.{see_calls};
 
-    /// The calls of this program. It takes no memory.
+    /// The call graph of this program. It takes no memory.
     pub fn new(program: &'a Program) -> Calls<'a>
         ensures { see_calls result ≡ program.now }
     {

@@ -1,4 +1,4 @@
-//! Whether every goal of a program is callable, and what its predicates call.
+//! Checking that every goal of a program is callable, and finding its call graph.
 
 ghost use Rattle.std.specs.Prelude.{[], ◌≡◌, ◌*◌, ◌<◌, ◌↔◌, true, ℕ, Ok, Contains, length, map, IfOk, OnOk, IfErr};
 ghost use Rattle.call_edges.specs.Calls.{IsAmong};
@@ -26,7 +26,7 @@ use std::thread::Threads;
 /// How few pieces are worth a thread of their own.
 const FEWEST: usize = 2;
 
-/// What is found in each piece, in the order of their numbers. They are walked side by side.
+/// What is found in each piece, in the order of their numbers. They are walked in parallel.
 fn open_each<'a, R: Threads + Sync>(
     rt: &R,
     alloc: Global,
@@ -47,7 +47,7 @@ fn open_each<'a, R: Threads + Sync>(
         .collect(rt, alloc)
 }
 
-/// The pieces, where memory was wanting for none.
+/// The pieces, if memory ran out for none.
 fn whole<'a>(
     alloc: Global,
     each: Vec<Result<OpenedPiece<'a>, AllocError>>,
@@ -64,7 +64,7 @@ fn whole<'a>(
     Ok(opened)
 }
 
-/// The lists of the pieces, and apart from them the calls that are kept.
+/// The lists of the pieces, and separately the calls that are recorded.
 fn split<'a>(
     alloc: Global,
     opened: Vec<OpenedPiece<'a>>,
@@ -82,7 +82,7 @@ fn split<'a>(
     Ok((pieces, kept))
 }
 
-/// The pieces of a program, and their calls, where they are kept.
+/// The pieces of a program, with their calls if `keep` is set.
 fn open_all<'a, R: Threads + Sync>(
     rt: &R,
     alloc: Global,
@@ -98,7 +98,7 @@ fn open_all<'a, R: Threads + Sync>(
     Ok(found)
 }
 
-/// The places of goals that aren't callable, of all pieces.
+/// The spots of goals that aren't callable, of all pieces.
 fn joined(alloc: Global, pieces: &[Piece]) -> Result<Vec<(u32, u32)>, AllocError>
     ensures { IfOk result (λ places. (p : ℕ × ℕ) → Contains places.items p ↔ IsAmong HasPlace pieces.now p) }
 {
@@ -109,7 +109,7 @@ fn joined(alloc: Global, pieces: &[Piece]) -> Result<Vec<(u32, u32)>, AllocError
     Ok(places)
 }
 
-/// The places of all goals that aren't callable, in order and each once.
+/// The spots of all goals that aren't callable, strictly ascending.
 fn fault_places(
     alloc: Global,
     program: &Program,
@@ -127,8 +127,8 @@ fn fault_places(
     Ok(faults)
 }
 
-/// The pieces of a program, and their calls, where they are kept; where every goal is callable
-/// (ISO/IEC 13211-1, 7.6.2): a number never is, nor is a text but in a grammar body.
+/// The pieces of a program, with their calls if `keep` is set, if every goal is callable (ISO/IEC
+/// 13211-1, 7.6.2). A number never is, and a text only in a grammar body.
 fn all_callable<'a, R: Threads + Sync>(
     rt: &R,
     alloc: Global,
@@ -149,9 +149,11 @@ fn all_callable<'a, R: Threads + Sync>(
     Err(GoalStop::Faults(placed(alloc, program, &faults)?))
 }
 
-/// What the predicates of a program call, where every goal is callable (ISO/IEC 13211-1, 7.6.2): a
-/// number never is, nor is a text but in a grammar body. Each predicate is walked once, side by side
-/// with others.
+/// The call graph of a program in memory, if every goal is callable (ISO/IEC 13211-1, 7.6.2). A
+/// number never is, and a text only in a grammar body.
+///
+/// Otherwise the goals that aren't callable are returned, in order of file and offset, each once.
+/// Each clause is walked once, in parallel with others.
 pub fn call_lists<'a, R: Threads + Sync>(
     rt: &R,
     alloc: Global,
@@ -165,8 +167,8 @@ pub fn call_lists<'a, R: Threads + Sync>(
     Ok(CallLists::of_pieces(program, pieces))
 }
 
-/// What the predicates of a program call, as `call_lists` answers it, and all their calls with the
-/// places of their goals. They are found by the same walk, in which each name is looked up once.
+/// The call graph of a program like `call_lists`, with all calls and the positions of their goals.
+/// The same walk finds both, and each name is looked up once.
 pub fn placed_call_lists<'a, R: Threads + Sync>(
     rt: &R,
     alloc: Global,
@@ -181,7 +183,8 @@ pub fn placed_call_lists<'a, R: Threads + Sync>(
     Ok(PlacedCallLists::of_pieces(lists, kept))
 }
 
-/// Whether every goal of a program is callable, as `call_lists` finds it.
+/// Whether every goal of a program is callable. The goals that aren't are those that `call_lists`
+/// reports.
 pub fn check_goals<R: Threads + Sync>(
     rt: &R,
     alloc: Global,

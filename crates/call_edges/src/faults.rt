@@ -1,4 +1,4 @@
-//! Goals that aren't callable, by the places of their files and their offsets.
+//! Spots of goals that aren't callable: pairs of the index of a file and a byte offset.
 
 ghost use Rattle.std.specs.Prelude.{◌≡◌, ℕ, All, Contains, map, IfOk, OnOk};
 ghost use Rattle.call_edges.specs.Goals.{Adds, fault};
@@ -13,7 +13,7 @@ use crate::walking::walk;
 use import_rules::Program;
 use std::alloc::{AllocError, Global};
 
-/// The offset, where it is that of a goal that isn't callable.
+/// The offset, if it is that of a goal that isn't callable.
 fn fault_at(met: Met) -> Option<u32>
     ensures { result ≡ fault_at (see_met met.entry) }
 {
@@ -23,7 +23,7 @@ fn fault_at(met: Met) -> Option<u32>
     }
 }
 
-/// Adds the places of goals that aren't callable.
+/// Adds the spots of goals that aren't callable.
 pub fn push_places(file: u32, met: &[Met], places: &mut Vec<(u32, u32)>) -> Result<(), AllocError>
     ensures { OnOk result (Adds (λ (p : ℕ × ℕ). (p.0 ≡ file) × Contains (see_mets met.now) (fault p.1)) places.old.items places.new.items) }
 {
@@ -36,7 +36,7 @@ pub fn push_places(file: u32, met: &[Met], places: &mut Vec<(u32, u32)>) -> Resu
     Ok(())
 }
 
-/// The places of goals in bodies that aren't callable.
+/// The spots of goals in bodies that aren't callable.
 fn faults_in(
     alloc: Global,
     program: &Program,
@@ -55,7 +55,7 @@ fn faults_in(
     Ok(faults)
 }
 
-/// The places of goals of directives that aren't callable.
+/// The spots of goals of directives that aren't callable.
 pub fn directive_faults(alloc: Global, program: &Program) -> Result<Vec<(u32, u32)>, AllocError>
     ensures { IfOk result (λ faults. AreFaultsIn (rows_of program.now) (goals_in program.now.loaded.files) faults.items) }
 {

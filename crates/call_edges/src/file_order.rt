@@ -1,4 +1,4 @@
-//! Predicates in the order in which they stand in the files.
+//! Predicates in the order in which they are in the files.
 
 ghost use Rattle.std.specs.Prelude.{◌≡◌, ◌<◌, All, length, map, IfOk};
 ghost use Rattle.std.specs.List.{flat_map};
@@ -15,20 +15,20 @@ use rayon::prelude::*;
 use std::alloc::{AllocError, Global};
 use std::thread::Threads;
 
-/// How many predicates are looked at one after another. Only the last stretch has fewer.
+/// How many predicates are handled in sequence. Only the last stretch has fewer.
 const SIZE: usize = 1_024;
 
 /// How few stretches are worth a thread of their own.
 const FEWEST: usize = 1;
 
-/// A predicate, by its number, and a number that rises with the place at which its first clause starts.
+/// A predicate, by its number, and a number that ascends with the position of its first clause.
 #[derive(Clone, Copy)]
 pub struct Start {
     pub place: u64,
     pub node: u32,
 }
 
-/// The offset at which the first of the clauses starts, or 0 where there is none.
+/// The offset at which the first of the clauses starts, or 0 if there is none.
 fn first_offset(names: &Names, clauses: &[Clause]) -> u32
     ensures { result ≡ first_offset (clause_trees names.now clauses.now) }
 {
@@ -38,7 +38,7 @@ fn first_offset(names: &Names, clauses: &[Clause]) -> u32
     }
 }
 
-/// A number that rises with the place at which the first clause of a predicate starts: by file, then by
+/// A number that ascends with the position of the first clause of a predicate: by file, then by
 /// offset.
 fn first_place(program: &Program, node: u32) -> u64
     requires { node < length program.now.predicates }
@@ -53,7 +53,7 @@ fn first_place(program: &Program, node: u32) -> u64
     u64::from(place.0) * 4_294_967_296 + u64::from(offset)
 }
 
-/// These predicates, with their places.
+/// These predicates, with their positions.
 fn starts_from(alloc: Global, program: &Program, nodes: &[u32]) -> Result<Vec<Start>, AllocError>
     requires { All (λ p. p < length program.now.predicates) nodes.now }
     ensures { IfOk result (λ starts. AreStarts program.now nodes.now starts.items) }
@@ -68,7 +68,7 @@ fn starts_from(alloc: Global, program: &Program, nodes: &[u32]) -> Result<Vec<St
     Ok(starts)
 }
 
-/// Each stretch of these predicates, with their places. The stretches are looked at side by side.
+/// Each stretch of these predicates, with their positions. The stretches are handled in parallel.
 fn starts_of_each<R: Threads + Sync>(
     rt: &R,
     alloc: Global,
@@ -90,7 +90,7 @@ fn starts_of_each<R: Threads + Sync>(
         .collect::<Result<Vec<Vec<Start>>, AllocError>>(rt, alloc)?
 }
 
-/// These predicates, by the places at which their first clauses start.
+/// These predicates, sorted by the positions of their first clauses.
 fn starts_in_order<R: Threads + Sync>(
     rt: &R,
     alloc: Global,
@@ -119,8 +119,8 @@ fn nodes_of(alloc: Global, starts: &[Start]) -> Result<Vec<u32>, AllocError>
     starts.iter().map(|one| one.node).collect(alloc)
 }
 
-/// The same predicates, each as often, in the order of the files and, in a file, of the places at which
-/// their first clauses start.
+/// The same predicates, each as often, sorted by file and then by the positions of their first
+/// clauses.
 pub fn in_file_order<R: Threads + Sync>(
     rt: &R,
     alloc: Global,

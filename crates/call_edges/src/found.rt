@@ -1,4 +1,4 @@
-//! What is found where a predicate is opened.
+//! What is found when a predicate is expanded.
 
 ghost use Rattle.std.specs.Prelude.{◌≡◌, [], true, Contains, OnOk};
 ghost use Rattle.call_edges.specs.CallPlaces.{IsCallBy};
@@ -14,14 +14,15 @@ use crate::role::Met;
 use import_rules::Program;
 use std::alloc::{AllocError, Global};
 
-/// The predicate that is opened, and whether its calls are kept with the places of their goals.
+/// The predicate that is expanded, and whether its calls are recorded with the positions of their
+/// goals.
 #[derive(Clone, Copy)]
 pub struct Opening {
     pub node: u32,
     pub keep: bool,
 }
 
-/// What a predicate calls: the numbers of the predicates, and its calls, where they are kept.
+/// What a predicate calls: the numbers of the predicates, and its calls if they are recorded.
 #[derive(Drop)]
 pub struct Found<'a> {
     pub callees: Vec<u32>,
@@ -38,8 +39,8 @@ impl<'a> Found<'a> {
     }
 }
 
-/// Adds the predicates that calls in a body of that file go to, and the calls, where they are kept. Each
-/// name is looked up once for both.
+/// Adds the predicates that calls in a body of that file go to, and the calls if they are recorded.
+/// Each name is looked up once for both.
 pub fn push_found<'a>(
     program: &Program,
     opening: Opening,

@@ -1,11 +1,11 @@
-//! Calls that are kept with the places of their goals.
+//! Calls that are recorded with the positions of their goals.
 
 ghost use Rattle.std.specs.Prelude.{◌≡◌, ◌∷◌, ◌++◌, [], true, length, OnOk};
 
 use crate::placed_calls::PlacedCall;
 use std::alloc::{AllocError, Global};
 
-/// The calls of predicates whose numbers stand side by side, or nothing where no calls are kept.
+/// The calls of predicates with adjacent numbers, or nothing if no calls are recorded.
 #[derive(Drop)]
 pub struct PieceCalls<'a> {
     /// For each predicate where its calls begin and end in `calls`.
@@ -15,7 +15,7 @@ pub struct PieceCalls<'a> {
 }
 
 impl<'a> PieceCalls<'a> {
-    /// Those of no predicate. They take no memory.
+    /// The calls of no predicate. They take no memory.
     pub fn none(alloc: Global) -> PieceCalls<'a>
         ensures spans { result.spans.items ≡ [] }
         ensures calls { result.calls.items ≡ [] }
@@ -26,7 +26,7 @@ impl<'a> PieceCalls<'a> {
         }
     }
 
-    /// Adds the calls of one more predicate, where calls are kept.
+    /// Adds the calls of one more predicate, if calls are recorded.
     pub fn push(&mut self, keep: bool, list: &[PlacedCall<'a>]) -> Result<(), AllocError>
         ensures calls { OnOk result (keep ≡ true → self.new.calls.items ≡ self.old.calls.items ++ list.now) }
         ensures spans { OnOk result (keep ≡ true → self.new.spans.items

@@ -1,4 +1,4 @@
-//! What all predicates of a program call, in memory.
+//! The call graph of a program in memory.
 
 ghost use Rattle.std.specs.Prelude.{◌≡◌, ◌<◌, [], length, slice_index_or};
 ghost use Rattle.std.proofs.Props.{props};
@@ -11,8 +11,8 @@ use graph_law::Opener;
 use import_rules::Program;
 use std::alloc::AllocError;
 
-/// What the predicates of a program call, as a graph in memory: its nodes are the numbers of the
-/// predicates, and a node is opened at the cost of a copy of its list.
+/// The call graph of a program in memory: its nodes are the numbers of the predicates. Expanding a
+/// node costs a copy of its list.
 #[derive(Drop)]
 pub struct CallLists<'a> {
     program: &'a Program,
@@ -24,7 +24,7 @@ pub struct CallLists<'a> {
 impl<'a> CallLists<'a> {
     ghost use Rattle.call_edges.specs.Opened.{see_call_lists};
 
-    /// The lists of all predicates, which were opened piece by piece. It takes no memory.
+    /// The lists of all predicates, which were computed piece by piece. It takes no memory.
     pub(crate) fn of_pieces(program: &'a Program, pieces: Vec<Piece>) -> CallLists<'a>
         requires { ArePieces program.now pieces.items }
         ensures { see_call_lists result ≡ program.now }
@@ -39,7 +39,7 @@ impl<'a> CallLists<'a> {
         self.program
     }
 
-    /// What a predicate calls, ascending and each once.
+    /// What a predicate calls, strictly ascending.
     fn list(&self, node: u32) -> &[u32]
         requires { node < length (successor_lists (see_call_lists self.now)) }
         ensures { result.now ≡ slice_index_or (successor_lists (see_call_lists self.now)) node [] }

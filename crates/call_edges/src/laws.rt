@@ -1,4 +1,5 @@
-//! What holds of the goals of each program, as laws: functions with nothing to run.
+//! Theorems about the goals of each program: functions that do nothing, and are called for what
+//! they ensure.
 
 ghost use Rattle.std.specs.Prelude.{◌≡◌, ◌↔◌, ◌<◌, ℕ, List, length};
 ghost use Rattle.file_library.specs.declared.fault.Fault.{Fault};
@@ -9,7 +10,7 @@ ghost use Rattle.call_edges.specs.Successors.{successor_lists};
 ghost use Rattle.call_edges.specs.GoalFaults.{AreGoalFaults};
 ghost use Rattle.call_edges.specs.Roots.{IsRoot};
 
-/// The successor lists of a program are what its predicates call.
+/// The successor lists of a program are exactly what its predicates call.
 pub fn calls_told()
     ensures { (seen : Seen) (p q : ℕ) → p < length seen.predicates → Listed (successor_lists seen) p q ↔ NodeCalls seen p q }
 {}
@@ -19,7 +20,7 @@ pub fn roots_below()
     ensures { (seen : Seen) (q : ℕ) → IsRoot seen q → q < length seen.predicates }
 {}
 
-/// A program has one list of goal faults at most.
+/// A program has at most one list of goal errors.
 pub fn one_list_of_faults()
     ensures { (seen : Seen) (faults others : List Fault) → AreGoalFaults seen faults → AreGoalFaults seen others → faults ≡ others }
 {}

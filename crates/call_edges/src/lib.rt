@@ -1,20 +1,27 @@
-//! Where goals stand in the bodies of a program, and what they call.
+//! The call graph of a program: the goals in the bodies of its clauses, and the predicates that
+//! they call.
 //!
 //! A goal is a call, a control construct over goals, a goal of another module, or an argument of a
-//! predicate that takes goals: in `p :- maplist(q, [a]), \+ m:s.` the goals call `maplist/2`, `q/1`
-//! and `m:s/0`. Which arguments are goals a program declares, as by `:- meta_predicate each(1, ?).`;
-//! of a predicate that it doesn't declare a table says it.
+//! predicate that takes goals. In `p :- maplist(q, [a]), \+ m:s.` the goals call `maplist/2`, `q/1`
+//! and `m:s/0`. A program declares which arguments are goals, as by `:- meta_predicate each(1,
+//! ?).`; for a predicate that it doesn't declare a table decides.
 //!
-//! `call_lists` walks the whole program once, side by side, and answers what each predicate calls, as a
-//! graph in memory; where goals aren't callable, as the `3` of `p :- q, 3.`, it answers these with
-//! their places, and `check_goals` does that alone. `placed_call_lists` keeps the calls too, each with
-//! the place of its goal and with what its name means, and `calls_of` gives those of some predicates.
-//! `roots_of` are the predicates at which reach begins. `met_in` is what is met in the clauses of one predicate, by the names that stand there, and
-//! `unresolved_of` are those of the names that mean no predicate. `Calls` is the same graph as that of
-//! `call_lists` without its memory: it walks a predicate each time that it is opened.
+//! `call_lists` walks the whole program once, in parallel. It returns the call graph in memory, or
+//! else the goals that aren't callable, as the `3` of `p :- q, 3.`, with their positions. The other
+//! functions are:
 //!
-//! Which predicate a name means in a module is for the layer below, and whom the predicates reach for
-//! the one above.
+//! - `check_goals` only reports the goals that aren't callable.
+//! - `placed_call_lists` also returns the calls, each with the position of its goal and with what
+//!   its name means. `calls_of` selects those of some predicates.
+//! - `roots_of` returns the predicates at which reachability begins.
+//! - `met_in` returns the goals in the clauses of one predicate, by the names that are written
+//!   there. `unresolved_of` returns those of the names that mean no predicate.
+//!
+//! `Calls` is the same graph as that of `call_lists` without its memory: it walks a predicate
+//! whenever it is expanded.
+//!
+//! Which predicate a name means in a module is for the layer below. Which predicates reach each
+//! other is for the layer above.
 #![tactic(auto)]
 
 mod apart;

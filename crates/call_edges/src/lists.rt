@@ -1,10 +1,10 @@
-//! Lists one behind the other, and stretches of a list.
+//! Concatenated lists, and ranges of a list.
 
 ghost use Rattle.std.specs.Prelude.{◌≡◌, ◌≤◌, flat_map, length, slice_range, IfOk};
 
 use std::alloc::{AllocError, Global};
 
-/// The lists, one behind the other.
+/// The lists, one after the other.
 pub fn joined<T: Copy>(alloc: Global, each: &[Vec<T>]) -> Result<Vec<T>, AllocError>
     ensures { IfOk result (λ all. all.items ≡ flat_map (λ list. list.items) each.now) }
 {
@@ -15,7 +15,7 @@ pub fn joined<T: Copy>(alloc: Global, each: &[Vec<T>]) -> Result<Vec<T>, AllocEr
     Ok(all)
 }
 
-/// What stands from one place up to another.
+/// The items from one index up to another.
 pub fn between<T>(all: &[T], from: usize, to: usize) -> &[T]
     requires ordered { from ≤ to }
     requires within { to ≤ length all.now }

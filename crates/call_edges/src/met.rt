@@ -1,4 +1,4 @@
-//! What is met in the clauses of a predicate.
+//! The goals in the clauses of a predicate.
 
 ghost use Rattle.std.specs.Prelude.{◌≡◌, ◌<◌, ◌↔◌, All, Contains, length, map, IfOk, OnOk};
 ghost use Rattle.call_edges.specs.Goals.{Adds, Met as Seen};
@@ -14,7 +14,7 @@ use crate::walking::walk;
 use import_rules::Program;
 use std::alloc::{AllocError, Global};
 
-/// Adds what is met in bodies, one after another.
+/// Adds the goals that occur in bodies, body by body.
 fn push_met<'a>(
     alloc: Global,
     program: &'a Program,
@@ -32,8 +32,10 @@ fn push_met<'a>(
     Ok(())
 }
 
-/// What is met in the clauses of the predicate of that number: what it calls, by the names that stand
-/// there, each with what it means where that was asked, and where goals aren't callable.
+/// The goals in the clauses of the predicate with that number, clause by clause.
+///
+/// They are its calls, by the names that are written there and each with what it means if that was
+/// looked up, and the goals that aren't callable.
 pub fn met_in<'a>(
     alloc: Global,
     program: &'a Program,

@@ -18,7 +18,7 @@ use crate::walking::walk;
 use import_rules::Program;
 use std::alloc::{AllocError, Global};
 
-/// Lists whose memory serves one predicate after another.
+/// Buffers that are used for one predicate after another.
 #[derive(Drop)]
 pub struct Buffers<'a> {
     bodies: Vec<Body<'a>>,
@@ -35,7 +35,8 @@ impl<'a> Buffers<'a> {
     }
 }
 
-/// Adds what bodies of the predicate call, in their order, and where goals in them aren't callable.
+/// Adds what bodies of the predicate call, in their order, and the spots of goals in them that
+/// aren't callable.
 fn found_in<'a>(
     alloc: Global,
     program: &'a Program,
@@ -62,9 +63,9 @@ fn found_in<'a>(
     Ok(())
 }
 
-/// What is found in the clauses of a predicate, by one walk: `found.callees` is what it calls, ascending
-/// and each once, and `found.calls` are its calls, where they are kept; to `faults` is added where its
-/// goals aren't callable.
+/// What is found in the clauses of a predicate, by one walk. `found.callees` is what it calls,
+/// strictly ascending, and `found.calls` are its calls if they are recorded. The spots of its goals
+/// that aren't callable are added to `faults`.
 pub fn open<'a>(
     alloc: Global,
     program: &'a Program,

@@ -1,4 +1,4 @@
-//! What predicates call whose numbers stand side by side.
+//! What predicates with adjacent numbers call.
 
 ghost use Rattle.std.specs.Prelude.{◌≡◌, ◌∷◌, ◌++◌, ◌+◌, ◌*◌, ◌<◌, ◌↔◌, ℕ, [], length, IfOk, OnOk};
 ghost use Rattle.call_edges.specs.declared.piece.TheConstants.{PIECE_SIZE};
@@ -10,22 +10,23 @@ use crate::opened::{Buffers, open};
 use import_rules::Program;
 use std::alloc::{AllocError, Global};
 
-/// How many predicates are opened one after another. Only the last piece holds fewer.
+/// How many predicates are expanded in sequence. Only the last piece has fewer.
 pub const PIECE_SIZE: u32 = 512;
 
-/// What predicates call whose numbers stand side by side, and where goals of theirs aren't callable.
+/// What predicates with adjacent numbers call, and the spots of goals of theirs that aren't
+/// callable.
 #[derive(Drop)]
 pub struct Piece {
     /// For each predicate where its list begins in `callees`, and at last where all lists end.
     pub starts: Vec<usize>,
-    /// The lists, one behind the other.
+    /// The lists, one after the other.
     pub callees: Vec<u32>,
-    /// The places of files among the files, and the offsets there.
+    /// Pairs of the index of a file and a byte offset.
     pub faults: Vec<(u32, u32)>,
 }
 
 impl Piece {
-    /// No predicate, with room for a whole piece.
+    /// No predicate, with capacity for a whole piece.
     fn none(alloc: Global) -> Result<Piece, AllocError>
         ensures starts { IfOk result (λ piece. piece.starts.items ≡ 0 ∷ []) }
         ensures callees { IfOk result (λ piece. piece.callees.items ≡ []) }
@@ -52,7 +53,7 @@ impl Piece {
     }
 }
 
-/// How many pieces so many predicates make.
+/// How many pieces `count` predicates make.
 pub fn piece_count(count: u32) -> u32
     ensures { (number : ℕ) → number < result ↔ number * PIECE_SIZE < count }
 {
@@ -66,12 +67,12 @@ pub fn piece_count(count: u32) -> u32
 #[derive(Drop)]
 pub struct OpenedPiece<'a> {
     pub piece: Piece,
-    /// Their calls, where they are kept.
+    /// Their calls, if they are recorded.
     pub kept: PieceCalls<'a>,
 }
 
-/// What is found in the predicates of the piece of that number. Their calls are kept where `keep` is
-/// set.
+/// What is found in the predicates of the piece with that number. Their calls are recorded if
+/// `keep` is set.
 pub fn open_piece<'a>(
     alloc: Global,
     program: &'a Program,

@@ -11,7 +11,7 @@ use import_rules::Program;
 use prolog_tokens::{Place, Text};
 use std::alloc::{AllocError, Global};
 
-/// The faults of goals at these spots of the texts, whose lines and columns these are.
+/// The errors of goals at these spots of the texts. `places` are their lines and columns.
 fn faults_of(
     alloc: Global,
     texts: &[(Text, Vec<u8>)],
@@ -33,7 +33,8 @@ fn faults_of(
     Ok(faults)
 }
 
-/// The faults of all goals that aren't callable, by their spots, with lines and columns.
+/// The errors of all goals that aren't callable, with lines and columns, in the order of their
+/// spots.
 pub fn placed(
     alloc: Global,
     program: &Program,

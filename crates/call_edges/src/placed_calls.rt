@@ -1,4 +1,4 @@
-//! All calls of predicates, each with the place of its goal.
+//! All calls of predicates, each with the position of its goal.
 
 ghost use Rattle.std.specs.Prelude.{◌≡◌, ◌<◌, ◌↔◌, ◌++◌, true, All, Contains, length, map, option_map, IfOk, OnOk};
 ghost use Rattle.std.specs.Option.{option_to_list};
@@ -13,9 +13,9 @@ use crate::placed_lists::PlacedCallLists;
 use crate::role::Met;
 use std::alloc::{AllocError, Global};
 
-/// A name that is called in a module, by a goal of a clause: the place of the clause's file among the
-/// files, the byte offset at which the goal starts, and the number of the predicate that calls. They
-/// are ordered by their parts in this order.
+/// A name that is called in a module, by a goal of a clause. It has the index of the clause's file
+/// among the files, the byte offset at which the goal starts, and the number of the predicate that
+/// calls. Such names are ordered by their fields in this order.
 #[derive(Clone, Copy, Debug, PartialEq, Eq, PartialOrd, Ord)]
 pub struct NamedCall<'a> {
     pub file: u32,
@@ -26,7 +26,7 @@ pub struct NamedCall<'a> {
     pub arity: u32,
 }
 
-/// A call in a clause, and the number of the predicate that its name means in the module; `None` where
+/// A call in a clause, and the number of the predicate that its name means in the module; `None` if
 /// it means none.
 #[derive(Clone, Copy, Debug, PartialEq, Eq, PartialOrd, Ord)]
 pub struct PlacedCall<'a> {
@@ -34,7 +34,7 @@ pub struct PlacedCall<'a> {
     pub callee: Option<u32>,
 }
 
-/// The call in that file and by that predicate to what its name means, where what is met is one.
+/// The call in that file and by that predicate to what its name means, if the goal is a call.
 fn call_to<'a>(callee: Option<u32>, file: u32, caller: u32, met: Met<'a>) -> Option<PlacedCall<'a>>
     ensures { option_map see_call result ≡ call_to callee file caller (see_met met.entry) }
 {
@@ -61,8 +61,8 @@ fn call_to<'a>(callee: Option<u32>, file: u32, caller: u32, met: Met<'a>) -> Opt
     })
 }
 
-/// Adds the call in that file and by that predicate to what its name means, where what is met is one
-/// and calls are kept.
+/// Adds the call in that file and by that predicate to what its name means, if the goal is a call
+/// and calls are recorded.
 pub(crate) fn push_call<'a>(
     keep: bool,
     callee: Option<u32>,
@@ -102,10 +102,12 @@ fn gathered<'a>(
     Ok(calls)
 }
 
-/// All calls of these predicates, by file and offset and each once: where each goal starts, who calls,
-/// the name that is called in a module, and the predicate that it means there, if any. The files are
-/// given by their places among those of the program, the offsets are of their bytes. Nothing is walked
-/// or looked up for it.
+/// All calls of these predicates, by file and offset and each once. A call has the offset of its
+/// goal, its caller, the name that is called in a module, and the predicate that it means there, if
+/// any.
+///
+/// Files are indices among those of the program, and offsets are in their bytes. Nothing is walked
+/// or looked up.
 pub fn calls_of<'a>(
     alloc: Global,
     lists: &PlacedCallLists<'a>,
@@ -118,7 +120,7 @@ pub fn calls_of<'a>(
 {
     lists.is_known();
     let mut calls = gathered(alloc, lists, callers)?;
-    // Mostly they are in order already, which takes one look at each.
+    // Mostly they are in order already, which takes one comparison for each.
     calls.sort_unstable();
     calls.dedup();
     Ok(calls)

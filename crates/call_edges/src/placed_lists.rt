@@ -1,4 +1,4 @@
-//! What all predicates of a program call, in memory, and their calls with the places of goals.
+//! The call graph of a program in memory, and all calls with the positions of their goals.
 
 ghost use Rattle.std.specs.Prelude.{◌≡◌};
 ghost use Rattle.std.proofs.Props.{props};
@@ -12,8 +12,8 @@ use crate::piece::PIECE_SIZE;
 use crate::placed_calls::PlacedCall;
 use import_rules::Program;
 
-/// What the predicates of a program call, as `CallLists`, and all their calls, each with the place of
-/// its goal and with what its name means. `calls_of` gives those of some predicates.
+/// The call graph of a program, as `CallLists`, and all calls, each with the position of its goal
+/// and with what its name means. `calls_of` selects those of some predicates.
 #[derive(Drop)]
 pub struct PlacedCallLists<'a> {
     lists: CallLists<'a>,
@@ -54,14 +54,15 @@ impl<'a> PlacedCallLists<'a> {
         self.lists.program()
     }
 
-    /// A program is known, as its `is_known` says. It does nothing, and is called for this.
+    /// The invariant of the program, as `is_known` states it. The function does nothing, and is
+    /// called for what it ensures.
     pub(crate) fn is_known(&self)
         ensures { IsKnown (see_placed_lists self.now) }
     {
         self.program().is_known()
     }
 
-    /// The calls in the clauses of a predicate, of which some may stand there twice.
+    /// The calls in the clauses of a predicate. Some of them may be there twice.
     pub(crate) fn calls_by(&self, node: u32) -> &[PlacedCall<'a>]
         requires { node < length (see_placed_lists self.now).predicates }
         ensures { (c : CallAt) → Contains (see_calls result.now) c ↔ IsCallOf (see_placed_lists self.now) node c }

@@ -1,8 +1,8 @@
-//! How terms stand in bodies, and what is met there.
+//! The roles of terms in bodies, and the goals that occur there.
 
 use module_table::GoalArg;
 
-/// How the arguments of a predicate stand. Those behind the third are no goals.
+/// Which arguments of a predicate are goals. Those after the third aren't.
 #[derive(Clone, Copy, Debug, PartialEq, Eq)]
 pub struct Row {
     pub first: GoalArg,
@@ -10,14 +10,14 @@ pub struct Row {
     pub third: GoalArg,
 }
 
-/// What a compound term is to the body that it stands in.
+/// What a compound term is as a part of a body.
 #[derive(Clone, Copy, Debug, PartialEq, Eq)]
 pub enum Way {
     /// No goal.
     Silent,
-    /// `V^G`, of which `G` counts.
+    /// `V^G`, of which only `G` counts.
     Behind,
-    /// A control construct, whose arguments stand as it does.
+    /// A control construct, whose arguments have its role.
     Control,
     /// `M:G`.
     Qualified,
@@ -36,9 +36,9 @@ pub enum Meant {
     Nothing,
 }
 
-/// What is met at a place of a body: a call, with the byte offset at which its goal starts, or the
-/// byte offset of a goal that isn't callable. A call also has the number of its name in the names of
-/// its text, by which it is looked up faster.
+/// A goal that occurs in a body: a call, with the byte offset at which its goal starts, or the byte
+/// offset of a goal that isn't callable. A call also has the number of its name in the names of its
+/// text, which makes the look-up faster.
 #[derive(Clone, Copy, Debug)]
 pub enum Met<'a> {
     Call {
@@ -52,7 +52,7 @@ pub enum Met<'a> {
     Fault(u32),
 }
 
-/// How the arguments of a compound of a body stand.
+/// How the arguments of a compound of a body are goals.
 #[derive(Clone, Copy, Debug)]
 pub enum Standing<'a> {
     /// None of them is a goal.
@@ -63,7 +63,7 @@ pub enum Standing<'a> {
     Declared(&'a [GoalArg]),
 }
 
-/// What a name means in a module, and how that predicate declares its arguments; empty where it
+/// What a name means in a module, and how that predicate declares its arguments; empty if it
 /// doesn't.
 #[derive(Clone, Copy, Debug)]
 pub struct Meaning<'a> {
@@ -71,7 +71,7 @@ pub struct Meaning<'a> {
     pub declared: &'a [GoalArg],
 }
 
-/// A compound of a body: what is met at the term itself, and how its arguments stand, in which
+/// A compound of a body: the goal at the term itself, and how its arguments are goals, in which
 /// module.
 #[derive(Clone, Copy, Debug)]
 pub struct Taken<'a> {

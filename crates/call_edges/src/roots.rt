@@ -1,4 +1,4 @@
-//! Where reach begins.
+//! The predicates at which reachability begins.
 
 ghost use Rattle.std.specs.Prelude.{◌≡◌, ◌↔◌, ◌<◌, ℕ, Some, All, Contains, IsTrue, length, IfOk, OnOk};
 ghost use Rattle.std.specs.List.Sorted.{IsStrictlyIncreasing};
@@ -15,7 +15,7 @@ use module_table::{FileFacts, Indicator};
 use prolog_tokens::Text;
 use std::alloc::{AllocError, Global};
 
-/// Adds the predicates of a module that its exports are.
+/// Adds the predicates of a module that it exports.
 fn push_exports(
     program: &Program,
     owner: &str,
@@ -70,7 +70,7 @@ fn is_plain_root(roots: &[Text], file: &FileFacts) -> bool
     is_among(roots, &file.file)
 }
 
-/// For each file whether it is a root file and no module file.
+/// For each file, whether it is a root file and no module file.
 fn plain_roots(alloc: Global, program: &Program) -> Result<Vec<bool>, AllocError>
     ensures { IfOk result (λ marks. AreMarked program.now marks.items) }
 {
@@ -83,7 +83,7 @@ fn plain_roots(alloc: Global, program: &Program) -> Result<Vec<bool>, AllocError
     Ok(marks)
 }
 
-/// Whether one of the places is in a marked file.
+/// Whether one of these definitions is in a marked file.
 fn is_marked(marks: &[bool], places: &[(u32, u32)]) -> bool
     requires { All (λ (at : ℕ × ℕ). at.0 < length marks.now) places.now }
     ensures { IsTrue result ↔ HasMarked marks.now places.now }
@@ -96,8 +96,8 @@ fn is_marked(marks: &[bool], places: &[(u32, u32)]) -> bool
     false
 }
 
-/// Adds the predicates that marked files define. They are found by their places, so no name is looked
-/// up.
+/// Adds the predicates that marked files define. They are found by their definitions, so no name is
+/// looked up.
 fn push_marked(program: &Program, marks: &[bool], roots: &mut Vec<u32>) -> Result<(), AllocError>
     requires { AreMarked program.now marks.now }
     ensures { OnOk result (Adds (IsAmong (IsDefinedByRoot program.now) program.now.loaded.files) roots.old.items roots.new.items) }
@@ -112,7 +112,7 @@ fn push_marked(program: &Program, marks: &[bool], roots: &mut Vec<u32>) -> Resul
     Ok(())
 }
 
-/// Adds what the root files give.
+/// Adds the exports and definitions of the root files that are roots.
 fn push_all_given(alloc: Global, program: &Program, roots: &mut Vec<u32>) -> Result<(), AllocError>
     ensures { OnOk result (Adds (IsAmong (IsGivenByRoot program.now) program.now.loaded.files) roots.old.items roots.new.items) }
 {
@@ -121,8 +121,9 @@ fn push_all_given(alloc: Global, program: &Program, roots: &mut Vec<u32>) -> Res
     push_marked(program, &marks, roots)
 }
 
-/// The predicates at which reach begins, ascending and each once: the exports of root files that are
-/// module files, what other root files define, and what goal directives of any file call.
+/// The predicates at which reachability begins, strictly ascending: the exports of root files that
+/// are module files, all predicates that other root files define, and what goal directives of any
+/// file call.
 pub fn roots_of(alloc: Global, program: &Program) -> Result<Vec<u32>, AllocError>
     ensures ascending { IfOk result (λ roots. IsStrictlyIncreasing roots.items) }
     ensures roots { IfOk result (λ roots. (q : ℕ) → Contains roots.items q ↔ IsRoot program.now q) }

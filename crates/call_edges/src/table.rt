@@ -8,7 +8,7 @@ ghost use Rattle.call_edges.specs.Goals.{first_only, second_only, first_two, fir
 use crate::role::Row;
 use module_table::GoalArg;
 
-/// Whether the name is one of the words. They are known where it is called, and there mostly their
+/// Whether the name is one of the words. The words are constants at each call, so mostly their
 /// lengths decide.
 #[inline(always)]
 pub fn is_one_of(words: &[&str], name: &str) -> bool
@@ -57,8 +57,8 @@ fn first_and_third(role: GoalArg) -> Row
     }
 }
 
-/// `call/N` and `maplist/N` (ISO/IEC 13211-1, 7.8.3): the first argument, to which the others are
-/// added.
+/// `call/N` and `maplist/N` (ISO/IEC 13211-1, 7.8.3): the first argument is a goal, to which the
+/// others are added.
 fn adding_row(name: &str, arity: u32) -> Option<Row>
     ensures { result ≡ adding_row name.now arity }
 {
@@ -119,7 +119,7 @@ fn four_row(name: &str) -> Option<Row>
     adding_row(name, 4)
 }
 
-/// How the arguments of the predicate of this name and arity stand, where some of them are goals.
+/// Which arguments of the predicate with this name and arity are goals, or None if none is.
 pub fn row_of(name: &str, arity: u32) -> Option<Row>
     ensures { result ≡ row name.now arity }
 {

@@ -1,4 +1,4 @@
-//! Calls that go to no predicate.
+//! Calls that mean no predicate.
 
 ghost use Rattle.std.specs.Prelude.{◌≡◌, ◌<◌, Contains, length, map, option_map, IfOk, OnOk};
 ghost use Rattle.call_edges.specs.Goals.{Adds};
@@ -20,7 +20,7 @@ struct Called<'a> {
     arity: u32,
 }
 
-/// The name of a call that goes to no predicate.
+/// The name of a call that means no predicate.
 fn unresolved<'a>(program: &Program, met: Met<'a>) -> Option<Called<'a>>
     ensures { option_map see_called result ≡ unresolved program.now (see_met met.entry) }
 {
@@ -43,7 +43,7 @@ fn unresolved<'a>(program: &Program, met: Met<'a>) -> Option<Called<'a>>
     }
 }
 
-/// Adds the names of calls that go to no predicate.
+/// Adds the names of calls that mean no predicate.
 fn push_unresolved<'a>(
     program: &Program,
     met: &[Met<'a>],
@@ -76,8 +76,8 @@ fn owned(alloc: Global, called: &[Called]) -> Result<Vec<PredName>, AllocError>
     Ok(names)
 }
 
-/// The names that a predicate calls and that mean no predicate, each with the module of the goal, in
-/// order of module, name and arity, each once.
+/// The names that a predicate calls and that mean no predicate, each with the module of the goal.
+/// They are in strictly ascending order of module, name and arity.
 pub fn unresolved_of(
     alloc: Global,
     program: &Program,

@@ -1,4 +1,4 @@
-//! What is met within a body.
+//! Walking a body: the goals that occur in it.
 
 ghost use Rattle.std.specs.Prelude.{◌≡◌, ◌≤◌, ◌+◌, ◌*◌, ◌++◌, true, map, option_map, IfSome, OnOk};
 ghost use Rattle.std.specs.Option.{option_to_list};
@@ -19,8 +19,8 @@ use module_table::GoalArg;
 use prolog_terms::{ConstKind, Term, TermKind, number_and_arity};
 use std::alloc::{AllocError, Global};
 
-/// What is met at a constant that stands so, at this byte offset. No constant is callable, but texts
-/// stand in grammar bodies.
+/// The goal at a constant in this role, at this byte offset. No constant is callable, except that
+/// texts are allowed in grammar bodies.
 fn constant_met<'a>(role: GoalArg, kind: ConstKind, at: u32) -> Option<Met<'a>>
     ensures met { option_map see_met result ≡ constant_met role kind at }
     ensures meant { (seen : Seen) → IfSome result (IsMeant seen) }
@@ -38,7 +38,7 @@ fn constant_met<'a>(role: GoalArg, kind: ConstKind, at: u32) -> Option<Met<'a>>
     }
 }
 
-/// What is met at an atom that stands so, at this byte offset. `[]`, `{}` and `!` call nothing in a
+/// The goal at an atom in this role, at this byte offset. `[]`, `{}` and `!` call nothing in a
 /// grammar body.
 fn atom_met<'a>(
     at: u32,
@@ -71,7 +71,7 @@ fn atom_met<'a>(
     })
 }
 
-/// How the inner term of curly brackets stands: as a goal in a grammar body.
+/// The role of the term in curly brackets: a goal in a grammar body.
 fn curly_role(role: GoalArg) -> GoalArg
     ensures { result ≡ curly_role role }
 {
@@ -83,7 +83,7 @@ fn curly_role(role: GoalArg) -> GoalArg
     }
 }
 
-/// How the argument at a place stands by a row of the table.
+/// The role of the argument at the index, by a row of the table.
 fn role_in(row: Row, at: usize) -> GoalArg
     ensures { result ≡ row_role row at }
 {
@@ -95,7 +95,7 @@ fn role_in(row: Row, at: usize) -> GoalArg
     }
 }
 
-/// How the argument at a place stands.
+/// The role of the argument at the index.
 fn role_of(standing: Standing, at: usize) -> GoalArg
     ensures { result ≡ role_at (see_standing standing.entry) at }
 {
@@ -120,7 +120,7 @@ fn is_silent(standing: Standing) -> bool
     }
 }
 
-/// The number of the name of an atom or a compound in the names of its text; of another term 0.
+/// The number of the name of an atom or a compound in the names of its text; 0 for another term.
 fn name_number(term: &Term) -> u32 {
     match number_and_arity(term) {
         Some((number, _arity)) => number,
@@ -141,9 +141,10 @@ fn push_met<'a>(met: &mut Vec<Met<'a>>, one: Option<Met<'a>>) -> Result<(), Allo
     }
 }
 
-/// Adds what is met within a term that stands so in a body of the module `owner`. A compound's name is
-/// looked up only where a predicate declares goals, and what it means is kept. One argument or two, as
-/// most goals have, are walked without memory.
+/// Adds the goals that occur within a term with this role in a body of the module `owner`.
+///
+/// A compound's name is looked up only if a predicate declares goals, and what it means is
+/// recorded. One argument or two, as most goals have, are walked without memory.
 pub fn walk<'a>(
     alloc: Global,
     program: &'a Program,

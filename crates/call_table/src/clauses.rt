@@ -1,4 +1,4 @@
-//! The clauses of predicates, each with the place at which it starts.
+//! The clauses of predicates, each with its position.
 
 ghost use Rattle.std.specs.Prelude.{◌≡◌, ◌<◌, ◌++◌, All, length, map, IfOk, OnOk};
 ghost use Rattle.std.specs.List.{flat_map};
@@ -13,8 +13,9 @@ use prolog_names::Names;
 use prolog_terms::start_of;
 use std::alloc::{AllocError, Global};
 
-/// Where a clause starts, in whatever brackets it stands: the place of its file among the files, and
-/// the byte offset there; and the number of its predicate. Clauses are ordered by these in this order.
+/// Where a clause starts, in whatever brackets it is: the index of its file among the files, and
+/// the byte offset there; and the number of its predicate. Clauses are ordered by these fields in
+/// this order.
 #[derive(Clone, Copy, Debug, PartialEq, Eq, PartialOrd, Ord)]
 pub struct ClauseAt {
     pub file: u32,
@@ -22,7 +23,7 @@ pub struct ClauseAt {
     pub node: u32,
 }
 
-/// Adds where these clauses start, in which names are numbers in these names.
+/// Adds where these clauses start, whose names are numbers in `names`.
 fn push_clauses(
     file: u32,
     node: u32,
@@ -73,7 +74,7 @@ fn clauses_from(
     Ok(out)
 }
 
-/// All clauses of these predicates, by file and offset and each once.
+/// All clauses of these predicates, in order of file and offset, each once.
 pub fn clauses_of(
     alloc: Global,
     program: &Program,

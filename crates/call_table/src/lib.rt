@@ -1,12 +1,12 @@
-//! The clauses and the calls of a program's predicates with their places, and the groups of its
-//! predicates.
+//! The table of a program's calls: the clauses and the calls of its predicates with their
+//! positions, and the group of each predicate.
 //!
-//! `call_table` tells of predicates of a program all clauses and all calls, each once and by file and
-//! offset, with lines and columns, and for each predicate of the program which of the given groups it
-//! is in. In `a.pl` with the line `p :- q, r.` the clause of `user:p/0` starts at line 1, column 1,
-//! and the calls of `q/0` and `r/0` at columns 6 and 9.
+//! `call_table` lists all clauses and all calls of given predicates, each once and sorted by file
+//! and offset, with lines and columns. It also has the group of each predicate of the program, if
+//! it is in one of the given groups. In `a.pl` with the line `p :- q, r.` the clause of `user:p/0`
+//! starts at line 1, column 1, and the calls of `q/0` and `r/0` at columns 6 and 9.
 //!
-//! How the table is written is for the layer above.
+//! The layer above decides how the table is written.
 #![tactic(auto)]
 
 mod clauses;

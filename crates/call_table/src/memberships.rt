@@ -7,7 +7,7 @@ ghost use Rattle.graph_law.specs.Graph.{lists_of};
 use graph_law::stamp;
 use std::alloc::{AllocError, Global};
 
-/// For each of `count` nodes one more than the place of the group that it is in, or 0 where it is in
+/// For each of `count` nodes one more than the index of the group that it is in, or 0 if it is in
 /// none.
 pub fn groups_of(alloc: Global, count: u32, groups: &[Vec<u32>]) -> Result<Vec<usize>, AllocError>
     requires { All (All (λ member. member < count)) (lists_of groups.now) }

@@ -13,15 +13,16 @@ use import_rules::Program;
 use search_stack::groups_plain;
 use std::alloc::{AllocError, Global};
 
-/// Groups of predicates, each after those that it calls, with the members of each ascending; and for
-/// each group its level.
+/// Groups of predicates in reverse topological order, with the members of each ascending, and the
+/// level of each group.
 #[derive(Drop)]
 pub struct Reached {
     pub groups: Vec<Vec<u32>>,
     pub levels: Vec<Level>,
 }
 
-/// The groups of all that the roots reach, found by one search, and their levels.
+/// The SCCs of all that the roots reach in reverse topological order, found by one search, and
+/// their levels.
 pub fn groups_from(
     alloc: Global,
     program: &Program,

@@ -14,19 +14,19 @@ use std::alloc::{AllocError, Global};
 use std::thread;
 use std::thread::Threads;
 
-/// The clauses and the calls of predicates with their places, and which group each predicate of the
-/// program is in.
+/// The clauses and the calls of predicates with their positions, and the group of each predicate of
+/// the program.
 #[derive(Drop)]
 pub struct CallTable<'a> {
-    /// By file and offset.
+    /// In order of file and offset.
     pub clauses: Vec<ClauseAt>,
     /// For each clause the line and the column.
     pub clause_places: Vec<Place>,
-    /// By file and offset.
+    /// In order of file and offset.
     pub calls: Vec<PlacedCall<'a>>,
     /// For each call the line and the column at which its goal starts.
     pub call_places: Vec<Place>,
-    /// For each predicate of the program one more than the place of its group, or 0 where it is in
+    /// For each predicate of the program one more than the index of its group, or 0 if it is in
     /// none.
     pub groups: Vec<usize>,
 }
@@ -79,8 +79,8 @@ fn calls_with_places<'a>(
     Ok((calls, places))
 }
 
-/// The clauses of these predicates with their lines and columns, and their calls with theirs. Both are
-/// put together side by side.
+/// The clauses of these predicates with their lines and columns, and their calls with theirs. Both
+/// are computed in parallel.
 fn clauses_beside_calls<'a, R: Threads + Sync>(
     rt: &R,
     alloc: Global,
@@ -107,9 +107,11 @@ fn clauses_beside_calls<'a, R: Threads + Sync>(
     Ok((clauses, clause_places, calls, call_places))
 }
 
-/// The table of these predicates of the program whose calls these are, and of these groups of its
-/// predicates. Clauses and calls are put together predicate by predicate in the order of the files, so
-/// that they mostly come out in order. No body is walked, and no name looked up.
+/// The table of these predicates, with these groups of the program's predicates.
+///
+/// Clauses and calls are collected predicate by predicate in the order of the files, so that they
+/// are mostly sorted already. No body is walked, and no name is looked up. Fails only if memory
+/// runs out.
 pub fn call_table<'a, R: Threads + Sync>(
     rt: &R,
     alloc: Global,

@@ -1,8 +1,8 @@
-//! What `calls` is asked for by its words, and what it tells of a program then, as bytes.
+//! What the arguments of `calls` ask for, and the bytes that answer them.
 //!
-//! `read_wanted` answers what lawful words ask for, and `Usage` exactly where they aren't lawful;
-//! `told_texts` tells it of a program: its predicates, clauses and calls, the calls alone whose names
-//! mean no predicate, or the graph of its predicates.
+//! `read_wanted` returns what valid arguments ask for, and `Usage` exactly if they aren't valid.
+//! `told_texts` returns that of a program: its predicates, clauses and calls, or only the calls
+//! whose names mean no predicate, or the graph of its predicates.
 //!
 //! ```text
 //! --undefined f.pl    the calls of names that mean no predicate, as JSON

@@ -1,4 +1,4 @@
-//! Lines of predicates, made side by side.
+//! Lines of predicates, which are written in parallel.
 
 ghost use Rattle.std.specs.Prelude.{◌≡◌, ◌<◌, ◌++◌, All, IfOk, OnOk, length, slice_index};
 ghost use Rattle.std.specs.String.{string_bytes};
@@ -12,13 +12,13 @@ use rayon::prelude::*;
 use std::alloc::{AllocError, Global};
 use std::thread::Threads;
 
-/// How many lines are made one after another. Only the last text has fewer.
+/// How many lines are written in sequence. Only the last text has fewer.
 const SIZE: usize = 2_048;
 
 /// How few texts are worth a thread of their own.
 const FEWEST: usize = 1;
 
-/// How many bytes a text has room for from the start: few lines are longer than 144.
+/// The initial capacity of a text in bytes: few lines are longer than 144.
 const ROOM: usize = 294_912;
 
 /// Adds the line of a predicate.
@@ -58,7 +58,7 @@ fn predicate_text(alloc: Global, told: &Told<'_>, nodes: &[u32]) -> Result<Strin
     Ok(text)
 }
 
-/// The lines of these predicates in texts, one behind the other.
+/// The lines of these predicates, in texts one after the other.
 pub(crate) fn predicate_texts<R: Threads + Sync>(
     rt: &R,
     alloc: Global,

@@ -1,4 +1,4 @@
-//! Lines of a table, made side by side.
+//! Lines of a table, which are written in parallel.
 
 ghost use Rattle.std.specs.Prelude.{◌≡◌, ◌<◌, ◌≤◌, IfOk, length};
 ghost use Rattle.std.specs.List.{flat_map};
@@ -15,23 +15,23 @@ use rayon::prelude::*;
 use std::alloc::{AllocError, Global};
 use std::thread::Threads;
 
-/// How many lines are made one after another. Only the last stretch has fewer.
+/// How many lines are written in sequence. Only the last stretch has fewer.
 const SIZE: usize = 2_048;
 
 /// How few stretches are worth a thread of their own.
 const FEWEST: usize = 1;
 
-/// How many bytes a stretch has room for from the start: few lines are longer than 160.
+/// The initial capacity of a stretch in bytes: few lines are longer than 160.
 const ROOM: usize = 327_680;
 
-/// Rows that stand side by side in a table, each with its line and column.
+/// Adjacent rows of a table, each with its line and column.
 #[derive(Clone, Copy)]
 pub struct Stretch<'a, T> {
     pub rows: &'a [T],
     pub places: &'a [Place],
 }
 
-/// How many of the rows that are left the next stretch has.
+/// How many of the remaining rows the next stretch has.
 fn stretch_size(left: usize) -> usize
     requires { 0 < left }
     ensures some { 0 < result }
@@ -103,7 +103,7 @@ fn clause_text(
     Ok(text)
 }
 
-/// The lines of each stretch of calls. The stretches are written side by side.
+/// The lines of each stretch of calls. The stretches are written in parallel.
 fn each_call_text<R: Threads + Sync>(
     rt: &R,
     alloc: Global,
@@ -124,7 +124,7 @@ fn each_call_text<R: Threads + Sync>(
         .collect::<Result<Vec<String>, AllocError>>(rt, alloc)?
 }
 
-/// The lines of each stretch of clauses. The stretches are written side by side.
+/// The lines of each stretch of clauses. The stretches are written in parallel.
 fn each_clause_text<R: Threads + Sync>(
     rt: &R,
     alloc: Global,
@@ -144,8 +144,8 @@ fn each_clause_text<R: Threads + Sync>(
         .collect::<Result<Vec<String>, AllocError>>(rt, alloc)?
 }
 
-/// The lines of the calls of a table in texts, one behind the other; where only undefined names are
-/// wanted, those of calls whose names mean no predicate.
+/// The lines of the calls of a table, in texts one after the other. If `undefined` is set, only
+/// those of calls whose names mean no predicate.
 pub(crate) fn call_texts<R: Threads + Sync>(
     rt: &R,
     alloc: Global,
@@ -161,7 +161,7 @@ pub(crate) fn call_texts<R: Threads + Sync>(
     Ok(texts)
 }
 
-/// The lines of the clauses of a table in texts, one behind the other.
+/// The lines of the clauses of a table, in texts one after the other.
 pub(crate) fn clause_texts<R: Threads + Sync>(
     rt: &R,
     alloc: Global,

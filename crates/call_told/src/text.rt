@@ -1,4 +1,4 @@
-//! What is told, as bytes.
+//! What is asked for, as bytes.
 
 ghost use Rattle.std.specs.Prelude.{◌≡◌, ◌<◌, ◌++◌, [], All, IfOk, OnOk, length, slice_index_or};
 ghost use Rattle.std.specs.List.{flat_map};
@@ -28,7 +28,7 @@ use std::mem::forget;
 use std::thread;
 use std::thread::Threads;
 
-/// The clauses and calls of what is told.
+/// The clauses and calls of the predicates that are listed.
 fn table_of<'a, R: Threads + Sync>(
     rt: &R,
     alloc: Global,
@@ -42,7 +42,7 @@ fn table_of<'a, R: Threads + Sync>(
     call_table(rt, alloc, calls, &told.nodes, &told.groups)
 }
 
-/// The lines of the predicates that are told, in texts one behind the other.
+/// The lines of the predicates that are listed, in texts one after the other.
 fn told_predicates<R: Threads + Sync>(
     rt: &R,
     alloc: Global,
@@ -56,7 +56,8 @@ fn told_predicates<R: Threads + Sync>(
     predicate_texts(rt, alloc, told, &told.nodes)
 }
 
-/// The clauses and calls of what is told, and the lines of its predicates. Both are made side by side.
+/// The clauses and calls of the predicates that are listed, and the lines of these predicates. Both
+/// are computed in parallel.
 fn table_beside_predicates<'a, R: Threads + Sync>(
     rt: &R,
     alloc: Global,
@@ -87,7 +88,7 @@ fn table_beside_predicates<'a, R: Threads + Sync>(
     Ok((table, texts?))
 }
 
-/// All lines, of predicates, clauses and calls, in texts one behind the other.
+/// All lines, of predicates, clauses and calls, in texts one after the other.
 fn lines_texts<R: Threads + Sync>(
     rt: &R,
     alloc: Global,
@@ -108,7 +109,7 @@ fn lines_texts<R: Threads + Sync>(
     Ok(texts)
 }
 
-/// The lines of the calls whose names mean no predicate, in texts one behind the other.
+/// The lines of the calls whose names mean no predicate, in texts one after the other.
 fn undefined_texts<R: Threads + Sync>(
     rt: &R,
     alloc: Global,
@@ -126,7 +127,7 @@ fn undefined_texts<R: Threads + Sync>(
     Ok(texts)
 }
 
-/// Adds the cluster of the group at a place.
+/// Adds the cluster of the group at the index.
 fn push_group(text: &mut String, told: &Told<'_>, place: usize) -> Result<(), AllocError>
     requires told { IsTold told.now }
     requires within { place < length told.now.groups.items }
@@ -148,7 +149,7 @@ fn push_clusters(text: &mut String, told: &Told<'_>) -> Result<(), AllocError>
     Ok(())
 }
 
-/// Adds the node of a predicate that is in no group, and nothing for another.
+/// Adds the node of a predicate if it is in no group.
 fn push_ungrouped(text: &mut String, told: &Told<'_>, node: u32) -> Result<(), AllocError>
     requires told { IsTold told.now }
     requires below { node < length told.now.program.now.predicates }
@@ -173,7 +174,7 @@ fn push_all_ungrouped(text: &mut String, told: &Told<'_>) -> Result<(), AllocErr
     Ok(())
 }
 
-/// Adds what leads from a predicate to those that it calls. What `callees` held is gone then.
+/// Adds the edges from a predicate to those that it calls. What `callees` had is lost.
 fn push_callees(
     text: &mut String,
     told: &Told<'_>,
@@ -191,7 +192,7 @@ fn push_callees(
     push_edges(text, node, callees)
 }
 
-/// Adds what calls what.
+/// Adds all edges.
 fn push_all_callees(
     alloc: Global,
     text: &mut String,
@@ -210,7 +211,7 @@ fn push_all_callees(
     Ok(())
 }
 
-/// The graph: a cluster for each group, the predicates that are in none, and what calls what.
+/// The graph: a cluster for each group, the predicates that are in none, and the edges.
 fn dot_graph(alloc: Global, told: &Told<'_>, calls: &CallLists<'_>) -> Result<String, AllocError>
     requires told { IsTold told.now }
     requires calls { see_call_lists calls.now ≡ told.now.program.now }
@@ -242,7 +243,7 @@ fn dot_texts(
     Ok(texts)
 }
 
-/// What is told, in the form.
+/// What is asked for, in the form.
 fn texts_of<R: Threads + Sync>(
     rt: &R,
     alloc: Global,
@@ -262,8 +263,9 @@ fn texts_of<R: Threads + Sync>(
     }
 }
 
-/// What is wanted of the program, where reach begins at these roots, in texts that are the bytes one
-/// behind the other. Lines of clauses and of calls are made side by side.
+/// What is asked for of the program, if reachability begins at these roots. The bytes are those of
+/// the texts, one after the other: predicates first, then clauses, then calls, each kind if it is
+/// asked for. Lines of clauses and of calls are written in parallel. Fails only if memory runs out.
 pub fn told_texts<R: Threads + Sync>(
     rt: &R,
     alloc: Global,

@@ -1,5 +1,5 @@
-//! What is told of a program, but for its clauses and calls: predicates, and the groups of what the
-//! roots reach.
+//! What is listed of a program, except its clauses and calls: predicates, and the groups of what
+//! the roots reach.
 
 ghost use Rattle.std.specs.Prelude.{◌≡◌, ◌<◌, ◌==◌, ◌||◌, All, IfOk, length, not};
 ghost use Rattle.call_edges.specs.Opened.{see_call_lists};
@@ -18,8 +18,9 @@ use group_release::Level;
 use import_rules::Program;
 use std::alloc::{AllocError, Global};
 
-/// The predicates that are told, ascending; the groups of what the roots reach, with their levels; and
-/// for each predicate of the program one more than the place of its group, or 0 where it is in none.
+/// The predicates that are listed, ascending; the groups of what the roots reach, with their
+/// levels; and for each predicate of the program one more than the index of its group, or 0 if it
+/// is in none.
 #[derive(Drop)]
 pub struct Told<'a> {
     pub program: &'a Program,
@@ -29,7 +30,7 @@ pub struct Told<'a> {
     pub places: Vec<usize>,
 }
 
-/// Whether a predicate is told: it is in a group, or all are wanted.
+/// Whether a predicate is listed: it is in a group, or all are asked for.
 fn is_told(place: usize, all: bool) -> bool
     ensures { result ≡ (all || not (place == 0)) }
 {
@@ -60,7 +61,7 @@ fn told_nodes(
     Ok(nodes)
 }
 
-/// What is told of a program with these calls, where reach begins at these roots.
+/// What is listed of a program with these calls, if reachability begins at these roots.
 pub fn make_told<'a>(
     alloc: Global,
     wanted: &Wanted,
@@ -79,8 +80,8 @@ pub fn make_told<'a>(
     Ok(told)
 }
 
-/// What is told of a program with these groups; where all predicates are wanted, those that are in no
-/// group too.
+/// What is listed of a program with these groups. If all predicates are asked for, those in no
+/// group are listed too.
 fn told_of<'a>(
     alloc: Global,
     wanted: &Wanted,

@@ -1,4 +1,4 @@
-//! The words of the command line.
+//! The command-line arguments of `calls`.
 
 ghost use Rattle.std.specs.Prelude.{◌≡◌, ◌≤◌, ◌||◌, ◌++◌, ◌∷◌, [], false, true, codes, filter, length, nat_eq, IfOk, IfErr, MatchOption, OnOk};
 ghost use Rattle.std.specs.List.{list_all, starts_with};
@@ -10,33 +10,33 @@ use group_words::{Options, WordFault, parse_words};
 use prolog_tokens::Text;
 use std::alloc::{AllocError, Global};
 
-/// What is written.
+/// What is printed.
 #[derive(Clone, Copy, Debug, PartialEq, Eq)]
 pub enum Form {
-    /// Predicates, clauses and calls, an object a line.
+    /// Predicates, clauses and calls, as JSON Lines.
     Lines,
-    /// The calls whose names mean no predicate, an object a line.
+    /// The calls whose names mean no predicate, as JSON Lines.
     Undefined,
     /// The graph of the predicates.
     Dot,
 }
 
-/// What the words ask for: a form, and of the options of `groups` the roots, whether predicates that
-/// no root reaches are told too, and the files.
+/// What the arguments ask for: a form, and of the options of `groups` the roots, whether predicates
+/// that no root reaches are listed too, and the files.
 #[derive(Drop)]
 pub struct Wanted {
     pub form: Form,
     pub options: Options,
 }
 
-/// Whether no word behind this one is an option.
+/// Whether no argument after this one is an option.
 fn is_end(word: &Text) -> bool
     ensures { result ≡ is_end word.now }
 {
     word.as_str() == "--"
 }
 
-/// Whether the word names a form.
+/// Whether the argument names a form.
 fn is_form(word: &Text) -> bool
     ensures { result ≡ is_form word.now }
 {
@@ -44,7 +44,7 @@ fn is_form(word: &Text) -> bool
     word == "--undefined" || word == "--dot"
 }
 
-/// The form that the word names, where it names one.
+/// The form that the argument names, if it names one.
 fn form_of(word: &Text) -> Option<Form>
     ensures { MatchOption result (is_form word.now ≡ false) (λ form. (is_form word.now ≡ true) × (form_words form ≡ word.now ∷ [])) }
 {
@@ -57,21 +57,21 @@ fn form_of(word: &Text) -> Option<Form>
     None
 }
 
-/// Whether the word begins with `--`.
+/// Whether the argument begins with `--`.
 fn begins_as_option(word: &str) -> bool
     ensures { result ≡ starts_with nat_eq word.now (codes "--") }
 {
     word.starts_with("--")
 }
 
-/// Whether the word is `--roots=LIST`.
+/// Whether the argument is `--roots=LIST`.
 fn gives_roots(word: &str) -> bool
     ensures { result ≡ starts_with nat_eq word.now (codes "--roots=") }
 {
     word.starts_with("--roots=")
 }
 
-/// Whether the word is no option, or one of `groups` that this program takes too.
+/// Whether the argument is no option, or an option of `groups` that this program takes too.
 fn is_shared(word: &str) -> bool
     ensures { result ≡ is_shared word.now }
 {
@@ -87,7 +87,7 @@ fn is_shared(word: &str) -> bool
     word == "--unreached"
 }
 
-/// Whether the word is no option, or one that this program takes.
+/// Whether the argument is no option, or one that this program takes.
 fn is_known(word: &Text) -> bool
     ensures { result ≡ is_known word.now }
 {
@@ -97,7 +97,7 @@ fn is_known(word: &Text) -> bool
     is_shared(word.as_str())
 }
 
-/// How many words stand before the first `--`.
+/// How many arguments are before the first `--`.
 fn front_count(words: &[Text]) -> usize
     ensures is { result ≡ front_count words.now }
     ensures within { result ≤ length words.now }
@@ -116,7 +116,7 @@ fn are_known(words: &[Text]) -> bool
     words.iter().all(|word| is_known(word))
 }
 
-/// The form that the words name, where they name one at most.
+/// The form that the arguments name, if they name at most one.
 fn named_form(words: &[Text]) -> Option<Form>
     ensures { MatchOption result ((form : FormHere) → filter is_form words.now ≡ form_words form → ⊥) (λ form. filter is_form words.now ≡ form_words form) }
 {
@@ -134,7 +134,7 @@ fn named_form(words: &[Text]) -> Option<Form>
     Some(found)
 }
 
-/// Adds the words that name no form.
+/// Adds the arguments that name no form.
 fn push_others(alloc: Global, words: &[Text], others: &mut Vec<Text>) -> Result<(), AllocError>
     ensures { OnOk result (others.new.items ≡ others.old.items ++ filter is_other words.now) }
 {
@@ -147,7 +147,7 @@ fn push_others(alloc: Global, words: &[Text], others: &mut Vec<Text>) -> Result<
     Ok(())
 }
 
-/// Adds the words.
+/// Adds the arguments.
 fn push_words(alloc: Global, words: &[Text], others: &mut Vec<Text>) -> Result<(), AllocError>
     ensures { OnOk result (others.new.items ≡ others.old.items ++ words.now) }
 {
@@ -157,14 +157,14 @@ fn push_words(alloc: Global, words: &[Text], others: &mut Vec<Text>) -> Result<(
     Ok(())
 }
 
-/// The words before the first `--`.
+/// The arguments before the first `--`.
 fn front_of(words: &[Text]) -> &[Text]
     ensures { result.now ≡ front_words words.now }
 {
     &words[..front_count(words)]
 }
 
-/// All words but those before `--` that name a form.
+/// All arguments except those before `--` that name a form.
 fn other_words(alloc: Global, words: &[Text]) -> Result<Vec<Text>, AllocError>
     ensures { IfOk result (λ more. more.items ≡ other_words words.now) }
 {
@@ -175,8 +175,9 @@ fn other_words(alloc: Global, words: &[Text]) -> Result<Vec<Text>, AllocError>
     Ok(others)
 }
 
-/// What the words ask for, or that they aren't lawful: `--undefined` and `--dot` at most one of them
-/// and once, `--roots LIST`, `--unreached` and the files as `groups` takes them, and nothing else.
+/// What the arguments ask for, or `Usage` if they aren't valid. Valid are at most one of
+/// `--undefined` and `--dot`, once, and `--roots LIST`, `--unreached` and the files as in `groups`,
+/// and nothing else.
 pub fn read_wanted(alloc: Global, words: &[Text]) -> Result<Wanted, WordFault>
     ensures ok { IfOk result (λ wanted. AreAsked words.now (see_wanted wanted)) }
     ensures only { IfOk result (λ wanted. (asked : Asked) → AreAsked words.now asked → asked ≡ see_wanted wanted) }

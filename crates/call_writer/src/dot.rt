@@ -27,7 +27,8 @@ fn push_dot_char(text: &mut String, character: char) -> Result<(), AllocError>
     text.push(character)
 }
 
-/// Adds a text as a quoted label shows it: `"` as `\"`, a backslash as `\\` and a newline as `\n`.
+/// Adds a text as a quoted label contains it: `"` as `\"`, a backslash as `\\` and a newline as
+/// `\n`.
 fn push_dot_text(text: &mut String, name: &str) -> Result<(), AllocError>
     ensures { OnOk result (string_bytes text.new ≡ string_bytes text.old ++ dot_text name.now) }
 {
@@ -48,7 +49,7 @@ fn push_label(text: &mut String, name: NameView<'_>) -> Result<(), AllocError>
     push_number(text, u64::from(name.arity))
 }
 
-/// Adds the node of the predicate of that number.
+/// Adds the node of the predicate with that number.
 pub fn push_node(text: &mut String, program: &Program, node: u32) -> Result<(), AllocError>
     requires { node < length program.now.predicates }
     ensures { OnOk result (string_bytes text.new ≡ string_bytes text.old ++ node_line_of program.now.predicates node) }
@@ -79,7 +80,7 @@ fn least_of(members: &[u32]) -> u32
     members[0]
 }
 
-/// Adds the line at which the cluster begins that is named by that number.
+/// Adds the first line of the cluster that is named by that number.
 fn push_cluster_head(text: &mut String, least: u32) -> Result<(), AllocError>
     ensures { OnOk result (string_bytes text.new ≡ string_bytes text.old ++ cluster_head least) }
 {
@@ -100,7 +101,7 @@ pub fn push_cluster(text: &mut String, program: &Program, members: &[u32]) -> Re
     text.push_str("}\n")
 }
 
-/// Adds what leads from one node to another.
+/// Adds the edge from one node to another.
 fn push_edge(text: &mut String, node: u32, callee: u32) -> Result<(), AllocError>
     ensures { OnOk result (string_bytes text.new ≡ string_bytes text.old ++ edge_line node callee) }
 {
@@ -111,7 +112,7 @@ fn push_edge(text: &mut String, node: u32, callee: u32) -> Result<(), AllocError
     text.push_str(";\n")
 }
 
-/// Adds what leads from a node to each of these.
+/// Adds the edges from a node to each of these, in their order.
 pub fn push_edges(text: &mut String, node: u32, callees: &[u32]) -> Result<(), AllocError>
     ensures { OnOk result (string_bytes text.new ≡ string_bytes text.old ++ flat_map (edge_line node) callees.now) }
 {

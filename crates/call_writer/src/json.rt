@@ -10,7 +10,7 @@ ghost use Rattle.call_writer.specs.Json.{hex_digit, json_char, json_string};
 use itoa::Buffer;
 use std::alloc::AllocError;
 
-/// Adds the number in decimal digits. It takes no memory but that of the text.
+/// Adds the number in decimal digits. It allocates only for the text.
 pub(crate) fn push_number(text: &mut String, number: u64) -> Result<(), AllocError>
     ensures { OnOk result (string_bytes text.new ≡ string_bytes text.old ++ decimal number) }
 {
@@ -56,7 +56,7 @@ fn push_json_char(text: &mut String, character: char) -> Result<(), AllocError>
     text.push(character)
 }
 
-/// Whether the character stands in a string of JSON as it is.
+/// Whether the character is in a string of JSON as it is.
 fn is_plain(character: char) -> bool
     ensures { IsTrue result → json_char character ≡ encode_utf8 character }
 {
@@ -69,7 +69,7 @@ fn is_plain(character: char) -> bool
     character >= ' '
 }
 
-/// Whether a text stands in a string of JSON as it is, as most names do.
+/// Whether a text is in a string of JSON as it is, like most names.
 fn are_plain(name: &str) -> bool
     ensures { IsTrue result → flat_map json_char (chars name.now) ≡ name.now }
 {
@@ -91,7 +91,7 @@ fn push_escaped(text: &mut String, name: &str) -> Result<(), AllocError>
     Ok(())
 }
 
-/// Adds what stands between the quotes of a string: a text that stands there as it is in one piece.
+/// Adds what is between the quotes of a string. A text that needs no escapes is added at once.
 pub(crate) fn push_inner(text: &mut String, name: &str) -> Result<(), AllocError>
     ensures { OnOk result (string_bytes text.new ≡ string_bytes text.old ++ flat_map json_char (chars name.now)) }
 {
@@ -101,9 +101,9 @@ pub(crate) fn push_inner(text: &mut String, name: &str) -> Result<(), AllocError
     push_escaped(text, name)
 }
 
-/// Adds a text as a string of JSON (RFC 8259, section 7): between quotes, a quote as `\"`, a backslash
-/// as `\\`, a character below U+0020 as `\u00HH` with two small hexadecimal digits, and any other as it
-/// is.
+/// Adds a text as a string of JSON (RFC 8259, section 7), between quotes. A quote is `\"`, a
+/// backslash `\\`, and a character below U+0020 is `\u00HH` with two small hexadecimal digits. Any
+/// other character is as it is.
 pub fn push_json_string(text: &mut String, name: &str) -> Result<(), AllocError>
     ensures { OnOk result (string_bytes text.new ≡ string_bytes text.old ++ json_string name.now) }
 {

@@ -1,5 +1,5 @@
-//! What was told last, with its spelling. Lines that stand side by side are mostly of one file, and
-//! their names of one module, so they are seldom spelled again.
+//! The last file and module of the lines, with their spelling. Adjacent lines are mostly of one
+//! file, and their names of one module, so these are seldom spelled again.
 
 ghost use Rattle.std.specs.Prelude.{◌≡◌, IsTrue, OnOk, slice_get};
 ghost use Rattle.std.specs.String.{string_bytes};
@@ -9,7 +9,7 @@ use crate::json::push_json_string;
 use import_rules::Program;
 use std::alloc::{AllocError, Global};
 
-/// The module of the last name, with what stands in a line before a name of that module.
+/// The module of the last name, with the text in a line before a name of that module.
 #[derive(Drop)]
 pub(crate) struct LastModule<'a> {
     /// Whether a module was spelled.
@@ -30,7 +30,7 @@ impl<'a> LastModule<'a> {
         }
     }
 
-    /// Makes this the last module, and spells it where it wasn't that before.
+    /// Makes this the last module, and spells it unless it was that before.
     pub(crate) fn take(&mut self, module: &'a str) -> Result<(), AllocError>
         ensures { OnOk result (string_bytes self.new.text ≡ after_module «module».now) }
     {
@@ -48,7 +48,7 @@ impl<'a> LastModule<'a> {
     }
 }
 
-/// The name of the file at that place among the files, or nothing where there is none.
+/// The name of the file at the index, or nothing if there is none.
 fn file_name(program: &Program, file: u32) -> &str
     ensures { result.now ≡ file_name (slice_get program.now.loaded.texts file) }
 {
@@ -58,13 +58,13 @@ fn file_name(program: &Program, file: u32) -> &str
     }
 }
 
-/// The last file of a program, with what stands in a line before a place in that file.
+/// The last file of a program, with the text in a line before a position in that file.
 #[derive(Drop)]
 pub(crate) struct LastFile<'a> {
     pub(crate) program: &'a Program,
     /// Whether a file was spelled.
     is_spelled: bool,
-    /// Its place among the files.
+    /// Its index among the files.
     file: u32,
     /// `,"file":"f.pl","line":`
     pub(crate) text: String,
@@ -72,7 +72,7 @@ pub(crate) struct LastFile<'a> {
 }
 
 impl<'a> LastFile<'a> {
-    /// Before the first place. It takes no memory.
+    /// Before the first position. It takes no memory.
     pub(crate) fn none(alloc: Global, program: &'a Program) -> LastFile<'a>
         ensures { result.program.now ≡ program.now }
     {
@@ -84,8 +84,7 @@ impl<'a> LastFile<'a> {
         }
     }
 
-    /// Makes the file at that place among the files the last one, and spells its name where it wasn't
-    /// that before.
+    /// Makes the file at the index the last one, and spells its name unless it was that before.
     pub(crate) fn take(&mut self, file: u32) -> Result<(), AllocError>
         ensures text { OnOk result (string_bytes self.new.text ≡ after_file (file_name (slice_get self.old.program.now.loaded.texts file))) }
         ensures program { OnOk result (self.new.program.now ≡ self.old.program.now) }
@@ -104,7 +103,7 @@ impl<'a> LastFile<'a> {
     }
 }
 
-/// What was told last in lines of calls.
+/// The last file and module in lines of calls.
 #[derive(Drop)]
 pub(crate) struct Last<'a, 'b> {
     pub(crate) file: LastFile<'a>,

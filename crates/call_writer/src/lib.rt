@@ -1,4 +1,5 @@
-//! A table of calls, as JSON with an object a line, and as a graph for Graphviz.
+//! Writing a table of calls: as JSON Lines (NDJSON), one object a line, and as a graph for
+//! Graphviz.
 //!
 //! ```text
 //! {"is":"predicate","id":0,"module":"user","name":"p","arity":0,"group":0,"height":1,"recursive":false}
@@ -6,7 +7,7 @@
 //! {"is":"call","caller":0,"callee":1,"module":"user","name":"q","arity":0,"file":"f.pl","line":1,"column":6}
 //! ```
 //!
-//! Which calls there are is for the layers below.
+//! The layers below decide which calls there are.
 #![tactic(auto)]
 
 mod dot;

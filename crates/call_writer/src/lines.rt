@@ -22,8 +22,7 @@ use import_rules::{NameView, Program};
 use prolog_tokens::Place;
 use std::alloc::{AllocError, Global};
 
-/// Adds a comma, and a line and a column of the file at that place among the files. The file is the last
-/// one from then on.
+/// Adds a comma, and a line and a column of the file at the index. The file is the last one then.
 fn push_spot(
     text: &mut String,
     last: &mut LastFile<'_>,
@@ -41,7 +40,7 @@ fn push_spot(
     Ok(())
 }
 
-/// What stands behind the characters of a name whose arity has one digit.
+/// What follows the characters of a name whose arity has one digit.
 fn short_arity(arity: u32) -> &'static str
     requires { arity < 10 }
     ensures { result.now ≡ codes "\",\"arity\":" ++ decimal arity }
@@ -60,7 +59,7 @@ fn short_arity(arity: u32) -> &'static str
     }
 }
 
-/// Adds what stands behind the characters of a name of that arity.
+/// Adds what follows the characters of a name of that arity.
 fn push_arity(text: &mut String, arity: u32) -> Result<(), AllocError>
     ensures { OnOk result (string_bytes text.new ≡ string_bytes text.old ++ (codes "\",\"arity\":" ++ decimal arity)) }
 {
@@ -83,7 +82,7 @@ fn push_name(text: &mut String, owner: &str, name: &str, arity: u32) -> Result<(
     Ok(())
 }
 
-/// Adds a comma and a name in a module. The module is the last one from then on.
+/// Adds a comma and a name in a module. The module is the last one then.
 fn push_name_after<'a>(
     text: &mut String,
     last: &mut LastModule<'a>,
@@ -100,7 +99,7 @@ fn push_name_after<'a>(
     Ok(())
 }
 
-/// Adds the number, or `null` where there is none.
+/// Adds the number, or `null` if there is none.
 fn push_callee(text: &mut String, callee: Option<u32>) -> Result<(), AllocError>
     ensures { OnOk result (string_bytes text.new ≡ string_bytes text.old ++ number_or_null callee) }
 {
@@ -110,7 +109,7 @@ fn push_callee(text: &mut String, callee: Option<u32>) -> Result<(), AllocError>
     }
 }
 
-/// Whether a call has no line: only undefined names are wanted, and it means a predicate.
+/// Whether a call has no line: only undefined names are asked for, and it means a predicate.
 fn is_hidden(undefined: bool, callee: Option<u32>) -> bool
     ensures { result ≡ (undefined && is_some callee) }
 {
@@ -155,8 +154,7 @@ fn push_call_line<'a, 'b>(
     Ok(())
 }
 
-/// Adds the line of a call; where only undefined names are wanted, none for a call that means a
-/// predicate.
+/// Adds the line of a call. If `undefined` is set, there is none for a call that means a predicate.
 fn push_call<'a, 'b>(
     text: &mut String,
     last: &mut Last<'a, 'b>,
@@ -174,8 +172,8 @@ fn push_call<'a, 'b>(
     push_call_line(text, last, call, place)
 }
 
-/// Adds the lines of calls with their lines and columns; where only undefined names are wanted, those
-/// of calls whose name means no predicate.
+/// Adds the lines of calls with their lines and columns, in their order. If `undefined` is set,
+/// only those of calls whose name means no predicate.
 pub fn push_call_lines(
     alloc: Global,
     text: &mut String,
@@ -214,7 +212,7 @@ fn push_clause(
     Ok(())
 }
 
-/// Adds the lines of clauses with their lines and columns.
+/// Adds the lines of clauses with their lines and columns, in their order.
 pub fn push_clause_lines(
     alloc: Global,
     text: &mut String,
@@ -232,7 +230,7 @@ pub fn push_clause_lines(
     Ok(())
 }
 
-/// What stands behind the height of a group in a line.
+/// What follows the height of a group in a line.
 fn line_end(recursive: bool) -> &'static str
     ensures { result.now ≡ codes ",\"recursive\":" ++ (truth recursive ++ codes "}\n") }
 {
@@ -243,7 +241,7 @@ fn line_end(recursive: bool) -> &'static str
     }
 }
 
-/// The least member of the group at that place, which is its first.
+/// The least member of the group at the index, which is its first.
 fn least_at(groups: &[Vec<u32>], place: usize) -> u32
     requires inhabited { All (λ members. 0 < length members) (lists_of groups.now) }
     requires within { place < length groups.now }
@@ -264,8 +262,8 @@ fn push_level(text: &mut String, least: u32, level: Level) -> Result<(), AllocEr
     Ok(())
 }
 
-/// Adds a comma and the group of a predicate, by one more than its place among the groups, or 0 where it
-/// is in none, and ends the line.
+/// Adds a comma and the group of a predicate, and ends the line. `place` is one more than the
+/// group's index, or 0 if there is none.
 fn push_group(
     text: &mut String,
     groups: &[Vec<u32>],
@@ -315,8 +313,8 @@ fn push_named(
     Ok(())
 }
 
-/// Adds the line of the predicate with that number, which is in the group at one less than that place,
-/// or in none where it is 0.
+/// Adds the line of the predicate with that number, which is in the group at the index `place` - 1,
+/// or in none if `place` is 0.
 pub fn push_predicate_line(
     text: &mut String,
     program: &Program,

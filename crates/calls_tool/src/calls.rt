@@ -1,4 +1,4 @@
-//! The program `calls`, as its lines show it.
+//! The program `calls`: the lines that it prints.
 
 ghost use Rattle.call_told.specs.Wanted.{Asked as Wanted};
 ghost use Rattle.calls_tool.specs.Calls.{calls_tool};

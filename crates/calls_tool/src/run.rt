@@ -1,4 +1,4 @@
-//! The top call.
+//! The run of the program.
 
 ghost use Rattle.std.specs.Prelude.{◌≡◌, IfOk};
 ghost use Rattle.calls_tool.specs.Calls.{calls_tool};
@@ -33,7 +33,7 @@ fn bytes_of(alloc: Global, texts: Vec<String>) -> Result<Vec<Vec<u8>>, AllocErro
     Ok(bytes)
 }
 
-/// What is wanted of the program, where each of its goals is callable and it has all roots.
+/// What is asked for of the program, if each of its goals is callable and it has all roots.
 fn tell_program<R: Threads + Sync>(
     rt: &R,
     alloc: Global,
@@ -50,8 +50,8 @@ fn tell_program<R: Threads + Sync>(
     Ok(bytes)
 }
 
-/// What is wanted of the files, or why it can't be told. The memory of the program is left to the end
-/// of the process, which comes next.
+/// What is asked for of the files, or why there is none. The memory of the program is left to the
+/// end of the process, which comes next.
 fn tell<R: Threads + Sync, L: Library>(
     rt: &R,
     alloc: Global,
@@ -66,7 +66,7 @@ fn tell<R: Threads + Sync, L: Library>(
     told
 }
 
-/// Puts what is wanted, or why it can't be told, on the sink that it goes to.
+/// Writes what is asked for, or why there is none, to the sink for it.
 fn run_wanted<R: Threads + Sync, L: Library, O: Sink, E: Sink>(
     rt: &R,
     alloc: Global,
@@ -83,12 +83,19 @@ fn run_wanted<R: Threads + Sync, L: Library, O: Sink, E: Sink>(
     put_end::<Calls, O, E>(alloc, told, out, err)
 }
 
-/// Answers the words over the library: what they ask for on `out`, or lines on `err` that say why
-/// there is nothing to tell, and the status of the run: 0 where all is told, 2 for wrong words or a
-/// name in them that is no predicate of the program, 3 for faults of the files, 4 where the library
-/// could not read a file, 5 where a sink failed, 6 where a limit was passed, 7 where memory was
-/// wanting. The memory of the program that it read isn't given back, since a run is the last thing
-/// that its process does.
+/// Runs `calls` with the arguments over the library. It writes what they ask for to `out`, or to
+/// `err` why there is none. Returns the exit status:
+///
+/// - 0: all is written;
+/// - 2: the arguments aren't valid, or a name in them is no predicate of the program;
+/// - 3: the files have errors;
+/// - 4: the library could not read a file;
+/// - 5: a sink failed;
+/// - 6: a limit was passed;
+/// - 7: memory ran out.
+///
+/// The memory of the program that it read isn't freed, since a run is the last thing that its
+/// process does.
 pub fn run_calls<R: Threads + Sync, L: Library, O: Sink, E: Sink>(
     rt: &R,
     alloc: Global,
@@ -97,11 +104,11 @@ pub fn run_calls<R: Threads + Sync, L: Library, O: Sink, E: Sink>(
     out: &mut O,
     err: &mut E,
 ) -> u8
-    // The run keeps all that a run promises of the program `calls`, where what the words ask for is wanted:
-    // the right answer, why there is another, what each status says, what was asked for.
+    // The run keeps the contract of `calls`, if the arguments are valid for what is asked for. It
+    // has the right answer, why there is another one, what each status means, and what was read.
     ensures run { RunKeeps calls_tool (AreAsked words.now) (L.seen library.old, L.seen library.new)
         (O.seen out.old, O.seen out.new) (E.seen err.old, E.seen err.new) result }
-    // The sink that the run's bytes don't go to is left as it was.
+    // The other sink is unchanged.
     ensures left { LeavesOther (out.old, out.new) (err.old, err.new) result }
 {
     match read_wanted(alloc, words) {

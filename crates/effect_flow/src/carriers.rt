@@ -11,7 +11,7 @@ use crate::grouped::Grouped;
 use graph_law::Opener;
 use std::alloc::{AllocError, Global};
 
-/// The flow at a place.
+/// The flow at the index.
 pub fn flow_there(flows: &[Flow], place: usize) -> Flow
     requires { place < length flows.now }
     ensures { see_flow result ≡ flow_at (see_flows flows.now) place }
@@ -19,8 +19,7 @@ pub fn flow_there(flows: &[Flow], place: usize) -> Flow
     flows[place]
 }
 
-/// The flow, where the carriers of the callees' groups count too, but for those of the group at
-/// `place` itself.
+/// The flow with the witnesses of the callees' groups, except those of the group at `place` itself.
 fn with_callees(
     start: Flow,
     callees: &[u32],
@@ -46,8 +45,8 @@ fn with_callees(
     flow
 }
 
-/// The flow of the group at `place`, where those of the groups that it calls are known. `callees` is
-/// room for the successors of one node at a time.
+/// The flow of the group at `place`, if those of the groups that it calls are known. `callees` is a
+/// buffer for the successors of one node at a time.
 pub fn flow_of<O: Opener>(
     grouped: &Grouped<'_, O>,
     flows: &[Flow],
@@ -70,8 +69,8 @@ pub fn flow_of<O: Opener>(
     Ok(flow)
 }
 
-/// The flows of the groups at these places, where those of the groups that they call are known, are put
-/// into `found`, which is empty.
+/// Puts the flows of the groups at these indices into `found`, which is empty. The flows of the
+/// groups that they call are known.
 pub fn push_flows<O: Opener>(
     grouped: &Grouped<'_, O>,
     flows: &[Flow],
@@ -92,8 +91,8 @@ pub fn push_flows<O: Opener>(
     Ok(())
 }
 
-/// The flows of all groups, one after another as they are given, so that those that a group calls are
-/// known before it.
+/// The flows of all groups, computed in sequence in the order of the groups, so that those that a
+/// group calls are known before it.
 pub fn flows_in_turn<O: Opener>(
     alloc: Global,
     grouped: &Grouped<'_, O>,

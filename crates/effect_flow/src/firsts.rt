@@ -5,17 +5,18 @@ ghost use Rattle.effect_flow.specs.declared.kinds.TheConstants.{KINDS};
 
 use crate::kinds::KINDS;
 
-/// Stands where there is no node. It is no node's number.
+/// The value of no node: it is no node's number.
 const NO_NODE: u32 = u32::MAX;
 
-/// For each kind of effect the carrier of a group, where it has one.
+/// For each kind of effect the witness of a group, if it has one: the least node that a member
+/// reaches and that has the kind itself.
 #[derive(Clone, Copy, Debug, PartialEq, Eq)]
 pub struct Flow {
     firsts: [u32; KINDS],
 }
 
 impl Flow {
-    /// No carrier of any kind.
+    /// No witness of any kind.
     pub(crate) fn none() -> Flow
         ensures { (kind : ℕ) → kind < KINDS → first_at (see_flow result) kind ≡ None }
     {
@@ -24,7 +25,7 @@ impl Flow {
         }
     }
 
-    /// The node as the carrier of each of the kinds.
+    /// The node as the witness of each of the kinds.
     pub(crate) fn of(node: u32, kinds: u64) -> Flow
         requires { node < 4294967295 }
         ensures { (kind : ℕ) → kind < KINDS → IsFirst (λ q. (q ≡ node) × IsBitSet kinds kind) (first_at (see_flow result) kind) }
@@ -39,7 +40,7 @@ impl Flow {
         Flow { firsts }
     }
 
-    /// The lesser of both carriers of each kind.
+    /// The lesser of both witnesses of each kind.
     pub(crate) fn lesser(&self, other: &Flow) -> Flow
         ensures { (kind : ℕ) → kind < KINDS
             → IsFirst (λ q. (first_at (see_flow self.now) kind ≡ Some q) ⊎ (first_at (see_flow other.now) kind ≡ Some q)) (first_at (see_flow result) kind) }
@@ -51,7 +52,7 @@ impl Flow {
         Flow { firsts }
     }
 
-    /// The carrier of that kind.
+    /// The witness of that kind, or None. Kinds are numbered as in `kinds_of`.
     pub fn first(&self, kind: u32) -> Option<u32>
         requires { kind < KINDS }
         ensures { result ≡ first_at (see_flow self.now) kind }

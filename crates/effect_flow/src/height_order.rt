@@ -6,14 +6,14 @@ use rayon::prelude::*;
 use std::alloc::{AllocError, Global};
 use std::thread::Threads;
 
-/// A group's place, and its height, by which it is ordered.
+/// A group's index, and its height, by which it is sorted.
 #[derive(Clone, Copy, PartialEq, Eq, PartialOrd, Ord)]
 struct Stand {
     height: u32,
     place: usize,
 }
 
-/// The places of the groups, lower ones first. They are sorted side by side.
+/// The indices of the groups, lower ones first. They are sorted in parallel.
 pub fn height_order<R: Threads + Sync>(
     rt: &R,
     alloc: Global,
@@ -38,7 +38,7 @@ fn places_in(alloc: Global, stands: &[Stand]) -> Result<Vec<usize>, AllocError>
     stands.iter().map(|each| each.place).collect(alloc)
 }
 
-/// Where the groups end that are as high as the one that stands at `from`.
+/// The end of the groups with the same height as the one at `from`.
 pub fn height_end(levels: &[Level], order: &[usize], from: usize) -> usize
     requires within { All (λ place. place < length levels.now) order.now }
     requires from { from < length order.now }

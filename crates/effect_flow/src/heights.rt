@@ -1,4 +1,4 @@
-//! Heights one after another, and the groups of one height side by side.
+//! Flows height by height, with the groups of one height in parallel.
 
 ghost use Rattle.std.specs.Prelude.{◌≡◌, [], ℕ, ◌<◌, ◌*◌, ◌↔◌, length, All, IfOk, OnOk};
 ghost use Rattle.graph_law.specs.Classes.{HasMember};
@@ -20,13 +20,13 @@ use rayon::prelude::*;
 use std::alloc::{AllocError, Global};
 use std::thread::Threads;
 
-/// How many groups are worked out one after another. Only the last piece of a height has fewer.
+/// How many groups are computed in sequence. Only the last piece of a height has fewer.
 const SIZE: usize = 512;
 
 /// How few pieces are worth a thread of their own.
 const FEWEST: usize = 2;
 
-/// How many pieces so many groups make.
+/// How many pieces `count` groups make.
 fn piece_count(count: usize) -> usize
     ensures { (number : ℕ) → number < result ↔ number * SIZE < count }
 {
@@ -58,8 +58,8 @@ fn piece<O: Opener>(
     Ok(found)
 }
 
-/// The flows of the groups of each piece, in the order of their numbers. They are worked out side by
-/// side.
+/// The flows of the groups of each piece, in the order of their numbers. They are computed in
+/// parallel.
 fn each_piece<R: Threads + Sync, O: Opener>(
     rt: &R,
     alloc: Global,
@@ -86,7 +86,7 @@ fn each_piece<R: Threads + Sync, O: Opener>(
         .collect(rt, alloc)
 }
 
-/// The flows of all pieces, one behind the other, are put into `found`, which is empty.
+/// Puts the flows of all pieces, one after the other, into `found`, which is empty.
 fn push_pieces<R: Threads + Sync, O: Opener>(
     rt: &R,
     alloc: Global,
@@ -111,8 +111,8 @@ fn push_pieces<R: Threads + Sync, O: Opener>(
     Ok(())
 }
 
-/// The flows of the groups at these places are put into `found`, which is empty: one after another
-/// where they are one piece, else side by side.
+/// Puts the flows of the groups at these indices into `found`, which is empty. They are computed in
+/// sequence if they are one piece, and otherwise in parallel.
 fn find<R: Threads + Sync, O: Opener>(
     rt: &R,
     alloc: Global,
@@ -134,7 +134,7 @@ fn find<R: Threads + Sync, O: Opener>(
     push_flows(grouped, flows, stretch, callees, found)
 }
 
-/// Puts each of the flows that were found at its group's place.
+/// Writes each flow that was found to its group's index.
 fn put(flows: &mut [Flow], stretch: &[usize], found: &[Flow])
     requires within { All (λ place. place < length flows.old) stretch.now }
     requires each { length found.now ≡ length stretch.now }
@@ -146,7 +146,8 @@ fn put(flows: &mut [Flow], stretch: &[usize], found: &[Flow])
     }
 }
 
-/// Finds the flows of the groups at these places, and puts them there. `callees` and `found` are room.
+/// Computes the flows of the groups at these indices, and writes them there. `callees` and `found`
+/// are buffers.
 fn add_flows<R: Threads + Sync, O: Opener>(
     rt: &R,
     alloc: Global,
@@ -167,7 +168,7 @@ fn add_flows<R: Threads + Sync, O: Opener>(
     Ok(())
 }
 
-/// The flows of all groups, height by height.
+/// The flows of all groups, computed height by height.
 fn flows_by_height<R: Threads + Sync, O: Opener>(
     rt: &R,
     alloc: Global,
@@ -200,8 +201,8 @@ fn flows_by_height<R: Threads + Sync, O: Opener>(
     Ok(flows)
 }
 
-/// Whether a height has, one with another, as many groups as are worth pieces. It decides in which way
-/// flows are found, and not what they are.
+/// Whether a height has, on average, enough groups for several pieces. This decides how flows are
+/// computed, and not what they are.
 fn are_wide(levels: &[Level]) -> bool {
     let mut highest = 0;
     for level in levels {
@@ -210,9 +211,12 @@ fn are_wide(levels: &[Level]) -> bool {
     (highest as usize) < levels.len() / SIZE
 }
 
-/// For each group and each kind of effect the carrier: the least node that a member reaches and that
-/// has the kind itself, by the bits of its number in `own`. The groups are in a legal order, and the
-/// levels are theirs. Each node of them is opened once. Only memory can be wanting.
+/// For each group, in the same order, a witness for each kind of effect: the least node that a
+/// member reaches and that has the kind itself.
+///
+/// `own` has for each node the kinds that it has itself, as bits of their numbers. The groups are
+/// in reverse topological order, and `levels` are their levels. Each of their nodes is expanded
+/// once. Fails only if memory runs out, here or in the opener.
 pub fn flow<R: Threads + Sync, O: Opener>(
     rt: &R,
     alloc: Global,

@@ -1,4 +1,5 @@
-//! The kinds of effects: output, input, changes of the database, streams, throw, halt and flags.
+//! The kinds of effects, by number: 0 output, 1 input, 2 changes of the database, 3 streams, 4
+//! throw, 5 halt and 6 flags.
 
 ghost use Rattle.std.specs.Prelude.{◌≡◌};
 ghost use Rattle.std.specs.List.{list_any};
@@ -22,7 +23,7 @@ const HALT: u64 = 32;
 
 const FLAGS: u64 = 64;
 
-/// Whether the name is one of the words. They are known where it is called, and there mostly their
+/// Whether the name is one of the words. The words are constants at each call, so mostly their
 /// lengths decide.
 #[inline(always)]
 fn is_one_of(words: &[&str], name: &str) -> bool
@@ -148,8 +149,8 @@ fn kinds_4(name: &str) -> u64
     0
 }
 
-/// The bit of the kind of effect that a predicate of this name and arity has, or 0. It takes no
-/// memory.
+/// The kind of effect of a predicate with this name and arity: the bit of its number, or 0 if it
+/// has none. It takes no memory.
 pub fn kinds_of(name: &str, arity: u32) -> u64
     ensures { result ≡ kinds name.now arity }
 {

@@ -1,10 +1,11 @@
-//! Which effects the groups of a call graph may reach: output, input, changes of the database and
-//! others.
+//! Effect analysis on a call graph: which effects (output, input, changes of the database and
+//! others) each group may reach.
 //!
-//! `kinds_of` tells by its name and arity which kind of effect a predicate has that no program
-//! defines, as `write/1` has output. `flow` tells for each group of a legal order and each kind the
-//! carrier: the least node that a member reaches and that has the kind itself. Groups of one height
-//! don't call each other, and are worked out side by side, lower ones first.
+//! `kinds_of` returns the kind of effect of a predicate that no program defines, by its name and
+//! arity: `write/1` has output. `flow` computes a witness (carrier) for each group and each kind:
+//! the least node that a member reaches and that has the kind itself. The groups are in reverse
+//! topological order. Groups of the same height don't call each other, so they are computed in
+//! parallel, lower ones first.
 //!
 //! It doesn't see which names nodes stand for.
 #![tactic(auto)]

@@ -29,7 +29,7 @@ use std::sync::Wait;
 use std::thread::Threads;
 use tool_run::{Stop, ends_by, roots_by};
 
-/// The report that the options ask for, or why there is none. The groups are found on one thread.
+/// The report that the options ask for, or why there is none. One thread finds the groups.
 pub fn report_alone<R: Threads + Sync, L: Library>(
     rt: &R,
     alloc: Global,
@@ -45,7 +45,7 @@ pub fn report_alone<R: Threads + Sync, L: Library>(
     told
 }
 
-/// The same, where workers find the groups, and may wait.
+/// The same, but workers find the groups, which may wait.
 pub fn report_lawful<R: Threads + Wait + Sync, L: Library, G: Gate>(
     rt: &R,
     alloc: Global,
@@ -63,14 +63,14 @@ pub fn report_lawful<R: Threads + Wait + Sync, L: Library, G: Gate>(
     told
 }
 
-/// Leaves the memory of the program to the end of the process, which comes next: to give it back term
-/// by term would take a fifth of the run.
+/// Leaves the memory of the program to the end of the process, which comes next. Freeing it term by
+/// term would take a fifth of the run.
 fn leave(program: Program) {
     forget(program);
 }
 
-/// What is asked of the program, where each of its goals is callable, it has all roots and the ends of
-/// the path, or why there is no report of it.
+/// What is asked of the program, if each of its goals is callable and it has all roots and the ends
+/// of the path. Otherwise why there is no report of it.
 fn asked_of<'p, R: Threads + Sync>(
     rt: &R,
     alloc: Global,
@@ -86,7 +86,7 @@ fn asked_of<'p, R: Threads + Sync>(
     Ok(Asked { calls, roots, ends })
 }
 
-/// The report of the program, or why there is none. The groups are found on one thread. It takes no
+/// The report of the program, or why there is none. One thread finds the groups. It takes no
 /// `Wait`, so it always returns.
 fn tell_alone<R: Threads + Sync>(
     rt: &R,
@@ -103,7 +103,7 @@ fn tell_alone<R: Threads + Sync>(
     Ok(texts)
 }
 
-/// The same, where workers find the groups, and may wait.
+/// The same, but workers find the groups, which may wait.
 fn tell<R: Threads + Wait + Sync, G: Gate>(
     rt: &R,
     alloc: Global,
@@ -120,7 +120,8 @@ fn tell<R: Threads + Wait + Sync, G: Gate>(
     Ok(texts)
 }
 
-/// The report of the groups that workers find, with their levels as they come or after them.
+/// The report of the groups that workers find. Their levels are computed as they come, or after
+/// them.
 fn report_waiting<R: Threads + Wait + Sync, G: Gate>(
     rt: &R,
     alloc: Global,
@@ -165,7 +166,7 @@ fn report_waiting<R: Threads + Wait + Sync, G: Gate>(
     report_texts(rt, alloc, options, program, &grouped)
 }
 
-/// The report of the groups that the roots reach, whose levels are found from what the predicates call.
+/// The report of the groups that the roots reach, whose levels are computed from the call graph.
 fn report_groups<R: Threads + Sync>(
     rt: &R,
     alloc: Global,

@@ -1,10 +1,10 @@
-//! What is asked of a program, and the groups that it has.
+//! What is asked of a program, and its groups.
 
 use call_edges::CallLists;
 use group_release::Level;
 
-/// What is asked of a program: what its predicates call, where reach begins, and the ends of the path
-/// that is wanted.
+/// What is asked of a program: its call graph, the roots, and the ends of the path that is asked
+/// for.
 #[derive(Drop)]
 pub struct Asked<'p> {
     pub calls: CallLists<'p>,
@@ -12,7 +12,7 @@ pub struct Asked<'p> {
     pub ends: Option<(u32, u32)>,
 }
 
-/// The groups that the roots reach, callees first, with their levels.
+/// The groups that the roots reach in reverse topological order, with their levels.
 #[derive(Clone, Copy)]
 pub struct Grouped<'a, 'p> {
     pub asked: &'a Asked<'p>,

@@ -1,5 +1,5 @@
-//! Who finds the groups: one search, many that take turns on one thread, or workers, with or without a
-//! feed of their groups.
+//! Finding the groups: with one search, with many that take turns on one thread, or with workers,
+//! with or without a stream of their groups.
 
 ghost use Rattle.std.specs.Prelude.{◌≡◌, ◌<◌, ◌≤◌, [], List, ℕ, None, true, All, IfOk, length};
 ghost use Rattle.graph_law.specs.Graph.{Calls as ListCalls, lists_of};
@@ -20,8 +20,8 @@ use std::alloc::{AllocError, Global};
 use std::sync::Wait;
 use std::thread::Threads;
 
-/// The groups of all that the roots reach, and of nothing else, in a legal order: found by one search,
-/// or by many that take turns, and then in the order of their schedule.
+/// The groups of exactly what the roots reach, in reverse topological order: found by one search,
+/// or by many that take turns. Then they are in the order of their schedule.
 pub fn groups_alone(
     alloc: Global,
     options: &Options,
@@ -64,7 +64,7 @@ pub fn groups_by_workers<R: Threads + Wait + Sync, G: Gate>(
     drive_workers(rt, alloc, calls, roots, options.jobs, gate)
 }
 
-/// The same, and the taker finds their levels as they come.
+/// The same, and the taker computes their levels as they come.
 pub fn groups_by_stream<R: Threads + Wait + Sync, G: Gate>(
     rt: &R,
     alloc: Global,

@@ -1,4 +1,4 @@
-//! The program `groups`, as its lines show it.
+//! The program `groups`: the lines that it prints.
 
 ghost use Rattle.group_words.specs.Settings.{Settings};
 ghost use Rattle.group_tool.specs.Groups.{groups_tool};

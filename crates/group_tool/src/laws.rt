@@ -1,4 +1,5 @@
-//! What holds of each command line, as laws: functions with nothing to run.
+//! Theorems about each command line: functions that do nothing, and are called for what they
+//! ensure.
 
 ghost use Rattle.std.specs.Prelude.{◌≡◌, ℕ, List, Bool, false, Option};
 ghost use Rattle.file_library.specs.Library.{Files};
@@ -8,8 +9,8 @@ ghost use Rattle.tool_run.specs.Answer.{IsAnswer};
 ghost use Rattle.tool_run.specs.End.{End};
 ghost use Rattle.tool_run.specs.Wanted.{IsJust};
 
-/// Words over a map of files have one answer, and so have options, where the order of the groups is
-/// not asked for.
+/// Arguments over a map of files have at most one answer, and so have options, unless the groups
+/// are asked for in the order of the search.
 pub fn one_answer()
     ensures words { (words : List (List ℕ)) (files : Files) (answer other : End) → ((options : Settings) → AreLawful words options → options.order ≡ false)
         → IsAnswer groups_tool (AreLawful words) files answer → IsAnswer groups_tool (AreLawful words) files other → answer ≡ other }

@@ -1,22 +1,24 @@
-//! `run_groups` puts the right answer to words over files on two sinks, and answers its status.
+//! The program `groups`: `run_groups` reads Prolog files, finds the strongly connected components
+//! (SCCs, groups) of their call graph, and writes the right answer to one of two sinks.
 //!
-//! The answer is the usage, the first limit that is passed, the faults of the files, the first name of
-//! the words that is no predicate of the program, or the report of the groups that the roots reach,
-//! with the effects, circuits and path that the words ask for after it. There is one answer, except where
-//! the groups are told in the order of their release. What a run promises beside it is the record
-//! `RunKeeps` of `tool_run`. Over the file `p :- q. q :- p.` the report is
+//! The answer is one of these: the usage line, the first limit that is passed, the errors in the
+//! files, the first name in the arguments that is no predicate of the program, or the report. The
+//! report has the groups that the roots reach, and then the effects, cycles and path that the
+//! arguments ask for. There is only one right answer, except if groups are reported in the order in
+//! which the search found them. The record `RunKeeps` of `tool_run` is the whole contract of a run.
+//! For the file `p :- q. q :- p.` the report is
 //!
 //! ```text
 //! predicates 2 groups 1 recursive 1 levels 1
 //! 0 recursive user:p/0 user:q/0
 //! ```
 //!
-//! Files are seen through a `Library` and output through a `Sink`, in memory or real. What the disk holds
-//! and what streams do with bytes no clause says; but over any library, the disk too, the answer is the
-//! right one for just the files that it handed over.
+//! Files are seen through a `Library` and output through a `Sink`, in memory or real. No contract
+//! states what the disk holds or what streams do with bytes. But over any library, the disk too,
+//! the answer is right for exactly the files that it returned.
 //!
-//! Whatever serves other programs over files too, as sinks, the lines of a run and why it tells nothing, is
-//! `tool_run`'s, and is offered here as well.
+//! `tool_run` has what is shared with other programs over files: sinks, the lines of a run, and why
+//! it has no output. It is exported here as well.
 #![tactic(auto)]
 
 mod answer;

@@ -1,4 +1,4 @@
-//! The program that a run is over.
+//! The program that a run analyses.
 
 ghost use Rattle.std.specs.Prelude.{◌≡◌, ◌≤◌, ℕ, List, [], ◌∷◌, IfOk, Some};
 ghost use Rattle.group_words.specs.declared.limits.TheConstants.{MOST_MADE};
@@ -20,11 +20,11 @@ use std::alloc::{AllocError, Global};
 use std::thread::Threads;
 use tool_run::{Stop, load_files};
 
-/// The name of the file that `--make` makes.
+/// The name of the generated file of `--make`.
 const MADE: &str = "gen.pl";
 
-/// The program of the files that the options ask for and of all that they load, for which the library
-/// is asked; or of the one file that is made.
+/// The program of the files that the options ask for and of all files that they load, which the
+/// library reads; or the generated program.
 pub fn load_program<R: Threads + Sync, L: Library>(
     rt: &R,
     alloc: Global,
@@ -42,7 +42,7 @@ pub fn load_program<R: Threads + Sync, L: Library>(
     }
 }
 
-/// The program of the one file that is made. No library is asked.
+/// The generated program. No library is asked.
 fn load_made<R: Threads + Sync>(
     rt: &R,
     alloc: Global,
@@ -60,7 +60,7 @@ fn load_made<R: Threads + Sync>(
     load_files(rt, alloc, &names, &mut made)
 }
 
-/// The one file that is made.
+/// A library of the one generated file.
 fn made_file(alloc: Global, count: u32) -> Result<OneFile, AllocError>
     requires { count ≤ MOST_MADE }
     ensures { IfOk result (λ made. IsNewFile made_name (made_text count) made) }
@@ -70,7 +70,7 @@ fn made_file(alloc: Global, count: u32) -> Result<OneFile, AllocError>
     Ok(OneFile::new(alloc, name, text.into_bytes()))
 }
 
-/// The name of the one file that is made.
+/// The name of the generated file, as a list.
 fn made_names(alloc: Global) -> Result<Vec<Text>, AllocError>
     ensures { IfOk result (λ names. names.items ≡ made_name ∷ []) }
 {

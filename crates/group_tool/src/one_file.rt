@@ -16,7 +16,7 @@ pub struct OneFile {
     misses: u64,
 }
 
-/// Puts the bytes into the room, which is empty, up to one more than the limit.
+/// Puts the bytes into the empty buffer, but at most one more than the limit.
 fn copy_start(bytes: &[u8], limit: u32, room: &mut Vec<u8>) -> Result<(), AllocError>
     requires { room.old.items ≡ [] }
     ensures ok { OnOk result (room.new.items ≡ take (limit + 1) bytes.now) }
@@ -29,7 +29,7 @@ fn copy_start(bytes: &[u8], limit: u32, room: &mut Vec<u8>) -> Result<(), AllocE
 impl OneFile {
     ghost use Rattle.group_tool.specs.OneFile.{IsNewFile};
 
-    /// A library of the file of that name.
+    /// A library of the one file with that name and text.
     pub fn new(alloc: Global, name: Text, text: Vec<u8>) -> OneFile
         ensures { IsNewFile name text.items result }
     {

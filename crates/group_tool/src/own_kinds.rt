@@ -16,8 +16,8 @@ use std::thread::Threads;
 /// How few predicates are worth a thread of their own.
 const FEWEST: usize = 512;
 
-/// The kinds of a call that goes to no predicate. Few names have a kind, and no other is looked up in
-/// the program.
+/// The kinds of a call that means no predicate. Few names have a kind, and no other name is looked
+/// up in the program.
 fn kinds_met(program: &Program, met: Met) -> u64
     ensures { result ≡ kinds_given (unresolved program.now (see_met met.entry)) }
 {
@@ -40,7 +40,7 @@ fn kinds_met(program: &Program, met: Met) -> u64
     }
 }
 
-/// The kinds of all calls that go to no predicate.
+/// The kinds of all calls that mean no predicate.
 fn kinds_in(program: &Program, met: &[Met]) -> u64
     ensures { (kind : ℕ) → IsBitSet result kind ↔ SomeHasKind (filter_map (unresolved program.now) (see_mets met.now)) kind }
 {
@@ -52,8 +52,8 @@ fn kinds_in(program: &Program, met: &[Met]) -> u64
     all
 }
 
-/// The kinds that the predicate of that number has itself: those of the names that it calls and that
-/// mean no predicate.
+/// The kinds that the predicate with that number has itself: those of the names that it calls and
+/// that mean no predicate.
 fn kinds_at(alloc: Global, program: &Program, node: u32) -> Result<u64, AllocError>
     requires { node < length program.now.predicates }
     ensures { IfOk result (IsOwnKinds program.now node) }
@@ -62,7 +62,8 @@ fn kinds_at(alloc: Global, program: &Program, node: u32) -> Result<u64, AllocErr
     Ok(kinds_in(program, &met))
 }
 
-/// The kinds that each predicate has itself. The predicates are walked side by side.
+/// The kinds that each predicate has itself, as bits of their numbers, in the order of the
+/// predicates. The predicates are walked in parallel.
 pub fn own_kinds<R: Threads + Sync>(
     rt: &R,
     alloc: Global,

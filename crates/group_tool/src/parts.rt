@@ -1,4 +1,4 @@
-//! The texts of a report: its lines, and after them effects, circuits and a path.
+//! The texts of a report: its lines, and after them effects, cycles and a path.
 
 ghost use Rattle.std.specs.Prelude.{◌≡◌, ◌++◌, IfOk, length};
 ghost use Rattle.graph_law.specs.Graph.{lists_of};
@@ -51,8 +51,8 @@ fn written(
     )
 }
 
-/// A line for each group and effect that it may reach, with the predicate that has the effect, where they
-/// are wanted.
+/// A line for each group and each effect that it may reach, with the predicate that has the effect,
+/// if they are asked for.
 fn effects_part<R: Threads + Sync>(
     rt: &R,
     alloc: Global,
@@ -80,7 +80,8 @@ fn effects_part<R: Threads + Sync>(
     Ok(bytes)
 }
 
-/// A line for each recursive group, with the least circuit of its least member, where they are wanted.
+/// A line for each recursive group, with the least cycle through its least member, if they are
+/// asked for.
 fn loops_part(
     alloc: Global,
     options: &Options,
@@ -99,7 +100,7 @@ fn loops_part(
     Ok(bytes)
 }
 
-/// The line of the least path between the ends, or that there is none, where a path is wanted.
+/// The line of the least path between the ends, or that there is none, if a path is asked for.
 fn path_part(
     alloc: Global,
     options: &Options,

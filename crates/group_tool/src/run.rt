@@ -1,4 +1,4 @@
-//! The top calls.
+//! The runs of the program.
 
 ghost use Rattle.std.specs.Prelude.{◌≡◌, ◌⊎◌, List, ℕ, None, true, false, is_some};
 ghost use Rattle.group_words.specs.Settings.{AreLawful, see_options};
@@ -17,8 +17,8 @@ use std::sync::Wait;
 use std::thread::Threads;
 use tool_run::{Sink, Stop, put_end};
 
-/// Whether one thread finds the groups: there are many searches on it, or no more than one worker, and
-/// levels are found after the groups.
+/// Whether one thread finds the groups. It does if there are several searches on it or at most one
+/// worker, and levels are computed after the groups.
 fn is_alone(options: &Options) -> bool
     requires { (words : List (List ℕ)) × AreLawful words (see_options options.now) }
     ensures at_the_end { result ≡ true → (see_options options.now).stream ≡ false }
@@ -35,8 +35,8 @@ fn is_alone(options: &Options) -> bool
     options.jobs == 1
 }
 
-/// Puts what the options of lawful words come to on the sink that it goes to. What one thread answers is
-/// handed to `run_alone`, which always returns.
+/// Writes what the options of valid arguments ask for, or why there is none, to the sink for it. If
+/// one thread suffices, `run_alone` does it, which always returns.
 fn run_lawful<R: Threads + Wait + Sync, L: Library, O: Sink, E: Sink, G: Gate>(
     rt: &R,
     alloc: Global,
@@ -58,11 +58,19 @@ fn run_lawful<R: Threads + Wait + Sync, L: Library, O: Sink, E: Sink, G: Gate>(
     put_end::<Groups, O, E>(alloc, told, out, err)
 }
 
-/// Answers the words over the library: a report on `out`, or lines on `err` that say why there is
-/// none, and the status of the run: 0 for a report, 2 for wrong words or a name in them that is no
-/// predicate of the program, 3 for faults of the files, 4 where the library could not read a file, 5
-/// where a sink failed, 6 where a limit was passed, 7 where memory was wanting. The memory of the
-/// program that it read isn't given back, since a run is the last thing that its process does.
+/// Runs `groups` with the arguments over the library. It writes the report to `out`, or to `err`
+/// why there is none. Returns the exit status:
+///
+/// - 0: the report is written;
+/// - 2: the arguments aren't valid, or a name in them is no predicate of the program;
+/// - 3: the files have errors;
+/// - 4: the library could not read a file;
+/// - 5: a sink failed;
+/// - 6: a limit was passed;
+/// - 7: memory ran out.
+///
+/// The memory of the program that it read isn't freed, since a run is the last thing that its
+/// process does.
 pub fn run_groups<R: Threads + Wait + Sync, L: Library, O: Sink, E: Sink, G: Gate>(
     rt: &R,
     alloc: Global,
@@ -72,11 +80,11 @@ pub fn run_groups<R: Threads + Wait + Sync, L: Library, O: Sink, E: Sink, G: Gat
     err: &mut E,
     gate: &G,
 ) -> u8
-    // The run keeps all that a run promises of the program `groups`, where the words are lawful for what
-    // is wanted: the right answer, why there is another, what each status says, what was asked for.
+    // The run keeps the contract of `groups`, if the arguments are valid for what is asked for. It
+    // has the right answer, why there is another one, what each status means, and what was read.
     ensures run { RunKeeps groups_tool (AreLawful words.now) (L.seen library.old, L.seen library.new)
         (O.seen out.old, O.seen out.new) (E.seen err.old, E.seen err.new) result }
-    // The sink that the run's bytes don't go to is left as it was.
+    // The other sink is unchanged.
     ensures left { LeavesOther (out.old, out.new) (err.old, err.new) result }
 {
     match parse_words(alloc, words) {
@@ -85,9 +93,8 @@ pub fn run_groups<R: Threads + Wait + Sync, L: Library, O: Sink, E: Sink, G: Gat
     }
 }
 
-/// Answers the options of lawful words as `run_groups` answers the words, on one thread, and always
-/// returns: where there are many searches, or no more than one worker, and levels aren't found as groups
-/// come.
+/// Runs `groups` like `run_groups`, but with options and on one thread, and always returns. The
+/// options ask for several searches or for at most one worker, and not for levels as groups come.
 pub fn run_alone<R: Threads + Sync, L: Library, O: Sink, E: Sink>(
     rt: &R,
     alloc: Global,
@@ -99,10 +106,10 @@ pub fn run_alone<R: Threads + Sync, L: Library, O: Sink, E: Sink>(
     requires lawful { (words : List (List ℕ)) × AreLawful words (see_options options.now) }
     requires at_the_end { (see_options options.now).stream ≡ false }
     requires alone { (is_some (see_options options.now).searches ≡ true) ⊎ ((see_options options.now).jobs ≡ 1) }
-    // The run keeps all that a run promises of the program `groups`, where just these options are wanted.
+    // The run keeps the contract of `groups`, if exactly these options are asked for.
     ensures run { RunKeeps groups_tool (IsJust (see_options options.now)) (L.seen library.old, L.seen library.new)
         (O.seen out.old, O.seen out.new) (E.seen err.old, E.seen err.new) result }
-    // The sink that the run's bytes don't go to is left as it was.
+    // The other sink is unchanged.
     ensures left { LeavesOther (out.old, out.new) (err.old, err.new) result }
 {
     let report = report_alone(rt, alloc, options, library);

@@ -22,7 +22,7 @@ fn flag<'a>(alloc: Global, name: &'a str) -> Arg<'a>
     Arg::new(alloc, name).long(name).action(ArgAction::SetTrue)
 }
 
-/// The words that are no options.
+/// The arguments that are no options.
 fn files<'a>(alloc: Global) -> Arg<'a>
     ensures rule { rule_of result ≡ asked_files }
     ensures own { result.global ≡ false }
@@ -38,7 +38,7 @@ fn bare_command<'a>(alloc: Global) -> Command<'a>
         .disable_help_flag(true)
 }
 
-/// The command line: no option has a rule on another one, and values are any text.
+/// The command line: no option has a rule about another one, and values are any text.
 fn command<'a>(alloc: Global) -> Result<Command<'a>, AllocError>
     ensures { IfOk result (λ made. app_of made ≡ words_app) }
 {
@@ -57,7 +57,7 @@ fn command<'a>(alloc: Global) -> Result<Command<'a>, AllocError>
         .arg(files(alloc))
 }
 
-/// What clap makes of the words, or `None` where it refuses them.
+/// What clap makes of the arguments, or `None` if it rejects them.
 pub fn clap_matches<'a>(
     alloc: Global,
     words: &'a [&'a str],

@@ -9,8 +9,8 @@ use crate::command::clap_matches;
 use clap::ArgMatches;
 use std::alloc::{AllocError, Global};
 
-/// What the words give: the values of options, which options without a value there are, and the
-/// words for files in order.
+/// What the arguments give: the values of options, which options without a value there are, and the
+/// arguments for files in order.
 #[derive(Drop)]
 pub struct Given<'a> {
     pub jobs: Option<&'a str>,
@@ -27,7 +27,7 @@ pub struct Given<'a> {
     pub files: Vec<&'a str>,
 }
 
-/// Whether an option without a value is set: one that isn't there has the value `false`.
+/// Whether an option without a value is set. One that isn't there has the value `false`.
 fn is_set(matches: &ArgMatches<'_>, name: &str) -> bool
     ensures { result ≡ is_set (first_of name.now (rows_of (found_of matches.now))) }
 {
@@ -66,7 +66,7 @@ fn given_by<'a>(alloc: Global, matches: &ArgMatches<'a>) -> Result<Given<'a>, Al
     })
 }
 
-/// Whether the word isn't empty and doesn't begin with `-`.
+/// Whether the argument isn't empty and doesn't begin with `-`.
 fn is_plain(word: &str) -> bool
     ensures { result ≡ is_plain word.now }
 {
@@ -96,7 +96,7 @@ fn has_plain_values(given: &Given<'_>) -> bool
         && is_plain_value(given.make)
 }
 
-/// Whether the word may be a file: it isn't empty and not `-` alone.
+/// Whether the argument may be a file: it isn't empty, and it isn't `-`.
 fn is_file(word: &str) -> bool
     ensures { result ≡ is_file word.now }
 {
@@ -109,7 +109,7 @@ fn are_files(words: &[&str]) -> bool
     words.iter().all(|word| is_file(word))
 }
 
-/// What the words give, or `None` where they spell no lawful options and files.
+/// What the arguments give, or `None` if they aren't valid options and files.
 pub fn read_words<'a>(alloc: Global, words: &'a [&'a str]) -> Result<Option<Given<'a>>, AllocError>
     requires { All IsUtf8 (map (λ word. word.now) words.now) }
     ensures { IfOk result (λ found. MatchOption found

@@ -1,8 +1,9 @@
-//! The words of the command line, and the options that they set.
+//! The command-line arguments of `groups`, and the options that they set.
 //!
-//! `parse_words` answers the one `Options` that lawful words set, and `Usage` exactly where words
-//! aren't lawful. Which words belong together is read by clap; numbers, lists of roots, what excludes
-//! what and the names of files are decided here. `make_text` is the text that `--make` asks for.
+//! `parse_words` returns the one `Options` that valid arguments set, and `Usage` exactly if they
+//! aren't valid. The parser `clap` decides which arguments belong together. This crate decides
+//! about numbers, lists of predicates, options that exclude each other and file names. `make_text`
+//! is the generated program of `--make`.
 //!
 //! ```text
 //! --jobs 2 --roots m:p/0,q/1 lib/a.pl ./lib/a    two workers, the roots m:p/0 and user:q/1, the file lib/a.pl

@@ -6,7 +6,7 @@ ghost use Rattle.group_words.specs.Made.{name_at, in_block, out_of_block, body, 
 
 use std::alloc::{AllocError, Global};
 
-/// The predicate of the same block that the predicate of a number calls.
+/// The predicate of the same block that the predicate with this number calls.
 fn call_in_block(count: u32, number: u32) -> Option<u32>
     requires few { count ≤ MOST_MADE }
     requires within { number < count }
@@ -21,7 +21,7 @@ fn call_in_block(count: u32, number: u32) -> Option<u32>
     None
 }
 
-/// The predicate of an earlier block that the predicate of a number calls.
+/// The predicate of an earlier block that the predicate with this number calls.
 fn call_out_of_block(number: u32) -> Option<u32>
     requires { number < MOST_MADE }
     ensures { as_list result ≡ out_of_block number }
@@ -35,7 +35,7 @@ fn call_out_of_block(number: u32) -> Option<u32>
     Some(10 * ((number / 10 - 1) / 2))
 }
 
-/// Adds the name of the predicate of a number.
+/// Adds the name of the predicate with this number.
 fn push_name(alloc: Global, number: u32, text: &mut String) -> Result<(), AllocError>
     ensures { OnOk result (string_bytes text.new ≡ string_bytes text.old ++ name_at number) }
 {
@@ -43,7 +43,7 @@ fn push_name(alloc: Global, number: u32, text: &mut String) -> Result<(), AllocE
     text.push_str(name.as_str())
 }
 
-/// Adds what stands behind the head of a line.
+/// Adds what follows the head of a line.
 fn push_body(
     alloc: Global,
     first: Option<u32>,
@@ -67,7 +67,7 @@ fn push_body(
     push_name(alloc, other, text)
 }
 
-/// Adds the line of the predicate of a number.
+/// Adds the line of the predicate with this number.
 fn push_line(alloc: Global, count: u32, number: u32, text: &mut String) -> Result<(), AllocError>
     requires few { count ≤ MOST_MADE }
     requires within { number < count }
@@ -83,8 +83,8 @@ fn push_line(alloc: Global, count: u32, number: u32, text: &mut String) -> Resul
     text.push_str(".\n")
 }
 
-/// The text of a program of `count` predicates, 1 to 100,000, a line for each: blocks of ten
-/// predicates that call each other in a ring, and each block but the first calls one before it.
+/// The generated program of `count` predicates, 1 to 100,000, with a line for each. Blocks of ten
+/// predicates call each other in a cycle, and each block except the first calls an earlier one.
 pub fn make_text(alloc: Global, count: u32) -> Result<String, AllocError>
     requires { count ≤ MOST_MADE }
     ensures { IfOk result (λ text. string_bytes text ≡ made_text count) }

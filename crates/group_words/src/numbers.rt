@@ -1,10 +1,10 @@
 ghost use Rattle.std.specs.Prelude.{◌≡◌, ◌↔◌, ℕ, IsTrue, MatchOption};
 ghost use Rattle.group_words.specs.Numbers.{IsNumber, IsNumberIn};
 
-/// The longest number.
+/// The most digits of a number.
 const MOST_DIGITS: usize = 20;
 
-/// Whether the text is one digit to twenty.
+/// Whether the text is one to twenty digits.
 fn is_number(text: &str) -> bool
     ensures { IsTrue result ↔ IsNumber text.now }
 {
@@ -18,7 +18,7 @@ fn is_number(text: &str) -> bool
     bytes.iter().all(|byte| byte.is_ascii_digit())
 }
 
-/// The number that the text writes, where it lies between these two.
+/// The number that the text writes, if it is from `low` to `high`.
 pub fn read_number(text: &str, low: u64, high: u64) -> Option<u64>
     ensures { MatchOption result ((n : ℕ) → IsNumberIn low high text.now n → ⊥) (λ n. IsNumberIn low high text.now n) }
 {

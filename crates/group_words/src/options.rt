@@ -3,39 +3,39 @@ use prolog_tokens::Text;
 use std::alloc::AllocError;
 use thiserror::Error;
 
-/// What lawful words ask for.
+/// What valid arguments ask for.
 #[derive(Debug, Drop)]
 pub struct Options {
-    /// How many workers search, 1 to 64.
+    /// How many threads search, 1 to 64.
     pub jobs: u32,
-    /// How many searches one worker runs, 1 to 64, and the seed of their schedule.
+    /// How many searches one thread runs, 1 to 64, and the seed of their schedule.
     pub searches: Option<(u32, u64)>,
-    /// The predicates to start at, in the order of the words, as often as they stand there.
+    /// The entry points, in the order of the arguments, as often as they occur there. None if the
+    /// files decide.
     pub roots: Option<Vec<PredName>>,
-    /// Whether groups are reported in the order of their release.
+    /// Whether groups are reported in the order in which the search found them.
     pub order: bool,
     /// Whether predicates that aren't reached are reported.
     pub unreached: bool,
     /// Whether the effects that groups may reach are reported.
     pub effects: bool,
-    /// Whether the circuits of groups are reported.
+    /// Whether a cycle of calls is reported for each recursive group.
     pub loops: bool,
-    /// Whether the levels of groups are found while the search goes on. Then `order` is set, and there are
-    /// no searches.
+    /// Whether the levels of groups are computed while the search runs. Then `order` is set, and
+    /// `searches` isn't.
     pub stream: bool,
-    /// The two predicates whose least path is reported: the one that it leaves, and the one that it
-    /// comes to.
+    /// The two predicates between which the least path is reported: its start and its end.
     pub path: Option<(PredName, PredName)>,
-    /// How many predicates the made text has, 1 to 100,000, where no file is read.
+    /// How many predicates the generated program has, 1 to 100,000. Then no file is read.
     pub make: Option<u32>,
-    /// The names of the files in the order of the words, each once.
+    /// The names of the files in the order of the arguments, each once.
     pub files: Vec<Text>,
 }
 
-/// Why words have no options.
+/// Why arguments set no options.
 #[derive(Clone, Copy, Debug, PartialEq, Eq, Drop, Error)]
 pub enum WordFault {
-    /// The words aren't lawful.
+    /// The arguments aren't valid.
     #[error("the words are not lawful")]
     Usage,
     #[error("out of memory")]

@@ -8,7 +8,7 @@ use crate::settings::options_of;
 use prolog_tokens::Text;
 use std::alloc::{AllocError, Global};
 
-/// The words as clap takes them.
+/// The arguments as clap takes them.
 fn lent_words<'a>(alloc: Global, words: &'a [Text]) -> Result<Vec<&'a str>, AllocError>
     ensures same { IfOk result (λ lent. map (λ word. word.now) lent.items ≡ words.entry.now) }
     ensures text { IfOk result (λ lent. All IsUtf8 (map (λ word. word.now) lent.items)) }
@@ -20,7 +20,8 @@ fn lent_words<'a>(alloc: Global, words: &'a [Text]) -> Result<Vec<&'a str>, Allo
     Ok(lent)
 }
 
-/// The options that the words set, or `Usage` where they aren't lawful.
+/// The options that the arguments set, or `Usage` if they aren't valid. `docs/report.md` lists the
+/// valid ones.
 pub fn parse_words(alloc: Global, words: &[Text]) -> Result<Options, WordFault>
     ensures ok { IfOk result (λ options. AreLawful words.now (see_options options)) }
     ensures only { IfOk result (λ options. (other : Settings) → AreLawful words.now other → other ≡ see_options options) }

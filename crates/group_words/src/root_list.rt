@@ -45,7 +45,7 @@ fn arity_of(term: &Term) -> Option<u32>
     value
 }
 
-/// The predicate of these parts, where all are there.
+/// The predicate of these parts, if all are there.
 fn named(
     alloc: Global,
     owner: Option<&str>,
@@ -78,7 +78,7 @@ fn named_predicate(alloc: Global, term: &Term) -> Result<Option<PredName>, Alloc
     }
 }
 
-/// Adds the predicates that commas join, and tells whether all are named.
+/// Adds the predicates that commas join, and returns whether all are named.
 fn push_joined(alloc: Global, term: &Term, roots: &mut Vec<PredName>) -> Result<bool, AllocError>
     ensures { IfOk result (λ all. AddsRoots roots.old.items roots.new.items all (all_there (map named_predicate (joined (tree_of term.now))))) }
 {
@@ -95,7 +95,7 @@ fn push_joined(alloc: Global, term: &Term, roots: &mut Vec<PredName>) -> Result<
     Ok(true)
 }
 
-/// Whether there are tokens, and none but the last is an End.
+/// Whether there are tokens, and only the last one is an End.
 fn is_one_clause(tokens: &[Token]) -> bool
     ensures { IsTrue result ↔ IsOneClause tokens.now }
 {
@@ -116,7 +116,7 @@ fn opening_table(alloc: Global) -> Result<OpTable, AllocError>
     OpTable::opening(alloc)
 }
 
-/// The one clause that the tokens are.
+/// The one clause of the tokens, or None if they are none.
 fn read_tokens(alloc: Global, text: &str, tokens: &[Token]) -> Result<Option<ListTerm>, AllocError>
     requires small { length text.now ≤ MOST_BYTES }
     requires cut { IsCut text.now tokens.now }
@@ -150,7 +150,7 @@ fn read_tokens(alloc: Global, text: &str, tokens: &[Token]) -> Result<Option<Lis
     }
 }
 
-/// The term of the list.
+/// The term of the list, or None if it is none.
 fn read_list(alloc: Global, list: &str) -> Result<Option<ListTerm>, AllocError>
     requires { length list.now ≤ MOST_LIST }
     ensures { IfOk result (λ found. MatchOption found ((tree : Tree) → IsList list.now tree → ⊥) (λ term. IsList list.now (list_tree term))) }
@@ -167,7 +167,8 @@ fn read_list(alloc: Global, list: &str) -> Result<Option<ListTerm>, AllocError>
     }
 }
 
-/// The predicates that a list names, as `p/2, m:q/0`, in its order.
+/// The predicates that a list names, such as `p/2, m:q/0`, in its order. None if it isn't such a
+/// list.
 pub fn read_roots(alloc: Global, list: &str) -> Result<Option<Vec<PredName>>, AllocError>
     ensures { IfOk result (λ found. MatchOption found
         ((roots : List PredName) → IsRootList list.now roots → ⊥)

@@ -17,7 +17,7 @@ use prolog_tokens::Text;
 use std::alloc::{AllocError, Global};
 use std::collections::BTreeSet;
 
-/// A number from 1 on.
+/// A number from 1 to `most`.
 fn read_count(text: &str, most: u32) -> Result<u32, WordFault>
     ensures ok { IfOk result (λ count. IsNumberIn 1 most text.now count) }
     ensures usage { IfErr result (λ _. (count : ℕ) → IsNumberIn 1 most text.now count → ⊥) }
@@ -90,7 +90,7 @@ fn roots_of(alloc: Global, text: Option<&str>) -> Result<Option<Vec<PredName>>, 
     }
 }
 
-/// The first and the second of a list of just two.
+/// The two items of a list of exactly two.
 fn just_two(named: Vec<PredName>) -> Option<(PredName, PredName)>
     ensures { MatchOption result
         ((both : PredName × PredName) → named.items ≡ both.0 ∷ both.1 ∷ [] → ⊥)
@@ -105,7 +105,7 @@ fn just_two(named: Vec<PredName>) -> Option<(PredName, PredName)>
     Some((from, to))
 }
 
-/// The predicates that a path leaves and comes to, where one is asked for.
+/// The start and the end of the path that is asked for, if one is.
 fn path_of(alloc: Global, text: Option<&str>) -> Result<Option<(PredName, PredName)>, WordFault>
     ensures ok { IfOk result (λ path. PathIs (text_of text.entry) path) }
     ensures usage { IfErr result (λ fault. fault ≡ WordFault.Usage
@@ -123,7 +123,7 @@ fn path_of(alloc: Global, text: Option<&str>) -> Result<Option<(PredName, PredNa
     }
 }
 
-/// Keeps the name, unless it is kept already.
+/// Appends the name, unless it is there already.
 fn keep_name(
     alloc: Global,
     name: Text,
@@ -138,7 +138,7 @@ fn keep_name(
     Ok(())
 }
 
-/// The names that the words for files resolve to, each once.
+/// The names to which the arguments for files resolve, each once, in their order.
 fn names_of(alloc: Global, files: &[&str]) -> Result<Vec<Text>, WordFault>
     ensures ok { IfOk result (λ names. FilesAre (map (λ word. word.now) files.now) names.items) }
     ensures usage { IfErr result (λ fault. fault ≡ WordFault.Usage → (named : List (List ℕ)) → FilesAre (map (λ word. word.now) files.now) named → ⊥) }
@@ -154,7 +154,7 @@ fn names_of(alloc: Global, files: &[&str]) -> Result<Vec<Text>, WordFault>
     Ok(kept)
 }
 
-/// Whether what the words give may stand together.
+/// Whether the options that the arguments give go together.
 fn go_together(given: &Given<'_>) -> bool
     ensures { IsTrue result ↔ GoTogether (given_of given.now) (file_words given.now) }
 {
@@ -179,7 +179,7 @@ fn go_together(given: &Given<'_>) -> bool
         && given.files.is_empty()
 }
 
-/// The options that what the words give sets.
+/// The options that the arguments set, or `Usage` if a value or a combination isn't valid.
 pub fn options_of(alloc: Global, given: &Given<'_>) -> Result<Options, WordFault>
     ensures ok { IfOk result (λ options. AreSettings (given_of given.now) (file_words given.now) (see_options options)) }
     ensures usage { IfErr result (λ fault. fault ≡ WordFault.Usage

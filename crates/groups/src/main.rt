@@ -1,5 +1,5 @@
-//! `groups FILE..`: hands the words, the disk and the standard streams to `run_groups`, and ends with
-//! its status.
+//! The command `groups FILE..`: runs `run_groups` with the arguments, the disk and the standard
+//! streams, and exits with its status.
 #![tactic(auto)]
 
 use file_library::DiskLibrary;
@@ -7,7 +7,7 @@ use group_tool::{OpenGate, run_groups};
 use std::process::ExitCode;
 use tool_run::{StreamSink, words};
 
-/// The status where there is no memory for the words. Nothing is put then.
+/// The exit status if there is no memory for the arguments. Nothing is written then.
 const NO_MEMORY: u8 = 7;
 
 fn main(rt: HostRuntime) -> ExitCode {

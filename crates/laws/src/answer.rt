@@ -1,4 +1,5 @@
-//! What holds of each command line over each map of files, as a law: a function with nothing to run.
+//! A theorem about each command line over each map of files: a function that does nothing, and is
+//! called for what it ensures.
 
 ghost use Rattle.std.specs.Prelude.{ℕ, List, All, IsUtf8};
 ghost use Rattle.file_library.specs.Library.{Files};
@@ -17,7 +18,7 @@ use group_words::settings_within;
 use loop_paths::some_shortest;
 use search_machine::schedules_answer;
 
-/// Words over files have an answer.
+/// Arguments over files have an answer.
 pub fn some_answer()
     ensures { (words : List (List ℕ)) (files : Files) → All IsUtf8 words → (end : End) × IsAnswer groups_tool (AreLawful words) files end }
 {

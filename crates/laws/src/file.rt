@@ -1,5 +1,5 @@
-//! What holds of the facts of each file and of the faults of each text, as laws: functions with
-//! nothing to run.
+//! Theorems about the facts of each file and the errors of each text: functions that do nothing,
+//! and are called for what they ensure.
 
 mod answered;
 mod said;

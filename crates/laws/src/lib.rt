@@ -1,24 +1,28 @@
-//! Laws that answers exist: no definition leaves a hole that want of memory would hide.
+//! Theorems that answers exist: no definition is so strict that a program could meet it only by
+//! running out of memory.
 //!
-//! No program stands on them, and nothing here runs. Each says of one layer's definitions, over values
-//! that no program need hold, that there is an answer; what the layers' own functions promise says that
-//! there is one at most. In order, each above those that it stands on:
+//! No program depends on them, and nothing here runs. Each is about the definitions of one layer,
+//! over values that no program needs to hold, and states that there is an answer. The contracts of
+//! the layers' own functions state that there is at most one. In order, each after those that it
+//! depends on:
 //!
-//! - `cut`: a UTF-8 text is tokens, or has a fault;
-//! - `clause`: the tokens of a clause are one, or there is a fault of reading them;
-//! - `file`: what single clauses say is what their file says; a text is clauses or has a fault, a file
-//!   has facts or a fault;
-//! - `load`: over each map of files the asking for files ends in a way that the map alone decides;
-//! - `program`: loaded files have too many predicates, or import faults, or are a program, whose goal
-//!   faults and roots are lists;
-//! - `schedule`: a schedule of searches comes to its end, what roots reach has a legal order of its
-//!   classes, and the groups of a legal order have levels;
-//! - `report`: files have a list of import loops, groups in a legal order a report;
-//! - `word`: words are lawful, and set options, or aren't;
-//! - `answer`: words over a map of files have a right answer, which is all of this together;
-//! - `told`: the words of `calls` ask for one thing or for nothing, predicates of a program have a table
-//!   of their calls, and words of `calls` over a map of files have a right answer too, and one alone
-//!   where they ask for no graph.
+//! - `cut`: a UTF-8 text has tokens or an error;
+//! - `clause`: the tokens of a clause are a clause, or there is an error of reading them;
+//! - `file`: what a file says is what its single clauses say. A text has clauses or an error, and a
+//!   file has facts or an error;
+//! - `load`: for each map of files, reading the roots and all that they load ends in a way that the
+//!   map decides;
+//! - `program`: loaded files have too many predicates, or import errors, or are a program, whose
+//!   goal errors and roots are lists;
+//! - `schedule`: a schedule of searches comes to its end. What roots reach has a reverse
+//!   topological order of its SCCs, and the groups of such an order have levels;
+//! - `report`: files have a list of import cycles, and groups in reverse topological order have a
+//!   report;
+//! - `word`: arguments are valid, and set options, or aren't;
+//! - `answer`: arguments over a map of files have a right answer, which is all of this together;
+//! - `told`: the arguments of `calls` ask for one thing or for nothing. Predicates of a program
+//!   have a table of their calls. Arguments of `calls` over a map of files have a right answer too,
+//!   and only one if they ask for no graph.
 #![tactic(auto)]
 
 mod answer;

@@ -1,4 +1,5 @@
-//! What holds of all files that were loaded, as laws: functions with nothing to run.
+//! Theorems about all files that were loaded: functions that do nothing, and are called for what
+//! they ensure.
 
 ghost use Rattle.std.specs.Prelude.{◌≢◌, ◌⊎◌, ◌↔◌, ◌<◌, ◌≤◌, ℕ, List, [], Contains};
 ghost use Rattle.std.specs.List.Sorted.{IsStrictlyIncreasing};
@@ -10,7 +11,7 @@ ghost use Rattle.import_rules.specs.Program.{Seen, HasPredicates, IsProgram};
 ghost use Rattle.call_edges.specs.GoalFaults.{AreGoalFaults};
 ghost use Rattle.call_edges.specs.Roots.{IsRoot};
 
-/// Loaded files have too many predicates, or import faults, or are a program.
+/// Loaded files have too many predicates, or import errors, or are a program.
 pub fn program_or_faults()
     ensures { (loaded : LoadedFiles) → WasLoaded loaded
         → HasPredicates loaded (λ n. MOST_PREDICATES < n)

@@ -1,4 +1,5 @@
-//! What there is to report, as laws: functions with nothing to run.
+//! Theorems that there is something to report: functions that do nothing, and are called for what
+//! they ensure.
 
 ghost use Rattle.std.specs.Prelude.{ℕ, Bool, List, length};
 ghost use Rattle.group_release.specs.declared.level.Level.{Level};
@@ -10,14 +11,15 @@ ghost use Rattle.module_table.specs.Facts.{Facts};
 
 use crate::schedule::order_exists;
 
-/// Files have a list of import loops.
+/// Files have a list of import cycles.
 pub fn loops_exist()
     ensures { (files : List Facts) → (loops : List (List (List ℕ))) × AreImportLoops files loops }
 {
     order_exists();
 }
 
-/// Groups in a legal order with their levels have a report, in order of height and in their own order.
+/// Groups in reverse topological order with their levels have a report, in order of height and in
+/// their own order.
 pub fn reports_exist()
     ensures lines { (predicates : List PredName) (files : List Facts) (groups : List (List ℕ)) (levels : List Level) (unreached : Bool)
         → AreReportable (length predicates) groups levels → (bytes : List ℕ) × IsReport predicates files groups levels unreached bytes }

@@ -1,4 +1,5 @@
-//! What there is for each graph, as laws: functions with nothing to run.
+//! Theorems that each graph has an answer: functions that do nothing, and are called for what they
+//! ensure.
 
 ghost use Rattle.std.specs.Prelude.{ℕ, ◌<◌, List, length, All};
 ghost use Rattle.graph_law.specs.Classes.{HasMember};
@@ -17,7 +18,7 @@ pub fn schedule_ends()
         → (groups : List (List ℕ)) × IsScheduled lists roots searches seed groups }
 {}
 
-/// What the roots reach has a legal order of its classes of mutual reach.
+/// What the roots reach has a reverse topological order of its SCCs.
 pub fn order_exists()
     ensures { (lists : List (List ℕ)) (roots : List ℕ) → IsClosed lists → All (λ root. root < length lists) roots
         → (groups : List (List ℕ)) × (IsLegalOrder (Calls lists) groups × IsComplete roots groups
@@ -27,7 +28,7 @@ pub fn order_exists()
     schedules_answer();
 }
 
-/// The groups of a legal order have levels.
+/// The groups of a reverse topological order have levels.
 pub fn levels_exist()
     ensures { (lists : List (List ℕ)) (groups : List (List ℕ)) → IsLegalOrder (Calls lists) groups
         → (levels : List Level) × AreLevels (Calls lists) groups levels }

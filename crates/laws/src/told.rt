@@ -1,4 +1,5 @@
-//! What holds of the words of `calls` over each map of files, as laws: functions with nothing to run.
+//! Theorems about the arguments of `calls` over each map of files: functions that do nothing, and
+//! are called for what they ensure.
 
 ghost use Rattle.std.specs.Prelude.{◌≡◌, ◌≢◌, ◌⊎◌, ◌<◌, ◌≤◌, ℕ, List, length, All, IsUtf8};
 ghost use Rattle.file_library.specs.Library.{Files};
@@ -20,21 +21,21 @@ use crate::schedule::{levels_exist, order_exists};
 use crate::word::lawful_or_not;
 use call_edges::roots_below;
 
-/// Words of `calls` ask for one thing, or for nothing.
+/// Arguments of `calls` ask for one thing, or for nothing.
 pub fn asked_or_nothing()
     ensures { (words : List (List ℕ)) → All IsUtf8 words → ((asked : Asked) × AreAsked words asked) ⊎ IsNothingAsked (AreAsked words) }
 {
     lawful_or_not();
 }
 
-/// Each node has the place of a group that it is in, or is in none of the groups.
+/// Each node has the index of a group that it is in, or is in none of the groups.
 pub fn memberships_exist()
     ensures { (count : ℕ) (groups : List (List ℕ)) → (places : List ℕ) × AreGroupsOf count groups places }
 {}
 
-/// Predicates of a program, no more than it has, have a table of their clauses and their calls. It is a
-/// value of the code, whose lists have fewer than 2 to the 63 elements: no program has so many clauses or
-/// so many calls.
+/// Predicates of a program, no more than it has, have a table of their clauses and their calls. It
+/// is a value of the code, whose lists have fewer than 2^63 items. No program has so many clauses
+/// or calls.
 pub fn tables_exist()
     ensures { (loaded : LoadedFiles) (seen : Seen) → WasLoaded loaded → IsProgram loaded seen → (nodes : List ℕ) (groups : List (List ℕ))
         → length nodes ≤ length seen.predicates → (table : CallTable) × IsTable seen nodes groups table }
@@ -42,7 +43,8 @@ pub fn tables_exist()
     memberships_exist();
 }
 
-/// What is asked for is told of a program, where reach begins at some of its predicates.
+/// There are bytes that answer what is asked for of a program, if reachability begins at some of
+/// its predicates.
 pub fn told_exists()
     ensures { (loaded : LoadedFiles) (seen : Seen) → WasLoaded loaded → IsProgram loaded seen → (asked : Asked) (roots : List ℕ)
         → All (λ q. q < length seen.predicates) roots → (bytes : List ℕ) × TellsFrom asked seen roots bytes }
@@ -53,7 +55,7 @@ pub fn told_exists()
     tables_exist();
 }
 
-/// Words of `calls` over files have an answer.
+/// Arguments of `calls` over files have an answer.
 pub fn some_told_answer()
     ensures { (words : List (List ℕ)) (files : Files) → All IsUtf8 words → (end : End) × IsAnswer calls_tool (AreAsked words) files end }
 {
@@ -66,7 +68,7 @@ pub fn some_told_answer()
     told_exists();
 }
 
-/// Words of `calls` over files have one answer, where they ask for no graph.
+/// Arguments of `calls` over files have exactly one answer, if they ask for no graph.
 pub fn one_told_answer()
     ensures { (words : List (List ℕ)) (files : Files) (answer other : End) → ((asked : Asked) → AreAsked words asked → asked.form ≢ Dot)
         → IsAnswer calls_tool (AreAsked words) files answer → IsAnswer calls_tool (AreAsked words) files other → answer ≡ other }

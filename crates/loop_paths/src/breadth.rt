@@ -11,7 +11,7 @@ use crate::tree::Tree;
 use graph_law::{Opener, stamp};
 use std::alloc::{AllocError, Global};
 
-/// Puts the nodes that `node` calls into `callees`, ascending and each once.
+/// Puts the nodes that `node` calls into `callees`, strictly ascending.
 fn open<O: Opener>(opener: &O, node: u32, callees: &mut Vec<u32>) -> Result<(), AllocError>
     requires { node < length (O.lists opener.now) }
     ensures ascending { OnOk result (IsStrictlyIncreasing callees.new.items) }
@@ -31,7 +31,7 @@ fn has(nodes: &[u32], node: u32) -> bool
     nodes.contains(&node)
 }
 
-/// Adds the callees of the node at `place` that weren't met before, and marks them.
+/// Adds the callees of the node at `place` that weren't reached before, and marks them.
 fn meet(tree: &mut Tree, seen: &mut [bool], place: usize, callees: &[u32]) -> Result<(), AllocError>
     requires ascending { IsStrictlyIncreasing callees.now }
     requires below { All (λ callee. callee < length seen.old) callees.now }
@@ -55,7 +55,7 @@ fn meet(tree: &mut Tree, seen: &mut [bool], place: usize, callees: &[u32]) -> Re
     Ok(())
 }
 
-/// Opens the nodes of the tree one after another until one calls `to`, and tells the place of that one.
+/// Expands the nodes of the tree one after another until one calls `to`, and returns its index.
 fn grow<O: Opener>(
     alloc: Global,
     opener: &O,
@@ -70,7 +70,7 @@ fn grow<O: Opener>(
         → IsGrown (Calls (O.lists opener.now)) from to tree.old.nodes.items tree.old.callers.items seen.old 0
         → IsFound (O.lists opener.now) from to tree.new.nodes.items tree.new.callers.items seen.new found) }
 {
-    // That successors are nodes is promised by `count`.
+    // The contract of `count` states that successors are nodes.
     let _count = opener.count();
     let mut callees = Vec::new(alloc);
     let mut place = 0;
@@ -85,7 +85,8 @@ fn grow<O: Opener>(
     Ok(None)
 }
 
-/// The least path from `from` whose last node calls `to`. No node is marked before and after.
+/// The least path from `from` whose last node calls `to`, or None. No node is marked before and
+/// after.
 pub(crate) fn lead<O: Opener>(
     alloc: Global,
     opener: &O,

@@ -38,9 +38,12 @@ fn returns_of<O: Opener>(
     Ok(found)
 }
 
-/// The circuit of each group's least member, or none where the group isn't recursive. The groups are
-/// in a legal order. A search goes by the calls inside its group alone, so that each node of the
-/// groups is opened once.
+/// The least cycle through each group's least member, or None if the group isn't recursive, in the
+/// order of the groups. They are in reverse topological order.
+///
+/// The last node of a cycle calls the first one, which isn't repeated. A search follows only calls
+/// inside its group, so each node of the groups is expanded once. Fails only if memory runs out,
+/// here or in the opener.
 pub fn circuits<O: Opener>(
     alloc: Global,
     opener: &O,

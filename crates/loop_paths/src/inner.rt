@@ -11,7 +11,7 @@ pub(crate) struct Inner<'a, O> {
     pub(crate) places: &'a [usize],
 }
 
-/// The place of a node's group.
+/// The index of a node's group.
 fn place_of(places: &[usize], node: u32) -> usize
     ensures { result ≡ slice_index places.now node }
 {
@@ -21,7 +21,7 @@ fn place_of(places: &[usize], node: u32) -> usize
     }
 }
 
-/// Leaves those of the callees that are in the group of the node.
+/// Keeps only those of the callees that are in the group of the node.
 fn keep_inner(places: &[usize], node: u32, callees: &mut Vec<u32>)
     ensures { callees.new.items ≡ inner_nodes places.now node callees.old.items }
 {

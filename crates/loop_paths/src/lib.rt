@@ -1,16 +1,16 @@
-//! Least paths and circuits in a call graph.
+//! Shortest paths and cycles in a call graph, each the least of several.
 //!
-//! `shortest` answers why one node reaches another: the least path between them. `circuit` answers why
-//! a node is in a recursive group: the least closed walk that comes back to it. Of two lists of nodes
-//! the shorter is less, and of two of one length the one that has the lesser node where they first
-//! differ. So each has one answer, whatever the order of a node's successors.
+//! `shortest` shows why one node reaches another: the least path between them. `circuit` shows why
+//! a node is in a recursive group: the least closed walk that returns to it. Of two lists of nodes
+//! the shorter is less. Of two with the same length, the lesser node at their first difference
+//! decides. So each result is unique, whatever the order of a node's successors.
 //!
 //! ```text
 //! 0: [2, 1]   1: [3]   2: [3]   3: [0]
-//! shortest from 0 to 3: 0 1 3        the circuit of 0: 0 1 3
+//! shortest from 0 to 3: 0 1 3        the cycle of 0: 0 1 3
 //! ```
 //!
-//! A search goes in breadth and opens each node once at most.
+//! A search is breadth-first, and expands each node at most once.
 #![tactic(auto)]
 
 mod breadth;

@@ -7,8 +7,11 @@ use crate::breadth::lead;
 use graph_law::Opener;
 use std::alloc::{AllocError, Global};
 
-/// The least path from one node to another. There is none exactly where the one does not reach the
-/// other.
+/// The least path from one node to another, both included. None if and only if the first doesn't
+/// reach the other.
+///
+/// The shorter path is less, and then the one with the lesser node at the first difference. The
+/// search is breadth-first, and expands each node at most once.
 pub fn shortest<O: Opener>(
     alloc: Global,
     opener: &O,
@@ -32,8 +35,8 @@ pub fn shortest<O: Opener>(
     Ok(Some(path))
 }
 
-/// The least closed walk of a node, without its last node, which is the first again. There is none
-/// exactly where no call leads back to the node.
+/// The least cycle of a node: its least closed walk without the last node, which is the first
+/// again. None if and only if no calls lead back to the node. Each node is expanded at most once.
 pub fn circuit<O: Opener>(
     alloc: Global,
     opener: &O,

@@ -4,8 +4,8 @@ ghost use Rattle.loop_paths.specs.Grown.{IsTree, path_at};
 
 use std::alloc::{AllocError, Global};
 
-/// The nodes that a search has met, in the order of their least paths, and for each the place of the
-/// node that it was met from. The first one is where the search began.
+/// The nodes that a search has reached, in the order of their least paths, and for each the index
+/// of the node from which it was reached. The first one is the start of the search.
 #[derive(Drop)]
 pub(crate) struct Tree {
     pub(crate) nodes: Vec<u32>,
@@ -25,7 +25,7 @@ impl Tree {
         Ok(Tree { nodes, callers })
     }
 
-    /// Adds a node that was met from the one at that place.
+    /// Adds a node that was reached from the one at the index.
     pub(crate) fn push(&mut self, node: u32, caller: usize) -> Result<(), AllocError>
         ensures nodes { OnOk result (self.new.nodes.items ≡ self.old.nodes.items ++ node ∷ []) }
         ensures callers { OnOk result (self.new.callers.items ≡ self.old.callers.items ++ caller ∷ []) }
@@ -35,7 +35,7 @@ impl Tree {
         Ok(())
     }
 
-    /// The path to the node at that place.
+    /// The path to the node at the index.
     pub(crate) fn path(&self, alloc: Global, place: usize) -> Result<Vec<u32>, AllocError>
         requires tree { (lists : List (List ℕ)) × (from : ℕ) × (paths : List (List ℕ))
             × IsTree (Calls lists) from self.now.nodes.items self.now.callers.items paths }

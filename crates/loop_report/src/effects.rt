@@ -35,7 +35,7 @@ fn kind_word(kind: u32) -> &'static str
     }
 }
 
-/// Adds the line of a kind of effect.
+/// Adds the line of a kind of effect, with its witness.
 fn push_effect<'a>(
     text: &mut String,
     program: &'a Program,
@@ -81,7 +81,7 @@ fn push_effects<'a>(
     Ok(())
 }
 
-/// The flow of the group at a place.
+/// The flow of the group at the index.
 fn flow_there(flows: &[Flow], place: usize) -> Flow
     requires { place < length flows.now }
     ensures { see_flow result ≡ flow_at (see_flows flows.now) place }
@@ -89,10 +89,11 @@ fn flow_there(flows: &[Flow], place: usize) -> Flow
     flows[place]
 }
 
-/// A line for each group and each kind of effect that it has a carrier for, in order of height, least
-/// member and kind: `effect`, the least member, the word of the kind and the carrier. The groups are
-/// in a legal order of some graph of the predicates, the levels are theirs there, and there is a flow
-/// for each. Only memory can be wanting.
+/// A line for each group and each kind of effect with a witness, in order of height, least member
+/// and kind: `effect`, the least member, the word of the kind and the witness.
+///
+/// The groups are in reverse topological order of some graph of the predicates. `levels` and
+/// `flows` have one entry for each. Fails only if memory runs out.
 pub fn effect_lines(
     alloc: Global,
     program: &Program,

@@ -11,7 +11,7 @@ use group_release::Level;
 use import_rules::Program;
 use std::alloc::{AllocError, Global};
 
-/// Adds the lines of the groups at these places.
+/// Adds the lines of the groups at these indices.
 pub(crate) fn push_groups(
     alloc: Global,
     text: &mut String,

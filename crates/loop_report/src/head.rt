@@ -9,9 +9,11 @@ use crate::names::push_number;
 use group_release::Level;
 use std::alloc::{AllocError, Global};
 
-/// The first line of the report: `predicates P groups G recursive R levels L`. P counts the members of
-/// all groups, G the groups, R the recursive ones; L is one more than the greatest height, or 0 where
-/// there is no group. The groups are in a legal order of some graph, and the levels are theirs.
+/// The first line of the report: `predicates P groups G recursive R levels L`.
+///
+/// P counts the members of all groups, G the groups, and R the recursive ones. L is one more than
+/// the greatest height, or 0 if there is no group. The groups are in reverse topological order of
+/// some graph, and `levels` are their levels.
 pub fn head_line(
     alloc: Global,
     groups: &[Vec<u32>],

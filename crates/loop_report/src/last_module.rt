@@ -8,8 +8,8 @@ ghost use Rattle.loop_report.specs.Names.{module_text};
 use crate::spelled::push_atom;
 use std::alloc::{AllocError, Global};
 
-/// The module of the last name of a line, and what stands there before a name of that module. Names
-/// that stand side by side are mostly of one module, so it is seldom spelled again.
+/// The module of the last name of a line, and the text before a name of that module. Adjacent names
+/// are mostly of one module, so it is seldom spelled again.
 #[derive(Drop)]
 pub(crate) struct LastModule<'a> {
     /// None before the first name.
@@ -28,7 +28,7 @@ impl<'a> LastModule<'a> {
         }
     }
 
-    /// Makes this the last module, and spells it where it wasn't that before.
+    /// Makes this the last module, and spells it unless it was that before.
     pub(crate) fn take(&mut self, module: &'a str) -> Result<(), AllocError>
         ensures { OnOk result (string_bytes self.new.text ≡ module_text «module».now) }
     {

@@ -1,4 +1,4 @@
-//! What holds of each report, as laws: functions with nothing to run.
+//! Theorems about each report: functions that do nothing, and are called for what they ensure.
 
 ghost use Rattle.std.specs.Prelude.{◌≡◌, ℕ, Bool, List, false, IsUtf8};
 ghost use Rattle.graph_law.specs.Graph.{Calls};
@@ -11,23 +11,23 @@ ghost use Rattle.loop_report.specs.Report.{IsReport};
 ghost use Rattle.loop_report.specs.Reportable.{AreLeveled};
 ghost use Rattle.loop_report.specs.Spelled.{spelled_name};
 
-/// A name of the report reads back: as it is written there it is one token, whose name it is. Only
-/// `[]` and `{}` are two tokens each.
+/// A name of the report reads back: what is printed is one token, whose name it is. Only `[]` and
+/// `{}` are two tokens each.
 pub fn names_read_back()
     ensures { (name : List ℕ) → IsUtf8 name → is_pair name ≡ false → ReadsBack name }
 {}
 
-/// No two names are written alike.
+/// No two names are printed alike.
 pub fn names_differ()
     ensures { (name other : List ℕ) → IsUtf8 name → IsUtf8 other → spelled_name name ≡ spelled_name other → name ≡ other }
 {}
 
-/// Files have one list of import loops.
+/// Files have at most one list of import cycles.
 pub fn one_list_of_loops()
     ensures { (files : List Facts) (loops others : List (List (List ℕ))) → AreImportLoops files loops → AreImportLoops files others → loops ≡ others }
 {}
 
-/// Groups have one report, in whatever legal order they are given.
+/// Groups have at most one report, in whatever reverse topological order they are given.
 pub fn one_report()
     ensures { (predicates : List PredName) (files : List Facts) (lists : List (List ℕ)) (roots : List ℕ) (groups others : List (List ℕ))
         (levels marks : List Level) (unreached : Bool) (bytes other : List ℕ)

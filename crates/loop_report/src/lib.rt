@@ -1,8 +1,11 @@
-//! The bytes of a report on groups of predicates.
+//! The report on groups of predicates, as bytes.
 //!
-//! `report` writes what is known of a program: how many predicates, groups, recursive groups and
-//! levels there are, each group with its height and its members, each ring of modules that import
-//! each other, and where it is asked for, the predicates that are in no group. A report looks so:
+//! `report` returns what `groups` prints of a program:
+//!
+//! - the numbers of predicates, groups, recursive groups and levels;
+//! - each group with its height and its members;
+//! - each cycle of modules that import each other;
+//! - if they are asked for, the predicates that are in no group.
 //!
 //! ```text
 //! predicates 3 groups 2 recursive 1 levels 2
@@ -12,11 +15,12 @@
 //! unreached c:t/0
 //! ```
 //!
-//! It is the same in whatever legal order the groups are given; `order_report` keeps that order.
+//! It is the same for all reverse topological orders of the groups; `order_report` prints them in
+//! the given order.
 //!
-//! Further parts stand behind a report, each of lines of its own: `effect_lines` tells which effects each
-//! group may reach, `circuit_lines` a loop of calls for each recursive group, and `walk_line` a path of
-//! calls.
+//! Further parts follow a report, each with lines of its own. `effect_lines` has the effects that
+//! each group may reach, `circuit_lines` a cycle of calls for each recursive group, and `walk_line`
+//! a path of calls.
 //!
 //! ```text
 //! effect a:p/0 output b:q/0
@@ -24,7 +28,8 @@
 //! path c:t/0 a:p/0 b:q/0
 //! ```
 //!
-//! Names are spelled so that each reads back as itself.
+//! Names are spelled so that each reads back as itself. It searches nothing but import cycles:
+//! groups, levels, effects and paths are given.
 #![tactic(auto)]
 
 mod effects;

@@ -14,7 +14,7 @@ use import_rules::Program;
 use prolog_tokens::Text;
 use std::alloc::{AllocError, Global};
 
-/// The names at the places.
+/// The names at the indices.
 fn names_at(alloc: Global, modules: &[&str], class: &[u32]) -> Result<Vec<Text>, AllocError>
     requires { All (λ member. member < length modules.now) class.now }
     ensures { IfOk result (λ names. names.items ≡ names_at (texts_of modules.now) class.now) }
@@ -26,7 +26,7 @@ fn names_at(alloc: Global, modules: &[&str], class: &[u32]) -> Result<Vec<Text>,
     Ok(names)
 }
 
-/// The names at the places, class by class.
+/// The names at the indices, SCC by SCC.
 fn named(
     alloc: Global,
     modules: &[&str],
@@ -42,9 +42,11 @@ fn named(
     Ok(loops)
 }
 
-/// The import loops of a program: the classes of modules that load each other in a ring, or the one
-/// module other than `user` that loads itself. A module loads another where a file of the one loads a
-/// file of the other. The names of a loop ascend, and the loops are in order of their least names.
+/// The import cycles of a program: the SCCs of two or more modules that load each other, and each
+/// module other than `user` that loads itself.
+///
+/// A module loads another if one of its files loads a file of the other. The names of a cycle are
+/// strictly ascending, and the cycles are in order of their least names.
 pub fn import_loops(alloc: Global, program: &Program) -> Result<Vec<Vec<Text>>, AllocError>
     ensures { IfOk result (λ loops. AreImportLoops program.now.loaded.files (lists_of loops.items)) }
 {
@@ -57,7 +59,7 @@ pub fn import_loops(alloc: Global, program: &Program) -> Result<Vec<Vec<Text>>, 
     Ok(loops)
 }
 
-/// Adds the lines of the loops.
+/// Adds the lines of the import cycles.
 pub(crate) fn push_loops(text: &mut String, loops: &[Vec<Text>]) -> Result<(), AllocError>
     ensures { OnOk result (string_bytes text.new
         ≡ string_bytes text.old ++ flat_map loop_line (lists_of loops.now)) }

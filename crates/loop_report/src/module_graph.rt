@@ -11,8 +11,8 @@ use graph_law::Graph;
 use module_table::{FileFacts, Load};
 use std::alloc::{AllocError, Global};
 
-/// Puts the numbers in `places` that stand for the loaded files at the end of `callees`. A file that
-/// isn't among the names has none.
+/// Appends the numbers in `places` of the loaded files to `callees`. A file that isn't among the
+/// names has none.
 fn push_loads(
     names: &[&str],
     places: &[u32],
@@ -43,7 +43,7 @@ fn empty_lists(alloc: Global, count: usize) -> Result<Vec<Vec<u32>>, AllocError>
     Ok(lists)
 }
 
-/// For each module the places of the modules that its files load.
+/// For each module the indices of the modules that its files load.
 fn load_lists(
     alloc: Global,
     files: &[FileFacts],
@@ -65,7 +65,7 @@ fn load_lists(
     Ok(lists)
 }
 
-/// So many nodes, one after another.
+/// `count` nodes, ascending.
 fn all_nodes(alloc: Global, count: u32) -> Result<Vec<u32>, AllocError>
     ensures { IfOk result (λ nodes. nodes.items ≡ range_with_len 0 count) }
 {

@@ -6,7 +6,7 @@ ghost use Rattle.loop_report.specs.ModuleGraph.{AreModulePlaces, AreRising, file
 use module_table::FileFacts;
 use std::alloc::{AllocError, Global};
 
-/// The modules of the files, in order and each once.
+/// The modules of the files, strictly ascending.
 pub(crate) fn module_names(alloc: Global, files: &[FileFacts]) -> Result<Vec<&str>, AllocError>
     ensures modules { IfOk result (λ modules. AreModules (map see_facts files.now) (texts_of modules.items)) }
     ensures few { IfOk result (λ modules. length modules.items ≤ length files.now) }
@@ -31,7 +31,7 @@ pub(crate) fn file_names(alloc: Global, files: &[FileFacts]) -> Result<Vec<&str>
     Ok(names)
 }
 
-/// The place of `wanted` among names in order, or `None` where it isn't there.
+/// The index of `wanted` among ascending names, or `None` if it isn't there.
 pub(crate) fn place_of(names: &[&str], wanted: &str) -> Option<u32>
     requires rising { AreRising (texts_of names.now) }
     requires few { length names.now < 2 ^ 32 }
@@ -45,7 +45,7 @@ pub(crate) fn place_of(names: &[&str], wanted: &str) -> Option<u32>
     }
 }
 
-/// For each file the place of its module.
+/// For each file the index of its module.
 pub(crate) fn module_places(
     alloc: Global,
     files: &[FileFacts],

@@ -17,7 +17,7 @@ fn digit(number: u64) -> u8
     b'0' + number as u8
 }
 
-/// Adds the number in decimal digits. It takes no memory but that of the text.
+/// Adds the number in decimal digits. It allocates only for the text.
 pub(crate) fn push_number(text: &mut String, number: u64) -> Result<(), AllocError>
     ensures { OnOk result (string_bytes text.new ≡ string_bytes text.old ++ decimal number) }
 {
@@ -28,7 +28,7 @@ pub(crate) fn push_number(text: &mut String, number: u64) -> Result<(), AllocErr
     text.push(digit(number % 10) as char)
 }
 
-/// A stroke and the arity, where that has one digit.
+/// A slash and the arity, which has one digit.
 fn short_arity(arity: u32) -> &'static str
     requires { arity < 10 }
     ensures { result.now ≡ codes "/" ++ decimal arity }
@@ -69,8 +69,8 @@ fn push_name(text: &mut String, predicate: NameView<'_>) -> Result<(), AllocErro
     push_own(text, predicate)
 }
 
-/// The name of a predicate as reports have it: `MODULE:NAME/ARITY`, where module and name are spelled
-/// as `quote_atom` spells them.
+/// The name of a predicate as reports print it: `MODULE:NAME/ARITY`, where `quote_atom` spells
+/// module and name.
 pub fn predicate_name(alloc: Global, predicate: &PredName) -> Result<String, AllocError>
     ensures { IfOk result (λ text. string_bytes text ≡ name_text predicate.now) }
 {
@@ -79,8 +79,7 @@ pub fn predicate_name(alloc: Global, predicate: &PredName) -> Result<String, All
     Ok(text)
 }
 
-/// Adds a space and the name of the predicate with that number. Its module is the last one from then
-/// on.
+/// Adds a space and the name of the predicate with that number. Its module is the last one then.
 pub(crate) fn push_member<'a>(
     text: &mut String,
     program: &'a Program,

@@ -9,7 +9,7 @@ use graph_law::{Graph, is_recursive};
 use search_stack::groups_plain;
 use std::alloc::{AllocError, Global};
 
-/// Whether the class is the module `user` alone.
+/// Whether the SCC is only the module `user`.
 fn is_user(modules: &[&str], class: &[u32]) -> bool
     requires { All (λ module_place. module_place < length modules.now) class.now }
     ensures { IsTrue result ↔ (names_at (texts_of modules.now) class.now ≡ codes "user" ∷ []) }
@@ -20,8 +20,8 @@ fn is_user(modules: &[&str], class: &[u32]) -> bool
     modules[class[0] as usize] == "user"
 }
 
-/// Whether the modules of a class load each other in a ring, or its one module isn't `user` and loads
-/// itself.
+/// Whether the SCC is an import cycle: several modules that load each other, or one other than
+/// `user` that loads itself.
 fn is_ring(graph: &Graph, modules: &[&str], class: &[u32]) -> bool
     requires members { All (λ member. member < length graph.now.lists) class.now }
     requires as_many { length modules.now ≡ length graph.now.lists }
@@ -33,7 +33,7 @@ fn is_ring(graph: &Graph, modules: &[&str], class: &[u32]) -> bool
     is_recursive(graph, class)
 }
 
-/// The classes of modules that are import loops, in order of their least members.
+/// The SCCs of modules that are import cycles, in order of their least members.
 pub(crate) fn rings(
     alloc: Global,
     graph: &Graph,

@@ -29,7 +29,7 @@ fn push_code(text: &mut String, code: u8) -> Result<(), AllocError>
     text.push_str("\\")
 }
 
-/// Adds a character of a name that stands between quotes.
+/// Adds a character of a name between quotes.
 fn push_quoted_char(text: &mut String, character: char) -> Result<(), AllocError>
     ensures { OnOk result (string_bytes text.new ≡ string_bytes text.old ++ quoted_char character) }
 {
@@ -62,9 +62,9 @@ fn push_quoted(text: &mut String, name: &str) -> Result<(), AllocError>
     text.push_str("'")
 }
 
-/// Adds the name as it is, or between quotes where it would read otherwise (ISO/IEC 13211-1,
-/// 6.4.2). In quotes `'` is `\'`, a backslash `\\`, a newline `\n`, and any other character below
-/// U+0020 and U+007F is `\xHH\` with two small hexadecimal digits.
+/// Adds the name as it is, or between quotes if it would read otherwise (ISO/IEC 13211-1, 6.4.2).
+/// In quotes `'` is `\'`, a backslash `\\`, a newline `\n`, and any other character below U+0020
+/// and U+007F is `\xHH\` with two small hexadecimal digits.
 pub(crate) fn push_atom(text: &mut String, name: &str) -> Result<(), AllocError>
     ensures { OnOk result (string_bytes text.new ≡ string_bytes text.old ++ spelled_name name.now) }
 {
@@ -74,9 +74,9 @@ pub(crate) fn push_atom(text: &mut String, name: &str) -> Result<(), AllocError>
     push_quoted(text, name)
 }
 
-/// Appends the spelling of a name to `out`, as the report has it: the name as it is where it reads as
-/// one name (ISO/IEC 13211-1, 6.4.2), else the name between quotes. Where memory is wanting, `out`
-/// stays as it was.
+/// Appends the spelling of a name in the report to `out`. It is the name as it is if that reads as
+/// one name (ISO/IEC 13211-1, 6.4.2), and otherwise the name between quotes. If memory runs out,
+/// `out` stays unchanged.
 pub fn quote_atom(alloc: Global, name: &str, out: &mut Vec<u8>) -> Result<(), AllocError>
     ensures ok { OnOk result (out.new.items ≡ out.old.items ++ spelled_name name.now) }
     ensures err { OnErr result (out.new.items ≡ out.old.items) }

@@ -38,7 +38,7 @@ fn push_line<'a>(
     text.push_str("\n")
 }
 
-/// Adds the lines of the predicates that are in no group, in order.
+/// Adds the lines of the predicates that are in no group, ascending.
 pub(crate) fn push_unreached(
     alloc: Global,
     text: &mut String,

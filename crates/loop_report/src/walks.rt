@@ -29,8 +29,8 @@ fn push_walk<'a>(
     text.push_str("\n")
 }
 
-/// The line of the word and of the predicates with these numbers, each after a space. Only memory can
-/// be wanting.
+/// The line of the word and of the predicates with these numbers, in their order, each after a
+/// space. Fails only if memory runs out.
 pub fn walk_line(
     alloc: Global,
     program: &Program,
@@ -46,7 +46,7 @@ pub fn walk_line(
     Ok(text.into_bytes())
 }
 
-/// Adds the line of a circuit, where there is one.
+/// Adds the line of a cycle, if there is one.
 fn push_circuit<'a>(
     text: &mut String,
     program: &'a Program,
@@ -63,7 +63,7 @@ fn push_circuit<'a>(
     }
 }
 
-/// Adds the lines of the circuits at these places.
+/// Adds the lines of the cycles at these indices.
 fn push_circuits(
     alloc: Global,
     text: &mut String,
@@ -83,9 +83,11 @@ fn push_circuits(
     Ok(())
 }
 
-/// A line for each group that has a circuit, in order of height and least member: `loop` and the
-/// predicates of the circuit. The groups are in a legal order of some graph of the predicates, the
-/// levels are theirs there, and there is a circuit or none for each. Only memory can be wanting.
+/// A line for each group that has a cycle, in order of height and least member: `loop` and the
+/// predicates of the cycle.
+///
+/// The groups are in reverse topological order of some graph of the predicates. `levels` and
+/// `circuits` have one entry for each. Fails only if memory runs out.
 pub fn circuit_lines(
     alloc: Global,
     program: &Program,

@@ -12,10 +12,15 @@ use group_release::Level;
 use import_rules::Program;
 use std::alloc::{AllocError, Global};
 
-/// The report of groups of a program's predicates, given by their numbers: the head line; a line for
-/// each group, in order of height and least member; a line for each import loop; and where `unreached`
-/// asks for them, the predicates that are in no group. The groups are in a legal order of some graph
-/// of the predicates, and the levels are theirs there.
+/// The report on groups of a program's predicates, which are given by their numbers:
+///
+/// - the head line;
+/// - a line for each group, in order of height and least member;
+/// - a line for each import cycle;
+/// - if `unreached` is set, a line for each predicate that is in no group.
+///
+/// The groups are in reverse topological order of some graph of the predicates, and `levels` are
+/// their levels. Fails only if memory runs out.
 pub fn report(
     alloc: Global,
     program: &Program,
@@ -31,7 +36,7 @@ pub fn report(
     written(alloc, program, groups, levels, &order, unreached)
 }
 
-/// The same report with the lines of the groups in the order in which the groups are given.
+/// The same report with the lines of the groups in the given order.
 pub fn order_report(
     alloc: Global,
     program: &Program,
@@ -47,7 +52,7 @@ pub fn order_report(
     written(alloc, program, groups, levels, &order, unreached)
 }
 
-/// The report with the lines of the groups at these places.
+/// The report with the lines of the groups at these indices.
 fn written(
     alloc: Global,
     program: &Program,

@@ -1,4 +1,4 @@
-//! The words of a command line.
+//! The arguments of a command line.
 
 use prolog_tokens::Text;
 use std::alloc::{AllocError, Global};
@@ -6,15 +6,15 @@ use std::env;
 use std::io::ErrorKind;
 use std::rt::Env;
 
-/// One empty word, which no lawful command line has.
+/// One empty argument, which no valid command line has.
 fn empty_word(alloc: Global) -> Result<Vec<Text>, AllocError> {
     let mut words = Vec::new(alloc);
     words.push(Text::new(alloc, "")?)?;
     Ok(words)
 }
 
-/// The words after the program's name, or one empty word where one of them isn't text, so that they are
-/// refused.
+/// The arguments after the program's name. If one of them isn't text, the result is one empty
+/// argument instead, so that they aren't valid.
 pub fn words<R: Env + AllocGlobal>(rt: &R) -> Result<Vec<Text>, AllocError> {
     let alloc = rt.alloc();
     let args = match env::args(rt) {

@@ -1,4 +1,4 @@
-//! Where the bytes of a run go, once for all programs.
+//! Where the bytes of a run go, shared by all programs.
 
 ghost use Rattle.std.specs.Prelude.{◌≡◌, ◌≢◌, ◌⊎◌, MatchResult};
 ghost use Rattle.std.specs.String.{string_bytes};
@@ -15,7 +15,7 @@ use crate::stop::Stop;
 use crate::tool::Tool;
 use std::alloc::{AllocError, Global};
 
-/// Says the lines with the status, or that there was no memory for them.
+/// Writes the lines and returns the status, or reports that there was no memory for them.
 fn say_lines<T: Tool, S: Sink>(sink: &mut S, lines: Result<String, AllocError>, status: u8) -> u8
     ensures { MatchResult lines
         (λ text. SaidWith (string_bytes text) status result (S.seen sink.old, S.seen sink.new))
@@ -27,7 +27,7 @@ fn say_lines<T: Tool, S: Sink>(sink: &mut S, lines: Result<String, AllocError>, 
     }
 }
 
-/// Says why nothing is told, and answers the status of that.
+/// Writes why there is no output, and returns the status for that.
 fn say_stop<T: Tool, S: Sink>(alloc: Global, sink: &mut S, stop: &Stop) -> u8
     ensures { SaidWith (err_of T.is.name T.is.usage (end_of_stop stop.now)) (status_of (end_of_stop stop.now)) result (S.seen sink.old, S.seen sink.new)
         ⊎ SaidWith (memory_line T.is.name) 7 result (S.seen sink.old, S.seen sink.new) }
@@ -44,10 +44,16 @@ fn say_stop<T: Tool, S: Sink>(alloc: Global, sink: &mut S, stop: &Stop) -> u8
     }
 }
 
-/// Puts the texts that are told on `out`, one after another, or on `err` why nothing is, flushes that sink,
-/// and answers the status: 0 for what is told, 2 for wrong words or a name in them that is no predicate,
-/// 3 for faults of the files, 4 where a file could not be read, 5 where the sink failed, 6 where a limit
-/// was passed, 7 where memory was wanting.
+/// Writes the texts to `out`, one after another, or to `err` why there are none, and flushes that
+/// sink. Returns the exit status:
+///
+/// - 0: the output is written;
+/// - 2: the arguments aren't valid, or a name in them is no predicate of the program;
+/// - 3: the files have errors;
+/// - 4: a file could not be read;
+/// - 5: the sink failed;
+/// - 6: a limit was passed;
+/// - 7: memory ran out.
 pub fn put_end<T: Tool, O: Sink, E: Sink>(
     alloc: Global,
     told: Result<Vec<Vec<u8>>, Stop>,

@@ -1,18 +1,17 @@
-//! How a run of a program over Prolog files goes, once for all such programs: from the names of files to
-//! the program that they are, and from what is told of it, or why nothing is, to bytes on a sink and a
-//! status.
+//! The run of a program over Prolog files, shared by all such programs: from file names to a loaded
+//! program, and from its output or its errors to bytes on a sink and an exit status.
 //!
-//! A program is a `Tool`: its name, its usage line and, in `specs/Tool.antt`, what it is asked for and
-//! which bytes tell that. What each of its runs promises is the record `RunKeeps` of `specs/Keeps.antt`,
-//! in which each field is one promise. Over the file `f.pl` that does not exist, with status 3, the lines
-//! on `err` are
+//! A program is a `Tool`: its name, its usage line and, in `specs/Tool.antt`, what it is asked for
+//! and which bytes answer that. The record `RunKeeps` of `specs/Keeps.antt` is the contract of each
+//! of its runs, one field for each promise. For the file `f.pl` that doesn't exist, the status is
+//! 3, and the lines on `err` are
 //!
 //! ```text
 //! f.pl: no such file
 //! ```
 //!
-//! Files are seen through a `Library` and output through a `Sink`, in memory or real. This crate starts no
-//! search, and knows of no option but the names at which reach begins.
+//! Files are seen through a `Library` and output through a `Sink`, in memory or real. This crate
+//! starts no search. It knows only those options that name entry points and the ends of a path.
 #![tactic(auto)]
 
 mod command_line;

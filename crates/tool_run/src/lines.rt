@@ -11,8 +11,8 @@ use loop_report::predicate_name;
 use prolog_tokens::{Place, Text};
 use std::alloc::{AllocError, Global};
 
-/// The lines of the faults, in their order: `FILE:LINE:COLUMN: TEXT`, and `FILE: TEXT` where the
-/// line is 0.
+/// The lines of the errors, in their order: `FILE:LINE:COLUMN: TEXT`, or `FILE: TEXT` if the line
+/// is 0.
 pub fn fault_lines(alloc: Global, faults: &[Fault]) -> Result<String, AllocError>
     ensures { IfOk result (λ text. string_bytes text ≡ fault_lines faults.now) }
 {
@@ -33,7 +33,7 @@ fn push_fault(alloc: Global, text: &mut String, fault: &Fault) -> Result<(), All
     text.push_str("\n")
 }
 
-/// Adds `:LINE:COLUMN`, or nothing where the line is 0.
+/// Adds `:LINE:COLUMN`, or nothing if the line is 0.
 fn push_place(alloc: Global, text: &mut String, place: Place) -> Result<(), AllocError>
     ensures { OnOk result (string_bytes text.new ≡ string_bytes text.old ++ place_text place) }
 {
@@ -54,7 +54,8 @@ fn push_number(alloc: Global, text: &mut String, number: u32) -> Result<(), Allo
     text.push_str(&digits)
 }
 
-/// The line that says which name of the words is no predicate: `PROGRAM: no predicate NAME`.
+/// The line that reports a name in the arguments that is no predicate: `PROGRAM: no predicate
+/// NAME`.
 pub fn missing_line(alloc: Global, program: &str, root: &PredName) -> Result<String, AllocError>
     ensures { IfOk result (λ text. string_bytes text ≡ missing_line program.now root.now) }
 {
@@ -62,14 +63,14 @@ pub fn missing_line(alloc: Global, program: &str, root: &PredName) -> Result<Str
     named_line(alloc, program, ": no predicate ", name.as_str(), "\n")
 }
 
-/// The line that says which file can't be read: `PROGRAM: cannot read FILE`.
+/// The line that reports a file that can't be read: `PROGRAM: cannot read FILE`.
 pub fn unread_line(alloc: Global, program: &str, name: &Text) -> Result<String, AllocError>
     ensures { IfOk result (λ text. string_bytes text ≡ unread_line program.now name.now) }
 {
     named_line(alloc, program, ": cannot read ", name.as_str(), "\n")
 }
 
-/// The line that says which limit was passed: `PROGRAM: ` and the limit.
+/// The line that reports the limit that was passed: `PROGRAM: ` and the limit.
 pub fn limit_line(alloc: Global, program: &str, limit: &Limit) -> Result<String, AllocError>
     ensures { IfOk result (λ text. string_bytes text ≡ limit_line program.now limit.now) }
 {
@@ -87,7 +88,7 @@ pub fn limit_line(alloc: Global, program: &str, limit: &Limit) -> Result<String,
     }
 }
 
-/// The program's name with words behind it.
+/// The program's name, and words after it.
 fn line(alloc: Global, program: &str, words: &str) -> Result<String, AllocError>
     ensures { IfOk result (λ text. string_bytes text ≡ program.now ++ words.now) }
 {
@@ -96,7 +97,7 @@ fn line(alloc: Global, program: &str, words: &str) -> Result<String, AllocError>
     Ok(text)
 }
 
-/// The program's name, and behind it another name with words before and behind that.
+/// The program's name, and after it another name with words before and after that.
 fn named_line(
     alloc: Global,
     program: &str,

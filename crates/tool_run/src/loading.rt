@@ -1,4 +1,4 @@
-//! From names of files to the program that the files are.
+//! From file names to the program of these files.
 
 ghost use Rattle.file_library.specs.Loaded.{WasLoaded};
 ghost use Rattle.file_library.specs.SortedOut.{see_loaded};
@@ -11,8 +11,8 @@ use prolog_tokens::Text;
 use std::alloc::Global;
 use std::thread::Threads;
 
-/// The program of the files of these names and of all that they load, for which the library is asked, or
-/// why there is none.
+/// The program of the files of these names and of all files that they load, or why there is none.
+/// The library reads the files.
 pub fn load_files<R: Threads + Sync, L: Library>(
     rt: &R,
     alloc: Global,
@@ -25,7 +25,7 @@ pub fn load_files<R: Threads + Sync, L: Library>(
     load_loaded(alloc, loaded)
 }
 
-/// The program of the files that were loaded.
+/// The program of the files that were loaded, or why there is none.
 fn load_loaded(alloc: Global, loaded: Loaded) -> Result<Program, Stop>
     requires { WasLoaded (see_loaded loaded) }
     ensures { AreResolved (see_loaded loaded) result }

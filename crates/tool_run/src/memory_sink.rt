@@ -4,8 +4,8 @@ ghost use Rattle.tool_run.specs.declared.sink.TheConstants.{MOST_PUT};
 use crate::sink::{Flushed, Put, Sink};
 use std::alloc::{AllocError, Global};
 
-/// A sink in memory. It takes bytes as long as it has room, and a put fails where none is left. Its
-/// flushes are done, or each fails.
+/// A sink in memory. It takes bytes while it has capacity, and a put fails if none is left. Either
+/// all of its flushes succeed, or all fail.
 #[derive(Drop)]
 pub struct MemorySink {
     bytes: Vec<u8>,
@@ -19,21 +19,21 @@ pub struct MemorySink {
 impl MemorySink {
     ghost use Rattle.tool_run.specs.MemorySink.{IsNewSink};
 
-    /// A sink with room for `room` bytes.
+    /// A sink with capacity for `room` bytes.
     pub fn with_room(alloc: Global, room: u32) -> Result<MemorySink, AllocError>
         ensures { IfOk result (λ sink. IsNewSink true room sink) }
     {
         MemorySink::make(alloc, room, true)
     }
 
-    /// A sink whose puts fail once it has taken just so many bytes.
+    /// A sink whose puts fail after it has taken exactly `bytes` bytes.
     pub fn failing_after(alloc: Global, bytes: u32) -> Result<MemorySink, AllocError>
         ensures { IfOk result (λ sink. IsNewSink true bytes sink) }
     {
         MemorySink::make(alloc, bytes, true)
     }
 
-    /// A sink with room for `room` bytes, each of whose flushes fails.
+    /// A sink with capacity for `room` bytes, each of whose flushes fails.
     pub fn failing_flush(alloc: Global, room: u32) -> Result<MemorySink, AllocError>
         ensures { IfOk result (λ sink. IsNewSink false room sink) }
     {

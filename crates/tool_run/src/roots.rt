@@ -1,4 +1,4 @@
-//! The predicates at which a run begins.
+//! The predicates at which the searches of a run begin.
 
 ghost use Rattle.std.specs.Prelude.{◌≡◌, ◌<◌, ◌++◌, ◌∷◌, [], OnOk, All, Some, IfOk, IfErr, length};
 ghost use Rattle.std.specs.List.{AllZip};
@@ -46,7 +46,8 @@ fn push_root(roots: &mut Vec<u32>, node: u32) -> Result<(), AllocError>
     Ok(())
 }
 
-/// The numbers of the predicates that the list names, in its order, or the first name that is none.
+/// The numbers of the predicates that the list names, in its order, or the first name that is no
+/// predicate.
 fn listed(alloc: Global, program: &Program, list: &[PredName]) -> Result<Vec<u32>, RootStop>
     ensures ok { IfOk result (λ roots. AllZip (IsNamed program.now.predicates) list.now roots.items) }
     ensures err { IfErr result (IsRootStop (Some list.now) program.now) }
@@ -61,7 +62,7 @@ fn listed(alloc: Global, program: &Program, list: &[PredName]) -> Result<Vec<u32
     Ok(roots)
 }
 
-/// The numbers of the predicates that the list names, ascending and each once.
+/// The numbers of the predicates that the list names, strictly ascending.
 fn listed_roots(alloc: Global, program: &Program, list: &[PredName]) -> Result<Vec<u32>, RootStop>
     ensures roots { IfOk result (λ roots. AreRootNumbers (Some list.now) program.now roots.items) }
     ensures below { IfOk result (λ roots. All (λ q. q < length program.now.predicates) roots.items) }
@@ -75,8 +76,9 @@ fn listed_roots(alloc: Global, program: &Program, list: &[PredName]) -> Result<V
     Ok(roots)
 }
 
-/// The predicates at which reach begins, ascending and each once: those that the options list, or
-/// where they list none those of the program.
+/// The predicates at which reachability begins, strictly ascending: those that the options list, or
+/// those of the program if they list none. Fails at the first name of the list that is no
+/// predicate.
 pub fn roots_by(alloc: Global, program: &Program, options: &Options) -> Result<Vec<u32>, RootStop>
     ensures roots { IfOk result (λ roots. AreRootNumbers (see_options options.now).roots program.now roots.items) }
     ensures below { IfOk result (λ roots. All (λ q. q < length program.now.predicates) roots.items) }
@@ -89,7 +91,7 @@ pub fn roots_by(alloc: Global, program: &Program, options: &Options) -> Result<V
     }
 }
 
-/// The number of the predicate of that name, or that there is none.
+/// The number of the predicate of that name. Fails if there is none.
 fn end_of_path(alloc: Global, program: &Program, name: &PredName) -> Result<u32, RootStop>
     ensures ok { IfOk result (IsNamed program.now.predicates name.now) }
     ensures err { IfErr result (IsEndStop program.now.predicates name.now) }
@@ -100,7 +102,9 @@ fn end_of_path(alloc: Global, program: &Program, name: &PredName) -> Result<u32,
     Ok(node)
 }
 
-/// The numbers of the two predicates between which the options ask for a path. The roots are there.
+/// The numbers of the two predicates between which the options ask for a path, or None if they ask
+/// for none. Fails at the first of both that is no predicate. The roots of the options must all be
+/// predicates.
 pub fn ends_by(
     alloc: Global,
     program: &Program,

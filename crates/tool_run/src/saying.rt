@@ -1,4 +1,4 @@
-//! Putting bytes on a sink.
+//! Writing bytes to a sink.
 
 ghost use Rattle.std.specs.Prelude.{◌≡◌, ◌≤◌};
 ghost use Rattle.std.specs.Bool.{OnTrue, OnFalse};
@@ -8,7 +8,7 @@ ghost use Rattle.tool_run.specs.Sink.{more_taken};
 
 use crate::sink::{Flushed, MOST_PUT, Put, Sink};
 
-/// Puts all of the bytes, each piece again from where it was cut. Whether all were taken.
+/// Puts all of the bytes, and continues after each partial put. Returns whether all were taken.
 pub fn put_all<S: Sink>(sink: &mut S, bytes: &[u8]) -> bool
     ensures all { OnTrue result ((S.seen sink.new).taken ≡ more_taken (S.seen sink.old).taken bytes.now) }
     ensures part { OnFalse result (TookPart bytes.now (S.seen sink.old) (S.seen sink.new)) }
@@ -25,7 +25,7 @@ pub fn put_all<S: Sink>(sink: &mut S, bytes: &[u8]) -> bool
     true
 }
 
-/// Puts all of the bytes and flushes the sink. Whether both were done.
+/// Puts all of the bytes and flushes the sink. Returns whether both succeeded.
 #[tactic(auto, using(crate::proofs::Said::taken_unflushed))]
 pub fn say<S: Sink>(sink: &mut S, bytes: &[u8]) -> bool
     ensures said { SaidIs bytes.now (S.seen sink.old) (S.seen sink.new) result }
@@ -40,7 +40,7 @@ pub fn say<S: Sink>(sink: &mut S, bytes: &[u8]) -> bool
     }
 }
 
-/// Says the bytes and answers the status, or 5 where the sink failed.
+/// Puts and flushes the bytes, and returns the status, or 5 if the sink failed.
 pub fn say_with<S: Sink>(sink: &mut S, bytes: &[u8], status: u8) -> u8
     ensures { SaidWith bytes.now status result (S.seen sink.old, S.seen sink.new) }
 {
@@ -50,7 +50,7 @@ pub fn say_with<S: Sink>(sink: &mut S, bytes: &[u8], status: u8) -> u8
     5
 }
 
-/// Puts all of the texts, one after another. Whether all were taken.
+/// Puts all of the texts, one after another. Returns whether all were taken.
 fn put_texts<S: Sink>(sink: &mut S, texts: &[Vec<u8>]) -> bool
     ensures all { OnTrue result ((S.seen sink.new).taken ≡ more_taken (S.seen sink.old).taken (concatenated texts.now)) }
     ensures part { OnFalse result (TookPart (concatenated texts.now) (S.seen sink.old) (S.seen sink.new)) }
@@ -64,7 +64,8 @@ fn put_texts<S: Sink>(sink: &mut S, texts: &[Vec<u8>]) -> bool
     true
 }
 
-/// Puts all of the texts, one after another, and flushes the sink. Answers 0, or 5 where the sink failed.
+/// Puts all of the texts, one after another, and flushes the sink. Returns 0, or 5 if the sink
+/// failed.
 #[tactic(auto, using(crate::proofs::Said::taken_unflushed))]
 pub fn say_texts<S: Sink>(sink: &mut S, texts: &[Vec<u8>]) -> u8
     ensures { SaidWith (concatenated texts.now) 0 result (S.seen sink.old, S.seen sink.new) }

@@ -5,7 +5,7 @@ ghost use Rattle.tool_run.specs.Sink.{SinkSeen, PutIs, FlushIs};
 /// How many bytes are put at once at most.
 pub const MOST_PUT: usize = 65_536;
 
-/// What a sink answers to a put: how many of the bytes it took, from the first on, or that it
+/// What a sink returns for a put: how many of the bytes it took, from the first on, or that it
 /// failed and took none.
 #[derive(Clone, Copy, Debug, PartialEq, Eq)]
 pub enum Put {
@@ -13,15 +13,15 @@ pub enum Put {
     Failed,
 }
 
-/// What a sink answers to a flush.
+/// What a sink returns for a flush.
 #[derive(Clone, Copy, Debug, PartialEq, Eq)]
 pub enum Flushed {
     Done,
     Failed,
 }
 
-/// Where a run puts its bytes. A sink may tell the bytes that it has taken; it counts its faults,
-/// and it is settled where nothing was put since the last flush that was done.
+/// Where a run puts its bytes. A sink may declare the bytes that it has taken. It counts its
+/// failures, and it is settled if nothing was put since the last flush that succeeded.
 pub trait Sink {
     ghost seen: { Self → SinkSeen };
 
@@ -32,7 +32,7 @@ pub trait Sink {
         ensures put { PutIs bytes.now (seen self.old) (seen self.new) result }
         ensures faults_kept { (seen self.old).faults ≤ (seen self.new).faults };
 
-    /// Settles the sink.
+    /// Flushes the sink: it is settled if that succeeds.
     fn flush(&mut self) -> Flushed
         ensures flush { FlushIs (seen self.old) (seen self.new) result }
         ensures faults_kept { (seen self.old).faults ≤ (seen self.new).faults };

@@ -19,14 +19,14 @@ pub enum Limit {
     TooManyPredicates,
 }
 
-/// Why a run tells nothing.
+/// Why a run has no output.
 #[derive(Drop)]
 pub enum Stop {
-    /// The words aren't lawful.
+    /// The arguments aren't valid.
     Usage,
-    /// What is wrong with the files, in order.
+    /// The errors in the files, in order.
     Faults(Vec<Fault>),
-    /// The first name of the words that is no predicate of the program.
+    /// The first name in the arguments that is no predicate of the program.
     NoPredicate(PredName),
     /// The file that could not be read.
     ReadFault(Text),

@@ -7,8 +7,8 @@ ghost use Rattle.tool_run.specs.StreamSink.{WroteIs};
 use crate::sink::{Flushed, Put, Sink};
 use std::io::Write;
 
-/// A sink over a stream, of which each put is one write. What the stream does with the bytes isn't
-/// told.
+/// A sink over a stream, of which each put is one write. Contracts know nothing of what the stream
+/// does with the bytes.
 #[derive(Drop)]
 pub struct StreamSink<W: Write + Drop> {
     writer: W,
@@ -17,7 +17,7 @@ pub struct StreamSink<W: Write + Drop> {
 }
 
 impl<W: Write + Drop> StreamSink<W> {
-    /// A sink over the stream, with nothing put yet.
+    /// A sink over the stream, before any put.
     pub fn new(writer: W) -> StreamSink<W>
         ensures writer { result.writer ≡ writer }
         ensures faults { result.faults ≡ 0 }

@@ -1,4 +1,4 @@
-//! Each text is a reading or has a fault, and each file has facts or a fault.
+//! Each text has clauses or an error, and each file has facts or an error.
 
 ghost use Rattle.std.specs.Prelude.{◌≡◌, ◌⊎◌, ℕ, List, Err};
 ghost use Rattle.prolog_terms.specs.Tree.{Tree};
@@ -12,13 +12,13 @@ ghost use Rattle.module_table.specs.FileText.{HasFacts, HasFault};
 use crate::clause::clause_or_fault;
 use crate::cut::cut_or_fault;
 
-/// The clauses of a file have facts, or what they say is refused.
+/// The clauses of a file have facts, or what they say has an error.
 pub fn facts_or_refusal()
     ensures { (name : List ℕ) (trees : List Tree)
         → ((facts : Facts) × AreFacts name trees facts) ⊎ ((refusal : Refusal) × (file_said name trees ≡ Err refusal)) }
 {}
 
-/// A text reads as clauses or has a fault.
+/// A text has clauses or an error.
 pub fn reading_or_fault()
     ensures { (text : List ℕ) → ((trees : List Tree) × ReadsAs text trees) ⊎ ((fault : TextFault) × HasTextFault text fault) }
 {
@@ -26,7 +26,7 @@ pub fn reading_or_fault()
     clause_or_fault();
 }
 
-/// A file, by its name and its text, has facts or a fault.
+/// A file, by its name and its text, has facts or an error.
 pub fn file_or_fault()
     ensures { (name text : List ℕ) → ((facts : Facts) × HasFacts name text facts) ⊎ ((refusal : Refusal) × HasFault name text refusal) }
 {

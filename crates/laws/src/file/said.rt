@@ -14,23 +14,23 @@ ghost use Rattle.module_table.specs.Facts.{Facts, AreFacts, module_by, module_of
 ghost use Rattle.laws.specs.Turns.{AreTold, all_of, IsFirstRefusal, AreFactsOfEach, first_module};
 ghost use Rattle.laws.specs.Causes.{is_fact_cause, is_text_cause};
 
-/// A file is refused just where one of its clauses is, before which each one says its parts; the
-/// refusal is that of this clause.
+/// A file has an error exactly if one of its clauses has one, and all clauses before say their
+/// parts. The error is that of this clause.
 pub fn first_refusal()
     ensures { (user : Home) (trees : List Tree) (refusal : Refusal) → (trees_said user trees ≡ Err refusal) ↔ IsFirstRefusal user trees refusal }
 {}
 
-/// Where no clause is refused, a file says what each of its clauses says, in order, and nothing else.
-/// So its facts are the loads, the definitions, the declarations of goal arguments and the goals of
-/// the single clauses.
+/// If no clause has an error, a file says what each of its clauses says, in order, and nothing
+/// else. So its facts are the loads, the definitions, the declarations of goal arguments and the
+/// goals of the single clauses.
 pub fn parts_kept()
     ensures parts { (user : Home) (trees : List Tree) (parts : List Part)
         → (trees_said user trees ≡ Ok parts) ↔ ((lists : List (List Part)) × AreTold user trees lists × (parts ≡ all_of lists)) }
     ensures facts { (user : List ℕ) (trees : List Tree) (facts : Facts) → AreFacts user trees facts → AreFactsOfEach user trees facts }
 {}
 
-/// A directive within brackets says what it says without them, and terms that commas join say in
-/// turn what each of them does.
+/// A directive in brackets says the same as without them. Terms that commas join say, in order,
+/// what each of them says.
 pub fn directives_joined()
     ensures brackets { (user : Home) (first : Bool) (tree : Tree) → directive_said user first tree ≡ directive_said user first (inside tree) }
     ensures comma { (user : Home) (first : Bool) (tree left right : Tree) → sides_of (codes ",") tree ≡ Some (left, right)
@@ -38,9 +38,9 @@ pub fn directives_joined()
     ensures all { (user : Home) (tree : Tree) → directive_said user false tree ≡ each_said (directive_said user false) (joined tree) }
 {}
 
-/// No clause but the first declares a module, and where that one does it says nothing else. The
-/// module of a file and its exports are those that its first clause declares; and the module is the
-/// one in which heads and directives that name none are read.
+/// Only the first clause may declare a module, and then it says nothing else. The module of a file
+/// and its exports are those that its first clause declares. Heads and directives that name no
+/// module are read in this module.
 pub fn module_first()
     ensures others { (user : Home) (tree : Tree) (parts : List Part) (own : Declares) → clause_said user false tree ≡ Ok parts
         → Contains parts (declares own) → ⊥ }
@@ -51,8 +51,8 @@ pub fn module_first()
     ensures heads { (user : List ℕ) (trees : List Tree) (facts : Facts) → AreFacts user trees facts → facts.module_ ≡ module_of trees }
 {}
 
-/// What the clauses of a file say is refused for a cause that directives and heads have, for each of
-/// which some clauses are refused, and a text for one of the others.
+/// What the clauses of a file say has an error of a cause that directives and heads have, and for
+/// each of these some clauses have it. A text has an error of one of the other causes.
 pub fn fact_causes()
     ensures facts { (user : List ℕ) (trees : List Tree) (refusal : Refusal) → file_said user trees ≡ Err refusal → is_fact_cause refusal.cause ≡ true }
     ensures each { (user : List ℕ) (cause : Cause) → is_fact_cause cause ≡ true
