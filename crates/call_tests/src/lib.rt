@@ -1,4 +1,4 @@
-//! Tests of what the predicates of a program call.
+//! Tests of the call graph of a program.
 #![tactic(auto)]
 
 #[cfg(test)]

@@ -1,4 +1,4 @@
-//! Where reach begins, and names that are called and mean nothing.
+//! Roots, and names that are called and mean no predicate.
 
 use call_edges::{GoalStop, check_goals, roots_of, unresolved_of};
 use file_library::{Fault, MemoryLibrary, load_all};
@@ -10,8 +10,8 @@ use std::process::Abort;
 use std::test::Fail;
 use std::thread::Threads;
 
-/// The texts of the files `a.pl`, `b.pl` and so on, of which the first is a root; and what is told of
-/// their program.
+/// The texts of the files `a.pl`, `b.pl` and so on, of which the first is a root, and the output
+/// for their program.
 type Row = (&'static [&'static [u8]], &'static str);
 
 const NAMES: [&str; 3] = ["a.pl", "b.pl", "c.pl"];
@@ -59,8 +59,8 @@ user:r/2:
     ),
 ];
 
-/// Clauses for other modules: their bodies are those of the module of the file, clauses of one
-/// predicate stand in two files, and a root file gives what it defines for any module.
+/// Clauses for other modules. Their bodies are those of the module of the file, and clauses of one
+/// predicate are in two files. What a root file defines for any module is a root.
 static HEADS: [Row; 5] = [
     (
         &[b":- module(f, [q/0]). user:p :- q, r. q :- s. m:q :- s."],
@@ -84,8 +84,8 @@ static HEADS: [Row; 5] = [
     ),
 ];
 
-/// Declared goal arguments, a row for each thing that a declaration can say of an argument, and for
-/// each way in which one may not be the one that counts.
+/// Declared goal arguments. There is a row for each thing that a declaration may say of an
+/// argument, and for each way in which a declaration doesn't count.
 static DECLARED: [Row; 17] = [
     (
         &[b":- meta_predicate t(0). t(_). p :- t(q)."],
@@ -163,7 +163,7 @@ static DECLARED: [Row; 17] = [
     ),
 ];
 
-/// Adds the name behind a space.
+/// Adds the name after a space.
 fn push_name(alloc: Global, out: &mut String, name: NameView<'_>) -> Result<(), AllocError> {
     let (owner, own) = (name.module, name.name);
     let arity = name.arity;
@@ -171,7 +171,8 @@ fn push_name(alloc: Global, out: &mut String, name: NameView<'_>) -> Result<(), 
     out.push_str(&text)
 }
 
-/// For each predicate of the program a line of its name and of what it calls that means nothing.
+/// For each predicate of the program a line with its name and with the names that it calls and that
+/// mean no predicate.
 fn push_unresolved(alloc: Global, out: &mut String, program: &Program) -> Result<(), AllocError> {
     for node in 0..program.count() {
         let mut line = String::new(alloc);
@@ -199,7 +200,7 @@ fn told(alloc: Global, program: &Program) -> Result<String, AllocError> {
     Ok(out)
 }
 
-/// Each fault as the file, the line, the column and the cause.
+/// Each error as the file, the line, the column and the cause.
 fn told_faults(alloc: Global, faults: &[Fault]) -> Result<String, AllocError> {
     let mut out = String::from_str(alloc, "faults")?;
     for fault in faults {
@@ -212,7 +213,7 @@ fn told_faults(alloc: Global, faults: &[Fault]) -> Result<String, AllocError> {
     Ok(out)
 }
 
-/// What is told of a program, or of its goals where one isn't callable.
+/// The output for a program, or for its goals if one isn't callable.
 fn told_checked<R: Threads + Sync>(
     rt: &R,
     alloc: Global,
@@ -234,7 +235,7 @@ fn library_of(alloc: Global, texts: &[&[u8]]) -> Result<MemoryLibrary, AllocErro
     MemoryLibrary::new(alloc, files, Vec::new(alloc))
 }
 
-/// What is told of the files with these texts.
+/// The output for the files with these texts.
 fn told_of<R: Threads + Sync>(
     rt: &R,
     alloc: Global,

@@ -1,4 +1,4 @@
-//! A search that is led by hand, with the claims of its pass, and released under the turn.
+//! A search that is led by hand, with the claims of its pass, and released under the lock.
 
 ghost use Rattle.std.specs.Prelude.{◌≡◌, ◌⊎◌, ◌<◌, true, false, [], ◌∷◌, Some, length, Contains, IfOk, OnOk};
 ghost use Rattle.std.specs.Bool.{OnTrue};
@@ -97,7 +97,7 @@ pub(crate) fn look_unseen(
     Ok(())
 }
 
-/// Begins the next edge, which has to lead to the node.
+/// Begins the next edge, which must lead to the node.
 fn begin(claims: &Claims, pass: &Pass, search: &mut Search, node: u32) -> Result<(), Fail>
     requires { IsRunning claims.now pass.now search.old false }
     ensures runs { OnOk result (IsRunning claims.now pass.now search.new true) }
@@ -160,7 +160,7 @@ pub(crate) fn join(claims: &Claims, pass: &Pass, search: &mut Search) -> Result<
     Ok(())
 }
 
-/// Releases a search that is the whole ring. Its nodes are closed before the turn is given back, so
+/// Releases a search that is the whole cycle. Its nodes are closed before the lock is released, so
 /// every pass finds them finished from then on.
 pub(crate) fn release_ring(
     rt: &impl Wait,
@@ -189,7 +189,7 @@ pub(crate) fn release_ring(
     Ok(turn.give(&search, None))
 }
 
-/// Whether these are the nodes of the ring.
+/// Whether these are the nodes of the cycle.
 fn is_ring(nodes: &[u32]) -> bool
     ensures { OnTrue result (nodes.now ≡ 0 ∷ 1 ∷ 2 ∷ []) }
 {

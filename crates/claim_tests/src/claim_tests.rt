@@ -20,7 +20,7 @@ fn a_node_is_claimed_once(rt: HostRuntime) -> Result<(), Fail> {
     Ok(())
 }
 
-/// One pass searches the ring and releases it. Another pass, which has no node, finds its nodes
+/// One pass searches the cycle and releases it. Another pass, which has no node, finds its nodes
 /// finished.
 #[test]
 fn a_ring_that_is_led_by_hand_is_one_group(rt: HostRuntime) -> Result<(), Fail> {

@@ -5,7 +5,7 @@ use graph_law::Graph;
 use std::alloc::Global;
 use std::test::Fail;
 
-/// A ring of 0, 1 and 2, with the root 0.
+/// A cycle of 0, 1 and 2, with the root 0.
 pub(crate) fn ring(alloc: Global) -> Result<Graph, Fail>
     ensures { IfOk result (λ graph. graph.lists ≡ ring_lists) }
 {

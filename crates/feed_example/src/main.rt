@@ -1,5 +1,5 @@
-//! An analysis that hears of each group as soon as it is released, while four workers search on: it
-//! writes one line for each, the callees' before the callers'.
+//! An analysis that gets each group as soon as it is released, while four workers search: it writes
+//! one line for each, callees before callers.
 #![tactic(auto)]
 
 use graph_law::Graph;
@@ -12,8 +12,8 @@ use std::rt::Stdout;
 use std::sync::Wait;
 use std::thread::Threads;
 
-/// A taker of one's own. It means the graph that it was made for, and the groups of its trail: it keeps
-/// none of them itself.
+/// An example of a taker. It means the graph that it was made for, and the groups of its trail. It
+/// stores none of them itself.
 #[derive(Drop)]
 struct Lines<'a> {
     graph: &'a Graph,
@@ -36,7 +36,8 @@ impl<'a> Taker for Lines<'a> {
     }
 }
 
-/// Two rings and a node between them, of which each calls the next: they have one legal order.
+/// Two cycles and a node between them, of which each calls the next: they have only one reverse
+/// topological order.
 fn rings(alloc: Global) -> Result<Option<Graph>, AllocError> {
     let lists: [&[u32]; 5] = [&[1], &[0, 2], &[3], &[4], &[3]];
     let mut succs = Vec::new(alloc);
@@ -47,7 +48,7 @@ fn rings(alloc: Global) -> Result<Option<Graph>, AllocError> {
     Ok(Graph::new(succs, roots.to_vec(alloc)?))
 }
 
-/// Writes the groups, and tells whether each line was written.
+/// Writes the groups, and returns whether each line was written.
 fn write_groups<R: Threads + Wait + Sync>(
     rt: &R,
     alloc: Global,

@@ -9,8 +9,8 @@ use std::{hint, thread};
 /// How often the gate looks whether a group was taken.
 const TURNS: u32 = 50_000_000;
 
-/// It holds the opening of node 1 until a group was taken, or until it has looked often enough. It tells
-/// whether one was taken by then.
+/// A gate that holds the expansion of node 1 until a group was taken, or until it has looked often
+/// enough. It records whether one was taken by then.
 #[derive(Drop)]
 struct TakenGate<'a> {
     taken: &'a AtomicU64,

@@ -4,8 +4,8 @@ use std::alloc::{AllocError, Global};
 use std::hint;
 use std::sync::atomic::{AtomicU64, Ordering};
 
-/// Keeps the groups that it takes, so many at most, and tells how many they are. It loops so many times
-/// over each.
+/// A taker that stores the groups that it takes, up to a number, and counts them. It takes a number
+/// of iterations over each.
 #[derive(Drop)]
 pub(crate) struct Keeper<'a> {
     alloc: Global,
@@ -20,7 +20,7 @@ impl<'a> Keeper<'a> {
     ghost use Rattle.std.specs.Prelude.{◌≡◌, []};
     ghost use Rattle.graph_law.specs.Graph.{lists_of};
 
-    /// It has taken nothing.
+    /// A taker that has taken nothing.
     pub(crate) fn new(
         alloc: Global,
         graph: &'a Graph,

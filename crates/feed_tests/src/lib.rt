@@ -1,4 +1,4 @@
-//! Tests of the feed of released groups.
+//! Tests of the stream of released groups.
 #![tactic(auto)]
 
 #[cfg(test)]

@@ -6,7 +6,8 @@ use search_pool::OpenGate;
 use std::sync::atomic::AtomicU64;
 use std::test::Fail;
 
-/// A chain of rings, of which each calls the next: five groups with one legal order.
+/// A chain of cycles, of which each calls the next: five groups with only one reverse topological
+/// order.
 const RINGS: [&[u32]; 7] = [&[1], &[0, 2], &[3], &[2, 4], &[5], &[6], &[]];
 
 #[test]

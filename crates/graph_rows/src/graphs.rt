@@ -1,7 +1,7 @@
 use graph_law::Graph;
 use std::alloc::{AllocError, Global};
 
-/// A graph, and the number of searches and the seed of a schedule where the line has them.
+/// A graph, and the number of searches and the seed of a schedule if the line has them.
 #[derive(Drop)]
 pub struct Row {
     pub graph: Graph,
@@ -9,7 +9,7 @@ pub struct Row {
 }
 
 impl Row {
-    /// What a line says, or none where it has no graph.
+    /// The graph of a line, or None if it has none.
     pub fn read(alloc: Global, line: &str) -> Result<Option<Row>, AllocError> {
         let Some((lists, rest)) = line.split_once('|') else {
             return Ok(None);
@@ -23,7 +23,7 @@ impl Row {
     }
 }
 
-/// The callees of each node. A graph without nodes has `-` in their place.
+/// The callees of each node. A graph without nodes has `-` instead.
 fn succs_of(alloc: Global, lists: &str) -> Result<Vec<Vec<u32>>, AllocError> {
     let mut succs = Vec::new(alloc);
     if lists.starts_with('-') {

@@ -1,6 +1,7 @@
-//! Reads graphs, one a line, and tells the groups of each. A line has the callees of node 0, of node 1
-//! and so on, with `;` between them, then `|` and the roots. Behind a further `|` may stand a number of
-//! searches, 1 to 64, and a seed: then it tells the groups in the order in which that schedule releases them.
+//! Reads graphs, one a line, and prints the groups of each. A line has the callees of node 0, of
+//! node 1 and so on, with `;` between them, then `|` and the roots. After a further `|` there may
+//! be a number of searches, 1 to 64, and a seed. Then the groups are printed in the order in which
+//! that schedule releases them.
 #![tactic(auto)]
 
 mod graphs;

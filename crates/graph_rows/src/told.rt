@@ -10,12 +10,12 @@ use search_machine::drive_many;
 use search_stack::groups_plain;
 use std::alloc::{AllocError, Global};
 
-/// The greatest number of searches of a schedule that each graph is searched by, and the seeds of them.
+/// The greatest number of searches of a schedule by which each graph is searched, and their seeds.
 const MOST_SEARCHES: u32 = 4;
 
 const SEEDS: u64 = 20;
 
-/// What a row's line of the answer is.
+/// The output for a line.
 pub fn told(alloc: Global, row: &Row) -> Result<String, AllocError> {
     let graph = &row.graph;
     if let [searches, seed] = row.schedule.as_slice() {
@@ -36,8 +36,8 @@ pub fn told(alloc: Global, row: &Row) -> Result<String, AllocError> {
     )
 }
 
-/// The groups that one search finds, in order of their least members: the height of each, whether it is
-/// recursive, and its members.
+/// The groups that one search finds, in order of their least members: the height of each, whether
+/// it is recursive, and its members.
 fn searched(alloc: Global, graph: &Graph) -> Result<String, AllocError> {
     let groups = groups(alloc, graph)?;
     let levels = levels(alloc, graph, &groups)?;
@@ -61,7 +61,7 @@ fn groups(alloc: Global, graph: &Graph) -> Result<Vec<Vec<u32>>, AllocError>
     Ok(groups)
 }
 
-/// Whether the schedules of one search to four, by twenty seeds each, release the classes.
+/// Whether the schedules of one to four searches, with twenty seeds each, release the SCCs.
 fn schedules_agree(
     alloc: Global,
     graph: &Graph,

@@ -10,7 +10,7 @@ use group_release::levels;
 use std::alloc::{AllocError, Global};
 use std::thread::Threads;
 
-/// Kinds of so many nodes. Each node has few.
+/// Kinds of a number of nodes. Each node has few.
 fn random_kinds(alloc: Global, count: usize, draws: &mut Draws) -> Result<Vec<u64>, AllocError> {
     let mut own = Vec::new(alloc);
     for _ in 0..count {
@@ -34,7 +34,8 @@ fn nodes_with(own: &[u64], kind: u32) -> u32
     found
 }
 
-/// Whether the carriers of a group that reaches these nodes are the least of them that have the kinds.
+/// Whether the witnesses of a group that reaches these nodes are the least of them that have the
+/// kinds.
 fn carriers_are(own: &[u64], reached: u32, flow: &Flow) -> bool {
     for kind in 0..7 {
         let carried = nodes_with(own, kind) & reached;
@@ -51,7 +52,7 @@ fn set_of(nodes: &[u32]) -> u32 {
     nodes.iter().fold(0, |set, &node| set | alone(node))
 }
 
-/// Whether the carriers of each group, for random kinds of the nodes, are the least nodes that its
+/// Whether the witnesses of each group, for random kinds of the nodes, are the least nodes that its
 /// members reach.
 pub fn carriers_agree<R: Threads + Sync>(
     rt: &R,

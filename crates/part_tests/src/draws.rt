@@ -1,11 +1,11 @@
-/// Numbers in an order that looks like chance.
+/// Pseudorandom numbers.
 #[derive(Drop)]
 pub struct Draws {
     number: u64,
 }
 
 impl Draws {
-    /// Those that begin with a seed.
+    /// Those of a seed.
     pub fn new(seed: u64) -> Draws {
         Draws { number: seed }
     }

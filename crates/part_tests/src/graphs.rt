@@ -1,5 +1,5 @@
-//! Graphs of few nodes as rows. A row is a set of nodes: its bit q is set where node q is in it, and
-//! that of node p has the nodes that p calls.
+//! Graphs of few nodes as rows. A row is a set of nodes, whose bit q is set if node q is in it. The
+//! row of node p has the nodes that p calls.
 
 use crate::draws::Draws;
 use graph_law::Graph;
@@ -20,7 +20,8 @@ pub fn nodes_in(alloc: Global, set: u32) -> Result<Vec<u32>, AllocError> {
     Ok(nodes)
 }
 
-/// Rows of eight nodes, less so many. Half of the graphs have few calls, so that they have many groups.
+/// Rows of eight nodes, without a number of them. Half of the graphs have few calls, so that they
+/// have many groups.
 pub fn random_rows(alloc: Global, fewer: u32, draws: &mut Draws) -> Result<Vec<u32>, AllocError> {
     let all = EIGHT.wrapping_shr(fewer);
     let sparse = draws.next() & 1 == 1;
@@ -35,7 +36,7 @@ pub fn random_rows(alloc: Global, fewer: u32, draws: &mut Draws) -> Result<Vec<u
     Ok(rows)
 }
 
-/// The graph of these rows, where each node is a root.
+/// The graph of these rows, in which each node is a root.
 pub fn graph_of(alloc: Global, rows: &[u32]) -> io::Result<Graph> {
     let mut succs = Vec::new(alloc);
     let mut roots = Vec::new(alloc);

@@ -1,6 +1,6 @@
-//! Compares carriers of effects, least paths and circuits of random graphs of one node to eight with
-//! what is found by tables of all walks, and tells of each of these whether all were the same. It also
-//! compares the kinds of effects with the table of their names.
+//! Compares witnesses of effects, least paths and cycles of random graphs of one to eight nodes
+//! with tables of all walks. It prints for each of these whether all were equal. It also compares
+//! the kinds of effects with the table of their names.
 #![tactic(auto)]
 
 mod carriers;
@@ -23,7 +23,7 @@ const GRAPHS: u32 = 60;
 /// The greatest number of nodes.
 const MOST_NODES: u32 = 8;
 
-/// What was the same each time.
+/// What was equal each time.
 #[derive(Drop)]
 struct Agreed {
     carriers: bool,

@@ -45,8 +45,8 @@ fn paths_from_agree(
     Ok(true)
 }
 
-/// Whether the circuit of each node and of each group's least member is the least walk back to it of
-/// one call or more.
+/// Whether the least cycle of each node and of each group's least member is the least walk back to
+/// it of one call or more.
 pub fn circuits_agree(alloc: Global, rows: &[u32], graph: &Graph) -> Result<bool, AllocError> {
     for node in 0..graph.count() {
         if circuit(alloc, graph, node)? != least_circuit(alloc, rows, node)? {

@@ -24,7 +24,7 @@ fn callers(rows: &[u32], set: u32) -> u32 {
     found
 }
 
-/// From which nodes no call leads to a node, one call, two and so on, up to eight.
+/// The nodes from which zero calls lead to a node, one call, two and so on, up to eight.
 fn sets_to(alloc: Global, rows: &[u32], to: u32) -> Result<Vec<u32>, AllocError> {
     let mut sets = Vec::new(alloc);
     let mut set = alone(to);
@@ -53,7 +53,7 @@ fn first_walk(
     Ok(walk)
 }
 
-/// The least walk from one node to another that has so many calls at least, or none.
+/// The least walk from one node to another with at least this many calls, or none.
 pub fn least_walk(
     alloc: Global,
     rows: &[u32],

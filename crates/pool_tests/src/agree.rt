@@ -9,7 +9,7 @@ use std::sync::Wait;
 use std::test::Fail;
 use std::thread::Threads;
 
-/// Whether so many workers find the groups that one search finds.
+/// Whether this many workers find the groups that one search finds.
 pub(crate) fn agree<R: Threads + Wait + Sync, G: Gate>(
     rt: &R,
     alloc: Global,

@@ -4,7 +4,7 @@ use search_pool::{Gate, MeetGate, OpenGate};
 use std::hint;
 use std::test::Fail;
 
-// How many loops the first expansion waits for one of another worker.
+// How many iterations the first expansion waits for one of another worker.
 const LOOPS: u32 = 50_000_000;
 
 // Successor lists and roots.
@@ -34,8 +34,8 @@ fn workers_find_the_groups_of_one_search(rt: HostRuntime) -> Result<(), Fail> {
     Ok(())
 }
 
-/// It holds the first expansion until another worker expands a node too, and then each for a moment,
-/// so that the searches of workers meet.
+/// A gate that holds the first expansion until another worker expands a node too, and then each for
+/// a moment, so that the searches of workers wait for each other.
 #[derive(Drop)]
 struct MixingGate {
     meeting: MeetGate,

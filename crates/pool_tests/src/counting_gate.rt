@@ -2,7 +2,7 @@ use search_pool::Gate;
 use std::hint;
 use std::sync::atomic::{AtomicU32, Ordering};
 
-/// It counts the nodes that it is told of, and takes so many loops for each.
+/// A gate that counts the nodes for which it is called, and takes a number of iterations for each.
 #[derive(Drop)]
 pub(crate) struct CountingGate {
     loops: u32,
@@ -17,7 +17,7 @@ impl CountingGate {
         }
     }
 
-    /// How many nodes it was told of.
+    /// How many nodes it was called for.
     pub(crate) fn told(&self) -> u32 {
         self.told.load(Ordering::SeqCst)
     }

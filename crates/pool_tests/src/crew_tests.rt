@@ -43,8 +43,8 @@ fn expansions_one_after_another_never_meet(rt: HostRuntime) {
     assert!(rt; !gate.met());
 }
 
-/// The others hold back if nodes are expanded cheaply, and begin if they aren't. A root alone leaves them
-/// nothing to begin at.
+/// The others hold back if nodes are expanded cheaply, and begin if they aren't. A single root
+/// leaves them nothing to begin at.
 #[test]
 fn a_gate_is_told_of_each_node_once(rt: HostRuntime) -> Result<(), Fail> {
     let alloc = rt.alloc();

@@ -27,7 +27,7 @@ pub(crate) enum Shape {
     Random(u32),
 }
 
-/// The graph of so many nodes of this shape, all of which are roots.
+/// The graph of `count` nodes of this shape, all of which are roots.
 pub(crate) fn graph_with(alloc: Global, shape: Shape, count: u32) -> Result<Graph, Fail> {
     let mut succs = Vec::new(alloc);
     let mut roots = Vec::new(alloc);
@@ -64,7 +64,7 @@ fn random_callees(alloc: Global, seed: u32, count: u32, node: u32) -> Result<Vec
     multiples(alloc, &drawn[..some as usize], count, node)
 }
 
-/// A number that looks like chance.
+/// A pseudorandom number.
 pub(crate) fn draw(seed: u32, number: u32) -> u32 {
     let mixed = (u64::from(seed) << 32 | u64::from(number))
         .wrapping_mul(6_364_136_223_846_793_005)

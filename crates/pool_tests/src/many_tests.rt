@@ -7,15 +7,16 @@ use node_claims::Claims;
 use search_pool::{Ended, OpenGate, run_all, split_for};
 use std::test::Fail;
 
-// So many nodes that several roots are handed out at once: a worker that is handed more roots begins anew.
+// Enough nodes that several roots are handed out at once: a worker that gets more roots begins
+// anew.
 const STAR: u32 = 3_000;
 
 // A few microseconds.
 const SLOW: u32 = 200;
 
-/// Most nodes are in one group, which all workers meet: searches that wait at once, workers that hold back
-/// then, and searches that are moved on top of another one. If nodes are dear to expand, which the first
-/// worker shows, none holds back.
+/// Most nodes are in one group, which all workers reach: searches that wait at once, workers that
+/// hold back then, and searches that are moved on top of another one. If nodes are dear to expand,
+/// which the first worker shows, none holds back.
 #[test]
 fn workers_find_a_giant_group(rt: HostRuntime) -> Result<(), Fail> {
     let alloc = rt.alloc();
@@ -27,8 +28,9 @@ fn workers_find_a_giant_group(rt: HostRuntime) -> Result<(), Fail> {
     Ok(())
 }
 
-/// While the node is expanded that all others call and that calls these, which lasts long, the other worker
-/// expands half of them. The rest may be roots that were handed out to the worker that waits.
+/// Expanding the node that all others call, and that calls these, takes long. Meanwhile the other
+/// worker expands half of them. The rest may be roots that were handed out to the worker that
+/// waits.
 #[test]
 fn a_worker_goes_on_beside_a_giant_group_that_is_dear_to_expand(
     rt: HostRuntime,
@@ -41,7 +43,7 @@ fn a_worker_goes_on_beside_a_giant_group_that_is_dear_to_expand(
     Ok(())
 }
 
-/// It expands a few and then waits, since nobody has shown that nodes are dear to expand.
+/// It expands a few nodes and then waits, since no worker has shown that nodes are dear to expand.
 #[test]
 fn a_worker_holds_back_beside_a_giant_group(rt: HostRuntime) -> Result<(), Fail> {
     let alloc = rt.alloc();
@@ -71,8 +73,8 @@ fn a_worker_that_holds_back_sees_a_failure(rt: HostRuntime) -> Result<(), Fail> 
     Ok(())
 }
 
-/// Many more workers than processors take turns without end. A turn that is given back and wakes nobody
-/// leaves them asleep, and the run doesn't end.
+/// Many more workers than processors take the lock in turn without end. If releasing it wakes
+/// nobody, they stay asleep, and the run doesn't end.
 #[test]
 fn a_turn_given_back_wakes_who_waits(rt: HostRuntime) -> Result<(), Fail> {
     let alloc = rt.alloc();

@@ -5,7 +5,7 @@ use graph_law::{Graph, Opener};
 use std::alloc::AllocError;
 use std::sync::atomic::{AtomicBool, AtomicU32, Ordering};
 
-/// A graph of which each expansion waits until so many have begun.
+/// A graph of which each expansion waits until a number of them have begun.
 #[derive(Drop)]
 pub(crate) struct Meeting<'a> {
     graph: &'a Graph,
@@ -33,7 +33,7 @@ impl<'a> Meeting<'a> {
         self.begun.load(Ordering::SeqCst)
     }
 
-    /// How many of them have seen so many begin.
+    /// How many of them have seen that number begin.
     pub(crate) fn met(&self) -> u32 {
         self.met.load(Ordering::SeqCst)
     }

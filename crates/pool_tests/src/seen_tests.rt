@@ -27,7 +27,7 @@ fn a_pass_that_did_nothing_sees_what_a_worker_finished(rt: HostRuntime) -> Resul
     Ok(())
 }
 
-/// The groups, where the first pass has seen each root finished.
+/// The groups, if the first pass has seen each root finished.
 fn groups_of(rt: &impl Wait, claims: Claims, first: Pass, second: Pass) -> Vec<Vec<u32>>
     requires through { EndsWell claims (Finished first) }
     requires of { IsPassOf claims second }
@@ -37,7 +37,7 @@ fn groups_of(rt: &impl Wait, claims: Claims, first: Pass, second: Pass) -> Vec<V
     claims.finish(rt, pass)
 }
 
-/// The pass, which finds two nodes finished and wins none; or none where that isn't so.
+/// The pass, which finds two nodes finished and wins none; None if that isn't so.
 fn sees_the_end(claims: &Claims, mut pass: Pass) -> Option<Pass>
     requires nodes { 2 ≤ length claims.now.lists }
     requires of { IsPassOf claims.now pass }

@@ -2,7 +2,8 @@ use crate::waiting::comes_within;
 use search_pool::Gate;
 use std::sync::atomic::{AtomicBool, AtomicU32, Ordering};
 
-/// The opening of node 0 waits until so many other nodes were opened, or a number of loops is over.
+/// A gate that holds the expansion of node 0 until a number of other nodes were expanded, or for a
+/// number of iterations.
 #[derive(Drop)]
 pub(crate) struct StarGate {
     others: u32,
@@ -23,7 +24,7 @@ impl StarGate {
         }
     }
 
-    /// Whether the other nodes were opened while node 0 waited.
+    /// Whether the other nodes were expanded while node 0 was held.
     pub(crate) fn came(&self) -> bool {
         self.came.load(Ordering::SeqCst)
     }

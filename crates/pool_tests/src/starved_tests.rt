@@ -6,14 +6,14 @@ use std::test::Fail;
 
 const LOOPS: u32 = 50_000_000;
 
-// Successor lists and roots, of which the roots reach each node. In the second graph searches of both
-// workers meet.
+// Successor lists and roots, of which the roots reach each node. In the second graph the searches
+// of both workers wait for each other.
 const GRAPHS: [(&[&[u32]], &[u32]); 2] = [
     (&[&[1], &[2, 0], &[], &[0]], &[3, 3]),
     (&[&[1], &[2], &[0]], &[0, 1, 2]),
 ];
 
-/// Also if the others hold back beside the worker that finds no memory.
+/// The same if the others hold back while the first worker finds no memory.
 #[test]
 fn fails_if_one_node_cannot_be_expanded(rt: HostRuntime) -> Result<(), Fail> {
     let alloc = rt.alloc();
@@ -35,8 +35,8 @@ fn fails_if_one_node_cannot_be_expanded(rt: HostRuntime) -> Result<(), Fail> {
     Ok(())
 }
 
-/// Two workers expand nodes of a ring of roots at once, so that one finds no memory while the other has a
-/// search.
+/// Two workers expand nodes of a cycle of roots at once, so that one finds no memory while the
+/// other has a search.
 #[test]
 fn fails_if_a_node_cannot_be_expanded_beside_another(rt: HostRuntime) -> Result<(), Fail> {
     let alloc = rt.alloc();

@@ -3,7 +3,7 @@ use search_pool::Gate;
 use std::alloc::AllocError;
 use std::sync::atomic::{AtomicU32, AtomicU64, Ordering};
 
-/// It keeps of which nodes below 64 it was told.
+/// A gate that records for which nodes below 64 it was called.
 #[derive(Drop)]
 pub(crate) struct KeepingGate {
     told: AtomicU64,
@@ -31,7 +31,7 @@ fn bit_of(node: u32) -> u64 {
     1u64.wrapping_shl(node)
 }
 
-/// A graph that counts the nodes it opens of which a gate wasn't told yet.
+/// A graph that counts the nodes that are expanded before a gate was called for them.
 #[derive(Drop)]
 pub(crate) struct Watched<'a> {
     pub(crate) graph: &'a Graph,

@@ -4,7 +4,7 @@ use search_pool::drive_workers;
 use std::sync::atomic::{AtomicU32, Ordering};
 use std::test::Fail;
 
-/// One search, and workers side by side.
+/// One search, and workers in parallel.
 #[test]
 fn a_gate_is_told_before_a_node_is_opened(rt: HostRuntime) -> Result<(), Fail> {
     let alloc = rt.alloc();

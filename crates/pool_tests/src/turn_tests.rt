@@ -15,7 +15,8 @@ use std::test::Fail;
 use std::thread;
 use std::thread::Threads;
 
-/// It tells of the opening of each of two nodes. The first one waits until the turn is taken.
+/// A gate that reports the expansion of each of two nodes. The first one waits until the lock is
+/// taken.
 #[derive(Drop)]
 struct TurnGate {
     first: AtomicBool,
@@ -56,7 +57,7 @@ fn a_worker_goes_on_while_another_pass_has_the_turn(rt: HostRuntime) -> Result<(
     Ok(())
 }
 
-/// A worker with the one pass, and beside it the other, which holds the turn for a while.
+/// A worker with the one pass, and in parallel the other pass, which holds the lock for a while.
 fn side_by_side<R: Threads + Wait + Sync>(
     rt: &R,
     alloc: Global,
@@ -85,7 +86,8 @@ fn side_by_side<R: Threads + Wait + Sync>(
     )
 }
 
-/// Takes the turn once the first node is opened, and holds it until the second is: whether that came.
+/// Takes the lock once the first node is expanded, and holds it until the second is. Returns
+/// whether that came.
 fn hold(rt: &impl Wait, alloc: Global, claims: &Claims, pass: Pass, gate: &TurnGate) -> (Pass, bool)
     requires of { IsPassOf claims.now pass }
     requires idle { pass.view.nodes ≡ [] }

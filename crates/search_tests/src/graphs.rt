@@ -5,7 +5,7 @@ use graph_law::Graph;
 use std::alloc::{AllocError, Global};
 use std::test::Fail;
 
-/// A ring of 0 and 1, of which 1 calls 2 too, and 3, which calls 0 and is the root.
+/// A cycle of 0 and 1, of which 1 calls 2 too, and 3, which calls 0 and is the root.
 pub(crate) fn tailed_ring(alloc: Global) -> Result<Graph, Fail>
     ensures { IfOk result (λ graph. graph.lists ≡ tailed_ring_lists) }
 {
@@ -33,7 +33,7 @@ pub(crate) fn graph_of_lists(
     Ok(graph)
 }
 
-/// A graph by bits, lowest first, which tell for each node which nodes it calls. All nodes are roots.
+/// A graph by bits, lowest first: for each node, which nodes it calls. All nodes are roots.
 pub(crate) fn small_graph(
     alloc: Global,
     count: u32,

@@ -1,4 +1,4 @@
-//! Searches that are led by hand beside a book, step by step.
+//! Searches that are led by hand with a book, step by step.
 
 ghost use Rattle.std.specs.Prelude.{◌≡◌, ◌⊎◌, [], None, slice_index_or, OnOk, IfOk, IfSome};
 ghost use Rattle.std.specs.Bool.{OnTrue};
@@ -33,7 +33,7 @@ pub(crate) fn start(alloc: Global, graph: &Graph, book: &mut Book) -> Result<Sea
     Ok(search)
 }
 
-/// Whether no kept search holds the node, and no group has it.
+/// Whether no suspended search holds the node, and no group has it.
 fn is_free(book: &Book, node: u32) -> bool
     ensures { OnTrue result (IsFreeIn book.now node) }
 {
@@ -64,7 +64,7 @@ fn push(alloc: Global, graph: &Graph, node: u32, search: &mut Search) -> Result<
     Ok(())
 }
 
-/// Begins the next edge, which has to lead to the node.
+/// Begins the next edge, which must lead to the node.
 pub(crate) fn begin(book: &Book, search: &mut Search, node: u32) -> Result<(), Fail>
     requires { RunsBeside book.now search.old }
     ensures { OnOk result (LeadsTo book.now search.new node) }
@@ -110,8 +110,8 @@ pub(crate) fn back(book: &Book, search: &mut Search, node: u32) -> Result<(), Fa
     Ok(())
 }
 
-/// Keeps the search until the node to which its next edge leads is finished: None if it is kept, and
-/// else the search with what it waited for on top.
+/// Suspends the search until the node is finished to which its next edge leads. None if it is
+/// suspended, and otherwise the search with what it waited for on top.
 pub(crate) fn wait(book: &mut Book, mut search: Search, node: u32) -> Result<Option<Search>, Fail>
     requires { RunsBeside book.old search }
     ensures same { IfOk result (λ _. IsSameGraph book.old book.new) }

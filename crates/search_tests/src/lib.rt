@@ -1,5 +1,5 @@
-//! Tests of the calls that search graphs, of what they mean, and of many searches whose places act as
-//! they are told. What the groups of graphs are stands in the rows of `graph_rows`.
+//! Tests of the searches of graphs, and of many searches whose places act in a given order. The
+//! groups of graphs are tested by the rows of `graph_rows`.
 #![tactic(auto)]
 
 #[cfg(test)]

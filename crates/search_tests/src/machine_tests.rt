@@ -12,8 +12,8 @@ fn searches_at_two_places_become_one_group(rt: HostRuntime) -> Result<(), Fail> 
     let alloc = rt.alloc();
     // 0 and 1 call each other, and both are roots.
     let graph = graph_of_lists(alloc, &[&[1], &[0]], &[0, 1])?;
-    // Each place takes a root, the first search is kept, and comes on top of the second, which joins
-    // its segments and releases them.
+    // Each place takes a root. The first search is suspended, and moves on top of the second, which
+    // joins its segments and releases them.
     let seen = turns_of_two(alloc, &graph, &[0, 1, 0, 1, 1, 1])?;
     assert_eq!(rt;
         seen.as_str(),
@@ -27,8 +27,9 @@ fn searches_at_two_places_become_one_group(rt: HostRuntime) -> Result<(), Fail> 
 fn a_kept_search_comes_whole_where_a_low_is_below_the_cut(rt: HostRuntime) -> Result<(), Fail> {
     let alloc = rt.alloc();
     let graph = graph_of_lists(alloc, &[&[2], &[2], &[3], &[1, 0]], &[0, 1])?;
-    // The second place has 1, 2 and 3, goes back to 1, and is kept at 0. The first wants 2, but 3 has
-    // gone back to below 2: so all three nodes come on top of 0, join it and are released with it.
+    // The second place has 1, 2 and 3, goes back to 1, and is suspended at 0. The first waits for
+    // 2, but 3 has gone back to below 2. So all three nodes move on top of 0, are joined to it and
+    // released with it.
     let seen = turns_of_two(alloc, &graph, &[0, 1, 1, 1, 1, 1, 0, 0, 0, 0, 0])?;
     assert_eq!(rt;
         seen.as_str(),
@@ -44,8 +45,8 @@ fn a_kept_search_comes_whole_where_a_low_is_below_the_cut(rt: HostRuntime) -> Re
 fn the_rest_of_a_kept_search_waits_for_the_release(rt: HostRuntime) -> Result<(), Fail> {
     let alloc = rt.alloc();
     let graph = graph_of_lists(alloc, &[&[2], &[2], &[3], &[1, 0], &[1]], &[0, 4])?;
-    // The same, but the second place begins at 4, which stays kept when 1, 2 and 3 are moved, and wants
-    // 1. The second place has nothing to take until 1 is released: then 4 is ready.
+    // The same, but the second place begins at 4, which stays suspended when 1, 2 and 3 are moved,
+    // and waits for 1. The second place has nothing to take until 1 is released: then 4 is ready.
     let seen = turns_of_two(alloc, &graph, &[0, 1, 1, 1, 1, 1, 1, 0, 0, 0, 0, 0, 1, 1])?;
     assert_eq!(rt;
         seen.as_str(),
@@ -69,8 +70,8 @@ fn releases_the_classes_of_all_small_graphs(rt: HostRuntime) -> Result<(), Fail>
     Ok(())
 }
 
-/// Two places act, as listed. For each turn: the node that was claimed, and whether the first place can
-/// act then and the second; and after them the released groups.
+/// Two places act, in the listed order. For each turn: the node that was claimed, and whether the
+/// first place and the second can act then. After them the released groups.
 fn turns_of_two(alloc: Global, graph: &Graph, places: &[u32]) -> Result<String, Fail> {
     let mut machine = Machine::make(alloc, graph, graph.roots(), 2)?;
     let mut seen = Vec::new(alloc);
@@ -82,7 +83,7 @@ fn turns_of_two(alloc: Global, graph: &Graph, places: &[u32]) -> Result<String, 
     Ok(format!(in alloc; "{seen:?} {groups:?}")?)
 }
 
-/// Whether the groups, in order of their least members, are the classes, for two places and for three
+/// Whether the groups, in order of their least members, are the SCCs, for two and for three places
 /// which act one to three times in a row.
 fn agrees(alloc: Global, graph: &Graph) -> Result<bool, Fail> {
     let classes = classes_slow(alloc, graph)?;
@@ -96,7 +97,7 @@ fn agrees(alloc: Global, graph: &Graph) -> Result<bool, Fail> {
     Ok(true)
 }
 
-/// The groups that a machine releases, each place of which acts so many times in a row where it can.
+/// The groups that a machine releases. Each place acts `row` times in a row if it can.
 fn groups_in_turns(
     alloc: Global,
     graph: &Graph,
@@ -117,7 +118,7 @@ fn groups_in_turns(
     Ok(machine.into_groups())
 }
 
-/// Lets a place act, and hands in the opening that it asks for: the node that it has claimed.
+/// Lets a place act, and expands the node that it has claimed.
 fn take_turn(
     alloc: Global,
     graph: &Graph,

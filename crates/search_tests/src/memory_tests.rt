@@ -5,7 +5,7 @@ use search_stack::groups_plain;
 use std::alloc::AllocError;
 use std::test::Fail;
 
-/// A graph that finds no memory at one node.
+/// A graph that finds no memory to expand one node.
 #[derive(Drop)]
 struct Failing {
     graph: Graph,
@@ -27,7 +27,8 @@ impl Opener for Failing {
     }
 }
 
-/// A ring whose nodes are all roots, so that searches meet while one of them is refused memory.
+/// A cycle whose nodes are all roots, so that searches wait for each other when one of them finds
+/// no memory.
 #[test]
 fn no_memory_at_a_node_is_told(rt: HostRuntime) -> Result<(), Fail> {
     let alloc = rt.alloc();

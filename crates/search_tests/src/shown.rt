@@ -1,4 +1,4 @@
-//! What is compared with the answers of tests, as text.
+//! The results of tests as text.
 
 ghost use Rattle.std.specs.Prelude.{ℕ};
 ghost use Rattle.graph_law.specs.Classes.{HasMember};

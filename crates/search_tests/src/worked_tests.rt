@@ -1,5 +1,5 @@
-//! Searches that are led by hand to where one is kept, and moves on top of another: what is on the stacks
-//! then.
+//! Searches that are led by hand until one is suspended, and moved on top of another: what is on
+//! the stacks then.
 
 ghost use Rattle.std.specs.Prelude.{◌≡◌, IfOk, OnOk};
 ghost use Rattle.group_release.specs.Book.{RunsBeside};
@@ -14,8 +14,8 @@ use search_stack::Search;
 use std::alloc::Global;
 use std::test::Fail;
 
-/// Leads a search from the next root along a path, until it has to wait for a node and is kept. Its stack
-/// looks so then, and is cut at the node so.
+/// Leads a search from the next root along a path, until it has to wait for a node and is
+/// suspended. The test says how its stack looks then, and where it is cut for the node.
 #[derive(Drop)]
 struct Kept {
     path: &'static [u32],
@@ -25,7 +25,7 @@ struct Kept {
     waits_for: u32,
 }
 
-/// The search of a kept one until it has to wait, whose stack looks as it should.
+/// The search until it has to wait, whose stack must look as given.
 fn lead(alloc: Global, graph: &Graph, book: &mut Book, kept: &Kept) -> Result<Search, Fail>
     requires { book.old.lists ≡ graph.now.lists }
     ensures same { IfOk result (λ _. IsSameGraph book.old book.new) }
@@ -45,7 +45,7 @@ fn lead(alloc: Global, graph: &Graph, book: &mut Book, kept: &Kept) -> Result<Se
     Ok(search)
 }
 
-/// Leads a search until it is kept.
+/// Leads a search until it is suspended.
 fn keep(alloc: Global, graph: &Graph, book: &mut Book, kept: &Kept) -> Result<(), Fail>
     requires { book.old.lists ≡ graph.now.lists }
     ensures { OnOk result (IsSameGraph book.old book.new) }
@@ -62,7 +62,8 @@ fn keep(alloc: Global, graph: &Graph, book: &mut Book, kept: &Kept) -> Result<()
     }
 }
 
-/// The search from the next root, which comes to a node of a kept search, with what it waited for on top.
+/// The search from the next root, which reaches a node of a suspended search, with what it waited
+/// for on top.
 fn moved(alloc: Global, graph: &Graph, book: &mut Book, node: u32) -> Result<Search, Fail>
     requires { book.old.lists ≡ graph.now.lists }
     ensures same { IfOk result (λ _. IsSameGraph book.old book.new) }
@@ -75,7 +76,7 @@ fn moved(alloc: Global, graph: &Graph, book: &mut Book, node: u32) -> Result<Sea
     }
 }
 
-/// Joins so many segments, and releases all.
+/// Joins this many segments, and releases all.
 fn finish(book: &mut Book, mut search: Search, joins: u32, nodes: &[u32]) -> Result<(), Fail>
     requires { RunsBeside book.old search }
     ensures { OnOk result (IsSameGraph book.old book.new) }
@@ -96,7 +97,8 @@ fn groups_shown(alloc: Global, graph: &Graph, book: Book) -> Result<String, Fail
     Ok(format!(in alloc; "{groups:?} {levels}")?)
 }
 
-/// The kept search comes whole, since a low in its upper part is below where it would be cut.
+/// The suspended search is moved whole, since a low in its upper part is below where it would be
+/// cut.
 #[test]
 fn a_low_below_the_cut_brings_the_whole_search(rt: HostRuntime) -> Result<(), Fail> {
     let alloc = rt.alloc();
@@ -119,7 +121,8 @@ fn a_low_below_the_cut_brings_the_whole_search(rt: HostRuntime) -> Result<(), Fa
     finish(&mut book, search, 3, &[0, 1, 2, 3])
 }
 
-/// The rest of a kept search stays kept, and wants the node that it led to, until that is released.
+/// The rest of a suspended search stays suspended. It waits for the node that it led to, until that
+/// is released.
 #[test]
 fn the_rest_is_ready_after_the_release(rt: HostRuntime) -> Result<(), Fail> {
     let alloc = rt.alloc();
@@ -146,7 +149,8 @@ fn the_rest_is_ready_after_the_release(rt: HostRuntime) -> Result<(), Fail> {
     Ok(())
 }
 
-/// Of a ring of three searches each waits for the next: the last brings both others on top of itself.
+/// Three searches, each of which waits for the next in a cycle: the last one moves both others on
+/// top of itself.
 #[test]
 fn a_ring_of_searches_becomes_one(rt: HostRuntime) -> Result<(), Fail> {
     let alloc = rt.alloc();

@@ -34,11 +34,11 @@ pub enum Ask {
     Bare,
     /// Which of two texts, with a bar between, is the lesser one.
     Less,
-    /// The place of an offset, which stands before the text, or no place where `-` does.
+    /// The position of an offset, which is before the text, or none if `-` is there.
     Place,
-    /// The operator of a name, behind which `prefix`, `infix` or `postfix` stands.
+    /// The operator of a name, after which is `prefix`, `infix` or `postfix`.
     Operator,
-    /// The text of a fault in setting an operator, by its name.
+    /// The message of an error in setting an operator, by its name.
     OpFault,
     /// A text's clause as a term.
     Clause,
@@ -52,13 +52,13 @@ pub enum Ask {
     Facts,
     /// Its predicates, with the offsets of their clauses.
     Starts,
-    /// The name of a file, which leads from another one; a bar stands between.
+    /// The name of a file that another one leads to; a bar is between them.
     File,
-    /// The options that words set. Behind each word stands a bar.
+    /// The options that arguments set. After each argument is a bar.
     Options,
-    /// The made text of so many predicates.
+    /// The generated program of this many predicates.
     Made,
-    /// Nothing that is known.
+    /// An unknown question.
     Other,
 }
 
@@ -92,7 +92,7 @@ impl Ask {
     }
 }
 
-/// What is answered to a row.
+/// The output for a row.
 pub fn told<R: Threads + Sync>(
     rt: &R,
     alloc: Global,

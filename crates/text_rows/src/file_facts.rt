@@ -51,8 +51,8 @@ fn push_loads(alloc: Global, out: &mut String, loads: &[Load]) -> Result<(), All
     Ok(())
 }
 
-/// Adds each predicate with the number of its clauses, and with its module where that isn't the
-/// file's.
+/// Adds each predicate with the number of its clauses, and with its module unless it is that of the
+/// file.
 fn push_defined(alloc: Global, out: &mut String, facts: &FileFacts) -> Result<(), AllocError> {
     for predicate in &facts.defined {
         let owner = facts.names.text(predicate.module);
@@ -178,7 +178,7 @@ fn refused_told(alloc: Global, fault: TextFault) -> Result<String, AllocError> {
     }
 }
 
-/// What a file says, or why it is refused.
+/// What a file says, or its error.
 pub fn facts_told<R: Threads + Sync>(
     rt: &R,
     alloc: Global,
@@ -192,7 +192,7 @@ pub fn facts_told<R: Threads + Sync>(
     }
 }
 
-/// The predicates of a file with the offsets of their clauses, or why it is refused.
+/// The predicates of a file with the offsets of their clauses, or its error.
 pub fn starts_told<R: Threads + Sync>(
     rt: &R,
     alloc: Global,
@@ -206,7 +206,7 @@ pub fn starts_told<R: Threads + Sync>(
     }
 }
 
-/// The file that a specification leads to from another file, which stands before a bar.
+/// The file that a specification leads to from another file, which is before a bar.
 pub fn file_told(alloc: Global, text: &str) -> Result<String, AllocError> {
     let (using, spec) = text.split_once('|').unwrap_or(("", text));
     match resolve_name(alloc, using, spec)? {

@@ -1,9 +1,11 @@
-//! Reads rows, one a line, and tells what the calls that read texts answer to each. A line that begins with
-//! `#` and a blank says what is asked of the rows below it, and by its second word what they are for; it is
-//! written as it is. Each other line is a row, and is written with ` => ` and the answer behind it.
+//! Reads rows, one a line, and prints what the functions that read texts return for each. A line
+//! that begins with `#` and a blank says what is asked of the rows after it, and by its second word
+//! what they are for. It is printed unchanged. Each other line is a row, and is printed with ` => `
+//! and the result after it.
 //!
-//! In a row `¶` is a newline. What stands between `«` and `»` is a character by its number in base 16, a byte
-//! where an `x` stands before the number, or text that stands so often as the number before its `*` says.
+//! In a row `¶` is a newline. Text between `«` and `»` is a character by its number in base 16, a
+//! byte if an `x` is before the number, or text that is repeated as often as the number before its
+//! `*` says.
 #![tactic(auto)]
 
 mod ask;

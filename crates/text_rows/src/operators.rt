@@ -1,8 +1,7 @@
 use prolog_ops::{Op, OpFault, OpKind, OpTable};
 use std::alloc::{AllocError, Global};
 
-/// The table that each text begins with, but for `is`, which is no operator in it, and `again`, which
-/// is one. What it holds is no matter to the proofs.
+/// The opening table without `is`, and with `again`. Proofs don't depend on what it has.
 fn changed_table(alloc: Global) -> Result<OpTable, OpFault> {
     let mut table = OpTable::opening(alloc)?;
     table.set(alloc, "again", OpKind::Yf, 300)?;
@@ -19,7 +18,7 @@ fn operator_at(table: &OpTable, place: &str, name: &str) -> Option<Op> {
     }
 }
 
-/// The operator of a name at a place, which stands behind the name.
+/// The operator of a name with the fixity after the name.
 pub fn operator_told(alloc: Global, text: &str) -> Result<String, AllocError> {
     let (name, place) = text.split_once(' ').unwrap_or((text, ""));
     match changed_table(alloc) {
@@ -31,7 +30,7 @@ pub fn operator_told(alloc: Global, text: &str) -> Result<String, AllocError> {
     }
 }
 
-/// The text of a fault, by its name.
+/// The message of an error, by its name.
 pub fn op_fault_told(alloc: Global, name: &str) -> Result<String, AllocError> {
     let fault = match name {
         "BadPriority" => OpFault::BadPriority,

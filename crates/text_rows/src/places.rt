@@ -4,8 +4,8 @@ ghost use Rattle.prolog_tokens.specs.declared.limits.TheConstants.{MOST_BYTES};
 use prolog_tokens::{place_of, places_of};
 use std::alloc::{AllocError, Global};
 
-/// The line and the column of an offset: as they are found for it alone, and in a sweep over offsets.
-/// Where there is none, what a sweep over none finds.
+/// The line and the column of an offset, found for it alone and by a pass over several offsets. If
+/// there is none, the result of a pass over none.
 pub fn place_told(alloc: Global, text: &[u8], offset: Option<u32>) -> Result<String, AllocError>
     requires { length text.now ≤ MOST_BYTES }
 {

@@ -1,6 +1,6 @@
 use std::alloc::{AllocError, Global};
 
-/// The bytes that a row stands for.
+/// The bytes that a row means.
 pub fn bytes_of(alloc: Global, row: &str) -> Result<Vec<u8>, AllocError> {
     let mut bytes = Vec::new(alloc);
     for part in row.split('«') {
@@ -24,7 +24,7 @@ fn push_plain(alloc: Global, bytes: &mut Vec<u8>, text: &str) -> Result<(), Allo
     bytes.extend_from_slice(plain.as_bytes())
 }
 
-/// Adds what stands between the marks, which is nothing where it has no meaning.
+/// Adds the meaning of what is between the marks, which is nothing if it has none.
 fn push_meant(alloc: Global, bytes: &mut Vec<u8>, inside: &str) -> Result<(), AllocError> {
     if let Some((count, part)) = inside.split_once('*') {
         for _ in 0..count.parse::<u32>().unwrap_or(0) {
@@ -42,7 +42,7 @@ fn push_meant(alloc: Global, bytes: &mut Vec<u8>, inside: &str) -> Result<(), Al
     bytes.extend_from_slice(text.as_bytes())
 }
 
-/// The answer with `¶` for each newline, and each other control character as its number.
+/// The output with `¶` for each newline, and each other control character as its number.
 pub fn shown(alloc: Global, answer: &str) -> Result<String, AllocError> {
     let mut out = String::new(alloc);
     for c in answer.chars() {

@@ -126,7 +126,7 @@ fn is_end_at(tokens: &[Token], at: usize) -> bool
     }
 }
 
-/// Whether the tokens are some, and none but the last is an End.
+/// Whether there are tokens, and only the last one is an End.
 fn is_one_clause(tokens: &[Token]) -> bool
     ensures { IsTrue result → IsOneClause tokens.now }
 {
@@ -148,7 +148,7 @@ struct ReadTerm {
     nodes: NodeList,
 }
 
-/// Why a text isn't read as a term.
+/// Why a text can't be read as a term.
 #[derive(Debug, Drop)]
 enum Unread {
     Cut(TokenFault),
@@ -201,8 +201,8 @@ fn unread_told(alloc: Global, unread: &Unread) -> Result<String, AllocError> {
     }
 }
 
-/// The table that each text begins with, but for two more operators behind operands, and for `mode`,
-/// which is none in it. What it holds is no matter to the proofs.
+/// The opening table with two more postfix operators, and without `mode`. Proofs don't depend on
+/// what it has.
 fn changed_table(alloc: Global) -> Result<OpTable, OpFault> {
     let mut table = OpTable::opening(alloc)?;
     table.set(alloc, "once_more", OpKind::Xf, 300)?;
@@ -211,7 +211,7 @@ fn changed_table(alloc: Global) -> Result<OpTable, OpFault> {
     Ok(table)
 }
 
-/// The term that the text reads as, in words, or why it doesn't.
+/// The term that the text reads as, in words, or its error.
 pub fn clause_told(alloc: Global, text: &str) -> Result<String, AllocError>
     requires { length text.now ≤ MOST_BYTES }
 {
@@ -238,7 +238,7 @@ fn count_parts(term: &Term) -> usize {
     }
 }
 
-/// How many items or arguments the term has that the text reads as, or why it doesn't.
+/// How many items or arguments the term has that the text reads as, or its error.
 pub fn parts_told(alloc: Global, text: &str) -> Result<String, AllocError>
     requires { length text.now ≤ MOST_BYTES }
 {

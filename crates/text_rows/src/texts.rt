@@ -6,7 +6,7 @@ use prolog_terms::{Form, Term, TermKind, inside};
 use std::alloc::{AllocError, Global};
 use std::thread::Threads;
 
-/// How many clauses the text has, or why it isn't read.
+/// How many clauses the text has, or its error.
 pub fn count_told<R: Threads + Sync>(
     rt: &R,
     alloc: Global,
@@ -20,7 +20,7 @@ pub fn count_told<R: Threads + Sync>(
     }
 }
 
-/// How a clause is written inside its brackets, where it is a compound term.
+/// How a clause is written inside its brackets, if it is a compound term.
 fn form_of(clause: &Term) -> Option<Form> {
     match inside(clause).kind() {
         TermKind::Compound { form, .. } => Some(form),

@@ -10,7 +10,7 @@ use prolog_tokens::{
 use std::alloc::{AllocError, Global};
 use std::cmp::Ordering;
 
-/// The letter or sign that stands for a kind.
+/// The letter or sign for a kind.
 fn sign(kind: Kind) -> char {
     match kind {
         Kind::Name => 'N',
@@ -32,8 +32,8 @@ fn sign(kind: Kind) -> char {
     }
 }
 
-/// The tokens in words: the sign of the kind, where the token starts and ends, and `+` before it
-/// where layout or the beginning of the text stands directly before.
+/// The tokens in words: the sign of the kind, where the token starts and ends, and `+` before it if
+/// layout or the beginning of the text is directly before it.
 fn words(alloc: Global, tokens: &[Token]) -> Result<String, AllocError> {
     let mut words = String::new(alloc);
     for token in tokens {
@@ -179,7 +179,7 @@ pub fn bare_told(alloc: Global, text: &str) -> Result<String, AllocError> {
     format!(in alloc; "{is_bare}")
 }
 
-/// How two texts stand in order, of which one is made of a string. Both are written as they are kept.
+/// The order of two texts, of which one is made from a string. Both are written as they are stored.
 pub fn less_told(alloc: Global, text: &str) -> Result<String, AllocError> {
     let (first, second) = text.split_once('|').unwrap_or((text, text));
     let first = Text::new(alloc, first)?;

@@ -3,7 +3,7 @@ use import_rules::PredName;
 use prolog_tokens::Text;
 use std::alloc::{AllocError, Global};
 
-/// The most predicates of a made program.
+/// The most predicates of a generated program.
 const MOST_PREDICATES: u32 = 100_000;
 
 fn push_name(alloc: Global, out: &mut String, root: &PredName) -> Result<(), AllocError> {
@@ -73,7 +73,7 @@ fn shown(alloc: Global, options: &Options) -> Result<String, AllocError> {
     Ok(out)
 }
 
-/// What the words come to.
+/// The output for arguments.
 fn outcome(alloc: Global, words: &[Text]) -> Result<String, AllocError> {
     match parse_words(alloc, words) {
         Ok(options) => shown(alloc, &options),
@@ -82,7 +82,7 @@ fn outcome(alloc: Global, words: &[Text]) -> Result<String, AllocError> {
     }
 }
 
-/// The words of a line, each with a bar behind it.
+/// The arguments of a line, each with a bar after it.
 fn words_of(alloc: Global, line: &str) -> Result<Vec<Text>, AllocError> {
     let mut words = Vec::new(alloc);
     for word in line.split("|") {
@@ -92,13 +92,13 @@ fn words_of(alloc: Global, line: &str) -> Result<Vec<Text>, AllocError> {
     Ok(words)
 }
 
-/// The options that words set. Behind each word stands a bar.
+/// The options that arguments set. After each argument is a bar.
 pub fn options_told(alloc: Global, line: &str) -> Result<String, AllocError> {
     let words = words_of(alloc, line)?;
     outcome(alloc, &words)
 }
 
-/// The text of a made program of so many predicates.
+/// The text of a generated program of this many predicates.
 pub fn made_told(alloc: Global, count: &str) -> Result<String, AllocError> {
     let count = count.parse::<u32>().unwrap_or(0);
     make_text(alloc, count.min(MOST_PREDICATES))

@@ -1,4 +1,4 @@
-//! Which files runs ask for, and files that can't be read.
+//! Which files runs read, and files that can't be read.
 
 use crate::runs::{FilesRun, expect_files};
 use std::test::Fail;
@@ -23,8 +23,8 @@ const LOOP: &[(&str, &[u8])] = &[("f.pl", b"p :- p.\n")];
 
 const REPORT: &str = "predicates 1 groups 1 recursive 1 levels 1\n0 recursive user:p/0\n";
 
-/// Runs that ask for each name once, a wave at a time and in order, and for none where the words make a
-/// program.
+/// Runs that read each name once, a wave at a time and in order, and none if the arguments ask for
+/// a generated program.
 static ASKED: [FilesRun; 6] = [
     (&["a.pl"], RING, &[], " a.pl b.pl c.pl", 0, RING_REPORT, ""),
     (
@@ -79,7 +79,7 @@ fn asks_for_each_name_once(rt: HostRuntime) -> Result<(), Fail> {
     expect_files(&rt, rt.alloc(), &ASKED)
 }
 
-/// Reads that fail in the first wave, or in one that follows it.
+/// Reads that fail in the first wave, or in a later one.
 static UNREAD: [FilesRun; 5] = [
     (&["f.pl"], LOOP, &[2], " f.pl", 0, REPORT, ""),
     (

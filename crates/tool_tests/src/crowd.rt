@@ -1,16 +1,16 @@
-//! A gate for three openings.
+//! A gate for three expansions.
 
 use group_tool::Gate;
 use std::sync::atomic::{AtomicBool, AtomicU32, Ordering};
 use std::{hint, thread};
 
-/// How many openings are waited for.
+/// For how many expansions it waits.
 const COUNT: u32 = 3;
 
-/// How many loops an opening waits for the others.
+/// How many iterations an expansion waits for the others.
 const LOOPS: u32 = 50_000_000;
 
-/// A gate that holds each opening until three have entered, or a number of loops is over.
+/// A gate that holds each expansion until three have begun, or for a number of iterations.
 #[derive(Drop)]
 pub struct CrowdGate {
     entered: AtomicU32,
@@ -27,12 +27,12 @@ impl CrowdGate {
         }
     }
 
-    /// How many openings have seen all three enter while they were held.
+    /// How many expansions have seen all three begin while they were held.
     pub fn met(&self) -> u32 {
         self.met.load(Ordering::SeqCst)
     }
 
-    /// Waits until all three have entered: false where they hadn't within so many loops.
+    /// Waits until all three have begun. False if they hadn't within this many iterations.
     fn fills(&self) -> bool {
         for turn in 0..LOOPS {
             if self.full.load(Ordering::SeqCst) {

@@ -10,11 +10,11 @@ use std::sync::Wait;
 use std::test::Fail;
 use std::thread::Threads;
 
-/// Bytes for which each sink of these runs has room.
+/// The capacity of each sink of these runs in bytes.
 const AMPLE: u32 = 1000;
 
-/// What fails in a run on one word over files in memory: reads by their numbers; a sink once it has
-/// taken so many bytes; the flush of standard output.
+/// What fails in a run with one argument over files in memory: reads by their numbers, a sink after
+/// it has taken this many bytes, or the flush of standard output.
 #[derive(Drop)]
 struct Failing {
     word: &'static str,
@@ -156,7 +156,7 @@ fn make_sink(alloc: Global, most: u32, flush_fails: bool) -> Result<MemorySink, 
     MemorySink::failing_after(alloc, most)
 }
 
-/// Runs on the word, and compares the status and the bytes on both sinks.
+/// Runs with the argument, and compares the status and the bytes on both sinks.
 fn expect_end<R: Threads + Wait + Sync + Abort>(
     rt: &R,
     alloc: Global,
@@ -182,7 +182,7 @@ fn expect_end<R: Threads + Wait + Sync + Abort>(
     Ok(())
 }
 
-/// One table, with the sink of a report that takes each number of bytes which is too small for it.
+/// One table, in which the sink of a report is too small by each number of bytes.
 #[test]
 fn ends_as_devices_fail(rt: HostRuntime) -> Result<(), Fail> {
     let alloc = rt.alloc();

@@ -1,4 +1,4 @@
-//! Workers that open nodes at the same time, and runs that never wait.
+//! Workers that expand nodes at the same time, and runs that never wait.
 
 use crate::crowd::CrowdGate;
 use crate::runs::{library_of, shown, words_of};
@@ -9,7 +9,7 @@ use std::sync::Wait;
 use std::test::Fail;
 use std::thread::Threads;
 
-/// Two rings, of which one calls the other, with a chain between them and a predicate that calls
+/// Two cycles, of which one calls the other, with a chain between them and a predicate that calls
 /// itself.
 const TEXT: &str = "a :- b. b :- a, c. c :- d. d :- e, f. e :- d. f :- f. g :- a, f.";
 
@@ -28,8 +28,8 @@ const THREE_REPORT: &str =
 const REPORT: &str =
     "predicates 7 groups 5 recursive 3 levels 5\n0 recursive user:f/0\n1 recursive user:d/0 user:e/0\n2 plain user:c/0\n3 recursive user:a/0 user:b/0\n4 plain user:g/0\n";
 
-/// What a run on the words over one file `f.pl` writes, whose predicates are told to the gate as they
-/// are opened. It ends with status 0.
+/// The output of a run with the arguments over one file `f.pl`. The gate is called for its
+/// predicates as they are expanded. It ends with status 0.
 fn report_of<R: Threads + Wait + Sync + Abort, G: Gate>(
     rt: &R,
     alloc: Global,
@@ -46,7 +46,7 @@ fn report_of<R: Threads + Wait + Sync + Abort, G: Gate>(
     Ok(out)
 }
 
-/// The report is that of one job. No single search brings both nodes to the gate at once.
+/// The report is that of one job. No single search has both nodes at the gate at once.
 #[test]
 fn opens_two_nodes_at_once_with_two_workers(rt: HostRuntime) -> Result<(), Fail> {
     let alloc = rt.alloc();
@@ -59,7 +59,7 @@ fn opens_two_nodes_at_once_with_two_workers(rt: HostRuntime) -> Result<(), Fail>
     Ok(())
 }
 
-/// Each of the three has to be opened by a worker of its own.
+/// Each of the three must be expanded by a worker of its own.
 #[test]
 fn opens_three_nodes_at_once_with_three_workers(rt: HostRuntime) -> Result<(), Fail> {
     let alloc = rt.alloc();
@@ -70,7 +70,7 @@ fn opens_three_nodes_at_once_with_three_workers(rt: HostRuntime) -> Result<(), F
     Ok(())
 }
 
-/// With a stream the groups may stand in any order, so the head of the report and its length are
+/// With a stream the groups may be in any order, so the head of the report and its length are
 /// compared.
 #[test]
 fn opens_three_nodes_at_once_while_levels_are_found(rt: HostRuntime) -> Result<(), Fail> {

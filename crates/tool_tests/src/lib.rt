@@ -1,6 +1,6 @@
-//! Tests of the libraries of files and of the calls that the program makes: of files in memory and what is
-//! asked for, of devices that fail, of limits and of workers. More whole runs over files are rows of
-//! `checks/rows/`.
+//! Tests of the libraries of files and of whole runs: of files in memory and the order in which
+//! they are read, of devices that fail, of limits and of workers. More whole runs over files are
+//! rows of `checks/rows/`.
 #![tactic(auto)]
 
 #[cfg(test)]

@@ -12,7 +12,7 @@ use std::thread::Threads;
 
 const EMPTY: &str = "predicates 0 groups 0 recursive 0 levels 0\n";
 
-/// Runs on the words, and compares the status, how many names were asked for, and how what both
+/// Runs with the arguments, and compares the status, how many names were read, and how what both
 /// sinks have taken begins.
 fn expect_start<R: Threads + Wait + Sync + Abort>(
     rt: &R,
@@ -36,7 +36,7 @@ fn expect_start<R: Threads + Wait + Sync + Abort>(
     Ok(())
 }
 
-/// So many names of files.
+/// This many names of files.
 fn numbered(alloc: Global, count: u32) -> Result<Vec<Text>, AllocError> {
     let mut names = Vec::new(alloc);
     for number in 0..count {
@@ -45,7 +45,7 @@ fn numbered(alloc: Global, count: u32) -> Result<Vec<Text>, AllocError> {
     Ok(names)
 }
 
-/// A directive that loads so many files.
+/// A directive that loads this many files.
 fn loading(alloc: Global, count: u32) -> Result<String, AllocError> {
     let mut text = String::from_str(alloc, ":- [f0")?;
     for number in 1..count {
@@ -105,7 +105,7 @@ fn takes_so_many_files(rt: HostRuntime) -> Result<(), Fail> {
     Ok(())
 }
 
-/// Runs on files `a.pl` and so on, each of so many spaces.
+/// Runs on files `a.pl` and so on, each with this many spaces.
 fn expect_sizes<R: Threads + Wait + Sync + Abort>(
     rt: &R,
     alloc: Global,
@@ -158,7 +158,7 @@ fn facts(alloc: Global, from: u32, to: u32) -> Result<String, AllocError> {
     Ok(text)
 }
 
-/// One root alone is told of, so that the report is short.
+/// Only one root is reported, so that the report is short.
 #[test]
 fn takes_so_many_predicates(rt: HostRuntime) -> Result<(), Fail> {
     let alloc = rt.alloc();

@@ -1,4 +1,4 @@
-//! Files that are asked for on demand: in which order, and how that ends.
+//! Files that are read on demand: in which order, and how that ends.
 
 use crate::runs::{library_of, push_names, words_of};
 use file_library::{Fault, LoadStop, Loaded, MemoryLibrary, load_all};
@@ -8,8 +8,8 @@ use std::process::Abort;
 use std::test::Fail;
 use std::thread::Threads;
 
-/// The files, the reads that fail and the roots, and the wanted names in the order in which they are
-/// asked for and the wanted end.
+/// The files, the reads that fail and the roots, and what is expected: the names in the order in
+/// which they are read, and the end.
 type LoadRun = (
     &'static [(&'static str, &'static [u8])],
     &'static [u32],
@@ -40,7 +40,7 @@ fn told_loaded(alloc: Global, loaded: &Loaded) -> Result<String, AllocError> {
     Ok(out)
 }
 
-/// Each fault as the file, the line, the column, the byte offset and the cause.
+/// Each error as the file, the line, the column, the byte offset and the cause.
 fn told_faults(alloc: Global, faults: &[Fault]) -> Result<String, AllocError> {
     let mut out = String::from_str(alloc, "faults")?;
     for fault in faults {
@@ -74,7 +74,7 @@ pub fn told_end(alloc: Global, end: &Result<Loaded, LoadStop>) -> Result<String,
     }
 }
 
-/// Loads from the roots, and compares what was asked for and the end.
+/// Loads from the roots, and compares which names were read and the end.
 fn expect_load<R: Threads + Sync + Abort>(
     rt: &R,
     alloc: Global,
@@ -192,7 +192,7 @@ fn loads_files_by_waves(rt: HostRuntime) -> Result<(), Fail> {
     expect_loads(&rt, rt.alloc(), &WITH_LOADS)
 }
 
-/// Files with faults, and roots that aren't there.
+/// Files with errors, and roots that aren't there.
 static WITH_FAULTS: [LoadRun; 6] = [
     (
         &[("b.pl", b"p :- q\n")],

@@ -10,8 +10,8 @@ use std::sync::Wait;
 use std::test::Fail;
 use std::thread::Threads;
 
-/// Words, files and the reads that fail; and the wanted names in the order in which they are asked
-/// for, each behind a space, the status and the bytes on both sinks.
+/// Arguments, files and the reads that fail; and what is expected: the names in the order in which
+/// they are read, each after a space, the status and the bytes on both sinks.
 pub type FilesRun = (
     &'static [&'static str],
     &'static [(&'static str, &'static [u8])],
@@ -22,7 +22,7 @@ pub type FilesRun = (
     &'static str,
 );
 
-/// The words of a command line.
+/// The arguments of a command line.
 pub fn words_of(alloc: Global, words: &[&str]) -> Result<Vec<Text>, AllocError> {
     let mut found = Vec::new(alloc);
     for word in words {
@@ -44,7 +44,7 @@ pub fn library_of(
     MemoryLibrary::new(alloc, map, failing.to_vec(alloc)?)
 }
 
-/// Adds the names, each behind a space.
+/// Adds the names, each after a space.
 pub fn push_names(out: &mut String, names: &[Text]) -> Result<(), AllocError> {
     for name in names {
         out.push_str(" ")?;
@@ -61,7 +61,8 @@ pub fn shown(sink: &MemorySink) -> &str {
     }
 }
 
-/// Runs on the words over the library, and compares the status and what both sinks have taken.
+/// Runs with the arguments over the library, and compares the status and what both sinks have
+/// taken.
 fn expect_run<R: Threads + Wait + Sync + Abort>(
     rt: &R,
     words: &[Text],
@@ -76,7 +77,7 @@ fn expect_run<R: Threads + Wait + Sync + Abort>(
     Ok(())
 }
 
-/// Runs on the words of each row over its files.
+/// Runs with the arguments of each row over its files.
 pub fn expect_files<R: Threads + Wait + Sync + Abort>(
     rt: &R,
     alloc: Global,
