@@ -168,8 +168,9 @@ fn standing_by<'a>(declared: &'a [GoalArg], name: &str, arity: u32) -> Standing<
     }
 }
 
-/// The goal at a compound that starts at this byte offset and has this role in a body of the module
-/// `owner`, and how its arguments are goals. `number` is that of its name in the names of its text.
+/// The goal at a compound that starts at this byte offset, and how its arguments are goals. The
+/// compound has this role in a body of the module `owner`. `number` is that of its name in the
+/// names of its text.
 pub fn take_apart<'a>(
     program: &'a Program,
     at: u32,

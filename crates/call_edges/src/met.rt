@@ -32,10 +32,10 @@ fn push_met<'a>(
     Ok(())
 }
 
-/// The goals in the clauses of the predicate with that number, clause by clause.
+/// The goals in the clauses of the predicate with that number, clause by clause: its calls, and the
+/// goals that aren't callable.
 ///
-/// They are its calls, by the names that are written there and each with what it means if that was
-/// looked up, and the goals that aren't callable.
+/// A call has the name that is written there, and what it means if that was looked up.
 pub fn met_in<'a>(
     alloc: Global,
     program: &'a Program,

@@ -13,9 +13,9 @@ use crate::placed_lists::PlacedCallLists;
 use crate::role::Met;
 use std::alloc::{AllocError, Global};
 
-/// A name that is called in a module, by a goal of a clause. It has the index of the clause's file
-/// among the files, the byte offset at which the goal starts, and the number of the predicate that
-/// calls. Such names are ordered by their fields in this order.
+/// A name that is called in a module, by a goal of a clause. `file` is the index of the clause's
+/// file among the files, `offset` the byte offset at which the goal starts, and `caller` the number
+/// of the calling predicate. Such names are ordered by their fields in this order.
 #[derive(Clone, Copy, Debug, PartialEq, Eq, PartialOrd, Ord)]
 pub struct NamedCall<'a> {
     pub file: u32,
@@ -102,12 +102,11 @@ fn gathered<'a>(
     Ok(calls)
 }
 
-/// All calls of these predicates, by file and offset and each once. A call has the offset of its
-/// goal, its caller, the name that is called in a module, and the predicate that it means there, if
-/// any.
+/// All calls of these predicates, by file and offset and each once.
 ///
-/// Files are indices among those of the program, and offsets are in their bytes. Nothing is walked
-/// or looked up.
+/// A call has the offset of its goal, its caller, and the name that is called in a module. It also
+/// has the predicate that the name means there, if any. Files are indices among those of the
+/// program, and offsets are in their bytes. Nothing is walked or looked up.
 pub fn calls_of<'a>(
     alloc: Global,
     lists: &PlacedCallLists<'a>,

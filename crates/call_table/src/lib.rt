@@ -3,8 +3,8 @@
 //!
 //! `call_table` lists all clauses and all calls of given predicates, each once and sorted by file
 //! and offset, with lines and columns. It also has the group of each predicate of the program, if
-//! it is in one of the given groups. In `a.pl` with the line `p :- q, r.` the clause of `user:p/0`
-//! starts at line 1, column 1, and the calls of `q/0` and `r/0` at columns 6 and 9.
+//! it is in one of the given groups. For example, let `a.pl` have the line `p :- q, r.` The clause
+//! of `user:p/0` starts at line 1, column 1, and the calls of `q/0` and `r/0` at columns 6 and 9.
 //!
 //! The layer above decides how the table is written.
 #![tactic(auto)]

@@ -313,8 +313,8 @@ fn push_named(
     Ok(())
 }
 
-/// Adds the line of the predicate with that number, which is in the group at the index `place` - 1,
-/// or in none if `place` is 0.
+/// Adds the line of the predicate with that number. Its group has the index `place` - 1, and it has
+/// none if `place` is 0.
 pub fn push_predicate_line(
     text: &mut String,
     program: &Program,

@@ -2,9 +2,9 @@
 //! before it leave.
 //!
 //! `read_text` returns the one list of clauses of a text, with the names in it, or its one error
-//! with the byte offset. The error is that of its bytes, or else of its tokens, or else of the
-//! first clause that can't be read or whose operators can't be set. `Cause` lists all errors of a
-//! program's files, and `cause_text` returns their messages.
+//! with the byte offset. An error of its bytes comes first, and then one of its tokens. The last is
+//! that of the first clause that can't be read or whose operators can't be set. `Cause` lists all
+//! errors of a program's files, and `cause_text` returns their messages.
 //!
 //! Of directives it sees only the operators, and of files only their bytes.
 #![tactic(auto)]

@@ -85,8 +85,8 @@ fn count_ends(tokens: &[Token]) -> usize {
         .count()
 }
 
-/// The clauses of the tokens, each up to its End and read with the operators that those before it
-/// leave in the table, or the error of the first that can't be read.
+/// The clauses of the tokens, each up to its End, or the error of the first that can't be read. A
+/// clause is read with the operators that those before it leave in the table.
 fn read_parts<R: Threads + Sync>(
     rt: &R,
     alloc: Global,

@@ -14,8 +14,8 @@ use prolog_names::number_names;
 use std::alloc::Global;
 use std::thread::Threads;
 
-/// The clauses of a text of at most 8,388,608 bytes in their order, each read with the operators
-/// that those before it leave (ISO/IEC 13211-1, 6.2).
+/// The clauses of a text of at most 8,388,608 bytes in their order (ISO/IEC 13211-1, 6.2). Each is
+/// read with the operators that those before it leave.
 ///
 /// An error of its bytes comes first, then one of its tokens, and then the first one of its
 /// clauses. Each clause is read before its operator items are done. Clauses between operator items

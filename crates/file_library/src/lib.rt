@@ -1,4 +1,4 @@
-//! Reading files on demand: a `Library` is a map from names to files, in memory or on the disk, and
+//! Reading files on demand: a `Library` is a map from names to files, in memory or on the disk.
 //! `load_all` reads the roots and all files that they load.
 //!
 //! A `Library` records the names that it was asked for and what it returned. It counts its misses

@@ -3,9 +3,12 @@ use module_table::FileFacts;
 use prolog_tokens::Text;
 use std::alloc::AllocError;
 
-/// What was loaded, each list in ascending order of names: the facts of the files that are there,
-/// the names of those that aren't, the names of the roots, and the name and the bytes of each file
-/// that is there.
+/// What was loaded, each list in ascending order of names:
+///
+/// - `files`: the facts of the files that are there;
+/// - `absent`: the names of those that aren't;
+/// - `roots`: the names of the roots;
+/// - `texts`: the name and the bytes of each file that is there.
 #[derive(Drop)]
 pub struct Loaded {
     pub files: Vec<FileFacts>,

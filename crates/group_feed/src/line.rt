@@ -19,9 +19,8 @@ impl Model for Parcel {
     ghost view = { λ parcel. parcel.nodes.items };
 }
 
-/// What a pass of the line may do, and what it has done. It has the groups that it pushed and
-/// whether the end mark came after them, and those that it took and whether the end mark came after
-/// them. No value of it is ever made.
+/// What a pass of the line may do, and what it has done: the groups that it pushed, and those that
+/// it took. For each it has whether the end mark came after them. No value of it is ever made.
 pub struct Hand {
     pub feeds: bool,
     pub takes: bool,

@@ -7,8 +7,8 @@ use search_pool::pause;
 use std::alloc::{AllocError, Global};
 use std::sync::Wait;
 
-/// An empty line with capacity for one group for each node and for the end mark, with the pass that
-/// may push and the pass that may pop.
+/// An empty line with its two passes: the one that may push, and the one that may pop. It has
+/// capacity for one group for each node and for the end mark.
 pub(crate) fn open_line<N: Graph>(
     alloc: Global,
     count: u32,

@@ -21,10 +21,10 @@ mod keeping;
 /// The shared registry of searches of one graph: released groups, and searches that are suspended
 /// (kept) until a node is finished.
 ///
-/// Contracts see it with the graph and the roots that it was made with, how many of the roots were
-/// handed out, whether it has failed, the suspended searches and the groups. Each suspended search
-/// is well-formed for the released nodes. The groups are in reverse topological order, and the
-/// roots reach their nodes. Only `make` and `suspend` take memory.
+/// Contracts see it with the graph and the roots that it was made with, how many roots were handed
+/// out, and whether it has failed. They also see the suspended searches and the groups. Each
+/// suspended search is well-formed for the released nodes. The groups are in reverse topological
+/// order, and the roots reach their nodes. Only `make` and `suspend` take memory.
 #[derive(Drop)]
 pub struct Book {
     lists: Tag,

@@ -9,8 +9,8 @@ ghost use Rattle.tool_run.specs.Answer.{IsAnswer};
 ghost use Rattle.tool_run.specs.End.{End};
 ghost use Rattle.tool_run.specs.Wanted.{IsJust};
 
-/// Arguments over a map of files have at most one answer, and so have options, unless the groups
-/// are asked for in the order of the search.
+/// Arguments over a map of files have at most one answer, and so have options. This holds unless
+/// the groups are asked for in the order of the search.
 pub fn one_answer()
     ensures words { (words : List (List ℕ)) (files : Files) (answer other : End) → ((options : Settings) → AreLawful words options → options.order ≡ false)
         → IsAnswer groups_tool (AreLawful words) files answer → IsAnswer groups_tool (AreLawful words) files other → answer ≡ other }

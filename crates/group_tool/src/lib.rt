@@ -1,12 +1,18 @@
 //! The program `groups`: `run_groups` reads Prolog files, finds the strongly connected components
 //! (SCCs, groups) of their call graph, and writes the right answer to one of two sinks.
 //!
-//! The answer is one of these: the usage line, the first limit that is passed, the errors in the
-//! files, the first name in the arguments that is no predicate of the program, or the report. The
-//! report has the groups that the roots reach, and then the effects, cycles and path that the
-//! arguments ask for. There is only one right answer, except if groups are reported in the order in
-//! which the search found them. The record `RunKeeps` of `tool_run` is the whole contract of a run.
-//! For the file `p :- q. q :- p.` the report is
+//! The answer is one of these:
+//!
+//! - the usage line;
+//! - the first limit that is passed;
+//! - the errors in the files;
+//! - the first name in the arguments that is no predicate of the program;
+//! - the report: the groups that the roots reach, and then the effects, cycles and path that the
+//!   arguments ask for.
+//!
+//! There is only one right answer, except if groups are reported in the order in which the search
+//! found them. The record `RunKeeps` of `tool_run` is the contract of a run. For the file `p :- q.
+//! q :- p.` the report is
 //!
 //! ```text
 //! predicates 2 groups 1 recursive 1 levels 1

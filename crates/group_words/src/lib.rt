@@ -6,8 +6,8 @@
 //! is the generated program of `--make`.
 //!
 //! ```text
-//! --jobs 2 --roots m:p/0,q/1 lib/a.pl ./lib/a    two workers, the roots m:p/0 and user:q/1, the file lib/a.pl
-//! --jobs=65 a.pl                                 Usage
+//! --jobs 2 --roots m:p/0,q/1 lib/a.pl ./lib/a   2 workers, roots m:p/0 and user:q/1, file lib/a.pl
+//! --jobs=65 a.pl                                Usage
 //! ```
 //!
 //! It reads no file, and knows no predicate of a program.

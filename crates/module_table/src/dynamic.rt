@@ -25,8 +25,7 @@ pub enum Standing {
     Item,
 }
 
-/// The module, the name and the number of arguments of a predicate. The names are numbers in those of
-/// the term.
+/// The module, the name and the arity of a predicate. The names are numbers in those of the term.
 #[derive(Clone, Copy)]
 struct OwnedIndicator {
     module: u32,

@@ -34,7 +34,7 @@ pub fn facts_placed()
     ensures { (text user : List ℕ) (trees : List Tree) (facts : Facts) → All (HasOffsets text) trees → AreFacts user trees facts → ArePlacedIn text facts }
 {}
 
-/// Each clause and each goal in the facts of a file weighs no more than its heaviest clause, and no
+/// Each clause and each goal in the facts of a file weighs no more than its heaviest clause. No
 /// declaration has more arguments than that.
 pub fn facts_light()
     ensures clauses { (n : ℕ) (user : List ℕ) (trees : List Tree) (facts : Facts) → All (λ tree. weight tree ≤ n) trees → AreFacts user trees facts

@@ -1,10 +1,10 @@
 //! Shared state of a concurrent search: an atomic word for each node, by which workers claim nodes,
 //! and one book under a lock.
 //!
-//! The word of a node is 0 if nobody has it, 1 if a worker or a suspended search has it, and 2 if
-//! it is finished. `claim` is a compare-and-swap and `look` a load, and neither ever waits. What
-//! needs the book (suspending a search, releasing a group, taking a ready search) is done under the
-//! lock. `Turn` is its guard, and one worker has it at a time.
+//! The word of a node is 0 if nobody has it, and 2 if it is finished. It is 1 if a worker or a
+//! suspended search has it. `claim` is a compare-and-swap and `look` a load, and neither ever
+//! waits. What needs the book (suspending a search, releasing a group, taking a ready search) is
+//! done under the lock. `Turn` is its guard, and one worker has it at a time.
 //!
 //! No node is claimed twice, and no word is ever lowered. All steps are sequentially consistent
 //! (`SeqCst`), so there is one total order of them. Nothing here states that a wait ends.

@@ -35,8 +35,8 @@ fn sets_to(alloc: Global, rows: &[u32], to: u32) -> Result<Vec<u32>, AllocError>
     Ok(sets)
 }
 
-/// The first of the walks, by their first different nodes, from a node to that of the first set. The last
-/// set has the nodes that are called first.
+/// The first of the walks, by their first different nodes, from a node to that of the first set.
+/// The last set has the nodes that are called first.
 fn first_walk(
     alloc: Global,
     rows: &[u32],

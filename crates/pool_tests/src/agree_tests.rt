@@ -34,8 +34,8 @@ fn workers_find_the_groups_of_one_search(rt: HostRuntime) -> Result<(), Fail> {
     Ok(())
 }
 
-/// A gate that holds the first expansion until another worker expands a node too, and then each for
-/// a moment, so that the searches of workers wait for each other.
+/// A gate that holds the first expansion until another worker expands a node too. Then it holds
+/// each for a moment, so that the searches of workers wait for each other.
 #[derive(Drop)]
 struct MixingGate {
     meeting: MeetGate,

@@ -10,8 +10,8 @@ const LOOPS: u32 = 50_000_000;
 // A few microseconds.
 const SLOW: u32 = 200;
 
-/// The first worker is held in the expansion of its root until all workers expand a node, so the others
-/// begin. Each node is expanded once.
+/// The first worker is held in the expansion of its root until all workers expand a node, so the
+/// others begin. Each node is expanded once.
 #[test]
 fn as_many_nodes_are_expanded_at_once_as_there_are_workers(rt: HostRuntime) -> Result<(), Fail> {
     let alloc = rt.alloc();

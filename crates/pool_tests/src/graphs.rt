@@ -80,7 +80,8 @@ fn range(alloc: Global, first: u32, past: u32) -> Result<Vec<u32>, AllocError> {
     Ok(nodes)
 }
 
-/// For each factor a node that is as many times as far from the first one as this node, around a circle.
+/// For each factor a node that is as many times as far from the first one as this node, around a
+/// circle.
 fn multiples(
     alloc: Global,
     factors: &[u32],

@@ -17,7 +17,7 @@ mod opening;
 /// Many searches of one graph, each at a place, which take turns on one thread.
 ///
 /// Contracts see it with the graph and the roots that it was made with, whether it has failed, and
-/// the state of its searches, which always satisfies its invariant.
+/// the state of its searches. The state always satisfies its invariant.
 #[derive(Drop)]
 pub struct Machine {
     book: Book,

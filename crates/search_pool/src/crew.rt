@@ -18,8 +18,9 @@ const LONGEST_NAP: u64 = 1_000;
 
 const NAP_ADDS: u64 = 50;
 
-// If this many samples of a round find a new expansion, before the number below find none, more
-// than three quarters of the time go into expansions.
+// In each round, samples that find a new expansion and samples that find none are counted. If the
+// first number is reached before the second, more than three quarters of the time go into
+// expansions.
 const MANY_EXPANDING: u32 = 12;
 
 const MANY_BETWEEN: u32 = 5;

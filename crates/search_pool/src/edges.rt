@@ -21,9 +21,9 @@ const LARGE: u32 = 256;
 
 const MOST_ROOM: u32 = 262_144;
 
-/// Runs a search without the lock until its top segment is an SCC, it has to wait for a node of
-/// another search, or memory runs out. It claims the node of each edge, expands those that it wins,
-/// and settles the others.
+/// Runs a search without the lock until its top segment is an SCC, it has to wait for another
+/// search, or memory runs out. It claims the node of each edge, expands those that it wins, and
+/// settles the others.
 pub(crate) fn run_free<O: Opener, G: Gate>(
     rt: &impl Wait,
     alloc: Global,

@@ -83,8 +83,8 @@ fn turns_of_two(alloc: Global, graph: &Graph, places: &[u32]) -> Result<String, 
     Ok(format!(in alloc; "{seen:?} {groups:?}")?)
 }
 
-/// Whether the groups, in order of their least members, are the SCCs, for two and for three places
-/// which act one to three times in a row.
+/// Whether the groups, in order of their least members, are the SCCs. There are two and three
+/// places, which act one to three times in a row.
 fn agrees(alloc: Global, graph: &Graph) -> Result<bool, Fail> {
     let classes = classes_slow(alloc, graph)?;
     for pattern in 0..6u32 {

@@ -1,11 +1,14 @@
-//! Reads rows, one a line, and prints what the functions that read texts return for each. A line
-//! that begins with `#` and a blank says what is asked of the rows after it, and by its second word
-//! what they are for. It is printed unchanged. Each other line is a row, and is printed with ` => `
-//! and the result after it.
+//! Reads rows, one a line, and prints what the functions that read texts return for each.
 //!
-//! In a row `¶` is a newline. Text between `«` and `»` is a character by its number in base 16, a
-//! byte if an `x` is before the number, or text that is repeated as often as the number before its
-//! `*` says.
+//! A line that begins with `#` and a blank says what is asked of the rows after it. Its second word
+//! says what they are for. It is printed unchanged. Each other line is a row, and is printed with `
+//! => ` and the result after it.
+//!
+//! In a row `¶` is a newline. Between `«` and `»` is one of these:
+//!
+//! - a character by its number in base 16;
+//! - a byte by its number, if an `x` is before it;
+//! - text that is repeated as often as the number before its `*` says.
 #![tactic(auto)]
 
 mod ask;

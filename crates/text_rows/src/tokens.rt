@@ -32,8 +32,8 @@ fn sign(kind: Kind) -> char {
     }
 }
 
-/// The tokens in words: the sign of the kind, where the token starts and ends, and `+` before it if
-/// layout or the beginning of the text is directly before it.
+/// The tokens in words: the sign of the kind, and where the token starts and ends. A `+` is before
+/// it if layout or the beginning of the text is directly before it.
 fn words(alloc: Global, tokens: &[Token]) -> Result<String, AllocError> {
     let mut words = String::new(alloc);
     for token in tokens {

@@ -17,9 +17,9 @@ use search_stack::Search;
 use std::alloc::AllocError;
 
 impl Book {
-    /// Suspends a search until the node is finished that its last edge leads to, or returns it to
-    /// continue with what it waited for, like `Blocked::suspend`. If memory runs out, the search is
-    /// returned and nothing changes.
+    /// Suspends a search until the node is finished that its last edge leads to. If it may continue
+    /// with what it waited for, it is returned instead, as `Blocked::suspend` does. If memory runs
+    /// out, the search is returned and nothing changes.
     pub fn suspend(&mut self, search: Search, on: u32) -> Result<Suspended, (AllocError, Search)>
         requires some { 0 < size search.stack }
         requires wants_nothing { search.wanted ≡ None }

@@ -51,8 +51,8 @@ pub fn module_first()
     ensures heads { (user : List ℕ) (trees : List Tree) (facts : Facts) → AreFacts user trees facts → facts.module_ ≡ module_of trees }
 {}
 
-/// What the clauses of a file say has an error of a cause that directives and heads have, and for
-/// each of these some clauses have it. A text has an error of one of the other causes.
+/// If what the clauses of a file say has an error, its cause is one of those of directives and
+/// heads. Each of these occurs with some clauses. A text has an error of one of the other causes.
 pub fn fact_causes()
     ensures facts { (user : List ℕ) (trees : List Tree) (refusal : Refusal) → file_said user trees ≡ Err refusal → is_fact_cause refusal.cause ≡ true }
     ensures each { (user : List ℕ) (cause : Cause) → is_fact_cause cause ≡ true

@@ -95,7 +95,7 @@ fn are_too_many(vain: u32, crew: &Crew) -> bool {
     vain >= MOST_VAIN && !crew.finds_expansions_dear()
 }
 
-// Backs off if the worker's last searches all had to wait at once, and starts no other until the
+// Backs off if the worker's last searches all had to wait at once. It starts no other until the
 // node is released that the last of them waits for. That node is on a search that runs, or on one
 // that waits for such a search or for a ready one. A ready one is taken.
 fn hold_back(rt: &impl Wait, claims: &Claims, worker: Worker) -> Went

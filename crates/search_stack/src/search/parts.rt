@@ -32,8 +32,8 @@ impl Search {
         true
     }
 
-    /// Moves the part of the donor from the cut on, which has the node that this search's last edge
-    /// leads to, on top of this search.
+    /// Moves the part of the donor from the cut on top of this search. That part has the node that
+    /// this search's last edge leads to.
     ///
     /// The donor keeps the rest, and waits for the last successor that its new top has begun.
     /// Without a rest it waits for nothing. It takes no memory.
