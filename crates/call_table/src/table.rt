@@ -80,7 +80,8 @@ fn calls_with_places<'a>(
 }
 
 /// The clauses of these predicates with their lines and columns, and their calls with theirs. Both
-/// are computed in parallel.
+/// are collected in parallel. A thread takes address space that the other one then lacks, so what
+/// ran out of memory is collected once more after the threads have ended.
 fn clauses_beside_calls<'a, R: Threads + Sync>(
     rt: &R,
     alloc: Global,
@@ -102,8 +103,14 @@ fn clauses_beside_calls<'a, R: Threads + Sync>(
             ensures { IfOk result (λ found. ArePlacedCalls (see_placed_lists lists.entry.now) nodes.entry.now found.0.items found.1.items) }
         { calls_with_places(alloc, lists, nodes) },
     );
-    let (clauses, clause_places) = clauses?;
-    let (calls, call_places) = calls?;
+    let (clauses, clause_places) = match clauses {
+        Ok(found) => found,
+        Err(_) => clauses_with_places(alloc, lists.program(), nodes)?,
+    };
+    let (calls, call_places) = match calls {
+        Ok(found) => found,
+        Err(_) => calls_with_places(alloc, lists, nodes)?,
+    };
     Ok((clauses, clause_places, calls, call_places))
 }
 

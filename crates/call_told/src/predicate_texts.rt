@@ -18,6 +18,9 @@ const SIZE: usize = 2_048;
 /// How few texts are worth a thread of their own.
 const FEWEST: usize = 1;
 
+/// No list is as long, so one thread makes all texts.
+const BY_ONE: usize = usize::MAX;
+
 /// The initial capacity of a text in bytes: few lines are longer than 144.
 const ROOM: usize = 294_912;
 
@@ -58,7 +61,36 @@ fn predicate_text(alloc: Global, told: &Told<'_>, nodes: &[u32]) -> Result<Strin
     Ok(text)
 }
 
-/// The lines of these predicates, in texts one after the other.
+/// The lines of these predicates in consecutive texts. A thread of its own makes at least `fewest`.
+fn predicate_pieces<R: Threads + Sync>(
+    rt: &R,
+    alloc: Global,
+    told: &Told<'_>,
+    nodes: &[u32],
+    fewest: usize,
+) -> Result<Vec<String>, AllocError>
+    requires told { IsTold told.now }
+    requires below { All (λ p. p < length told.now.program.now.predicates) nodes.now }
+    ensures { IfOk result (λ texts. joined texts.items
+        ≡ predicate_lines told.now.program.now (lists_of told.now.groups.items) told.now.levels.items told.now.places.items nodes.now) }
+{
+    nodes
+        .par_chunks(SIZE)
+        .with_min_len(fewest)
+        .map(
+            |part: &[u32]| -> Result<String, AllocError>
+                requires told { IsTold told.now }
+                requires below { All (λ p. p < length told.now.program.now.predicates) part.now }
+                ensures { IfOk result (λ text. string_bytes text
+                    ≡ predicate_lines told.entry.now.program.now (lists_of told.entry.now.groups.items) told.entry.now.levels.items
+                    told.entry.now.places.items part.now) }
+            { predicate_text(alloc, told, part) },
+        )
+        .collect::<Result<Vec<String>, AllocError>>(rt, alloc)?
+}
+
+/// The lines of these predicates in consecutive texts, made in parallel. If memory runs out, one
+/// thread makes them once more, since each further one takes address space.
 pub(crate) fn predicate_texts<R: Threads + Sync>(
     rt: &R,
     alloc: Global,
@@ -70,17 +102,8 @@ pub(crate) fn predicate_texts<R: Threads + Sync>(
     ensures { IfOk result (λ texts. joined texts.items
         ≡ predicate_lines told.now.program.now (lists_of told.now.groups.items) told.now.levels.items told.now.places.items nodes.now) }
 {
-    nodes
-        .par_chunks(SIZE)
-        .with_min_len(FEWEST)
-        .map(
-            |part: &[u32]| -> Result<String, AllocError>
-                requires told { IsTold told.now }
-                requires below { All (λ p. p < length told.now.program.now.predicates) part.now }
-                ensures { IfOk result (λ text. string_bytes text
-                    ≡ predicate_lines told.entry.now.program.now (lists_of told.entry.now.groups.items) told.entry.now.levels.items
-                    told.entry.now.places.items part.now) }
-            { predicate_text(alloc, told, part) },
-        )
-        .collect::<Result<Vec<String>, AllocError>>(rt, alloc)?
+    match predicate_pieces(rt, alloc, told, nodes, FEWEST) {
+        Ok(texts) => Ok(texts),
+        Err(_) => predicate_pieces(rt, alloc, told, nodes, BY_ONE),
+    }
 }

@@ -21,6 +21,9 @@ const SIZE: usize = 2_048;
 /// How few stretches are worth a thread of their own.
 const FEWEST: usize = 1;
 
+/// No list is as long, so one thread writes all stretches.
+const BY_ONE: usize = usize::MAX;
+
 /// The initial capacity of a stretch in bytes: few lines are longer than 160.
 const ROOM: usize = 327_680;
 
@@ -103,7 +106,30 @@ fn clause_text(
     Ok(text)
 }
 
-/// The lines of each stretch of calls. The stretches are written in parallel.
+/// The lines of each stretch of calls. A thread of its own writes at least `fewest` stretches.
+fn call_pieces<R: Threads + Sync>(
+    rt: &R,
+    alloc: Global,
+    program: &Program,
+    stretches: &[Stretch<'_, PlacedCall<'_>>],
+    undefined: bool,
+    fewest: usize,
+) -> Result<Vec<String>, AllocError>
+    ensures { IfOk result (λ texts. joined texts.items ≡ flat_map (call_stretch undefined program.now) stretches.now) }
+{
+    stretches
+        .par_iter()
+        .with_min_len(fewest)
+        .map(
+            |stretch: &Stretch<'_, PlacedCall<'_>>| -> Result<String, AllocError>
+                ensures { IfOk result (λ text. string_bytes text ≡ call_stretch undefined program.entry.now stretch.now) }
+            { call_text(alloc, program, stretch, undefined) },
+        )
+        .collect::<Result<Vec<String>, AllocError>>(rt, alloc)?
+}
+
+/// The lines of each stretch of calls, written in parallel. If memory runs out, one thread writes
+/// them once more, since each further one takes address space.
 fn each_call_text<R: Threads + Sync>(
     rt: &R,
     alloc: Global,
@@ -113,18 +139,35 @@ fn each_call_text<R: Threads + Sync>(
 ) -> Result<Vec<String>, AllocError>
     ensures { IfOk result (λ texts. joined texts.items ≡ flat_map (call_stretch undefined program.now) stretches.now) }
 {
+    match call_pieces(rt, alloc, program, stretches, undefined, FEWEST) {
+        Ok(texts) => Ok(texts),
+        Err(_) => call_pieces(rt, alloc, program, stretches, undefined, BY_ONE),
+    }
+}
+
+/// The lines of each stretch of clauses. A thread of its own writes at least `fewest` stretches.
+fn clause_pieces<R: Threads + Sync>(
+    rt: &R,
+    alloc: Global,
+    program: &Program,
+    stretches: &[Stretch<'_, ClauseAt>],
+    fewest: usize,
+) -> Result<Vec<String>, AllocError>
+    ensures { IfOk result (λ texts. joined texts.items ≡ flat_map (clause_stretch program.now) stretches.now) }
+{
     stretches
         .par_iter()
-        .with_min_len(FEWEST)
+        .with_min_len(fewest)
         .map(
-            |stretch: &Stretch<'_, PlacedCall<'_>>| -> Result<String, AllocError>
-                ensures { IfOk result (λ text. string_bytes text ≡ call_stretch undefined program.entry.now stretch.now) }
-            { call_text(alloc, program, stretch, undefined) },
+            |stretch: &Stretch<'_, ClauseAt>| -> Result<String, AllocError>
+                ensures { IfOk result (λ text. string_bytes text ≡ clause_stretch program.entry.now stretch.now) }
+            { clause_text(alloc, program, stretch) },
         )
         .collect::<Result<Vec<String>, AllocError>>(rt, alloc)?
 }
 
-/// The lines of each stretch of clauses. The stretches are written in parallel.
+/// The lines of each stretch of clauses, written in parallel. If memory runs out, one thread writes
+/// them once more, since each further one takes address space.
 fn each_clause_text<R: Threads + Sync>(
     rt: &R,
     alloc: Global,
@@ -133,15 +176,10 @@ fn each_clause_text<R: Threads + Sync>(
 ) -> Result<Vec<String>, AllocError>
     ensures { IfOk result (λ texts. joined texts.items ≡ flat_map (clause_stretch program.now) stretches.now) }
 {
-    stretches
-        .par_iter()
-        .with_min_len(FEWEST)
-        .map(
-            |stretch: &Stretch<'_, ClauseAt>| -> Result<String, AllocError>
-                ensures { IfOk result (λ text. string_bytes text ≡ clause_stretch program.entry.now stretch.now) }
-            { clause_text(alloc, program, stretch) },
-        )
-        .collect::<Result<Vec<String>, AllocError>>(rt, alloc)?
+    match clause_pieces(rt, alloc, program, stretches, FEWEST) {
+        Ok(texts) => Ok(texts),
+        Err(_) => clause_pieces(rt, alloc, program, stretches, BY_ONE),
+    }
 }
 
 /// The lines of the calls of a table, in texts one after the other. If `undefined` is set, only

@@ -56,8 +56,8 @@ fn told_predicates<R: Threads + Sync>(
     predicate_texts(rt, alloc, told, &told.nodes)
 }
 
-/// The clauses and calls of the predicates that are listed, and the lines of these predicates. Both
-/// are computed in parallel.
+/// The clauses and calls of what is listed, and the lines of its predicates. Both are made in parallel.
+/// What runs out of memory is made once more after the threads have ended, as in `call_table`.
 fn table_beside_predicates<'a, R: Threads + Sync>(
     rt: &R,
     alloc: Global,
@@ -84,8 +84,15 @@ fn table_beside_predicates<'a, R: Threads + Sync>(
             ensures { IfOk result (IsTable told.entry.now.program.now told.entry.now.nodes.items (lists_of told.entry.now.groups.items)) }
         { table_of(rt, alloc, told, calls) },
     );
-    let table = table?;
-    Ok((table, texts?))
+    let table = match table {
+        Ok(found) => found,
+        Err(_) => table_of(rt, alloc, told, calls)?,
+    };
+    let texts = match texts {
+        Ok(found) => found,
+        Err(_) => told_predicates(rt, alloc, told)?,
+    };
+    Ok((table, texts))
 }
 
 /// All lines, of predicates, clauses and calls, in texts one after the other.

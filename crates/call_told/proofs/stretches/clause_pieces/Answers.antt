@@ -8,7 +8,7 @@ use Rattle.call_table.specs.declared.clauses.ClauseAt.{ClauseAt}
 use Rattle.call_told.specs.Stretches.{clause_stretch}
 use Rattle.call_told.specs.declared.stretches.Stretch.{Stretch}
 use Rattle.call_told.proofs.StretchLemmas.{texts_found}
-use Rattle.call_told.proofs.stretches.each_clause_text.Goals as goal
+use Rattle.call_told.proofs.stretches.clause_pieces.Goals as goal
 
 pub returns : goal.returns
 returns g c =

@@ -11,7 +11,7 @@ use Rattle.call_edges.proofs.SpreadLemmas.{all_in_parts}
 use Rattle.call_writer.specs.Lines.{predicate_line_of}
 use Rattle.call_told.specs.Told.{joined, predicate_lines}
 use Rattle.call_told.proofs.StretchLemmas.{parts_lines, texts_found}
-use Rattle.call_told.proofs.predicate_texts.predicate_texts.Goals as goal
+use Rattle.call_told.proofs.predicate_texts.predicate_pieces.Goals as goal
 
 pub returns : goal.returns
 returns g c =

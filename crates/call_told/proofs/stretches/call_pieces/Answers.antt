@@ -8,7 +8,7 @@ use Rattle.call_edges.specs.declared.placed_calls.PlacedCall.{PlacedCall}
 use Rattle.call_told.specs.Stretches.{call_stretch}
 use Rattle.call_told.specs.declared.stretches.Stretch.{Stretch}
 use Rattle.call_told.proofs.StretchLemmas.{texts_found}
-use Rattle.call_told.proofs.stretches.each_call_text.Goals as goal
+use Rattle.call_told.proofs.stretches.call_pieces.Goals as goal
 
 pub returns : goal.returns
 returns g c =
