@@ -1,5 +1,5 @@
-//! Theorems about lists. A strictly ascending list is determined by its elements, over any total
-//! order. Occurrences of a node in lists add up, by which several owners of nodes account for them.
+//! Theorems about lists: over each total order only one strictly ascending list has given elements,
+//! and how often a node is in lists. Several owners of nodes account for them by these counts.
 #![tactic(auto)]
 
 mod counts;
