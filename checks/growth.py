@@ -3,12 +3,13 @@
 
 Each kind is a worst case of one part of the programs: names that share a hash, loads that say the same, operators that are taken away, clauses of one
 predicate, deep brackets, long names, dense and long graphs with each option. A size is doubled until a run takes 0.2 s; that size and its double are then
-measured, the least of some runs each. More than 2.5 times the time or memory for twice the text is an error. Kinds whose growth is a documented limit
-(docs/report.md, "Limits") are no part of this.
+measured, the least of some runs each. More than 2.5 times the time or memory for twice the text is an error. Texts whose largest take less than a tenth of
+a second aren't judged by their time. Kinds whose growth is a documented limit (docs/report.md, "Limits") are no part of this.
 
 `--quick` measures the kinds that once grew with the square; names of kinds measure those. Ends with status 1 if a kind grows too fast."""
 
 import argparse
+import math
 import os
 import pathlib
 import resource
@@ -26,6 +27,8 @@ MOST_SECONDS = 60
 MOST_MEMORY = 3 << 30
 # What a program takes for an empty text, in KiB. Below it memory says nothing of the text.
 LEAST_MEMORY = 16_384
+# Sizes whose double the programs still take, by how the names of kinds begin or end: a body has at most 1,000 goals, a program 1,024 files.
+MOST_SIZES = {"dense": 480_000, "of_modules": 512}
 
 
 def hash_of(text):
@@ -87,7 +90,8 @@ def imported_names(count):
 
 
 def equal_loads(count):
-    names = [f"q{at}" for at in range(300)]
+    """Loads of one file, whose exports are as many as an eighth of them."""
+    names = [f"q{at}" for at in range(count // 8)]
     return {"b.pl": exporting("b", names, "".join(f"{it}.\n" for it in names)), "f.pl": ":- use_module(b).\n" * count + "p :- q1.\n"}
 
 
@@ -103,7 +107,9 @@ def chain_of_modules(count):
     return {"f.pl" if at == 0 else f"f{at}.pl": text(at) for at in range(count)}
 
 
-def complete(count):
+def complete(calls):
+    """Predicates of which each calls all, with so many calls."""
+    count = math.isqrt(calls)
     return file("".join(f"p{at}:-{listed('p{0}', count)}.\n" for at in range(count)))
 
 
@@ -209,14 +215,14 @@ KINDS = MENDED | {f"deep_{name}": (nested(form), 50, []) for name, form in NESTE
     "infix_as_atoms": (lambda n: file(f"p({'= = =,' * n}a).\n"), 62_500, []),
     "prefix_or_infix": (lambda n: file(f":-op(400,yfx,e),op(300,fy,e).\np:-X={'e e a ' * n}.\n".replace(":-op(400,yfx,e),op", ":-op(400,yfx,e).\n:-op")), 62_500, []),
     "grammar": (lambda n: file(f"p-->{','.join(['[a],q,{r}'] * n)}.\nr.\nq-->[].\n"), 30_000, []),
-    "dense": (complete, 300, []),
-    "dense_loops": (complete, 300, ["--loops"]),
-    "dense_path": (complete, 300, ["--path", "p0/0,p7/0"]),
-    "dense_stream": (complete, 300, ["--order", "--stream", "--jobs", "4"]),
-    "dense_effects": (complete, 300, ["--effects"]),
-    "dense_searches": (complete, 300, ["--searches", "64", "--seed", "5"]),
-    "dense_calls": (complete, 150, ["calls"]),
-    "dense_dot": (complete, 300, ["calls", "--dot"]),
+    "dense": (complete, 60_000, []),
+    "dense_loops": (complete, 60_000, ["--loops"]),
+    "dense_path": (complete, 60_000, ["--path", "p0/0,p7/0"]),
+    "dense_stream": (complete, 60_000, ["--order", "--stream", "--jobs", "4"]),
+    "dense_effects": (complete, 60_000, ["--effects"]),
+    "dense_searches": (complete, 60_000, ["--searches", "64", "--seed", "5"]),
+    "dense_calls": (complete, 30_000, ["calls"]),
+    "dense_dot": (complete, 60_000, ["calls", "--dot"]),
     "ring": (ring, 40_000, []),
     "ring_loops": (ring, 40_000, ["--loops"]),
     "ring_path": (ring, 40_000, ["--path", "p1/0,p0/0"]),
@@ -273,16 +279,14 @@ def at_size(tools, kind, size, runs):
 def grows_too_fast(tools, kind, runs):
     """Prints the figures of a kind, and returns whether it grows too fast."""
     size = KINDS[kind][1]
-    most_files = 512 if kind.endswith("_of_modules") else None
-    bytes_, seconds, memory = at_size(tools, kind, size, 1)
-    while seconds < LEAST_SECONDS and 2 * bytes_ <= MOST_BYTES and (not most_files or 2 * size <= most_files):
+    most = min((it for word, it in MOST_SIZES.items() if kind.startswith(word) or kind.endswith(word)), default=math.inf)
+    bytes_, seconds, _ = at_size(tools, kind, size, 1)
+    while seconds < LEAST_SECONDS and 2 * bytes_ <= MOST_BYTES and 2 * size <= most:
         size *= 2
-        bytes_, seconds, memory = at_size(tools, kind, size, 1)
-    if most_files and 2 * size > 2 * most_files:
-        size = most_files
+        bytes_, seconds, _ = at_size(tools, kind, size, 1)
     _, seconds, memory = at_size(tools, kind, size, runs)
     _, more_seconds, more_memory = at_size(tools, kind, 2 * size, runs)
-    times, grown_by = more_seconds / max(seconds, LEAST_SECONDS / 8), more_memory / max(memory, LEAST_MEMORY)
+    times, grown_by = more_seconds / max(seconds, LEAST_SECONDS / 2), more_memory / max(memory, LEAST_MEMORY)
     fast = times > MOST_TIMES or grown_by > MOST_TIMES
     print(f"{kind:28} {size:8} twice: {seconds:6.2f} {more_seconds:6.2f} s, {times:4.2f} times; {memory >> 10:4} {more_memory >> 10:4} MB, {grown_by:4.2f} times"
           f"{'  TOO FAST' if fast else ''}", flush=True)
