@@ -1,5 +1,6 @@
 -- Names in chains, one for each bucket of a hash.
-use Rattle.std.specs.Prelude.{ℕ, Option, Some, None, is_some, ◌⊎◌, ◌≡◌, ◌≢◌, ◌+◌, ◌-◌, ◌*◌, ◌%◌, ◌^◌, ◌<◌, ◌≤◌, ◌++◌, [], ◌∷◌, List, length, map, fold, All, slice_index_or, if◌then◌else◌}
+use Rattle.std.specs.Prelude.{ℕ, Option, Some, None, is_some, ◌⊎◌, ◌≡◌, ◌≢◌, ◌+◌, ◌-◌, ◌*◌, ◌%◌, ◌^◌, ◌<◌, ◌≤◌, ◌++◌, [], ◌∷◌, List}
+use Rattle.std.specs.Prelude.{length, map, fold, All, slice_index_or, if◌then◌else◌}
 use Rattle.std.specs.Int.{IsPowerOfTwo}
 use Rattle.std.specs.List.{list_any, slice_range, sum_by}
 use Rattle.std.specs.Str.{bytes_eq, IsCharBoundary}
