@@ -3,7 +3,8 @@
 
 - The mean sentence of each page has at most 17 words, and no sentence has more than 45. A sentence ends at `.`, `!` or `?`, with a paragraph and with an item
   of a list. Text in `code` counts as one word; blocks and headings don't count. Cells of tables end at `;` too, and count for the longest alone.
-- Words that the field has better ones for stand at most so often, in all documents together.
+- Words that the field has better ones for stand at most so often, in all documents together and in all comments of the sources together. Names in
+  `code` aren't counted.
 
 With --all it prints the figures of each page and each word, and passes. Takes about a second."""
 
@@ -34,6 +35,8 @@ WORDS = {
     "theorem": (r"\blaws?\b", 1),
     "return": (r"\banswers?\b", 64),
 }
+# The same in the comments of crates/*/src, where some words are right in another sense more often.
+IN_COMMENTS = {better: (pattern, 0) for better, (pattern, _) in WORDS.items() if better not in ("CI", "mutant")}
 MACRO = re.compile(r"^[.'](?:[A-Z]{1,2}|br|in)\b ?")
 
 
@@ -63,6 +66,12 @@ def manual(text):
     return re.split(r"\n\s*\n", "\n".join(lines)), []
 
 
+def comments():
+    """The comments of all sources."""
+    lines = [line.strip() for path in sorted(ROOT.glob("crates/*/src/**/*.rt")) for line in path.read_text().splitlines()]
+    return re.sub(r"`[^`]+`", "code", "\n".join(re.sub(r"^//[/!]? ?", "", it) for it in lines if it.startswith("//")))
+
+
 def sentences(parts, ends):
     """Each sentence, with how many words it has."""
     found = [" ".join(it.split()) for part in parts for it in re.split(rf"[{ends}](?=[\s)*\"]|$)", part)]
@@ -87,12 +96,13 @@ def main():
             amiss.append(f"{line}: the mean is over {MOST_MEAN}")
         if most > MOST_WORDS:
             amiss.append(f"{line}: over {MOST_WORDS}: {words[:90]} ..")
-    for better, (pattern, most) in WORDS.items():
-        count = sum(len(re.findall(pattern, text)) for text in texts)
-        if shows_all:
-            print(f"{count} times {pattern}: {better}")
-        if count > most:
-            amiss.append(f"{count} times {pattern}, {most} at most: the field says {better}")
+    for where, words, texts in (("documents", WORDS, texts), ("comments", IN_COMMENTS, [comments()])):
+        for better, (pattern, most) in words.items():
+            count = sum(len(re.findall(pattern, text)) for text in texts)
+            if shows_all:
+                print(f"{where}: {count} times {pattern}: {better}")
+            if count > most:
+                amiss.append(f"{where}: {count} times {pattern}, {most} at most: the field says {better}")
     print("\n".join(amiss) if amiss else f"style: {len(PAGES)} pages within their limits")
     sys.exit(bool(amiss) and not shows_all)
 
