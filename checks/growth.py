@@ -27,6 +27,8 @@ MOST_SECONDS = 60
 MOST_MEMORY = 3 << 30
 # What a program takes for an empty text, in KiB. Below it memory says nothing of the text.
 LEAST_MEMORY = 16_384
+# In bytes; threads that can just be made take most of it.
+LEAST_SPACE = 150_000 << 10
 # Sizes whose double the programs still take, by how the names of kinds begin or end: a body has at most 1,000 goals, a program 1,024 files.
 MOST_SIZES = {"dense": 480_000, "of_modules": 512}
 
@@ -293,6 +295,20 @@ def grows_too_fast(tools, kind, runs):
     return fast
 
 
+def fails_by_chance(tools):
+    """Whether a program runs out of memory in one of five runs of 40,000 predicates, with address space for an answer by one thread."""
+    with tempfile.TemporaryDirectory(prefix="growth-") as room:
+        folder = pathlib.Path(room)
+        (folder / "f.pl").write_text(lines("p{0} :- p{1}.\n", 39_999) + "p39999.\n")
+        failed = []
+        for name, tool in sorted(tools.items()):
+            limit = lambda: resource.setrlimit(resource.RLIMIT_AS, (LEAST_SPACE, LEAST_SPACE))
+            ended = [subprocess.run([tool, "f.pl"], cwd=folder, stdout=subprocess.DEVNULL, stderr=subprocess.DEVNULL, preexec_fn=limit).returncode for _ in range(5)]
+            print(f"{name} with {LEAST_SPACE >> 10} KiB of address space, five runs: {5 - ended.count(0)} without an answer")
+            failed += [it for it in ended if it]
+        return bool(failed)
+
+
 def main():
     parser = argparse.ArgumentParser(description=__doc__.partition("\n")[0])
     program.add_option(parser)
@@ -307,12 +323,14 @@ def main():
     wrong = []
     for kind in options.kinds or (MENDED if options.quick else KINDS):
         try:
-            # (a run that other work disturbs is measured once more before it counts)
-            if grows_too_fast(tools, kind, options.runs) and grows_too_fast(tools, kind, options.runs):
+            # (other work may disturb a measurement, so three of them have to agree)
+            if all(grows_too_fast(tools, kind, options.runs) for _ in range(3)):
                 wrong.append(kind)
         except ValueError as error:
             print(f"{kind:28} {error}")
             wrong.append(kind)
+    if not options.kinds and fails_by_chance(tools):
+        wrong.append("address space")
     print(f"{len(options.kinds or (MENDED if options.quick else KINDS))} kinds of text, {len(wrong)} grow too fast{': ' if wrong else ''}{', '.join(wrong)}")
     return 1 if wrong else 0
 

@@ -69,7 +69,7 @@ def manual(text):
 def comments():
     """The comments of all sources."""
     lines = [line.strip() for path in sorted(ROOT.glob("crates/*/src/**/*.rt")) for line in path.read_text().splitlines()]
-    return re.sub(r"`[^`]+`", "code", "\n".join(re.sub(r"^//[/!]? ?", "", it) for it in lines if it.startswith("//")))
+    return re.sub(r"`[^`\n]+`", "code", "\n".join(re.sub(r"^//[/!]? ?", "", it) for it in lines if it.startswith("//")))
 
 
 def sentences(parts, ends):
