@@ -1,21 +1,22 @@
--- What contracts see of kept searches.
+-- What contracts see of suspended searches.
 use Rattle.std.specs.Prelude.{◌≡◌, ℕ, ◌<◌, ◌≤◌, ◌⊎◌, List, length, Option, None, Some, Contains}
 use Rattle.search_stack.specs.Stack.{size}
 use Rattle.search_stack.specs.Search.{SearchValue, IsDistinct}
 use Rattle.blocked_table.specs.Kept.{kept_at, Holds, IsApart, AllEnd}
 
--- nodes are below the count, there are at most so many places, and the search that is kept at each, or none
+-- nodes are below the count, there are at most `most` slots, and each has a search or none
 pub record BlockedValue : Type 0 where
   pub count : ℕ
   pub most : ℕ
   pub kept : List (Option SearchValue)
 
--- a kept search isn't empty, and no node is on it twice
+-- a suspended search isn't empty, and no node is on it twice
 pub record IsKept (search : SearchValue) : Type 0 where
   pub some : 0 < size search.stack
   pub distinct : IsDistinct search.stack
 
--- there are no more places than said, nodes are below the count and on one kept search, and following wants ends
+-- there are at most `most` slots, nodes are below the count, none is on two searches, and following
+-- what searches wait for ends
 pub record IsTable (value : BlockedValue) : Type 0 where
   pub few : length value.kept ≤ value.most
   pub each : (place : ℕ) (search : SearchValue) → kept_at value.kept place ≡ Some search → IsKept search
@@ -23,22 +24,22 @@ pub record IsTable (value : BlockedValue) : Type 0 where
   pub apart : IsApart value.kept
   pub ends : AllEnd value.kept
 
--- there is a place for one more search
+-- there is a slot for one more search
 abbrev pub HasRoom : BlockedValue → Type 0
 HasRoom value = (length value.kept < value.most) ⊎ ((place : ℕ) × (place < length value.kept) × (kept_at value.kept place ≡ None))
 
--- the search that is kept at the place is ready
+-- the search in the slot is ready
 pub record IsReadyAt (kept : List (Option SearchValue)) (place : ℕ) : Type 0 where
   pub search : SearchValue
   pub at : kept_at kept place ≡ Some search
   pub wants_nothing : search.wanted ≡ None
 
--- a kept search is ready
+-- a suspended search is ready
 pub record HasReady (kept : List (Option SearchValue)) : Type 0 where
   pub place : ℕ
   pub ready : IsReadyAt kept place
 
--- the ready search at a place has left it, and the others stay
+-- the ready search in a slot has left it, and the others stay
 pub record IsTaken (old new : List (Option SearchValue)) (search : SearchValue) : Type 0 where
   pub place : ℕ
   pub at : kept_at old place ≡ Some search
@@ -47,7 +48,7 @@ pub record IsTaken (old new : List (Option SearchValue)) (search : SearchValue) 
   pub vacant : kept_at new place ≡ None
   pub same : (i : ℕ) → (i ≡ place → ⊥) → kept_at new i ≡ kept_at old i
 
--- a kept search that wants a node of the group is ready, and each other stays as it was
+-- a suspended search that waited for a node of the group is ready, and each other stays as it was
 pub record IsWoken (group : List ℕ) (old new : List (Option SearchValue)) : Type 0 where
   pub each : length new ≡ length old
   pub none : (place : ℕ) → kept_at old place ≡ None → kept_at new place ≡ None

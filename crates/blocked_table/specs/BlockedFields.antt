@@ -1,4 +1,4 @@
--- How the fields hold the kept searches.
+-- How the fields hold the suspended searches.
 use Rattle.std.specs.Prelude.{◌≡◌, ℕ, ◌+◌, ◌<◌, ◌≤◌, ◌↔◌, List, length, Option, None, Some, slice_index_or, vec_capacity}
 use Rattle.search_stack.specs.Search.{SearchValue}
 use Rattle.blocked_table.specs.declared.blocked.Blocked.TheInside.{Inside}
@@ -9,15 +9,16 @@ use Rattle.blocked_table.specs.Kept.{kept_at, Holds}
 abbrev pub value_of : Inside → BlockedValue
 value_of fields = record { count = length fields.holders.items; most = fields.most; kept = fields.kept.items }
 
--- a place at which no search is kept
+-- a slot without a search
 abbrev pub IsVacant : List (Option SearchValue) → ℕ → Type 0
 IsVacant kept place = (place < length kept) × (kept_at kept place ≡ None)
 
--- the word of a node is one more than the place of the search that holds it, or 0
+-- the word of a node is one more than the slot of the search that holds it, or 0
 abbrev pub AreWords : List ℕ → List (Option SearchValue) → Type 0
 AreWords holders kept = (place v : ℕ) → (slice_index_or holders v 0 ≡ place + 1) ↔ Holds kept place v
 
--- the word of what may be wanted, and of a search that may be there: one more than the node that it wants, or 0
+-- the word of what is waited for, if anything, and of a search, if there is one: one more than the
+-- node, or 0
 abbrev pub wanted_word : Option ℕ → ℕ
 wanted_word None = 0
 wanted_word (Some w) = w + 1
@@ -26,11 +27,12 @@ abbrev pub wait_word : Option SearchValue → ℕ
 wait_word None = 0
 wait_word (Some search) = wanted_word search.wanted
 
--- each place waits for the node that its search wants
+-- each slot waits for the node that its search waits for
 abbrev pub AreWaiting : List ℕ → List (Option SearchValue) → Type 0
 AreWaiting words kept = (place : ℕ) → slice_index_or words place 0 ≡ wait_word (kept_at kept place)
 
--- the table has its words and the lists of what waits for each node, its lists of vacant and of ready places, and room for one of each place
+-- the words of the nodes, the lists of who waits for each node, the lists of vacant and of ready
+-- slots, and capacity for all slots
 pub record IsBlocked (fields : Inside) : Type 0 where
   pub table : IsTable (value_of fields)
   pub words : AreWords fields.holders.items fields.kept.items

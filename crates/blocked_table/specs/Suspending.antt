@@ -1,4 +1,4 @@
--- What becomes of a search that is to be suspended, and of the searches that its wants lead over.
+-- What becomes of a search that is to be suspended, and of the searches that it would wait for.
 use Rattle.std.specs.Prelude.{◌≡◌, ℕ, ◌+◌, true, false, List, [], ◌∷◌, Option, None, Some}
 use Rattle.search_stack.specs.Stack.{Stack, size}
 use Rattle.search_stack.specs.GoodSearch.{IsGood}
@@ -8,7 +8,7 @@ use Rattle.blocked_table.specs.declared.suspended.Suspended.TheVariants.{Kept, M
 use Rattle.blocked_table.specs.Kept.{kept_at, ComesTo}
 use Rattle.blocked_table.specs.Transfer.{IsCutAway, IsTransfer}
 
--- how many entries a search has that may be there, and the one at a place
+-- the number of entries of a search, 0 if there is none, and of the one in a slot
 abbrev pub entries_on : Option SearchValue → ℕ
 entries_on None = 0
 entries_on (Some search) = size search.stack
@@ -16,18 +16,18 @@ entries_on (Some search) = size search.stack
 abbrev pub entries_at : List (Option SearchValue) → ℕ → ℕ
 entries_at kept place = entries_on (kept_at kept place)
 
--- and those of several places
+-- and of those in several slots together
 abbrev pub entries_of : List (Option SearchValue) → List ℕ → ℕ
 entries_of kept [] = 0
 entries_of kept (place ∷ places) = entries_at kept place + entries_of kept places
 
--- one more search is kept at a place where none was, and the others stay
+-- one more search is in a slot that had none, and the others stay
 pub record Adds (old new : List (Option SearchValue)) (place : ℕ) (search : SearchValue) : Type 0 where
   pub vacant : kept_at old place ≡ None
   pub at : kept_at new place ≡ Some search
   pub same : (i : ℕ) → (i ≡ place → ⊥) → kept_at new i ≡ kept_at old i
 
--- the search at the place is cut at v, and its upper part comes on top of s
+-- the search in the slot is cut at v, and its upper part comes on top of s
 pub record IsPartMoved (old new : List (Option SearchValue)) (s t : Stack) (v place wants : ℕ) : Type 0 where
   pub frame : ℕ
   pub away : IsCutAway old v (place, frame)
@@ -35,19 +35,21 @@ pub record IsPartMoved (old new : List (Option SearchValue)) (s t : Stack) (v pl
   pub stack_is : t ≡ joined s away.donor.stack frame
   pub wants_is : away.wants ≡ wants
 
--- the search and the kept ones are good for one graph, list of roots and finished nodes, the search with its last edge open
+-- the search and the suspended ones satisfy the invariant for one graph, list of roots and finished
+-- nodes, the search with its last edge open
 pub record AreGood (lists : List (List ℕ)) (roots done : List ℕ) (kept : List (Option SearchValue)) (s : Stack) : Type 0 where
   pub good : IsGood lists roots done true s
   pub kept_good : (place : ℕ) (search : SearchValue) → kept_at kept place ≡ Some search → IsGoodSearch lists roots done search
 
--- the search is kept where following wants doesn't come back to it, and else what they lead over has moved on top of it
+-- the search is suspended if it wouldn't wait for itself, and else the searches on the cycle have
+-- moved on top of it
 abbrev pub IsSuspended : List (Option SearchValue) → List (Option SearchValue) → SearchValue → ℕ → Suspended → Type 0
 IsSuspended old new search on Kept =
     (ComesTo old search.stack on → ⊥) × ((place : ℕ) × Adds old new place (record search { wanted = Some on }))
 IsSuspended old new search on (Moved after) =
     ComesTo old search.stack on × IsTransfer old new search.stack on after.stack × (after.wanted ≡ None)
 
--- each kept search is good with nothing undecided, and so is the one that goes on
+-- each suspended search satisfies the invariant with no edge open, and so does the one that goes on
 abbrev pub StaysGood : List (List ℕ) → List ℕ → List ℕ → List (Option SearchValue) → Suspended → Type 0
 StaysGood lists roots done new Kept =
     (place : ℕ) (search : SearchValue) → kept_at new place ≡ Some search → IsGoodSearch lists roots done search

@@ -1,4 +1,4 @@
--- How the fields hold the lists of places that wait for nodes.
+-- How the fields hold the lists of slots that wait for nodes.
 use Rattle.std.specs.Prelude.{◌≡◌, ℕ, ◌+◌, ◌<◌, List, length, slice_index_or}
 use Rattle.blocked_table.specs.declared.waiters.Waiters.TheInside.{Inside}
 use Rattle.blocked_table.specs.Waiters.{WaitersValue}
@@ -6,12 +6,13 @@ use Rattle.blocked_table.specs.Waiters.{WaitersValue}
 abbrev pub value_of : Inside → WaitersValue
 value_of fields = record { count = length fields.heads.items; words = fields.nodes.items }
 
--- the word at a place or of a node, or 0
+-- the word of a slot or of a node, or 0
 abbrev pub word_at : List ℕ → ℕ → ℕ
 word_at words i = slice_index_or words i 0
 
--- all places on the list of a node wait for it, and each that waits for it is on the list: the head is the one that has none before it,
--- what comes after a place has that place before it, and what comes before it has it after. Going back the rank falls, so it ends at the head
+-- all slots on the list of a node wait for it, and each that waits for it is on the list: the head
+-- is the one with none before it, the slot after another has that one before it, and the slot
+-- before it has it after. Going back the rank falls, so it ends at the head
 pub record AreLinked (heads nodes after before : List ℕ) : Type 0 where
   pub rank : ℕ → ℕ
   pub first : (p w : ℕ) → word_at heads w ≡ p + 1 → (word_at nodes p ≡ w + 1) × (word_at before p ≡ 0)
@@ -20,7 +21,7 @@ pub record AreLinked (heads nodes after before : List ℕ) : Type 0 where
       → (word_at nodes q ≡ w + 1) × (word_at after q ≡ p + 1) × (rank q < rank p)
   pub on : (p w q : ℕ) → word_at nodes p ≡ w + 1 → word_at after p ≡ q + 1 → (word_at nodes q ≡ w + 1) × (word_at before q ≡ p + 1)
 
--- the places are linked, and nodes and places have 32 bits
+-- the slots are linked, and nodes and slots have 32 bits
 pub record AreWaiters (fields : Inside) : Type 0 where
   pub linked : AreLinked fields.heads.items fields.nodes.items fields.after.items fields.before.items
   pub afters : length fields.after.items ≡ length fields.nodes.items

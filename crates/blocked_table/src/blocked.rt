@@ -13,17 +13,17 @@ mod suspend;
 mod transfer;
 mod waking;
 
-/// Searches that are kept until a node that they want is finished.
+/// Suspended searches, each kept until the node that it waits for is finished.
 ///
-/// It is seen as a list of places, at each of which one search is kept or none. A kept search is
-/// blocked, where it wants a node, or ready. No node is on two of them, and following wants from any
-/// of them comes to a ready one or to a node that none of them holds.
+/// Contracts see a list of slots (`place`), each with a search or none. A suspended search is
+/// blocked if it waits for a node, and ready otherwise. No node is on two of them. Following what
+/// they wait for ends at a ready search, or at a node that none of them holds.
 #[derive(Drop)]
 pub struct Blocked {
     kept: Vec<Option<Search>>,
-    /// For each node one more than the place of the search that holds it, or 0.
+    /// For each node one more than the slot of the search that holds it, or 0.
     holders: Vec<u32>,
-    /// For each node the places of the searches that want it.
+    /// For each node the slots of the searches that wait for it.
     waiters: Waiters,
     vacant: Vec<u32>,
     ready: Vec<u32>,
@@ -43,7 +43,7 @@ impl Model for Blocked {
 }
 
 impl Blocked {
-    /// No search yet, and room for `most` of them over nodes below `count`.
+    /// No search yet, with capacity for `most` of them over nodes below `count`.
     pub fn make(alloc: Global, count: u32, most: u32) -> Result<Blocked, AllocError>
         ensures { IfOk result (λ made. made ≡ record { count = count; most = most; kept = [] }) }
     {
@@ -57,7 +57,7 @@ impl Blocked {
         })
     }
 
-    /// The place of the search that holds the node, or none. It costs a constant.
+    /// The slot of the search that holds the node, or none. It takes constant time.
     pub fn holder(&self, node: u32) -> Option<u32>
         ensures some { IfSome result (λ place. Holds self.now.kept place node) }
         ensures none { IfNone result (IsFree self.now.kept node) }
@@ -70,14 +70,15 @@ impl Blocked {
         Some(word - 1)
     }
 
-    /// Whether a kept search is ready. It costs a constant.
+    /// Whether a suspended search is ready. It takes constant time.
     pub fn has_ready(&self) -> bool
         ensures { IsTrue result ↔ HasReady self.now.kept }
     {
         !self.ready.is_empty()
     }
 
-    /// Takes a ready search from its place, where there is one.
+    /// Takes a ready search from its slot, if there is one. It takes a step for each node of the
+    /// search.
     pub fn take_ready(&mut self) -> Option<Search>
         ensures count { self.new.count ≡ self.old.count }
         ensures most { self.new.most ≡ self.old.most }

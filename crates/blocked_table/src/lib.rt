@@ -1,11 +1,12 @@
-//! Searches that are put aside until a node that they want is finished.
+//! Suspended depth-first searches, each waiting for a node that another search has to finish.
 //!
-//! A `Blocked` keeps searches at places. A kept search is blocked, where it wants a node, or ready. No
-//! node is on two of them, and following wants ends. So before one more is kept, its wants are
-//! followed: where they come back to it, what they lead over is moved on top of it instead, since all
-//! of it may be one class.
+//! A `Blocked` keeps searches in slots (`place`). A suspended search is blocked if it waits for a
+//! node, and ready otherwise. No node is on two of them, and the wait-for relation has no cycle. If
+//! one more search would close a cycle, the searches on it are merged instead, since their nodes
+//! may be one strongly connected component.
 //!
-//! It holds no graph, and doesn't see which nodes are finished: `wake` is told.
+//! A `Blocked` holds no graph and doesn't see which nodes are finished: the caller passes them to
+//! `wake`.
 #![tactic(auto)]
 
 mod blocked;

@@ -1,7 +1,7 @@
 use search_stack::Search;
 
-/// What became of a search that was to be suspended: it is kept, or searches that it waited for have
-/// come on top of it, and it goes on.
+/// What `Blocked::suspend` did: it suspended the search, or it moved the searches that this one
+/// would wait for on top of it, and the search goes on.
 #[derive(Drop)]
 pub enum Suspended {
     Kept,

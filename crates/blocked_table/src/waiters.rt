@@ -4,19 +4,19 @@ ghost use Rattle.blocked_table.specs.Waiters.{IsWrittenFor};
 use std::alloc::{AllocError, Global};
 use std::marker::Model;
 
-/// For each node a list of the places that wait for it. A place is on one list at most.
+/// For each node a list of the slots (`place`) that wait for it. A slot is on one list at most.
 ///
-/// It is seen as a number of nodes and a word for each place: one more than the node that it waits
-/// for, or 0. Each call costs a constant.
+/// Contracts see the number of nodes and a word for each slot: one more than the node that it waits
+/// for, or 0. Each call takes constant time, except `make`.
 #[derive(Drop)]
 pub(crate) struct Waiters {
-    /// For each node one more than the first place of its list, or 0.
+    /// For each node one more than the first slot on its list, or 0.
     heads: Vec<u32>,
-    /// For each place one more than the node that it waits for, or 0.
+    /// For each slot one more than the node that it waits for, or 0.
     nodes: Vec<u32>,
-    /// For each place on a list one more than the place that comes after it there, or 0.
+    /// For each slot on a list one more than the slot after it there, or 0.
     after: Vec<u32>,
-    /// For each place on a list one more than the place that comes before it there, or 0.
+    /// For each slot on a list one more than the slot before it there, or 0.
     before: Vec<u32>,
 }
 
@@ -33,7 +33,7 @@ impl Model for Waiters {
 }
 
 impl Waiters {
-    /// No place is on a list yet.
+    /// Empty lists for `count` nodes and `room` slots. It takes time linear in both.
     pub(crate) fn make(alloc: Global, count: u32, room: u32) -> Result<Waiters, AllocError>
         ensures { IfOk result (λ made. made ≡ record { count = count; words = replicate room 0 }) }
     {
@@ -45,7 +45,7 @@ impl Waiters {
         })
     }
 
-    /// The first place on the list of a node, or none.
+    /// The first slot on the list of a node, or none.
     pub(crate) fn first(&self, node: u32) -> Option<u32>
         ensures some { IfSome result (λ place. slice_index_or self.now.words place 0 ≡ node + 1) }
         ensures none { IfNone result ((place : ℕ) → slice_index_or self.now.words place 0 ≡ node + 1 → ⊥) }
@@ -57,7 +57,7 @@ impl Waiters {
         Some(word - 1)
     }
 
-    /// Puts a place on the list of a node.
+    /// Adds a slot to the list of a node.
     pub(crate) fn add(&mut self, place: u32, node: u32)
         requires place { place < length self.old.words }
         requires node { node < self.old.count }
@@ -72,7 +72,7 @@ impl Waiters {
         self.nodes[place as usize] = node + 1;
     }
 
-    /// Takes a place from the list that it is on.
+    /// Removes a slot from the list that it is on.
     pub(crate) fn remove(&mut self, place: u32)
         requires place { place < length self.old.words }
         requires waits { 0 < slice_index_or self.old.words place 0 }
@@ -90,7 +90,7 @@ impl Waiters {
     }
 }
 
-/// Writes a word for a place, which is given by one more than it, or by 0 where there is none.
+/// Writes a word for a slot. `place` is one more than its index, or 0 if there is none to write.
 fn write_for(words: &mut Vec<u32>, place: u32, word: u32)
     requires { place ≤ length words.old.items }
     ensures { IsWrittenFor place word words.old.items words.new.items }

@@ -5,7 +5,7 @@ ghost use Rattle.blocked_table.specs.Words.{AreWritten};
 
 use search_stack::Search;
 
-/// Writes a word at each node of a search that stands from a position on.
+/// Writes a word at each node of a search, from a position on. It takes a step a node.
 pub(crate) fn write_words(holders: &mut Vec<u32>, search: &Search, from: u32, word: u32)
     requires within { from ≤ size search.now.stack }
     requires below { (v : ℕ) → IsOn search.now.stack v → v < length holders.old.items }

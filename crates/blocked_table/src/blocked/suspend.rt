@@ -14,10 +14,11 @@ use search_stack::Search;
 use std::alloc::AllocError;
 
 impl Blocked {
-    /// Puts a search aside until a node is finished that its last edge leads to. Where following wants
-    /// from this node comes back to the search, it isn't kept: the searches on the way are cut at the
-    /// node that is wanted in each, their upper parts come on top of the search in that order, and the
-    /// edge at the end is taken as one back. At want of memory the search comes back and all stays.
+    /// Suspends a search until the node that its last edge leads to is finished. If the search
+    /// would then wait for itself, the searches on this cycle are merged into it instead: each is
+    /// cut at the node of it that is waited for, the upper parts come on top of the search in that
+    /// order, and the edge at the end is treated as a back edge. If out of memory, the search is
+    /// returned and all stays as it was.
     pub fn suspend(
         &mut self,
         mut search: Search,
@@ -39,7 +40,7 @@ impl Blocked {
         ensures back { IfErr result (λ failed. failed.1.stack ≡ search.stack) }
         ensures back_wants { IfErr result (λ failed. failed.1.wanted ≡ None) }
 
-        // All searches stay good.
+        // All searches keep their invariant.
         ensures good { IfOk result (λ suspended. (lists : List (List ℕ)) (roots done : List ℕ)
             → AreGood lists roots done self.old.kept search.stack → StaysGood lists roots done self.new.kept suspended) }
     {
@@ -60,7 +61,7 @@ impl Blocked {
         Ok(Suspended::Moved(search))
     }
 
-    /// Keeps the search at a vacant place, where it wants a node.
+    /// Puts the search into a vacant slot, where it waits for a node.
     fn keep(&mut self, mut search: Search, on: u32)
         requires room { HasRoom self.old }
         requires some { 0 < size search.stack }

@@ -13,8 +13,8 @@ use crate::words::write_words;
 use search_stack::Search;
 use std::alloc::AllocError;
 
-/// Where the chain of wants comes back to a search: the node that ends it, and how many entries the
-/// searches on the way have.
+/// A cycle that a search would close: the node of the search that is waited for at its end, and how
+/// many entries the other searches on it have.
 #[derive(Clone, Copy)]
 pub(crate) struct Way {
     pub(crate) end: u32,
@@ -22,8 +22,9 @@ pub(crate) struct Way {
 }
 
 impl Blocked {
-    /// Follows wants from a node until they come to a node of the search, over the searches at these
-    /// places. None where they don't. Searches of 2^32 entries together are refused as want of memory.
+    /// Follows what searches wait for, from a node to a node of the search, and pushes the slots of
+    /// the searches on the way. None if the chain doesn't lead to the search. If the searches have
+    /// 2^32 entries or more together, that is reported as out of memory.
     pub(crate) fn walk(
         &self,
         search: &Search,
@@ -57,9 +58,9 @@ impl Blocked {
         Ok(Some(Way { end: node, entries }))
     }
 
-    /// Cuts the search at a place at the node, and puts its upper part on top of another. What is
-    /// left is kept and wants the last that its top has begun; where nothing is left the place is
-    /// vacant. Gives what the search at the place wanted.
+    /// Cuts the search in a slot at the node, and puts its upper part on top of another search. The
+    /// rest stays suspended and waits for the last node that its top has begun. If nothing is left,
+    /// the slot is vacant. Returns the node that the search in the slot waited for.
     pub(crate) fn move_part(&mut self, search: &mut Search, place: u32, node: u32) -> u32
         requires step { (x : ℕ) × StepsAt self.old.kept node place x }
         requires last { IsLastBegun search.old.stack node }
@@ -93,8 +94,8 @@ impl Blocked {
         wanted
     }
 
-    /// Moves the upper parts of the searches at these places on top of a search, one after another,
-    /// and takes the edge at the end as one back.
+    /// Moves the upper parts of the searches in these slots on top of a search, one after another,
+    /// and treats the edge at the end as a back edge.
     pub(crate) fn transfer(&mut self, search: &mut Search, on: u32, places: &[u32], end: u32)
         requires table { IsTable self.old }
         requires path { IsPath self.old.kept on places.now end }

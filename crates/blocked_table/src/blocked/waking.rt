@@ -7,14 +7,14 @@ ghost use Rattle.blocked_table.specs.Waking.{AreSomeWoken, IsOneWoken, IsUnwante
 use super::Blocked;
 
 impl Blocked {
-    /// Makes ready each kept search that wants a node of the group. It costs the nodes of the group and
-    /// the searches that it makes ready.
+    /// Makes ready each suspended search that waits for a node of the group. It takes a step for
+    /// each node of the group and for each search that becomes ready.
     pub fn wake(&mut self, group: &[u32])
         ensures count { self.new.count ≡ self.old.count }
         ensures most { self.new.most ≡ self.old.most }
         ensures woken { IsWoken group.now self.old.kept self.new.kept }
 
-        // Kept searches stay good where the group is finished now.
+        // Suspended searches keep their invariant if the group is finished now.
         ensures good { (lists : List (List ℕ)) (roots done more : List ℕ)
             → ((place : ℕ) (search : SearchValue) → kept_at self.old.kept place ≡ Some search → IsGoodSearch lists roots done search)
             → ((v : ℕ) → Contains done v → Contains more v) → ((v : ℕ) → Contains group.now v → Contains more v)
@@ -25,7 +25,7 @@ impl Blocked {
         }
     }
 
-    /// Makes ready each kept search that wants the node.
+    /// Makes ready each suspended search that waits for the node.
     fn wake_node(&mut self, node: u32)
         ensures count { self.new.count ≡ self.old.count }
         ensures most { self.new.most ≡ self.old.most }
@@ -35,7 +35,7 @@ impl Blocked {
         'places: while self.wake_one(node) {}
     }
 
-    /// Makes ready a kept search that wants the node, where there is one.
+    /// Makes ready one suspended search that waits for the node. Returns whether there was one.
     fn wake_one(&mut self, node: u32) -> bool
         ensures count { self.new.count ≡ self.old.count }
         ensures most { self.new.most ≡ self.old.most }
