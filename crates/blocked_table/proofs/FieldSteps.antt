@@ -1,19 +1,20 @@
 -- What the calls read of the fields of kept searches.
 use Rattle.std.proofs.Common.{nat_eq, ne_eqb, true≢false, ◌≡◌, inl, inr, ℕ, ◌<◌, ◌≤◌, List, [], ◌∷◌, ◌++◌, length, get_or, replicate, set, vec_len, vec_capacity, Option, None, Some, ap, ◌∙◌, sym, subst, arith, get_or-set_same, get_or-set_other, length-set}
 use Rattle.std.proofs.lemmas.Bool.{cases_lt, eq-eqb}
-use Rattle.std.proofs.lemmas.List.{get_or_default, get_or_past, get_or-replicate, length_push, length-replicate}
+use Rattle.std.proofs.lemmas.List.{get_or_default, length_push, length-replicate}
 use Rattle.std.proofs.lemmas.List.Elements.{Contains-get_or, Contains-push}
 use Rattle.std.specs.Prelude.{Bool, true, not, Contains}
 use Rattle.search_stack.specs.Search.{SearchValue}
 use Rattle.blocked_table.specs.declared.blocked.Blocked.TheInside.{Inside}
 use Rattle.blocked_table.specs.Blocked.{HasReady, IsReadyAt, IsTable, IsTaken}
-use Rattle.blocked_table.specs.BlockedFields.{AreWaiting, IsBlocked, value_of}
+use Rattle.blocked_table.specs.BlockedFields.{AreWaiting, AreWhole, AreWords, IsBlocked, value_of}
 use Rattle.blocked_table.specs.Kept.{kept_at}
 use Rattle.blocked_table.specs.Listed.{AreJust}
 use Rattle.blocked_table.specs.Waiters.{WaitersValue}
 use Rattle.blocked_table.proofs.Chain.{none_is_not, place_within, some_is}
 use Rattle.blocked_table.proofs.Listed.{just_few}
 use Rattle.blocked_table.proofs.Tables.{take_vacant}
+use Rattle.blocked_table.proofs.WaiterSteps.{zero_words}
 use Rattle.blocked_table.proofs.Waits.{waiting_none}
 
 -- the last of the ready places
@@ -110,29 +111,44 @@ no_place {P} places none never = record {
   from = λ p holds. absurd (never p holds);
 }
 
-pub empty_blocked : (fields : Inside) (count : ℕ) → fields.kept.items ≡ [] → fields.vacant.items ≡ [] → fields.ready.items ≡ []
-    → fields.holders.items ≡ replicate count 0 → fields.waiters ≡ record { count = count; words = replicate fields.most 0 }
+-- the words stay whole if no list gets longer or shorter
+pub still_whole : {count most : ℕ} {holders after : List ℕ} {waiters later : WaitersValue} → AreWhole count most holders waiters
+    → length after ≡ length holders → later.count ≡ waiters.count → length later.words ≡ length waiters.words → AreWhole count most after later
+still_whole {count} {most} {holders} {after} {waiters} {later} whole words nodes places = record {
+  words = words ∙ whole.words;
+  nodes = nodes ∙ whole.nodes;
+  places = omega (arith, whole.places, places);
+}
+
+pub empty_words : (kept : List (Option SearchValue)) (holders : List ℕ) (n : ℕ) → length kept ≡ 0 → holders ≡ replicate n 0
+    → AreWords holders kept
+empty_words kept holders n none words p v = (
+  λ word. absurd (omega (arith, word, zero_words holders n words v)),
+  λ holds. let lt : p < length kept = place_within kept p holds.search holds.at in absurd (omega (arith, lt, none)),
+)
+
+pub empty_waiting : (kept : List (Option SearchValue)) (waiters : WaitersValue) (count n : ℕ) → length kept ≡ 0
+    → waiters ≡ record { count = count; words = replicate n 0 } → AreWaiting waiters.words kept
+empty_waiting kept waiters count n none are =
+    subst (λ words. AreWaiting words kept) (sym (ap (λ (all : WaitersValue). all.words) are)) (waiting_none kept n none)
+
+pub empty_whole : (holders : List ℕ) (waiters : WaitersValue) (count most : ℕ) → holders ≡ replicate count 0
+    → waiters ≡ record { count = count; words = replicate most 0 } → AreWhole count most holders waiters
+empty_whole holders waiters count most zeros are = record {
+  words = ap length zeros ∙ length-replicate {A = ℕ} count 0;
+  nodes = ap (λ (all : WaitersValue). all.count) are;
+  places = omega (arith, ap (λ (all : WaitersValue). length all.words) are, length-replicate {A = ℕ} most 0);
+}
+
+pub empty_blocked : (fields : Inside) → fields.kept.items ≡ [] → fields.vacant.items ≡ [] → fields.ready.items ≡ []
+    → fields.holders.items ≡ [] → fields.waiters ≡ record { count = 0; words = replicate 0 0 }
     → fields.most ≤ vec_capacity fields.kept → fields.most ≤ vec_capacity fields.vacant → fields.most ≤ vec_capacity fields.ready
     → IsBlocked fields
-empty_blocked fields count none no_vacant no_ready zeros no_waiters kept_room vacant_places ready_places = record {
+empty_blocked fields none no_vacant no_ready no_words no_waiters kept_room vacant_places ready_places = record {
   table = empty_table fields none;
-  words = λ p v. (
-    λ word.
-        let zero_word : get_or fields.holders.items v 0 ≡ 0 =
-        elim (cases_lt v count) as (λ _. get_or fields.holders.items v 0 ≡ 0) [
-          | inl lt ↦ ap (λ xs. get_or xs v 0) zeros ∙ get_or-replicate count v 0 0 lt
-          | inr past ↦ ap (λ xs. get_or xs v 0) zeros ∙ get_or_past (replicate count 0) v 0 (omega (arith, past, length-replicate {A = ℕ} count 0))
-        ] in
-        absurd (omega (arith, word, zero_word)),
-    λ holds. absurd (nothing_kept fields.kept.items p holds.search none holds.at),
-  );
-  waiting =
-      subst (λ words. AreWaiting words fields.kept.items) (sym (ap (λ (all : WaitersValue). all.words) no_waiters))
-      (waiting_none fields.kept.items fields.most (ap length none));
-  nodes =
-      ap (λ (all : WaitersValue). all.count) no_waiters ∙ sym (length-replicate {A = ℕ} count 0) ∙ sym (ap length zeros);
-  places =
-      omega (arith, ap (λ (all : WaitersValue). length all.words) no_waiters, length-replicate {A = ℕ} fields.most 0);
+  words = empty_words fields.kept.items fields.holders.items 0 (ap length none) no_words;
+  waiting = empty_waiting fields.kept.items fields.waiters 0 0 (ap length none) no_waiters;
+  whole = λ some. absurd (omega (arith, some, ap length none));
   vacant = no_place fields.vacant.items no_vacant (λ p vacant. let lt = vacant.0 in omega (arith, lt, ap length none));
   ready = no_place fields.ready.items no_ready (λ p ready. nothing_kept fields.kept.items p ready.search none ready.at);
   kept_room = kept_room;

@@ -21,12 +21,14 @@ mod waking;
 #[derive(Drop)]
 pub struct Blocked {
     kept: Vec<Option<Search>>,
-    /// For each node one more than the slot of the search that holds it, or 0.
+    /// For each node one more than the slot of the search that holds it, or 0. Empty until a search is
+    /// suspended.
     holders: Vec<u32>,
-    /// For each node the slots of the searches that wait for it.
+    /// For each node the slots of the searches that wait for it. Empty until a search is suspended.
     waiters: Waiters,
     vacant: Vec<u32>,
     ready: Vec<u32>,
+    count: u32,
     most: u32,
 }
 
@@ -43,16 +45,19 @@ impl Model for Blocked {
 }
 
 impl Blocked {
-    /// No search yet, with capacity for `most` of them over nodes below `count`.
+    /// No search yet, with capacity for `most` of them over nodes below `count`. Nothing is written
+    /// here for nodes or slots: the first `suspend` does that, since a worker that searches alone
+    /// never suspends a search.
     pub fn make(alloc: Global, count: u32, most: u32) -> Result<Blocked, AllocError>
         ensures { IfOk result (λ made. made ≡ record { count = count; most = most; kept = [] }) }
     {
         Ok(Blocked {
             kept: Vec::with_capacity(alloc, most as usize)?,
-            holders: vec![in alloc; 0u32; count as usize]?,
-            waiters: Waiters::make(alloc, count, most)?,
+            holders: Vec::new(alloc),
+            waiters: Waiters::make(alloc, 0, 0)?,
             vacant: Vec::with_capacity(alloc, most as usize)?,
             ready: Vec::with_capacity(alloc, most as usize)?,
+            count,
             most,
         })
     }

@@ -9,7 +9,7 @@ ghost use Rattle.blocked_table.specs.Transfer.{IsTransfer};
 
 use super::Blocked;
 use crate::suspended::Suspended;
-use crate::words::write_words;
+use crate::words::{write_first, write_words};
 use search_stack::Search;
 use std::alloc::AllocError;
 
@@ -19,6 +19,9 @@ impl Blocked {
     /// cut at the node of it that is waited for, the upper parts come on top of the search in that
     /// order, and the edge at the end is treated as a back edge. If out of memory, the search is
     /// returned and all stays as it was.
+    ///
+    /// The first search that is suspended takes time linear in the number of nodes and slots, since
+    /// their words are written then.
     pub fn suspend(
         &mut self,
         mut search: Search,
@@ -51,7 +54,7 @@ impl Blocked {
             Err(error) => return Err((error, search)),
         };
         let Some(way) = found else {
-            self.keep(search, on);
+            self.keep(search, on)?;
             return Ok(Suspended::Kept);
         };
         if let Err(error) = search.reserve(way.entries) {
@@ -61,8 +64,10 @@ impl Blocked {
         Ok(Suspended::Moved(search))
     }
 
-    /// Puts the search into a vacant slot, where it waits for a node.
-    fn keep(&mut self, mut search: Search, on: u32)
+    /// Puts the search into a vacant slot, where it waits for a node. For the first one the words of
+    /// all nodes and slots are written. If out of memory, the search is returned and all stays as it
+    /// was.
+    fn keep(&mut self, mut search: Search, on: u32) -> Result<(), (AllocError, Search)>
         requires room { HasRoom self.old }
         requires some { 0 < size search.stack }
         requires below { (v : ℕ) → IsOn search.stack v → v < self.old.count }
@@ -72,18 +77,31 @@ impl Blocked {
         requires never { ComesTo self.old.kept search.stack on → ⊥ }
         ensures count { self.new.count ≡ self.old.count }
         ensures most { self.new.most ≡ self.old.most }
-        ensures kept { (place : ℕ) × Adds self.old.kept self.new.kept place (record search { wanted = Some on }) }
+        ensures kept { IfOk result (λ done. (place : ℕ) × Adds self.old.kept self.new.kept place (record search { wanted = Some on })) }
+        ensures unchanged { IfErr result (λ failed. self.new ≡ self.old) }
+        ensures back { IfErr result (λ failed. failed.1 ≡ search) }
     {
+        match write_first(
+            &self.kept,
+            &mut self.holders,
+            &mut self.waiters,
+            self.count,
+            self.most,
+        ) {
+            Ok(()) => {}
+            Err(error) => return Err((error, search)),
+        }
         search.set_wanted(on);
         let Some(place) = self.vacant.pop() else {
             let place = self.kept.len() as u32;
             write_words(&mut self.holders, &search, 0, place + 1);
             self.waiters.add(place, on);
             self.kept.push(Some(search)).unwrap();
-            return;
+            return Ok(());
         };
         write_words(&mut self.holders, &search, 0, place + 1);
         self.waiters.add(place, on);
         self.kept[place as usize] = Some(search);
+        Ok(())
     }
 }

@@ -8,6 +8,7 @@ use Rattle.blocked_table.specs.Listed.{AreJust}
 use Rattle.blocked_table.specs.Suspending.{Adds}
 use Rattle.blocked_table.specs.Waiters.{WaitersValue}
 use Rattle.blocked_table.proofs.EndSteps.{adds_at, adds_last, room_left, vacant_last}
+use Rattle.blocked_table.proofs.FieldSteps.{still_whole}
 use Rattle.blocked_table.proofs.KeepTables.{keep_popped, keep_pushed, keep_ready, keep_table, keep_words}
 use Rattle.blocked_table.proofs.Waits.{waiting_put, word_some}
 use Rattle.blocked_table.proofs.blocked.Blocked.keep.Goals as goal
@@ -20,30 +21,28 @@ write_words-requires-clause-below c =
     let below = rw (← c.self.view_is) at c.requires.below in
     let off : (i v : ℕ) → Holds c.self.inside.kept.items i v → IsOn c.set_wanted.new.self.stack v → ⊥ =
     λ i v holds on. apart i v holds (subst (λ stack. IsOn stack v) stack_is on) in
-    let low : (v : ℕ) → IsOn c.set_wanted.new.self.stack v → v < length c.self.inside.holders.items =
-    λ v on. below v (subst (λ stack. IsOn stack v) stack_is on) in
-    low
+    λ v on. omega (arith, below v (subst (λ stack. IsOn stack v) stack_is on), c.in-Ok.ensures.whole.words)
 
 pub add-requires-clause-place : goal.add-requires-clause-place
 add-requires-clause-place c =
     let room = room_left c.self.invariant c.in_default.ensures.cases.0 (rw (← c.self.view_is) at c.requires.room) in
-    omega (arith, room, c.len-place.ensures, c.self.inside.kept.ok.0, c.self.invariant.places)
+    omega (arith, room, c.len-place.ensures, c.self.inside.kept.ok.0, c.in-Ok.ensures.whole.places)
 
 pub add-requires-clause-none : goal.add-requires-clause-none
 add-requires-clause-none c =
     let last : c.len-place.result ≡ length c.self.inside.kept.items = omega (arith, c.len-place.ensures, c.self.inside.kept.ok.0) in
-    c.self.invariant.waiting c.len-place.result
+    c.write_first.ensures.waiting c.len-place.result
     ∙ ap wait_word (adds_last c.self.inside.kept.items c.len-place.result c.set_wanted.new.self last).vacant
 
-pub invariant_of-self : goal.invariant_of-self
-invariant_of-self c =
+pub invariant_of-self-in_default : goal.invariant_of-self-in_default
+invariant_of-self-in_default c =
     let stack_is = ap (λ (one : SearchValue). one.stack) c.set_wanted.ensures in
     let wants = ap (λ (one : SearchValue). one.wanted) c.set_wanted.ensures in
     let apart = rw (← c.self.view_is) at c.requires.apart in
     let below = rw (← c.self.view_is) at c.requires.below in
     let off : (i v : ℕ) → Holds c.self.inside.kept.items i v → IsOn c.set_wanted.new.self.stack v → ⊥ =
     λ i v holds on. apart i v holds (subst (λ stack. IsOn stack v) stack_is on) in
-    let low : (v : ℕ) → IsOn c.set_wanted.new.self.stack v → v < length c.self.inside.holders.items =
+    let low : (v : ℕ) → IsOn c.set_wanted.new.self.stack v → v < c.self.inside.count =
     λ v on. below v (subst (λ stack. IsOn stack v) stack_is on) in
     let never : ComesTo c.self.inside.kept.items c.set_wanted.new.self.stack c.args.on → ⊥ =
     subst (λ stack. ComesTo c.self.inside.kept.items stack c.args.on → ⊥) (sym stack_is) (rw (← c.self.view_is) at c.requires.never) in
@@ -54,28 +53,21 @@ invariant_of-self c =
     let room = room_left c.self.invariant c.in_default.ensures.cases.0 (rw (← c.self.view_is) at c.requires.room) in
     record {
       table =
-          rw c.write_words.ensures.written.each
-          (keep_table adds c.args.on wants off (length c.self.inside.holders.items) c.self.inside.most (omega (
+          keep_table adds c.args.on wants off c.self.inside.count c.self.inside.most (omega (
             arith,
             room,
             ap length pushed,
             length_push c.self.inside.kept.items (Some c.set_wanted.new.self),
           ))
-          (record { some = omega (arith, c.requires.some, ap size stack_is); distinct = c.write_words.ensures.distinct }) low never c.self.invariant.table);
-      words = keep_words adds c.args.on wants off c.self.invariant.words c.write_words.ensures.written;
+          (record { some = omega (arith, c.requires.some, ap size stack_is); distinct = c.write_words.ensures.distinct }) low never c.self.invariant.table;
+      words = keep_words adds c.args.on wants off c.write_first.ensures.words c.write_words.ensures.written;
       waiting =
           rw c.add.ensures
-          (waiting_put c.self.inside.kept.items c.push.new.self.items c.self.inside.waiters.words c.len-place.result (c.args.on + 1) c.self.invariant.waiting
-          (omega (arith, room, last, c.self.invariant.places)) (word_some c.push.new.self.items c.len-place.result c.args.on c.set_wanted.new.self adds.at wants) adds.same);
-      nodes =
-          ap (λ (all : WaitersValue). all.count) c.add.ensures ∙ c.self.invariant.nodes ∙ sym c.write_words.ensures.written.each;
-      places =
-          omega (
-            arith,
-            c.self.invariant.places,
-            ap (λ (all : WaitersValue). length all.words) c.add.ensures,
-            length-set c.self.inside.waiters.words c.len-place.result (c.args.on + 1),
-          );
+          (waiting_put c.self.inside.kept.items c.push.new.self.items c.write_first.new.waiters.words c.len-place.result (c.args.on + 1) c.write_first.ensures.waiting
+          (omega (arith, room, last, c.in-Ok.ensures.whole.places)) (word_some c.push.new.self.items c.len-place.result c.args.on c.set_wanted.new.self adds.at wants) adds.same);
+      whole = λ some.
+          still_whole c.in-Ok.ensures.whole c.write_words.ensures.written.each (ap (λ (all : WaitersValue). all.count) c.add.ensures)
+          (ap (λ (all : WaitersValue). length all.words) c.add.ensures ∙ length-set c.write_first.new.waiters.words c.len-place.result (c.args.on + 1));
       vacant = subst (AreJust (IsVacant c.push.new.self.items)) (c.in_default.ensures.items ∙ append-nil c.pop.new.self.items)
           (keep_pushed adds c.args.on wants off last (ap length pushed ∙ length_push c.self.inside.kept.items (Some c.set_wanted.new.self))
           c.self.invariant.vacant);
@@ -108,19 +100,17 @@ write_words-requires-2-clause-below c =
     let below = rw (← c.self.view_is) at c.requires.below in
     let off : (i v : ℕ) → Holds c.self.inside.kept.items i v → IsOn c.set_wanted.new.self.stack v → ⊥ =
     λ i v holds on. apart i v holds (subst (λ stack. IsOn stack v) stack_is on) in
-    let low : (v : ℕ) → IsOn c.set_wanted.new.self.stack v → v < length c.self.inside.holders.items =
-    λ v on. below v (subst (λ stack. IsOn stack v) stack_is on) in
-    low
+    λ v on. omega (arith, below v (subst (λ stack. IsOn stack v) stack_is on), c.in-Ok.ensures.whole.words)
 
 pub add-requires-2-clause-place : goal.add-requires-2-clause-place
 add-requires-2-clause-place c =
     let vacant = vacant_last c.self.invariant c.pop.new.self.items c.in-Some.place c.in-Some.ensures.items in
-    omega (arith, vacant.0, c.self.invariant.table.few, c.self.invariant.places)
+    omega (arith, vacant.0, c.self.invariant.table.few, c.in-Ok.ensures.whole.places)
 
 pub add-requires-2-clause-none : goal.add-requires-2-clause-none
 add-requires-2-clause-none c =
     let vacant = vacant_last c.self.invariant c.pop.new.self.items c.in-Some.place c.in-Some.ensures.items in
-    c.self.invariant.waiting c.in-Some.place ∙ ap wait_word vacant.1
+    c.write_first.ensures.waiting c.in-Some.place ∙ ap wait_word vacant.1
 
 pub index_mut-requires : goal.index_mut-requires
 index_mut-requires c =
@@ -136,7 +126,7 @@ invariant_of-self-2 c =
     let below = rw (← c.self.view_is) at c.requires.below in
     let off : (i v : ℕ) → Holds c.self.inside.kept.items i v → IsOn c.set_wanted.new.self.stack v → ⊥ =
     λ i v holds on. apart i v holds (subst (λ stack. IsOn stack v) stack_is on) in
-    let low : (v : ℕ) → IsOn c.set_wanted.new.self.stack v → v < length c.self.inside.holders.items =
+    let low : (v : ℕ) → IsOn c.set_wanted.new.self.stack v → v < c.self.inside.count =
     λ v on. below v (subst (λ stack. IsOn stack v) stack_is on) in
     let never : ComesTo c.self.inside.kept.items c.set_wanted.new.self.stack c.args.on → ⊥ =
     subst (λ stack. ComesTo c.self.inside.kept.items stack c.args.on → ⊥) (sym stack_is) (rw (← c.self.view_is) at c.requires.never) in
@@ -144,27 +134,20 @@ invariant_of-self-2 c =
     let adds = adds_at c.self.inside.kept.items c.in-Some.place c.set_wanted.new.self vacant.0 vacant.1 in
     record {
       table =
-          rw c.write_words-2.ensures.written.each
-          (keep_table adds c.args.on wants off (length c.self.inside.holders.items) c.self.inside.most (omega (
+          keep_table adds c.args.on wants off c.self.inside.count c.self.inside.most (omega (
             arith,
             c.self.invariant.table.few,
             length-set c.self.inside.kept.items c.in-Some.place (Some c.set_wanted.new.self),
           ))
-          (record { some = omega (arith, c.requires.some, ap size stack_is); distinct = c.write_words-2.ensures.distinct }) low never c.self.invariant.table);
-      words = keep_words adds c.args.on wants off c.self.invariant.words c.write_words-2.ensures.written;
+          (record { some = omega (arith, c.requires.some, ap size stack_is); distinct = c.write_words-2.ensures.distinct }) low never c.self.invariant.table;
+      words = keep_words adds c.args.on wants off c.write_first.ensures.words c.write_words-2.ensures.written;
       waiting =
           rw c.add-2.ensures
-          (waiting_put c.self.inside.kept.items (set c.self.inside.kept.items c.in-Some.place (Some c.set_wanted.new.self)) c.self.inside.waiters.words c.in-Some.place (c.args.on + 1) c.self.invariant.waiting
-          (omega (arith, vacant.0, c.self.invariant.table.few, c.self.invariant.places)) (word_some (set c.self.inside.kept.items c.in-Some.place (Some c.set_wanted.new.self)) c.in-Some.place c.args.on c.set_wanted.new.self adds.at wants) adds.same);
-      nodes =
-          ap (λ (all : WaitersValue). all.count) c.add-2.ensures ∙ c.self.invariant.nodes ∙ sym c.write_words-2.ensures.written.each;
-      places =
-          omega (
-            arith,
-            c.self.invariant.places,
-            ap (λ (all : WaitersValue). length all.words) c.add-2.ensures,
-            length-set c.self.inside.waiters.words c.in-Some.place (c.args.on + 1),
-          );
+          (waiting_put c.self.inside.kept.items (set c.self.inside.kept.items c.in-Some.place (Some c.set_wanted.new.self)) c.write_first.new.waiters.words c.in-Some.place (c.args.on + 1) c.write_first.ensures.waiting
+          (omega (arith, vacant.0, c.self.invariant.table.few, c.in-Ok.ensures.whole.places)) (word_some (set c.self.inside.kept.items c.in-Some.place (Some c.set_wanted.new.self)) c.in-Some.place c.args.on c.set_wanted.new.self adds.at wants) adds.same);
+      whole = λ some.
+          still_whole c.in-Ok.ensures.whole c.write_words-2.ensures.written.each (ap (λ (all : WaitersValue). all.count) c.add-2.ensures)
+          (ap (λ (all : WaitersValue). length all.words) c.add-2.ensures ∙ length-set c.write_first.new.waiters.words c.in-Some.place (c.args.on + 1));
       vacant = keep_popped adds c.args.on wants off c.pop.new.self.items
           (length-set c.self.inside.kept.items c.in-Some.place (Some c.set_wanted.new.self))
           (subst (AreJust (IsVacant c.self.inside.kept.items)) c.in-Some.ensures.items c.self.invariant.vacant);

@@ -7,12 +7,13 @@ invariant_of-result c =
     empty_blocked
     (record {
       kept = c.in_ok-with_capacity.field-0;
-      holders = c.in_ok-vec.field-0;
+      holders = c.new.result;
       waiters = c.in_ok-make.field-0;
       vacant = c.in_ok-with_capacity-2.field-0;
       ready = c.in_ok-with_capacity-3.field-0;
+      count = c.args.count;
       most = c.args.most;
-    }) c.args.count c.in_ok-with_capacity.ensures.items c.in_ok-with_capacity-2.ensures.items c.in_ok-with_capacity-3.ensures.items
-    (c.in_ok-vec.ensures.items_if_clones_equal (λ y is. is)) c.in_ok-make.ensures
+    }) c.in_ok-with_capacity.ensures.items c.in_ok-with_capacity-2.ensures.items c.in_ok-with_capacity-3.ensures.items
+    c.new.ensures.items c.in_ok-make.ensures
     (omega (arith, c.in_ok-with_capacity.ensures.capacity)) (omega (arith, c.in_ok-with_capacity-2.ensures.capacity))
     (omega (arith, c.in_ok-with_capacity-3.ensures.capacity))

@@ -5,6 +5,7 @@ use Rattle.blocked_table.specs.BlockedFields.{wait_word}
 use Rattle.blocked_table.specs.Waiters.{WaitersValue}
 use Rattle.blocked_table.specs.Words.{AreWritten}
 use Rattle.blocked_table.proofs.Chain.{none_is_not, place_within, some_is}
+use Rattle.blocked_table.proofs.FieldSteps.{still_whole}
 use Rattle.blocked_table.proofs.MovedSteps.{way_of}
 use Rattle.blocked_table.proofs.PartSteps.{away_none, away_some, donor_read, room_for}
 use Rattle.blocked_table.proofs.PartTables.{part_kept, part_ready, part_table, part_vacant, part_words, rest_held}
@@ -45,7 +46,8 @@ pub write_words-requires-clause-below : goal.write_words-requires-clause-below
 write_words-requires-clause-below c =
     let step = rw (← c.self.view_is) at c.requires.step.1 in
     let donor = donor_read c.requires.step.0 c.index_mut.result.now c.in-Some.donor step c.index_mut.ensures.value (sym c.take.ensures.value ∙ c.in-Some.is) in
-    λ v on. c.self.invariant.table.below c.args.place v (record { search = c.in-Some.donor; at = donor.at; on = on })
+    let whole = c.self.invariant.whole (omega (arith, place_within c.self.inside.kept.items c.args.place c.in-Some.donor donor.at)) in
+    λ v on. omega (arith, c.self.invariant.table.below c.args.place v (record { search = c.in-Some.donor; at = donor.at; on = on }), whole.words)
 
 pub append-requires-clause-apart : goal.append-requires-clause-apart
 append-requires-clause-apart c =
@@ -88,25 +90,19 @@ invariant_of-self-in_default-wanted-2 c =
     subst (λ from. AreWritten c.in-Some.donor.stack from (size c.in-Some.donor.stack) 0 c.self.inside.holders.items c.write_words.new.holders.items)
     c.in-Some-cut.ensures.position c.write_words.ensures.written in
     let pushed = rw c.unwrap.ensures at c.push.ensures.items in
+    let whole = c.self.invariant.whole (omega (arith, place_within c.self.inside.kept.items c.args.place c.in-Some.donor donor.at)) in
     record {
       table =
-          rw c.write_words.ensures.written.each
-          (part_table (c.args.place, c.in-Some-cut.cut.frame) way away (length c.self.inside.holders.items) c.self.inside.most same c.self.invariant.table);
+          part_table (c.args.place, c.in-Some-cut.cut.frame) way away c.self.inside.count c.self.inside.most same c.self.invariant.table;
       words = part_words (c.args.place, c.in-Some-cut.cut.frame) way away c.self.invariant.words written;
       waiting =
           rw c.remove.ensures
           (waiting_put c.self.inside.kept.items away.next c.self.inside.waiters.words c.args.place 0 c.self.invariant.waiting
-          (omega (arith, place_within c.self.inside.kept.items c.args.place c.in-Some.donor donor.at, c.self.invariant.table.few, c.self.invariant.places))
+          (omega (arith, place_within c.self.inside.kept.items c.args.place c.in-Some.donor donor.at, c.self.invariant.table.few, whole.places))
           (ap wait_word gone) away.same);
-      nodes =
-          ap (λ (all : WaitersValue). all.count) c.remove.ensures ∙ c.self.invariant.nodes ∙ sym c.write_words.ensures.written.each;
-      places =
-          omega (
-            arith,
-            c.self.invariant.places,
-            ap (λ (all : WaitersValue). length all.words) c.remove.ensures,
-            length-set c.self.inside.waiters.words c.args.place 0,
-          );
+      whole = λ some.
+          still_whole whole c.write_words.ensures.written.each (ap (λ (all : WaitersValue). all.count) c.remove.ensures)
+          (ap (λ (all : WaitersValue). length all.words) c.remove.ensures ∙ length-set c.self.inside.waiters.words c.args.place 0);
       vacant = rw pushed vacant;
       ready = part_ready (c.args.place, c.in-Some-cut.cut.frame) way away c.self.invariant.ready;
       kept_room = c.self.invariant.kept_room;
@@ -150,7 +146,8 @@ pub remove-requires-clause-place : goal.remove-requires-clause-place
 remove-requires-clause-place c =
     let step = rw (← c.self.view_is) at c.requires.step.1 in
     let donor = donor_read c.requires.step.0 c.index_mut.result.now c.in-Some.donor step c.index_mut.ensures.value (sym c.take.ensures.value ∙ c.in-Some.is) in
-    omega (arith, place_within c.self.inside.kept.items c.args.place c.in-Some.donor donor.at, c.self.invariant.table.few, c.self.invariant.places)
+    let whole = c.self.invariant.whole (omega (arith, place_within c.self.inside.kept.items c.args.place c.in-Some.donor donor.at)) in
+    omega (arith, place_within c.self.inside.kept.items c.args.place c.in-Some.donor donor.at, c.self.invariant.table.few, whole.places)
 
 pub remove-requires-clause-waits : goal.remove-requires-clause-waits
 remove-requires-clause-waits c =
@@ -185,14 +182,16 @@ add-requires-clause-node c =
     )) in
     let held = rest_held (c.args.place, c.in-Some-cut.cut.frame) way away c.append.new.donor c.in-Some-wanted-2.wants there (sym c.in-Some-wanted-2.ensures) in
     let below = c.self.invariant.table.below c.args.place c.in-Some-wanted-2.wants held in
-    omega (arith, below, c.self.invariant.nodes, ap (λ (all : WaitersValue). all.count) c.remove.ensures)
+    let whole = c.self.invariant.whole (omega (arith, place_within c.self.inside.kept.items c.args.place c.in-Some.donor donor.at)) in
+    omega (arith, below, whole.nodes, ap (λ (all : WaitersValue). all.count) c.remove.ensures)
 
 pub add-requires-clause-none : goal.add-requires-clause-none
 add-requires-clause-none c =
     let step = rw (← c.self.view_is) at c.requires.step.1 in
     let donor = donor_read c.requires.step.0 c.index_mut.result.now c.in-Some.donor step c.index_mut.ensures.value (sym c.take.ensures.value ∙ c.in-Some.is) in
+    let whole = c.self.invariant.whole (omega (arith, place_within c.self.inside.kept.items c.args.place c.in-Some.donor donor.at)) in
     let place_in : c.args.place < length c.self.inside.waiters.words =
-    omega (arith, place_within c.self.inside.kept.items c.args.place c.in-Some.donor donor.at, c.self.invariant.table.few, c.self.invariant.places) in
+    omega (arith, place_within c.self.inside.kept.items c.args.place c.in-Some.donor donor.at, c.self.invariant.table.few, whole.places) in
     rw c.remove.ensures (get_or-set_same c.self.inside.waiters.words c.args.place 0 0 place_in)
 
 pub invariant_of-self-2 : goal.invariant_of-self-2
@@ -220,13 +219,13 @@ invariant_of-self-2 c =
     subst (λ from. AreWritten c.in-Some.donor.stack from (size c.in-Some.donor.stack) 0 c.self.inside.holders.items c.write_words.new.holders.items)
     c.in-Some-cut.ensures.position c.write_words.ensures.written in
     let held = rest_held (c.args.place, c.in-Some-cut.cut.frame) way away c.append.new.donor c.in-Some-wanted-2.wants there (sym c.in-Some-wanted-2.ensures) in
+    let whole = c.self.invariant.whole (omega (arith, place_within c.self.inside.kept.items c.args.place c.in-Some.donor donor.at)) in
     let place_in : c.args.place < length c.self.inside.waiters.words =
-    omega (arith, place_within c.self.inside.kept.items c.args.place c.in-Some.donor donor.at, c.self.invariant.table.few, c.self.invariant.places) in
+    omega (arith, place_within c.self.inside.kept.items c.args.place c.in-Some.donor donor.at, c.self.invariant.table.few, whole.places) in
     let cleared = length-set c.self.inside.waiters.words c.args.place 0 in
     record {
       table =
-          rw c.write_words.ensures.written.each
-          (part_table (c.args.place, c.in-Some-cut.cut.frame) way away (length c.self.inside.holders.items) c.self.inside.most same c.self.invariant.table);
+          part_table (c.args.place, c.in-Some-cut.cut.frame) way away c.self.inside.count c.self.inside.most same c.self.invariant.table;
       words = part_words (c.args.place, c.in-Some-cut.cut.frame) way away c.self.invariant.words written;
       waiting =
           rw (c.add.ensures, c.remove.ensures)
@@ -242,18 +241,16 @@ invariant_of-self-2 c =
           (omega (arith, place_in, cleared))
           (word_some away.next c.args.place c.in-Some-wanted-2.wants c.append.new.donor there (sym c.in-Some-wanted-2.ensures))
           (λ i ne. get_or-set_other (set c.self.inside.kept.items c.args.place c.take.new.self) c.args.place i (Some c.append.new.donor) None ne));
-      nodes =
-          ap (λ (all : WaitersValue). all.count) c.add.ensures ∙ ap (λ (all : WaitersValue). all.count) c.remove.ensures
-          ∙ c.self.invariant.nodes ∙ sym c.write_words.ensures.written.each;
-      places =
-          omega (
+      whole = λ some.
+          still_whole whole c.write_words.ensures.written.each
+          (ap (λ (all : WaitersValue). all.count) c.add.ensures ∙ ap (λ (all : WaitersValue). all.count) c.remove.ensures)
+          (omega (
             arith,
-            c.self.invariant.places,
             ap (λ (all : WaitersValue). length all.words) c.add.ensures,
             ap (λ (all : WaitersValue). length all.words) c.remove.ensures,
             cleared,
             length-set c.remove.new.self.words c.args.place (c.in-Some-wanted-2.wants + 1),
-          );
+          ));
       vacant = part_kept (c.args.place, c.in-Some-cut.cut.frame) way away c.append.new.donor same there c.self.invariant.vacant;
       ready = part_ready (c.args.place, c.in-Some-cut.cut.frame) way away c.self.invariant.ready;
       kept_room = c.self.invariant.kept_room;

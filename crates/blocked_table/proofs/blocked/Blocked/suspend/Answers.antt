@@ -8,7 +8,7 @@ use Rattle.blocked_table.proofs.blocked.Blocked.suspend.Goals as goal
 
 pub returns-in_default-clause-good : goal.returns-in_default-clause-good
 returns-in_default-clause-good c =
-    λ lists roots done good place one at. keep_good c.args.search c.args.on c.keep.ensures.kept.1 c.requires.last good place one at
+    λ lists roots done good place one at. keep_good c.args.search c.args.on c.in_ok-keep.ensures.kept.1 c.requires.last good place one at
 
 pub transfer-requires-clause-apart : goal.transfer-requires-clause-apart
 transfer-requires-clause-apart c =

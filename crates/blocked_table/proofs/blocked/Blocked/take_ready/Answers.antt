@@ -1,8 +1,9 @@
-use Rattle.std.proofs.Common.{◌∙◌, ◌<◌, length, sym, subst, arith}
+use Rattle.std.proofs.Common.{◌∙◌, ◌<◌, length, refl, sym, subst, arith}
 use Rattle.std.proofs.lemmas.List.{append-nil}
 use Rattle.blocked_table.specs.Blocked.{IsReadyAt}
 use Rattle.blocked_table.specs.Listed.{AreJust}
-use Rattle.blocked_table.proofs.FieldSteps.{ready_is_kept, ready_within, taken_from, vacant_room}
+use Rattle.blocked_table.proofs.Chain.{place_within}
+use Rattle.blocked_table.proofs.FieldSteps.{ready_is_kept, ready_within, still_whole, taken_from, vacant_room}
 use Rattle.blocked_table.proofs.Tables.{take_ready_list, take_table, take_vacant, take_words}
 use Rattle.blocked_table.proofs.Waits.{waiting_taken}
 use Rattle.blocked_table.proofs.blocked.Blocked.take_ready.Goals as goal
@@ -12,8 +13,7 @@ invariant_of-self c = record {
   table = c.self.invariant.table;
   words = c.self.invariant.words;
   waiting = c.self.invariant.waiting;
-  nodes = c.self.invariant.nodes;
-  places = c.self.invariant.places;
+  whole = c.self.invariant.whole;
   vacant = c.self.invariant.vacant;
   ready =
       subst (AreJust (IsReadyAt c.self.inside.kept.items)) (c.in_err-place.ensures.items ∙ append-nil c.pop.new.self.items) c.self.invariant.ready;
@@ -56,7 +56,8 @@ write_words-requires-clause-below c =
     let taken =
     taken_from c.self.invariant c.pop.new.self.items c.in_ok-place.place c.index_mut.result.now c.take.new.self c.in_ok-search.search
     c.in_ok-place.ensures.items c.index_mut.ensures.value (sym c.take.ensures.value ∙ c.in_ok-search.was) c.take.ensures.after in
-    λ v on. c.self.invariant.table.below taken.place v (record { search = c.in_ok-search.search; at = taken.at; on = on })
+    let whole = c.self.invariant.whole (omega (arith, place_within c.self.inside.kept.items taken.place c.in_ok-search.search taken.at)) in
+    λ v on. omega (arith, c.self.invariant.table.below taken.place v (record { search = c.in_ok-search.search; at = taken.at; on = on }), whole.words)
 
 pub unwrap-requires : goal.unwrap-requires
 unwrap-requires c =
@@ -72,12 +73,10 @@ invariant_of-self-2 c =
     c.in_ok-place.ensures.items c.index_mut.ensures.value (sym c.take.ensures.value ∙ c.in_ok-search.was) c.take.ensures.after in
     let pushed = rw c.unwrap.ensures at c.push.ensures.items in
     record {
-      table =
-          rw c.write_words.ensures.written.each (take_table taken (length c.self.inside.holders.items) c.self.inside.most c.self.invariant.table);
+      table = take_table taken c.self.inside.count c.self.inside.most c.self.invariant.table;
       words = take_words taken c.self.invariant.table.apart c.self.invariant.words c.write_words.ensures.written;
       waiting = waiting_taken c.self.inside.waiters.words taken c.self.invariant.waiting;
-      nodes = c.self.invariant.nodes ∙ sym c.write_words.ensures.written.each;
-      places = c.self.invariant.places;
+      whole = λ some. still_whole (c.self.invariant.whole (omega (arith, some, taken.each))) c.write_words.ensures.written.each refl refl;
       vacant = rw pushed (take_vacant taken c.self.inside.vacant.items c.self.invariant.vacant);
       ready =
           take_ready_list taken c.pop.new.self.items

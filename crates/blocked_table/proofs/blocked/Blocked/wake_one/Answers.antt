@@ -1,7 +1,8 @@
-use Rattle.std.proofs.Common.{◌∙◌, Some, ap, length, set, sym, arith, length-set}
+use Rattle.std.proofs.Common.{◌∙◌, Some, refl, ap, length, set, sym, arith, length-set}
 use Rattle.blocked_table.specs.BlockedFields.{wait_word}
 use Rattle.blocked_table.specs.Waiters.{WaitersValue}
 use Rattle.blocked_table.proofs.Chain.{place_within}
+use Rattle.blocked_table.proofs.FieldSteps.{still_whole}
 use Rattle.blocked_table.proofs.Waits.{waiting_put}
 use Rattle.blocked_table.proofs.WakeSteps.{one_some, ready_more, ready_room, woken_here}
 use Rattle.blocked_table.proofs.WakeTables.{wake_table, wake_vacant, wake_words}
@@ -27,22 +28,17 @@ invariant_of-self-2 c =
     let more = ready_more c.self.inside.ready.items one.place c.args.node one.search one.at one.wants one.ready one.same c.self.invariant.ready in
     let pushed = rw c.unwrap.ensures at c.push.ensures.items in
     record {
-      table = wake_table (one_some one) (length c.self.inside.holders.items) c.self.inside.most c.self.invariant.table;
+      table = wake_table (one_some one) c.self.inside.count c.self.inside.most c.self.invariant.table;
       words = wake_words (one_some one) c.self.inside.holders.items c.self.invariant.words;
       waiting =
           rw c.remove.ensures
           (waiting_put c.self.inside.kept.items
           (set (set c.self.inside.kept.items c.in-Some.place c.take.new.self) c.in-Some.place (Some c.clear_wanted.new.self)) c.self.inside.waiters.words one.place 0 c.self.invariant.waiting
-          (omega (arith, within, c.self.invariant.table.few, c.self.invariant.places))
+          (omega (arith, within, c.self.invariant.table.few, (c.self.invariant.whole (omega (arith, within))).places))
           (ap wait_word one.ready) one.same);
-      nodes = ap (λ (all : WaitersValue). all.count) c.remove.ensures ∙ c.self.invariant.nodes;
-      places =
-          omega (
-            arith,
-            c.self.invariant.places,
-            ap (λ (all : WaitersValue). length all.words) c.remove.ensures,
-            length-set c.self.inside.waiters.words c.in-Some.place 0,
-          );
+      whole = λ some.
+          still_whole (c.self.invariant.whole (omega (arith, within))) refl (ap (λ (all : WaitersValue). all.count) c.remove.ensures)
+          (ap (λ (all : WaitersValue). length all.words) c.remove.ensures ∙ length-set c.self.inside.waiters.words c.in-Some.place 0);
       vacant = wake_vacant (one_some one) c.self.invariant.vacant;
       ready = rw pushed more;
       kept_room = c.self.invariant.kept_room;
