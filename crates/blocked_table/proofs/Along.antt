@@ -1,4 +1,5 @@
--- A transfer along a chain of wants keeps the kept searches apart and good, and that following wants ends.
+-- A transfer along a chain of waiting searches keeps them apart and well-formed, and each chain
+-- still ends.
 use Rattle.std.proofs.Common.{◌≡◌, ◌⊎◌, inl, inr, ℕ, ◌<◌, ◌≤◌, ◌-◌, true, List, [], ◌∷◌, Option, Some, is_some, refl, ap, ◌∙◌, sym, subst, arith}
 use Rattle.std.proofs.lemmas.Bool.{cases_eq, cases_lt}
 use Rattle.std.specs.Prelude.{IfSome}
@@ -15,7 +16,7 @@ use Rattle.blocked_table.specs.Transfer.{IsCutAway, IsMoved}
 use Rattle.blocked_table.proofs.Chain.{none_is_not, some_is}
 use Rattle.blocked_table.proofs.Rests.{WantsAbove, joined_on, on_up, last_join, rest_on, on_rest, rest_distinct, rest_wants}
 
--- a search whose last edge leads to v, beside kept searches that are good
+-- a search whose last edge leads to v, and suspended searches that satisfy the invariant
 pub record IsOnTheWay (lists : List (List ℕ)) (roots done : List ℕ) (now : List (Option SearchValue)) (s : Stack) (v : ℕ) : Type 0 where
   pub apart : IsApart now
   pub ends : AllEnd now
@@ -25,7 +26,7 @@ pub record IsOnTheWay (lists : List (List ℕ)) (roots done : List ℕ) (now : L
   pub kept : (place : ℕ) (search : SearchValue) → kept_at now place ≡ Some search
       → IsDistinct search.stack × IsGoodSearch lists roots done search
 
--- a place of a stack lies below a position, or from there on
+-- an index of a stack is below a position, or not
 pub split_place : (d : Stack) (middle u : ℕ) → IsOn d u → StandsIn d 0 middle u ⊎ StandsIn d middle (size d) u
 split_place d middle u on =
     elim (cases_lt on.place middle) as (λ _. StandsIn d 0 middle u ⊎ StandsIn d middle (size d) u) [
@@ -59,7 +60,7 @@ module _ {lists : List (List ℕ)} {roots done : List ℕ} {now : List (Option S
   pub donor_last : IsLastBegun d away.wants
   donor_last = let P : Option ℕ → Type 0 = λ o. IfSome o (IsLastBegun d) in subst P away.wanted donor_kept.1.wants
 
-  -- a search that is left at the place of the cut
+  -- a search that is left in the slot of the cut
   pub record IsRest (search : SearchValue) : Type 0 where
     pub stack_is : search.stack ≡ below_frame d cut.1
     pub some : 0 < cut.1
@@ -74,7 +75,7 @@ module _ {lists : List (List ℕ)} {roots done : List ℕ} {now : List (Option S
             subst IsRest same (record { stack_is = stack_is; some = some; wants_is = wants })
       ]
 
-  -- what the rest wants
+  -- what the rest waits for
   pub above : (0 < cut.1) → WantsAbove shaped left
   above some = rest_wants shaped left some (donor_kept.1.good.leads (cut.1 - 1) (omega (arith, some, away.cut_is.within)))
 
@@ -84,7 +85,7 @@ module _ {lists : List (List ℕ)} {roots done : List ℕ} {now : List (Option S
   pub at_cut : (place : ℕ) (search : SearchValue) → place ≡ cut.0 → kept_at away.next place ≡ Some search → kept_at away.next cut.0 ≡ Some search
   at_cut place search is at = sym (ap (kept_at away.next) is) ∙ at
 
-  -- who holds a node now held it before, and at the place of the cut it stands below
+  -- what holds a node now held it before, and in the slot of the cut the node is below the cut
   pub record WasHeld (place u : ℕ) : Type 0 where
     pub before : Holds now place u
     pub low : place ≡ cut.0 → StandsIn d 0 middle u
@@ -144,7 +145,7 @@ module _ {lists : List (List ℕ)} {roots done : List ℕ} {now : List (Option S
   pub wanted_free : (some : 0 < cut.1) → IsFree away.next (above some).wants
   wanted_free some = next_free (above some).wants (on_up shaped new (above some).wants (above some).stands)
 
-  -- following wants from a node of the donor ends
+  -- following what searches wait for ends, from a node of the donor
   donor_ends : (u : ℕ) → IsOn d u → Ends away.next u
   donor_ends u on =
       elim (split_place d middle u on) as (λ _. Ends away.next u) [

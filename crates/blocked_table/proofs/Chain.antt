@@ -1,4 +1,5 @@
--- Following wants among kept searches: no ring arises, and keeping a search whose chain doesn't come back keeps that each chain ends.
+-- Chains of suspended searches that wait for one another: none is a cycle, and each still ends if a
+-- search is suspended that wouldn't wait for itself.
 use Rattle.std.proofs.Common.{◌≡◌, ◌⊎◌, inl, inr, ℕ, zero, suc, ◌<◌, ◌≤◌, List, [], ◌∷◌, ◌++◌, length, Option, None, Some, refl, ap, ◌∙◌, sym, subst, arith}
 use Rattle.std.proofs.lemmas.Bool.{cases_eq, cases_lt}
 use Rattle.std.proofs.lemmas.List.{get_or_past}
@@ -38,7 +39,7 @@ on_or_off s v =
     elim (on_below s v (size s) (omega arith)) as (λ _. IsOn s v ⊎ (IsOn s v → ⊥))
     [ inl on ↦ inl on | inr none ↦ inr (λ on. none on.place on.within on.is) ]
 
--- a kept search holds a node or not
+-- a suspended search holds a node or not
 
 pub same_search : (kept : List (Option SearchValue)) (place : ℕ) (first second : SearchValue) → kept_at kept place ≡ Some first
     → kept_at kept place ≡ Some second → first ≡ second
@@ -61,7 +62,7 @@ holds_here kept place v (Some search) at =
           off (subst (λ (other : SearchValue). IsOn other.stack v) (same_search kept place holds.search search holds.at at) holds.on))
     ]
 
--- the place at which the node is held
+-- the slot of the search that holds the node
 pub record IsHeld (kept : List (Option SearchValue)) (v : ℕ) : Type 0 where
   pub place : ℕ
   pub holds : Holds kept place v
@@ -91,7 +92,7 @@ held_or_free kept v =
 
 -- steps and walks
 
--- a search at a place that holds the node, and the one that follows says, are one
+-- a search in a slot that holds the node is the one of `Follows`
 pub same_holder : (kept : List (Option SearchValue)) → IsApart kept → (v : ℕ) (place other : ℕ) (holds : Holds kept place v)
     (also : Holds kept other v) → holds.search ≡ also.search
 same_holder kept apart v place other holds also =
@@ -117,7 +118,7 @@ ends_on kept u xs v chain ends = record {
   is = ends.is;
 }
 
--- nothing follows a node that is free or at a ready search
+-- no step leads on from a node that is free or on a ready search
 pub end_stops : (kept : List (Option SearchValue)) → IsApart kept → (v x : ℕ) → IsFree kept v ⊎ IsAtReady kept v → Follows kept v x → ⊥
 end_stops kept apart v x is follows =
     elim is as (λ _. ⊥) [
@@ -128,13 +129,13 @@ end_stops kept apart v x is follows =
           none_is_not x ready.holds.search.wanted ready.ready (ap (λ (search : SearchValue). search.wanted) same ∙ follows.wants)
     ]
 
--- following wants from v comes back to v
+-- following what searches wait for leads from v back to v
 pub record IsRing (kept : List (Option SearchValue)) (v : ℕ) : Type 0 where
   pub next : ℕ
   pub steps : List ℕ
   pub chain : IsChain kept v (next ∷ steps) v
 
--- a ring goes along with each step
+-- if there is a cycle through a node, there is one through the next
 ring_from : (kept : List (Option SearchValue)) (v next : ℕ) (steps : List ℕ) → Follows kept v next → IsChain kept next steps v → IsRing kept next
 ring_from kept v next [] follows is = subst (λ k. IsRing kept k) (sym is) (record { next = next; steps = []; chain = (follows, is) })
 ring_from kept v next (x ∷ xs) follows chain = record {
@@ -155,7 +156,7 @@ no_ring_along kept apart v [] end chain is ring =
 no_ring_along kept apart v (x ∷ xs) end chain is ring =
     no_ring_along kept apart x xs end chain.1 is (ring_next kept apart v x chain.0 ring)
 
--- where following wants ends there is no ring
+-- if following what searches wait for ends, there is no cycle
 pub no_ring : (kept : List (Option SearchValue)) → IsApart kept → (v : ℕ) → Ends kept v → IsRing kept v → ⊥
 no_ring kept apart v ends = no_ring_along kept apart v ends.steps ends.end ends.chain ends.is
 
@@ -186,7 +187,7 @@ module _ {old new : List (Option SearchValue)} {place : ℕ} {search : SearchVal
   still_chain v [] w chain = chain
   still_chain v (x ∷ xs) w chain = (still_follows v x chain.0, still_chain x xs w chain.1)
 
-  -- what holds a node now did before, or is the search that is kept now
+  -- what holds a node now did before, or is the search that is suspended now
   pub held_before : (i v : ℕ) → Holds new i v → Holds old i v ⊎ ((i ≡ place) × IsOn search.stack v)
   held_before i v holds =
       elim (cases_eq i place) as (λ _. Holds old i v ⊎ ((i ≡ place) × IsOn search.stack v)) [
@@ -224,7 +225,7 @@ module _ {old new : List (Option SearchValue)} {place : ℕ} {search : SearchVal
   still_free v free off i holds =
       elim (held_before i v holds) as (λ _. ⊥) [ inl before ↦ free i before | inr here ↦ off here.1 ]
 
-  -- following wants from what is wanted ends, where it doesn't come back
+  -- following what searches wait for ends, if it doesn't come back
   wanted_ends : (on : ℕ) → Ends old on → (ComesTo old search.stack on → ⊥) → Ends new on
   wanted_ends on ends never = record {
     end = ends.end;
@@ -252,7 +253,7 @@ module _ {old new : List (Option SearchValue)} {place : ℕ} {search : SearchVal
         | inr ready ↦ record { end = ends.end; steps = ends.steps; chain = chain; is = inr (still_ready ends.end ready) }
       ]
 
-  -- keeping a search whose chain doesn't come back to it keeps that each chain ends
+  -- each chain still ends if a search is suspended that wouldn't wait for itself
   pub add_ends : (on : ℕ) → search.wanted ≡ Some on → AllEnd old → Ends old on → (ComesTo old search.stack on → ⊥) → AllEnd new
   add_ends on wants all ends never i w there at wanted =
       let then : Ends new on = wanted_ends on ends never in

@@ -1,4 +1,4 @@
--- The end of a transfer, and where a search is kept.
+-- The end of a transfer, and the slot of a search that is suspended.
 use Rattle.std.proofs.Common.{vec_len, ◌≡◌, inl, inr, ℕ, ◌<◌, ◌+◌, List, [], ◌∷◌, ◌++◌, length, get_or, drop, set, Option, None, Some, ap, ◌∙◌, sym, subst, arith, add-one, drop-cons, get_or-set_same, get_or-set_other}
 use Rattle.std.proofs.lemmas.Bool.{cases_eq, cases_lt}
 use Rattle.std.proofs.lemmas.List.{get_or_append_left, get_or_past, get_or_push, length_push}
@@ -20,7 +20,7 @@ use Rattle.blocked_table.proofs.Rests.{on_low}
 pub rest_drop : (xs : List ℕ) (i : ℕ) → i < length xs → drop i xs ≡ get_or xs i 0 ∷ drop (i + 1) xs
 rest_drop xs i lt = rw (add-one, drop-cons xs i 0)
 
--- what stood on the receiver stands on it still
+-- what was on the receiver still is
 pub moved_on : {lists : List (List ℕ)} {roots done : List ℕ} (now : List (Option SearchValue)) (s : Stack) (v : ℕ) (cuts : List (ℕ × ℕ))
     (after : List (Option SearchValue)) (t : Stack) (end u : ℕ) → IsOnTheWay lists roots done now s v → IsMoved now s v cuts after t end
     → IsOn s u → IsOn t u
@@ -30,7 +30,7 @@ moved_on now s v (cut ∷ cuts) after t end u way moved on =
     moved_on away.next (joined s away.donor.stack cut.1) away.wants cuts after t end u (cut_away cut way away) moved.1
     (on_low (shaped cut way away) (new cut way away) u on)
 
--- the edge at the end is taken as one back
+-- the edge at the end is treated as a back edge
 pub transferred : {old now : List (Option SearchValue)} {s t after : Stack} {on node_now end spare : ℕ} (place : ℕ)
     → (way : IsPartWay old s on now t node_now [] end spare) → IsOn s end → place < size t → node t place ≡ node_now → after ≡ lowered t place
     → IsTransfer old now s on after
@@ -46,7 +46,7 @@ transferred {old} {now} {s} {t} {after} {on} {node_now} {end} {spare} place way 
   lowered = lowered_is;
 }
 
--- a search is kept at a vacant place, or at a new one
+-- a search is put into a vacant slot, or into a new one
 
 pub adds_at : (kept : List (Option SearchValue)) (place : ℕ) (search : SearchValue) → place < length kept → kept_at kept place ≡ None
     → Adds kept (set kept place (Some search)) place search
@@ -70,7 +70,7 @@ adds_last kept place search last = record {
       ];
 }
 
--- kept searches stay good where one more is kept that wants what its last edge leads to
+-- suspended searches keep their invariant if one more waits for what its last edge leads to
 pub keep_good : {lists : List (List ℕ)} {roots done : List ℕ} {old after : List (Option SearchValue)} {place : ℕ} (search : SearchValue) (on : ℕ)
     → Adds old after place (record search { wanted = Some on }) → IsLastBegun search.stack on → AreGood lists roots done old search.stack
     → (i : ℕ) (one : SearchValue) → kept_at after i ≡ Some one → IsGoodSearch lists roots done one
@@ -83,12 +83,12 @@ keep_good {lists} {roots} {done} {old} {after} {place} search on adds last good 
       | inr ne ↦ good.kept_good i one (sym (adds.same i ne) ∙ at)
     ]
 
--- the last of the vacant places
+-- the last of the vacant slots
 pub vacant_last : {fields : Inside} → IsBlocked fields → (rest : List ℕ) (p : ℕ) → fields.vacant.items ≡ rest ++ p ∷ []
     → IsVacant fields.kept.items p
 vacant_last {fields} is rest p last = is.vacant.to p (subst (λ xs. Contains xs p) (sym last) (Contains-push rest p))
 
--- where no place is vacant there is room for a new one
+-- if no slot is vacant, there is capacity for a new one
 pub room_left : {fields : Inside} → IsBlocked fields → vec_len fields.vacant ≡ 0 → HasRoom (value_of fields) → length fields.kept.items < fields.most
 room_left {fields} is none room =
     elim room as (λ _. length fields.kept.items < fields.most) [

@@ -1,4 +1,4 @@
--- What the calls read of the fields of kept searches.
+-- What the calls read of the fields of `Blocked`.
 use Rattle.std.proofs.Common.{nat_eq, ne_eqb, true≢false, ◌≡◌, inl, inr, ℕ, ◌<◌, ◌≤◌, List, [], ◌∷◌, ◌++◌, length, get_or, replicate, set, vec_len, vec_capacity, Option, None, Some, ap, ◌∙◌, sym, subst, arith, get_or-set_same, get_or-set_other, length-set}
 use Rattle.std.proofs.lemmas.Bool.{cases_lt, eq-eqb}
 use Rattle.std.proofs.lemmas.List.{get_or_default, length_push, length-replicate}
@@ -17,7 +17,7 @@ use Rattle.blocked_table.proofs.Tables.{take_vacant}
 use Rattle.blocked_table.proofs.WaiterSteps.{zero_words}
 use Rattle.blocked_table.proofs.Waits.{waiting_none}
 
--- the last of the ready places
+-- the last of the ready slots
 pub ready_last : {fields : Inside} → IsBlocked fields → (rest : List ℕ) (p : ℕ) → fields.ready.items ≡ rest ++ p ∷ []
     → IsReadyAt fields.kept.items p
 ready_last {fields} is rest p last = is.ready.to p (subst (λ xs. Contains xs p) (sym last) (Contains-push rest p))
@@ -28,12 +28,12 @@ ready_within {fields} is rest p last =
     let there : IsReadyAt fields.kept.items p = ready_last is rest p last in
     place_within fields.kept.items p there.search there.at
 
--- what is read at a place
+-- what is read in a slot
 pub read_kept : (kept : List (Option SearchValue)) (p : ℕ) (read : Option SearchValue) → p < length kept → read ≡ get_or kept p read
     → kept_at kept p ≡ read
 read_kept kept p read lt is = get_or_default kept p None read lt ∙ sym is
 
--- a ready search leaves its place
+-- a ready search leaves its slot
 abbrev pub taken_from : {fields : Inside} → IsBlocked fields → (rest : List ℕ) (p : ℕ) (read after : Option SearchValue) (search : SearchValue)
     → fields.ready.items ≡ rest ++ p ∷ [] → read ≡ get_or fields.kept.items p read → read ≡ Some search → after ≡ None
     → IsTaken fields.kept.items (set fields.kept.items p after) search
@@ -52,14 +52,14 @@ taken_from {fields} is rest p read after search last here some gone =
       same = λ i ne. get_or-set_other kept p i after None ne;
     }
 
--- a place that is ready isn't vacant
+-- a slot that is ready isn't vacant
 pub ready_is_kept : {fields : Inside} → IsBlocked fields → (rest : List ℕ) (p : ℕ) (read : Option SearchValue)
     → fields.ready.items ≡ rest ++ p ∷ [] → read ≡ get_or fields.kept.items p read → read ≡ None → ⊥
 ready_is_kept {fields} is rest p read last here none =
     let there : IsReadyAt fields.kept.items p = ready_last is rest p last in
     none_is_not there.search (kept_at fields.kept.items p) (read_kept fields.kept.items p read (ready_within is rest p last) here ∙ none) there.at
 
--- there is room to mark one more place as vacant
+-- there is capacity to mark one more slot as vacant
 pub vacant_room : {fields : Inside} → IsBlocked fields → {new : List (Option SearchValue)} {search : SearchValue}
     → IsTaken fields.kept.items new search → vec_len fields.vacant < vec_capacity fields.vacant
 vacant_room {fields} is {new} {search} taken =
@@ -67,7 +67,7 @@ vacant_room {fields} is {new} {search} taken =
     just_few (fields.vacant.items ++ taken.place ∷ []) (length new) (take_vacant taken fields.vacant.items is.vacant) (λ place vacant. vacant.0) in
     omega (arith, few, length_push fields.vacant.items taken.place, taken.each, is.table.few, is.vacant_room, fields.vacant.ok.0)
 
--- the list of ready places isn't empty just where a kept search is ready
+-- the list of ready slots isn't empty if and only if a suspended search is ready
 
 pub some_ready : {fields : Inside} → IsBlocked fields → {empty : Bool} → empty ≡ nat_eq (vec_len fields.ready) 0 → not empty ≡ true
     → HasReady fields.kept.items

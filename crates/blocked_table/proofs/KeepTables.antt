@@ -1,4 +1,4 @@
--- What becomes of the tables where one more search is kept.
+-- What becomes of the tables if one more search is suspended.
 use Rattle.std.proofs.Common.{◌≡◌, ◌⊎◌, inl, inr, ℕ, ◌<◌, ◌≤◌, ◌+◌, List, [], ◌∷◌, ◌++◌, length, get_or, Option, Some, ap, ◌∙◌, sym, subst, arith}
 use Rattle.std.proofs.lemmas.Bool.{cases_eq}
 use Rattle.std.specs.Prelude.{◌↔◌}
@@ -16,7 +16,7 @@ use Rattle.blocked_table.proofs.WalkSteps.{ends_any}
 
 module _ {old new : List (Option SearchValue)} {place : ℕ} {search : SearchValue} (adds : Adds old new place search) (on : ℕ)
     (wants : search.wanted ≡ Some on) (off : (i v : ℕ) → Holds old i v → IsOn search.stack v → ⊥) where
-  -- what is at a place now was there, or is the search that is kept now
+  -- what is in a slot now was there, or is the search that is suspended now
   was_there : (i : ℕ) (one : SearchValue) → kept_at new i ≡ Some one → (kept_at old i ≡ Some one) ⊎ ((i ≡ place) × (one ≡ search))
   was_there i one at =
       elim (cases_eq i place) as (λ _. (kept_at old i ≡ Some one) ⊎ ((i ≡ place) × (one ≡ search))) [
@@ -75,7 +75,7 @@ module _ {old new : List (Option SearchValue)} {place : ℕ} {search : SearchVal
             (none_is_not on now.search.wanted now.wants_nothing (ap (λ (one : SearchValue). one.wanted) here.1 ∙ wants))
       ])
 
-  -- the place was the last of the vacant ones
+  -- the slot was the last of the vacant ones
   pub keep_popped : (rest : List ℕ) → length new ≡ length old → AreJust (IsVacant old) (rest ++ place ∷ []) → AreJust (IsVacant new) rest
   keep_popped rest same_length are =
       just_pop rest place are (λ now. none_is_not search (kept_at new place) now.1 adds.at)

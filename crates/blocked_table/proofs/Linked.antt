@@ -1,4 +1,4 @@
--- How places come on lists and leave them.
+-- How slots are added to lists and leave them.
 use Rattle.std.proofs.Common.{◌≡◌, inl, inr, ℕ, zero, suc, ◌<◌, ◌+◌, List, length, refl, ap, ◌∙◌, sym, arith}
 use Rattle.std.proofs.lemmas.Bool.{cases_eq, cases_lt}
 use Rattle.std.proofs.lemmas.List.{get_or_past}
@@ -21,7 +21,7 @@ linked_none heads nodes after before no_head no_node = record {
   on = λ p w q waits is. absurd (omega (arith, waits, no_node p));
 }
 
--- where a node has no head, no place waits for it
+-- if a node has no head, no slot waits for it
 
 none_by : {heads nodes after before : List ℕ} → (is : AreLinked heads nodes after before) → (w p k : ℕ) → word_at heads w ≡ 0
     → ((q : ℕ) → is.rank q < is.rank p → word_at nodes q ≡ w + 1 → ⊥) → word_at nodes p ≡ w + 1 → word_at before p ≡ k → ⊥
@@ -39,7 +39,7 @@ pub none_waits : {heads nodes after before : List ℕ} → (is : AreLinked heads
     → word_at nodes p ≡ w + 1 → ⊥
 none_waits is w none p waits = none_below is w none (suc (is.rank p)) p (omega arith) waits
 
--- a place leaves the list of a node
+-- a slot leaves the list of a node
 pub record Leaves (p w : ℕ) (heads nodes after before heads2 nodes2 after2 before2 : List ℕ) : Type 0 where
   pub waited : word_at nodes p ≡ w + 1
   pub gone : word_at nodes2 p ≡ 0

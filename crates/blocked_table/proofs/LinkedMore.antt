@@ -1,9 +1,9 @@
--- How a place comes on a list.
+-- How a slot is added to a list.
 use Rattle.std.proofs.Common.{◌≡◌, inl, inr, ℕ, ◌<◌, ◌+◌, List, if◌then◌else◌, nat_eq, ap, ◌∙◌, sym, arith, ne_eqb}
 use Rattle.std.proofs.lemmas.Bool.{cases_eq, cond-true, cond-false, eq-eqb}
 use Rattle.blocked_table.specs.WaitersFields.{AreLinked, word_at}
 
--- a place comes on the list of a node, before the others
+-- a slot is added to the list of a node, before the others
 pub record Comes (p w : ℕ) (heads nodes after before heads2 nodes2 after2 before2 : List ℕ) : Type 0 where
   pub free : word_at nodes p ≡ 0
   pub waits : word_at nodes2 p ≡ w + 1
@@ -27,7 +27,7 @@ module _ {p w : ℕ} {heads nodes after before heads2 nodes2 after2 before2 : Li
   rank_other : (i : ℕ) → (i ≡ p → ⊥) → rank2 i ≡ is.rank i + 1
   rank_other i ne = cond-false (nat_eq i p) 0 (is.rank i + 1) (ne_eqb i p ne)
 
-  -- a place that waited is another one
+  -- a slot that waited is another one
   waited_other : (i u : ℕ) → word_at nodes i ≡ u + 1 → i ≡ p → ⊥
   waited_other i u waited same = omega (arith, ap (word_at nodes) same, new.free, waited)
 

@@ -1,4 +1,4 @@
--- How lists of places that have some mark grow and shrink.
+-- How lists of the slots that have a property grow and shrink.
 use Rattle.std.proofs.Common.{◌≡◌, inl, inr, ℕ, ◌<◌, ◌≤◌, ◌+◌, List, [], ◌∷◌, ◌++◌, length, get_or, eqb, refl, ◌∙◌, sym, subst, arith, ne_eqb}
 use Rattle.std.proofs.lemmas.Bool.{cases_eq, cases_lt}
 use Rattle.std.proofs.lemmas.List.{get_or_append_left, get_or_default, get_or_push, length_push}
@@ -10,7 +10,7 @@ use Rattle.std.specs.List.{IsDistinct}
 use Rattle.std.specs.Prelude.{Contains}
 use Rattle.blocked_table.specs.Listed.{AreJust}
 
--- numbers that stand once and are below a bound are at most as many
+-- numbers below a bound, each in the list once, are at most as many as the bound
 pub few_once : (xs : List ℕ) (n : ℕ) → ((i j : ℕ) → i < j → j < length xs → get_or xs i 0 ≡ get_or xs j 0 → ⊥)
     → ((x : ℕ) → Contains xs x → x < n) → length xs ≤ n
 few_once xs n once below =

@@ -30,7 +30,7 @@ moved_more now s v [] middle t x cut moved away =
 moved_more now s v (one ∷ cuts) middle t x cut moved away =
     (moved.0, moved_more moved.0.next (joined s moved.0.donor.stack one.1) moved.0.wants cuts middle t x cut moved.1 away)
 
--- searches at other places stay on the path
+-- searches in other slots stay on the path
 path_same : (now next : List (Option SearchValue)) (v : ℕ) (places : List ℕ) (w : ℕ)
     → ((i : ℕ) → i < length places → kept_at next (get_or places i 0) ≡ kept_at now (get_or places i 0)) → IsPath now v places w → IsPath next v places w
 path_same now next v [] w same path = path
@@ -51,7 +51,7 @@ entries_same now next (p ∷ ps) same =
     let here : entries_at next p ≡ entries_at now p = ap entries_on (same 0 (omega arith)) in
     omega (arith, here, entries_same now next ps (λ i lt. same (suc i) (omega (arith, lt))))
 
--- the way so far, the path that is left, and the room for what is on it
+-- the way so far, the path that is left, and the capacity for what is on it
 pub record IsPartWay (old : List (Option SearchValue)) (s : Stack) (on : ℕ) (now : List (Option SearchValue)) (t : Stack) (node : ℕ) (rest : List ℕ)
     (end spare : ℕ) : Type 0 where
   pub cuts : List (ℕ × ℕ)

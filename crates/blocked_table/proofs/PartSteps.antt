@@ -1,4 +1,4 @@
--- A kept search that is cut, as the fields have it.
+-- A suspended search that is cut, as the fields have it.
 use Rattle.std.proofs.Common.{vec_len, vec_capacity, ◌≡◌, inl, inr, ℕ, ◌<◌, ◌≤◌, ◌-◌, List, [], ◌∷◌, ◌++◌, length, get_or, set, nat_eq, Option, None, Some, ap, ◌∙◌, sym, subst, arith, ne_eqb, get_or-set_same, get_or-set_other, length-set}
 use Rattle.std.proofs.lemmas.Bool.{cases_eq, cond-true, cond-false, eq-eqb}
 use Rattle.search_stack.specs.Stack.{Stack, IsShaped, begun, height, position, target, top}
@@ -24,7 +24,7 @@ last_some r some =
     cond-false (nat_eq (height r) 0) None (Some (target r (position r (top r)) (begun r (position r (top r)) - 1)))
     (ne_eqb (height r) 0 (λ none. omega (arith, none, some)))
 
--- something is left just where the rest wants a node
+-- something is left if and only if the rest waits for a node
 pub left_some : {d r : Stack} {frame w : ℕ} → IsShaped d → frame < height d → r ≡ below_frame d frame → last_begun r ≡ Some w → 0 < frame
 left_some {d} {r} {frame} {w} shaped within is wants =
     elim (cases_eq frame 0) as (λ _. 0 < frame) [
@@ -81,7 +81,7 @@ module _ (kept : List (Option SearchValue)) (place node frame wanted : ℕ) (don
     same = λ i ne. get_or-set_other kept place i gone None ne;
   }
 
--- the search that is read at the place is the donor
+-- the search that is read in the slot is the donor
 pub record IsDonor (kept : List (Option SearchValue)) (node place : ℕ) (donor : SearchValue) : Type 0 where
   pub at : kept_at kept place ≡ Some donor
   pub on : IsOn donor.stack node
@@ -101,7 +101,7 @@ donor_read {kept} {node} {place} x read donor step here is =
       wanted = sym (ap (λ (search : SearchValue). search.wanted) same) ∙ step.wants;
     }
 
--- there is room to mark one more place as vacant
+-- there is capacity to mark one more slot as vacant
 pub room_for : {fields : Inside} → IsBlocked fields → (new : List (Option SearchValue)) (p : ℕ)
     → AreJust (IsVacant new) (fields.vacant.items ++ p ∷ []) → length new ≡ length fields.kept.items
     → vec_len fields.vacant < vec_capacity fields.vacant

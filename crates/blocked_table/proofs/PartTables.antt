@@ -1,4 +1,4 @@
--- What becomes of the tables where a kept search is cut and its upper part moves away.
+-- What becomes of the tables if a suspended search is cut and its upper part moves away.
 use Rattle.std.proofs.Common.{◌≡◌, ◌⊎◌, inl, inr, ℕ, ◌<◌, ◌+◌, List, [], ◌∷◌, ◌++◌, length, get_or, Option, None, Some, ap, ◌∙◌, sym, subst, arith}
 use Rattle.std.proofs.lemmas.Bool.{cases_eq}
 use Rattle.std.specs.Prelude.{◌↔◌}
@@ -17,7 +17,7 @@ use Rattle.blocked_table.proofs.Chain.{none_is_not, on_or_off, place_within, som
 use Rattle.blocked_table.proofs.Listed.{just_push, just_same}
 use Rattle.blocked_table.proofs.Rests.{on_rest}
 
--- a node stands in a part of a stack or not
+-- a node is in a part of a stack or not
 stands_or_not : (s : Stack) (middle v : ℕ) → ((i j : ℕ) → i < size s → j < size s → node s i ≡ node s j → i ≡ j)
     → StandsIn s middle (size s) v ⊎ (StandsIn s middle (size s) v → ⊥)
 stands_or_not s middle v distinct =
@@ -123,7 +123,7 @@ module _ {lists : List (List ℕ)} {roots done : List ℕ} {now : List (Option S
       none_is_not (above cut way away rest.some).wants new.search.wanted new.wants_nothing (rest_wanted cut way away new.search rest) in
       record { search = new.search; at = sym (away.same i other) ∙ new.at; wants_nothing = new.wants_nothing })
 
-  -- where nothing is left the place is vacant
+  -- if nothing is left, the slot is vacant
   pub part_vacant : (vacant : List ℕ) → length away.next ≡ length now → kept_at away.next cut.0 ≡ None → AreJust (IsVacant now) vacant
       → AreJust (IsVacant away.next) (vacant ++ cut.0 ∷ [])
   part_vacant vacant same_length none are =
@@ -145,7 +145,7 @@ module _ {lists : List (List ℕ)} {roots done : List ℕ} {now : List (Option S
       let other : i ≡ cut.0 → ⊥ = λ is. none_is_not rest (kept_at away.next i) new.1 (ap (kept_at away.next) is ∙ some) in
       (omega (arith, new.0, same_length), sym (away.same i other) ∙ new.1))
 
-  -- what the rest wants stands on the donor
+  -- what the rest waits for is on the donor
   pub rest_held : (rest : SearchValue) (w : ℕ) → kept_at away.next cut.0 ≡ Some rest → rest.wanted ≡ Some w → Holds now cut.0 w
   rest_held rest w at wants =
       let is = rest_of cut way away rest at in

@@ -1,4 +1,4 @@
--- The places that following wants goes over.
+-- The slots on the way when what searches wait for is followed.
 use Rattle.std.proofs.Common.{◌≡◌, ◌⊎◌, ℕ, zero, suc, ◌<◌, List, [], ◌∷◌, ◌++◌, length, get_or, Option, refl, ap, ◌∙◌, sym, subst, arith}
 use Rattle.search_stack.specs.Search.{SearchValue, IsOn}
 use Rattle.search_stack.specs.Stack.{Stack}
@@ -21,7 +21,7 @@ path_chain kept v (p ∷ ps) w path =
     let rest : (xs : List ℕ) × IsChain kept path.0 xs w = path_chain kept path.0 ps w path.2 in
     (path.0 ∷ rest.0, (step_follows path.1, rest.1))
 
--- a place on a path, reached over a chain
+-- a slot on a path, reached over a chain
 record IsPassed (kept : List (Option SearchValue)) (v place : ℕ) : Type 0 where
   node : ℕ
   steps : List ℕ
@@ -43,7 +43,7 @@ passed kept v (p ∷ ps) w (suc i) d path lt =
       step = rest.step;
     }
 
--- a chain that comes to what follows by the start is a ring
+-- a chain from x to a node that leads back to x is a cycle
 ring_of : (kept : List (Option SearchValue)) (x : ℕ) (steps : List ℕ) (u : ℕ) → IsChain kept x steps u → Follows kept u x → IsRing kept x
 ring_of kept x [] u chain follows =
     record { next = x; steps = []; chain = (subst (λ k. Follows kept k x) (sym chain) follows, refl) }
@@ -51,7 +51,7 @@ ring_of kept x (y ∷ ys) u chain follows =
     record { next = y; steps = ys ++ x ∷ []; chain = (chain.0, chain_on kept y ys u (x ∷ []) x chain.1 (follows, refl)) }
 
 module _ (kept : List (Option SearchValue)) (apart : IsApart kept) (all : AllEnd kept) where
-  -- a place that was passed doesn't come again
+  -- a slot that was passed doesn't come again
   never_again : (v p x : ℕ) (places : List ℕ) (w i d : ℕ) → StepsAt kept v p x → IsPath kept x places w → i < length places
       → get_or places i d ≡ p → ⊥
   never_again v p x places w i d step path lt is =
@@ -90,7 +90,8 @@ module _ (kept : List (Option SearchValue)) (apart : IsApart kept) (all : AllEnd
       let same : y ≡ x = follows_one kept apart v y x second.0 first.0 in
       chains_meet x xs u ys w first.1 (subst (λ k. IsChain kept k ys w) same second.1) stops
 
-  -- where a walk stops off the stack, and no kept search holds a node of the stack, no walk comes to the stack
+  -- if a walk stops off the stack, and no suspended search holds a node of the stack, no walk comes
+  -- to the stack
   pub never_comes : (v : ℕ) (places : List ℕ) (w : ℕ) (s : Stack) → IsPath kept v places w → IsFree kept w ⊎ IsAtReady kept w
       → (IsOn s w → ⊥) → ((place u : ℕ) → Holds kept place u → IsOn s u → ⊥) → ComesTo kept s v → ⊥
   never_comes v places w s path is off free comes =

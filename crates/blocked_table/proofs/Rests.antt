@@ -1,4 +1,4 @@
--- What stands on a joined stack, and on what is left of the donor.
+-- What is on a joined stack, and on what is left of the donor.
 use Rattle.std.proofs.Common.{◌≡◌, ◌⊎◌, inl, inr, ℕ, ◌<◌, ◌≤◌, ◌+◌, ◌-◌, None, Some, nat_eq, get_or, refl, ap, ◌∙◌, sym, arith, ne_eqb}
 use Rattle.std.proofs.lemmas.Bool.{cases_lt, cond-false}
 use Rattle.search_stack.specs.Stack.{Stack, IsShaped, size, height, top, succs, begun, target, position}
@@ -61,7 +61,7 @@ module _ {s d t : Stack} {frame : ℕ} (upper : IsShaped d) (new : Joins s d t f
       }
 
 module _ {d r : Stack} {frame : ℕ} (upper : IsShaped d) (left : Keeps d r frame) where
-  -- a node that is left stands below the frame
+  -- a node that is left is below the frame
   pub rest_on : (u : ℕ) → IsOn r u → StandsIn d 0 (position d frame) u
   rest_on u on =
       let below : on.place < position d frame = omega (arith, on.within, left.size_is) in
@@ -81,7 +81,8 @@ module _ {d r : Stack} {frame : ℕ} (upper : IsShaped d) (left : Keeps d r fram
       let end : position d frame < size d = position_within upper frame left.within in
       distinct i j (omega (arith, low_i, end)) (omega (arith, low_j, end)) (sym (left.node_is i low_i) ∙ same ∙ left.node_is j low_j)
 
-  -- what the rest wants is the last that its top has begun, and stands in the part that moved away
+  -- what the rest waits for is the last node that its top has begun, and is in the part that moved
+  -- away
   pub record WantsAbove : Type 0 where
     pub wants : ℕ
     pub last : IsLastBegun r wants

@@ -1,4 +1,4 @@
--- What becomes of the tables where a ready search is taken.
+-- What becomes of the tables if a ready search is taken.
 use Rattle.std.proofs.Common.{◌≡◌, ◌⊎◌, inl, inr, ℕ, ◌+◌, List, [], ◌∷◌, ◌++◌, get_or, Option, Some, ap, ◌∙◌, sym, subst, arith}
 use Rattle.std.proofs.lemmas.Bool.{cases_eq}
 use Rattle.std.specs.Prelude.{◌↔◌}
@@ -13,7 +13,7 @@ use Rattle.blocked_table.proofs.Chain.{none_is_not, on_or_off, place_within, som
 use Rattle.blocked_table.proofs.Listed.{just_pop, just_push}
 
 module _ {old new : List (Option SearchValue)} {search : SearchValue} (taken : IsTaken old new search) where
-  -- what holds a node still did before, at another place
+  -- what still holds a node did before, in another slot
   record StillHolds (i v : ℕ) : Type 0 where
     other : i ≡ taken.place → ⊥
     before : Holds old i v
@@ -37,7 +37,7 @@ module _ {old new : List (Option SearchValue)} {search : SearchValue} (taken : I
   own : (v : ℕ) → IsOn search.stack v → Holds old taken.place v
   own v on = record { search = search; at = taken.at; on = on }
 
-  -- nothing follows by the search that is ready
+  -- no step leads over the search that is ready
   follows_still : (v x : ℕ) → Follows old v x → Follows new v x
   follows_still v x follows =
       let other : follows.place ≡ taken.place → ⊥ = λ is.

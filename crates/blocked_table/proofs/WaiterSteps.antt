@@ -1,4 +1,4 @@
--- How the calls change the lists of places that wait for nodes.
+-- How the calls change the lists of slots that wait for nodes.
 use Rattle.std.proofs.Common.{◌≡◌, inl, inr, ℕ, ◌<◌, ◌≤◌, ◌+◌, ◌-◌, List, length, get_or, replicate, set, refl, ap, ◌∙◌, sym, arith, get_or-set_same, get_or-set_other}
 use Rattle.std.proofs.lemmas.Bool.{cases_eq, cases_lt}
 use Rattle.std.proofs.lemmas.List.{get_or_default, get_or_past, get_or-replicate, length-replicate}
@@ -21,7 +21,7 @@ zeros n i =
 pub zero_words : (words : List ℕ) (n : ℕ) → words ≡ replicate n 0 → (i : ℕ) → word_at words i ≡ 0
 zero_words words n is i = ap (λ xs. word_at xs i) is ∙ zeros n i
 
--- a word that is one more than a place of a list, or 0
+-- a word that is one more than an index of a list, or 0
 pub in_list : (words : List ℕ) (word : ℕ) → ((i : ℕ) → word ≡ i + 1 → i < length words) → word ≤ length words
 in_list words word below =
     elim (cases_eq word 0) as (λ _. word ≤ length words) [
@@ -61,7 +61,7 @@ module _ {heads nodes after before : List ℕ} (is : AreLinked heads nodes after
       heads_same = same;
     }
 
-    -- the first place leaves
+    -- the first slot leaves
     pub first_left : last ≡ 0 → AreLinked (set heads w next) (set nodes p 0) after2 before2
     first_left none =
         let front : word_at before p ≡ 0 = sym last_is ∙ none in
@@ -69,11 +69,11 @@ module _ {heads nodes after before : List ℕ} (is : AreLinked heads nodes after
         (leaves (set heads w next) (λ _. get_or-set_same heads w next 0 (node_in waits front) ∙ next_is)
         (λ u apart. get_or-set_other heads w u next 0 (apart front)))
 
-    -- another place leaves
+    -- another slot leaves
     pub later_left : (last ≡ 0 → ⊥) → AreLinked heads (set nodes p 0) after2 before2
     later_left some = linked_left is (leaves heads (λ front. absurd (some (last_is ∙ front))) (λ u apart. refl))
 
-  -- a place comes
+  -- a slot is added
   pub come : {next : ℕ} {before2 : List ℕ} → p < length nodes → length after ≡ length nodes → length before ≡ length nodes → w < length heads
       → word_at nodes p ≡ 0 → next ≡ word_at heads w → IsWrittenFor next (p + 1) before before2
       → AreLinked (set heads w (p + 1)) (set nodes p (w + 1)) (set after p next) (set before2 p 0)

@@ -1,4 +1,4 @@
--- What the places of kept searches wait for.
+-- What the slots of suspended searches wait for.
 use Rattle.std.proofs.Common.{◌≡◌, inl, inr, ℕ, zero, suc, ◌<◌, ◌≤◌, ◌+◌, List, length, get_or, replicate, set, Option, None, Some, refl, ap, ◌∙◌, sym, arith, get_or-set_same, get_or-set_other}
 use Rattle.std.proofs.lemmas.Bool.{cases_eq}
 use Rattle.std.proofs.lemmas.List.{get_or_past}
@@ -9,11 +9,11 @@ use Rattle.blocked_table.specs.Kept.{kept_at}
 use Rattle.blocked_table.specs.Waking.{IsOneWoken, IsUnwanted}
 use Rattle.blocked_table.proofs.WaiterSteps.{zeros}
 
--- no search is kept, and no place waits
+-- no search is suspended, and no slot waits
 pub waiting_none : (kept : List (Option SearchValue)) (n : ℕ) → length kept ≡ 0 → AreWaiting (replicate n 0) kept
 waiting_none kept n none place = zeros n place ∙ sym (ap wait_word (get_or_past kept place None (omega (arith, none))))
 
--- a search that wants nothing has left its place
+-- a search that waits for nothing has left its slot
 pub waiting_taken : {old new : List (Option SearchValue)} {search : SearchValue} (words : List ℕ) → IsTaken old new search → AreWaiting words old
     → AreWaiting words new
 waiting_taken {old} {new} {search} words taken are i =
@@ -24,7 +24,7 @@ waiting_taken {old} {new} {search} words taken are i =
           ∙ sym (ap wait_word (ap (kept_at new) is ∙ taken.vacant))
     ]
 
--- the word of a place is written, as what is there wants it
+-- the word of a slot is written, as what is there waits for it
 pub waiting_put : (old new : List (Option SearchValue)) (words : List ℕ) (place word : ℕ) → AreWaiting words old → place < length words
     → wait_word (kept_at new place) ≡ word → ((i : ℕ) → (i ≡ place → ⊥) → kept_at new i ≡ kept_at old i)
     → AreWaiting (set words place word) new
@@ -36,7 +36,7 @@ waiting_put old new words place word are lt here same i =
       | inr ne ↦ get_or-set_other words place i word 0 ne ∙ are i ∙ ap wait_word (sym (same i ne))
     ]
 
--- the word of a search that wants a node, and of one that wants nothing
+-- the word of a search that waits for a node, and of one that waits for none
 pub word_some : (kept : List (Option SearchValue)) (place w : ℕ) (search : SearchValue) → kept_at kept place ≡ Some search → search.wanted ≡ Some w
     → wait_word (kept_at kept place) ≡ w + 1
 word_some kept place w search at wants = ap wait_word at ∙ ap wanted_word wants
@@ -45,12 +45,12 @@ pub word_none : (kept : List (Option SearchValue)) (place : ℕ) (search : Searc
     → wait_word (kept_at kept place) ≡ 0
 word_none kept place search at wants = ap wait_word at ∙ ap wanted_word wants
 
--- where no place waits for a node no search wants it
+-- if no slot waits for a node, no search does
 pub unwanted : (words : List ℕ) (kept : List (Option SearchValue)) → AreWaiting words kept → (w : ℕ)
     → ((place : ℕ) → get_or words place 0 ≡ w + 1 → ⊥) → IsUnwanted kept w
 unwanted words kept are w none place one at wants = none place (are place ∙ word_some kept place w one at wants)
 
--- a place that waits keeps a search that wants the node
+-- a slot that waits has a search that waits for the node
 
 pub record IsWaiting (kept : List (Option SearchValue)) (place w : ℕ) : Type 0 where
   pub search : SearchValue
@@ -74,7 +74,7 @@ pub waiting_here : (words : List ℕ) (kept : List (Option SearchValue)) → Are
 waiting_here words kept are place w word =
     waiting_from kept place w (kept_at kept place) refl (sym (are place) ∙ word)
 
--- how much is wanted at the places below a bound
+-- the sum of the words of the slots below a bound
 abbrev pub wants_below : List (Option SearchValue) → ℕ → ℕ
 wants_below kept zero = 0
 wants_below kept (suc n) = wait_word (kept_at kept n) + wants_below kept n

@@ -1,4 +1,4 @@
--- Kept searches stay good where those are woken that want a node that is finished now.
+-- Suspended searches keep their invariant if those that wait for a finished node become ready.
 use Rattle.std.proofs.Common.{◌≡◌, ◌⊎◌, inl, inr, ℕ, List, [], ◌∷◌, Option, None, Some, is_some, refl, ◌∙◌, sym, subst}
 use Rattle.std.specs.Prelude.{Contains, IfSome}
 use Rattle.list_laws.proofs.OneOrder.{first_or_rest, in_first, in_rest, nothing_in}

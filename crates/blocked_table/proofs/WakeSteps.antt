@@ -1,4 +1,4 @@
--- How kept searches are made ready one by one.
+-- How suspended searches are made ready one by one.
 use Rattle.std.proofs.Common.{◌≡◌, ◌⊎◌, inl, inr, ℕ, ◌<◌, ◌≤◌, ◌+◌, List, [], ◌∷◌, ◌++◌, length, get_or, set, get_or-set_same, get_or-set_other, length-set, Option, None, Some, refl, ap, ◌∙◌, sym, subst, arith}
 use Rattle.std.proofs.lemmas.Bool.{cases_eq}
 use Rattle.std.proofs.lemmas.List.{length_push}
@@ -15,7 +15,7 @@ use Rattle.blocked_table.proofs.FieldSteps.{read_kept}
 use Rattle.blocked_table.proofs.Listed.{just_few, just_push}
 use Rattle.blocked_table.proofs.Waits.{IsWaiting, waiting_here}
 
--- the list of ready places, where the search at a place is woken
+-- the list of ready slots, if the search in a slot becomes ready
 pub ready_more : {now new : List (Option SearchValue)} (ready : List ℕ) (i w : ℕ) (search : SearchValue) → kept_at now i ≡ Some search
     → search.wanted ≡ Some w → kept_at new i ≡ Some (record search { wanted = None }) → ((j : ℕ) → (j ≡ i → ⊥) → kept_at new j ≡ kept_at now j)
     → AreJust (IsReadyAt now) ready → AreJust (IsReadyAt new) (ready ++ i ∷ [])
@@ -39,7 +39,7 @@ ready_room {new} ready i n are same_length =
     just_few (ready ++ i ∷ []) (length new) are (λ place is. place_within new place is.search is.at) in
     omega (arith, few, length_push ready i, same_length)
 
--- a search is taken from its place and another is put there
+-- a search is taken from its slot and another is put there
 
 pub put_at : (now : List (Option SearchValue)) (i : ℕ) (gone after : Option SearchValue) → i < length now
     → kept_at (set (set now i gone) i after) i ≡ after
@@ -52,7 +52,7 @@ put_others now i gone after j ne = get_or-set_other (set now i gone) i j after N
 pub put_length : (now : List (Option SearchValue)) (i : ℕ) (gone after : Option SearchValue) → length (set (set now i gone) i after) ≡ length now
 put_length now i gone after = length-set (set now i gone) i after ∙ length-set now i gone
 
--- one search is woken
+-- one search becomes ready
 
 abbrev pub one_woken : (kept : List (Option SearchValue)) (place w : ℕ) (search : SearchValue) (gone after : Option SearchValue) → kept_at kept place ≡ Some search
     → search.wanted ≡ Some w → after ≡ Some (record search { wanted = None }) → IsOneWoken w kept (set (set kept place gone) place after)
@@ -66,7 +66,7 @@ one_woken kept place w search gone after at wants is = record {
   same = put_others kept place gone after;
 }
 
--- the search at a place that waits is woken
+-- the search in a slot that waits becomes ready
 abbrev pub woken_here : (words : List ℕ) (kept : List (Option SearchValue)) → AreWaiting words kept → (place w : ℕ) (read : Option SearchValue)
     (search : SearchValue) (gone after : Option SearchValue) → get_or words place 0 ≡ w + 1 → read ≡ get_or kept place read → read ≡ Some search
     → after ≡ Some (record search { wanted = None }) → IsOneWoken w kept (set (set kept place gone) place after)
@@ -100,7 +100,7 @@ one_some {w} {old} {new} one = record {
       ];
 }
 
--- several are woken, one after another
+-- several become ready, one after another
 
 pub some_none : {P : ℕ → Type 0} (kept : List (Option SearchValue)) → AreSomeWoken P kept kept
 some_none kept = record { each = refl; none = λ i at. at; some = λ i search at. inl at }
@@ -126,7 +126,7 @@ some_more {P} {Q} {old} {now} {new} before then wider = record {
       ];
 }
 
--- what no search wants is wanted by none then
+-- a node that no search waits for isn't waited for later
 pub unwanted_still : {P : ℕ → Type 0} {old new : List (Option SearchValue)} (w : ℕ) → AreSomeWoken P old new → IsUnwanted old w
     → IsUnwanted new w
 unwanted_still {P} {old} {new} w some none i after at wants = by_place (kept_at old i) refl
@@ -141,14 +141,14 @@ unwanted_still {P} {old} {new} w some none i after at wants = by_place (kept_at 
               none_is_not w after.wanted (sym (ap (λ (one : SearchValue). one.wanted) same)) wants
         ]
 
--- one more node of the group is wanted by none
+-- no search waits for one more node of the group
 pub none_more : {P : ℕ → Type 0} {old new : List (Option SearchValue)} (xs : List ℕ) (node : ℕ) → AreSomeWoken P old new
     → ((w : ℕ) → Contains xs w → IsUnwanted old w) → IsUnwanted new node → (w : ℕ) → Contains (xs ++ node ∷ []) w → IsUnwanted new w
 none_more {P} {old} {new} xs node some before here w member =
     elim (Contains-push_cases xs node w member) as (λ _. IsUnwanted new w)
     [ inl earlier ↦ unwanted_still w some (before w earlier) | inr is ↦ subst (IsUnwanted new) is here ]
 
--- no search wants a node of the group then
+-- then no search waits for a node of the group
 pub all_woken : {group : List ℕ} {old new : List (Option SearchValue)} → AreSomeWoken (Contains group) old new
     → ((w : ℕ) → Contains group w → IsUnwanted new w) → IsWoken group old new
 all_woken {group} {old} {new} some none = record {

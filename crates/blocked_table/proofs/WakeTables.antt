@@ -1,4 +1,4 @@
--- What becomes of the tables where some kept searches are woken.
+-- What becomes of the tables if some suspended searches become ready.
 use Rattle.std.proofs.Common.{◌≡◌, ◌⊎◌, inl, inr, ℕ, List, [], ◌∷◌, Option, None, Some, refl, ap, ◌∙◌, sym, subst, arith}
 use Rattle.search_stack.specs.Stack.{size}
 use Rattle.search_stack.specs.Search.{SearchValue, IsDistinct, IsOn}
@@ -25,7 +25,7 @@ module _ {P : ℕ → Type 0} {old new : List (Option SearchValue)} (some : AreS
         | inr is ↦ record { after = record search { wanted = None }; at = is.ready; stack_is = refl; either = inr refl }
       ]
 
-  -- where a search that is kept now comes from
+  -- where a search that is in a slot now comes from
   record ComesFrom (i : ℕ) (after : SearchValue) : Type 0 where
     before : SearchValue
     at : kept_at old i ≡ Some before
@@ -60,7 +60,7 @@ module _ {P : ℕ → Type 0} {old new : List (Option SearchValue)} (some : AreS
   free_now : (v : ℕ) → IsFree old v → IsFree new v
   free_now v free i holds = free i (held_then i v holds)
 
-  -- following wants still ends, maybe earlier
+  -- following what searches wait for still ends, maybe earlier
   ends_now : (v : ℕ) (steps : List ℕ) (end : ℕ) → IsChain old v steps end → IsFree old end ⊎ IsAtReady old end → Ends new v
   ends_now v [] end chain is =
       elim is as (λ _. Ends new v) [

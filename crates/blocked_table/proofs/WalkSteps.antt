@@ -1,4 +1,4 @@
--- How following wants over the kept searches goes on, and how often it can.
+-- How a walk along what suspended searches wait for goes on, and why it ends.
 use Rattle.std.proofs.Common.{◌≡◌, ◌⊎◌, inl, inr, ℕ, ◌<◌, ◌≤◌, ◌+◌, ◌-◌, List, [], ◌∷◌, ◌++◌, length, get_or, Option, None, Some, refl, ap, ◌∙◌, sym, subst, arith}
 use Rattle.std.proofs.lemmas.List.{length_push}
 use Rattle.search_stack.specs.Stack.{Stack, size}
@@ -41,7 +41,7 @@ walking_more {kept} {on} {places} {node} {entries} place wanted more was step is
       omega (arith, is, was.entries_is, entries_push kept places place, entries_read kept place step.holds.search step.holds.at);
 }
 
--- a path has no more places than the list
+-- a path has no more slots than the list
 pub path_short : {value : BlockedValue} → IsTable value → (v : ℕ) (places : List ℕ) (w : ℕ) → IsPath value.kept v places w
     → length places ≤ length value.kept
 path_short {value} table v places w path =
@@ -58,7 +58,7 @@ pub nearer : {value : BlockedValue} {on : ℕ} {node entries : ℕ} (places : Li
 nearer {value} {on} {node} {entries} places place table was =
     omega (arith, path_short table on (places ++ place ∷ []) node was.path, length_push places place)
 
--- following wants from any node ends
+-- following what searches wait for ends, from any node
 ends_held : {value : BlockedValue} → IsTable value → (v place : ℕ) → (holds : Holds value.kept place v) → (wanted : Option ℕ)
     → holds.search.wanted ≡ wanted → Ends value.kept v
 ends_held {value} table v place holds None is = record {
@@ -83,7 +83,7 @@ ends_any {value} table v =
       | inl held ↦ ends_held table v held.place held.holds held.holds.search.wanted refl
     ]
 
--- the search that is read at the place is the one that holds the node
+-- the search that is read in the slot is the one that holds the node
 held_read : (kept : List (Option SearchValue)) (node place : ℕ) (keeper : SearchValue) (read : Option SearchValue) → (holds : Holds kept place node)
     → read ≡ get_or kept place read → read ≡ Some keeper → holds.search ≡ keeper
 held_read kept node place keeper read holds here is =
@@ -108,7 +108,7 @@ walk_ready {kept} {node} place keeper read holds here is none = record {
       ap (λ (search : SearchValue). search.wanted) (held_read kept node place keeper read holds here is) ∙ sym none;
 }
 
--- where the walk stops off the stack, no walk comes to it
+-- if the walk stops off the stack, no walk comes to the stack
 pub walk_never : {value : BlockedValue} {on : ℕ} {places : List ℕ} {node entries : ℕ} (s : Stack) → IsTable value
     → IsWalking value.kept on places node entries → IsFree value.kept node ⊎ IsAtReady value.kept node → (IsOn s node → ⊥)
     → ((place u : ℕ) → Holds value.kept place u → IsOn s u → ⊥) → ComesTo value.kept s on → ⊥
