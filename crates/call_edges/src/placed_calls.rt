@@ -14,8 +14,8 @@ use crate::role::Met;
 use std::alloc::{AllocError, Global};
 
 /// A name that is called in a module, by a goal of a clause. `file` is the index of the clause's
-/// file among the files, `offset` the byte offset at which the goal starts, and `caller` the number
-/// of the calling predicate. Such names are ordered by their fields in this order.
+/// file among the files, and `offset` the byte offset at which the goal starts. `caller` is the
+/// number of the calling predicate. Such names are ordered by their fields in this order.
 #[derive(Clone, Copy, Debug, PartialEq, Eq, PartialOrd, Ord)]
 pub struct NamedCall<'a> {
     pub file: u32,

@@ -29,9 +29,9 @@ struct Kept {
 
 /// Takes over the clauses of the pieces up to the first that sets operators, and sets these.
 ///
-/// What was read after that clause was read with other operators, so the rest of its stretch is
-/// read again. If no clause sets operators, twice as many stretches may be read next. So no more
-/// stretches are read in vain than were taken over.
+/// Later pieces were read with other operators, so they are dropped and read again. The rest of the
+/// clause's stretch comes next. If no clause sets operators, twice as many stretches may be read
+/// next. So no more stretches are read in vain than were taken over.
 fn keep(
     alloc: Global,
     names: &Names,

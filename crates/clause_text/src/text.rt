@@ -19,8 +19,8 @@ use std::thread::Threads;
 ///
 /// An error of its bytes comes first, then one of its tokens, and then the first one of its
 /// clauses. Each clause is read before its operator items are done. Clauses between operator items
-/// are read in parallel, which doesn't change the result. In all at most twice as many stretches of
-/// tokens are read as the text has.
+/// are read in parallel, which doesn't change the result. No more stretches of clauses are read in
+/// vain than are used.
 pub fn read_text<R: Threads + Sync>(
     rt: &R,
     alloc: Global,

@@ -4,8 +4,8 @@ ghost use Rattle.loop_paths.specs.Grown.{IsTree, path_at};
 
 use std::alloc::{AllocError, Global};
 
-/// The nodes that a search has reached, in the order of their least paths, and for each the index
-/// of the node from which it was reached. The first one is the start of the search.
+/// The nodes that a search has reached, in the order of their least paths. For each it has the
+/// index of the node from which it was reached. The first node is the start of the search.
 #[derive(Drop)]
 pub(crate) struct Tree {
     pub(crate) nodes: Vec<u32>,

@@ -28,8 +28,8 @@ use prolog_tokens::Text;
 use std::alloc::Global;
 use std::sync::Arc;
 
-/// The goals of a directive: the nodes of its clause, and for each goal how many of them there are
-/// up to the goal's own.
+/// The goals of a directive: nodes that include those of its clause, and for each goal how many of
+/// them there are up to the goal's own.
 #[derive(Drop)]
 pub struct DirectiveGoals {
     pub nodes: Arc<NodeList>,

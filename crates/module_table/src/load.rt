@@ -82,8 +82,8 @@ fn is_system(spec: &Term) -> bool
     form == Form::Functional
 }
 
-/// Adds the load that the specification makes. Nothing is added for a library, and other terms that
-/// name no file fail.
+/// Adds the load that the specification makes. A term such as `library(lists)` makes none. Any
+/// other term that names no file is an error.
 pub fn push_load(
     alloc: Global,
     user: &str,

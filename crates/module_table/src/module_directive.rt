@@ -20,7 +20,8 @@ fn is_operator(item: &Term) -> bool
     operator_item(item).is_some()
 }
 
-/// The exports of a list, without the operators in it. Fails at the first item that is neither.
+/// The exports of a list, without the operators in it. Fails if it is no list, and at the first
+/// item that is neither an operator nor an indicator.
 fn exports(alloc: Global, list: &Term) -> Result<Vec<Indicator>, FactFault>
     ensures ok { IfOk result (λ found. exports (tree_of list.now) ≡ Ok found.items) }
     ensures refused { IfErr result (λ fault. IsWhy (exports (tree_of list.now)) fault) }

@@ -54,8 +54,8 @@ fn a_worker_holds_back_beside_a_giant_group(rt: HostRuntime) -> Result<(), Fail>
     Ok(())
 }
 
-/// There is no memory to expand the node that all others wait for. The other worker holds back then, and
-/// sees it.
+/// There is no memory to expand the node that all others wait for. The other worker holds back
+/// then, and sees it.
 #[test]
 fn a_worker_that_holds_back_sees_a_failure(rt: HostRuntime) -> Result<(), Fail> {
     let alloc = rt.alloc();

@@ -18,7 +18,7 @@ type LoadRun = (
     &'static str,
 );
 
-/// The names of the roots, of the files with facts, of the texts, each with its number of bytes,
+/// The names of the roots, of the files with facts, of the texts (each with its number of bytes),
 /// and of the files that aren't there.
 fn told_loaded(alloc: Global, loaded: &Loaded) -> Result<String, AllocError> {
     let mut out = String::from_str(alloc, "roots")?;
