@@ -3,8 +3,8 @@
 //!
 //! A goal is a call, a control construct over goals, a goal of another module, or an argument of a
 //! predicate that takes goals. In `p :- maplist(q, [a]), \+ m:s.` the goals call `maplist/2`, `q/1`
-//! and `m:s/0`. A program declares which arguments are goals, as by `:- meta_predicate each(1,
-//! ?).`; for a predicate that it doesn't declare a table decides.
+//! and `m:s/0`. A program may declare which arguments are goals, as by
+//! `:- meta_predicate each(1, ?).` A table decides for predicates that it doesn't declare.
 //!
 //! `call_lists` walks the whole program once, in parallel. It returns the call graph in memory, or
 //! else the goals that aren't callable, as the `3` of `p :- q, 3.`, with their positions. The other

@@ -11,8 +11,8 @@
 //!   arguments ask for.
 //!
 //! There is only one right answer, except if groups are reported in the order in which the search
-//! found them. The record `RunKeeps` of `tool_run` is the contract of a run. For the file `p :- q.
-//! q :- p.` the report is
+//! found them. The record `RunKeeps` of `tool_run` is the contract of a run. For a file with the
+//! text `p :- q. q :- p.` the report is
 //!
 //! ```text
 //! predicates 2 groups 1 recursive 1 levels 1

@@ -6,8 +6,8 @@
 //! waits. What needs the book (suspending a search, releasing a group, taking a ready search) is
 //! done under the lock. `Turn` is its guard, and one worker has it at a time.
 //!
-//! No node is claimed twice, and no word is ever lowered. All steps are sequentially consistent
-//! (`SeqCst`), so there is one total order of them. Nothing here states that a wait ends.
+//! No node is claimed twice, and no word of a node is ever lowered. All steps are sequentially
+//! consistent (`SeqCst`), so they have one total order. Nothing here states that a wait ends.
 #![tactic(auto)]
 
 mod bound;

@@ -1,8 +1,8 @@
 //! Reads rows, one a line, and prints what the functions that read texts return for each.
 //!
 //! A line that begins with `#` and a blank says what is asked of the rows after it. Its second word
-//! says what they are for. It is printed unchanged. Each other line is a row, and is printed with `
-//! => ` and the result after it.
+//! says what they are for. It is printed unchanged. Each other line is a row. It is printed with
+//! ` => ` and the result after it.
 //!
 //! In a row `¶` is a newline. Between `«` and `»` is one of these:
 //!

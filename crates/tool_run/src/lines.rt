@@ -54,8 +54,8 @@ fn push_number(alloc: Global, text: &mut String, number: u32) -> Result<(), Allo
     text.push_str(&digits)
 }
 
-/// The line that reports a name in the arguments that is no predicate: `PROGRAM: no predicate
-/// NAME`.
+/// The line that reports a name in the arguments that is no predicate:
+/// `PROGRAM: no predicate NAME`.
 pub fn missing_line(alloc: Global, program: &str, root: &PredName) -> Result<String, AllocError>
     ensures { IfOk result (λ text. string_bytes text ≡ missing_line program.now root.now) }
 {
