@@ -13,8 +13,8 @@ use std::alloc::{AllocError, Global};
 /// The height of each group: 0 if it calls no other group, and otherwise one more than the greatest
 /// height of the groups that it calls.
 ///
-/// The groups are the SCCs of what the roots reach, as `classes_slow` returns them, and the heights
-/// are in the same order. It is slow and for tests: it searches the nodes that each group reaches.
+/// The groups are the SCCs of what the roots reach, in any order. It is slow and for tests: it
+/// searches the nodes that each group reaches.
 pub fn heights_slow(
     alloc: Global,
     graph: &Graph,

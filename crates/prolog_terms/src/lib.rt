@@ -2,10 +2,9 @@
 //! terms that it reads.
 //!
 //! `read_clause` reads the tokens up to an End as the one clause that they are under a table of
-//! operators. Otherwise it reports the first token with which no clause continues. For
-//! `a ** b ** c.` this is the second operator. No two terms have the same tokens. A clause is one
-//! list of nodes, each after its parts, and a `Term` is a view of one of them. Each part has its
-//! position.
+//! operators. Otherwise it reports the first token with which no clause continues: for `a ** b **
+//! c.` the second operator. No two terms have the same tokens. A clause is one list of nodes, each
+//! after its parts, and a `Term` is a view of one of them. Each part has its position.
 //!
 //! It gives terms no meaning: directives, heads and goals are for the layers above.
 #![tactic(auto)]
