@@ -56,7 +56,7 @@ fn push_json_char(text: &mut String, character: char) -> Result<(), AllocError>
     text.push(character)
 }
 
-/// Whether the character is in a string of JSON as it is.
+/// Whether the character needs no escape in a string of JSON.
 fn is_plain(character: char) -> bool
     ensures { IsTrue result → json_char character ≡ encode_utf8 character }
 {
@@ -69,7 +69,7 @@ fn is_plain(character: char) -> bool
     character >= ' '
 }
 
-/// Whether a text is in a string of JSON as it is, like most names.
+/// Whether a text needs no escapes in a string of JSON, like most names.
 fn are_plain(name: &str) -> bool
     ensures { IsTrue result → flat_map json_char (chars name.now) ≡ name.now }
 {
