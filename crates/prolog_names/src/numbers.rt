@@ -139,8 +139,8 @@ fn number_of(
     }
 }
 
-/// The number of the name of each token, in the order of the tokens, and 0 for a token without a
-/// name. The text has at most 8,388,608 bytes.
+/// For each token of a text of at most 8,388,608 bytes the number of its name, in the order of the
+/// tokens, and 0 for a token without a name.
 ///
 /// Fails only if memory runs out. A look-up passes at most 32 names of a chain, or else takes steps
 /// in the logarithm of the number of names.

@@ -19,8 +19,8 @@ const NAME_BYTES: usize = 8;
 /// are found in order of their bytes. So each look-up is short, whatever names a text has.
 const MOST_IN_CHAIN: usize = 32;
 
-/// Where a name starts and ends in the text of all names, and its hash. `next` is one more than the
-/// index of the name before it in its bucket, or 0 if there is none.
+/// Where a name starts and ends in the text of all names, its hash, and one more than the index of
+/// the name before it in its bucket; 0 if there is none.
 #[derive(Clone, Copy)]
 struct Entry {
     start: u32,

@@ -83,8 +83,7 @@ fn leaf_shape(word: Word) -> Shape
     }
 }
 
-/// A variable (ISO/IEC 13211-1, 6.3.2), a number without minus (6.3.1.1) or a text in quotes
-/// (6.3.7).
+/// A variable (ISO/IEC 13211-1, 6.3.2), a number without minus (6.3.1.1) or a text in quotes (6.3.7).
 pub fn leaf(nodes: &mut NodeList, word: Word) -> Result<Operand, AllocError>
     ensures { IfOk result (λ operand. (names : NamesSeen) → see_made (forest names nodes.new) operand
         ≡ made (forest names nodes.old) (leaf_operand (see_word names word))) }

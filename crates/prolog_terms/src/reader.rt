@@ -155,8 +155,8 @@ pub fn read_onto(
 /// number of the name of each. What the reader has read before doesn't matter.
 ///
 /// Fails with the byte offset of the first token with which no clause continues, or only one deeper
-/// than 1,000. If the tokens end too early, it fails with the length of the text. The steps are
-/// linear in the tokens.
+/// than 1,000, or with the length of the text if the tokens end too early. The steps are linear in
+/// the tokens.
 pub fn read_clause(
     alloc: Global,
     reader: &mut Reader,

@@ -243,8 +243,8 @@ impl Stack {
         }
     }
 
-    /// What is left of the stack with an atom on it. The operators whose right side takes only
-    /// lower priorities than this one are closed before.
+    /// What is left of the stack with an atom on it, after the operators are closed whose right
+    /// side takes only lower priorities than this one.
     pub fn reduced_measure(&self, priority: u32) -> Measure
         ensures { (names : Names) (trees : List Tree) → result ≡ reduced_measure priority (see_entries names (innermost self.now) trees) 0 1 }
     {

@@ -25,8 +25,7 @@ pub fn start_of(term: &Term) -> u32
     inside(term).span().from
 }
 
-/// The number of the name and the arguments of a compound of two arguments, in any notation and
-/// brackets.
+/// The number of the name and the arguments of a compound of two arguments, in any notation and brackets.
 #[inline(always)]
 fn numbered_binary<'a>(term: &Term<'a>) -> Option<(u32, Term<'a>, Term<'a>)>
     ensures trees { option_map (λ pair. record { name = name_at term.now.names.now pair.0; left = tree_of pair.1; right = tree_of pair.2 }) result

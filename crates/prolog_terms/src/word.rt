@@ -9,9 +9,9 @@ use crate::term::{NO_SPAN, Span};
 use prolog_names::{MINUS, Names, names_law};
 use prolog_tokens::{Kind, Token, integer_value};
 
-/// A word: a token as terms see it. It has its kind, whether layout is directly before it, and its
-/// position. `value` is that of an Integer that has one. `name` is the number of the name of a Name
-/// or Quoted token, and 0 for any other.
+/// A word: a token as terms see it. It has its kind, whether layout is directly before it, its
+/// position, the value of an Integer that has one, and the number of the name of a Name or Quoted
+/// token (0 for any other).
 #[derive(Clone, Copy)]
 pub struct Word {
     pub kind: Kind,

@@ -1,5 +1,5 @@
-//! Lexing in parts: each span of a text is cut as if a token began at its start. The rows of tokens
-//! are then joined to the tokens of the text.
+//! Lexing in parts: each span of a text is cut as if a token began at its start, and the rows of
+//! tokens are joined to the tokens of the text.
 
 ghost use Rattle.std.specs.Prelude.{◌≡◌, ◌≢◌, ◌+◌, ◌<◌, ◌≤◌, ◌⊎◌, ℕ, List, [], length, slice_index, All, IfOk, IfErr, IfSome, OnOk};
 ghost use Rattle.prolog_tokens.specs.declared.rows.TheConstants.{SPAN_BYTES};
