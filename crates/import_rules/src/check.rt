@@ -1,4 +1,4 @@
-//! All import faults, and what modules import.
+//! The import errors, and what modules import.
 
 ghost use Rattle.std.specs.Prelude.{◌≡◌, ◌++◌, map, IfOk, OnOk};
 ghost use Rattle.file_library.specs.SortedOut.{see_loaded};
@@ -21,7 +21,7 @@ use clause_text::Cause;
 use file_library::{Fault, Loaded};
 use std::alloc::{AllocError, Global};
 
-/// The import faults in order of file, offset and cause, and one import item for each name that is
+/// The import errors in order of file, offset and cause, and one import item for each name that is
 /// imported.
 #[derive(Drop)]
 pub(crate) struct Checked<'a> {
@@ -29,7 +29,7 @@ pub(crate) struct Checked<'a> {
     pub imports: Vec<Item<'a>>,
 }
 
-/// All import faults of the files that were loaded, and what their modules import, by the predicates
+/// All import errors of the loaded files, and what their modules import. `predicates` are those
 /// that the files define.
 pub(crate) fn check_imports<'a>(
     alloc: Global,
@@ -55,7 +55,7 @@ pub(crate) fn check_imports<'a>(
     })
 }
 
-/// What is wrong, with what is imported from two modules.
+/// The errors, and after them one for each clash: a name that is imported from two modules.
 fn with_clashes<'a>(
     mut flaws: Vec<Finding<'a>>,
     clashes: &[Item<'a>],

@@ -1,4 +1,4 @@
-//! What is imported, and what is imported from two modules.
+//! The names that are imported, and those that are imported from two modules.
 
 ghost use Rattle.std.specs.Prelude.{◌≡◌, ◌++◌, IfOk, OnOk, map, find, option_to_list};
 ghost use Rattle.module_table.specs.Kinds.{first_of};
@@ -7,16 +7,16 @@ ghost use Rattle.import_rules.specs.Clashes.{see_item, first_other, from_another
 use crate::item::{Item, compare, is_same};
 use std::alloc::{AllocError, Global};
 
-/// One item for each name that is imported, and one for each that is imported from two modules, both
-/// in order of the names.
+/// One item for each name that is imported, and one for each name that is imported from two
+/// modules. Both lists are in order of the names.
 #[derive(Drop)]
 pub(crate) struct Imported<'a> {
     pub firsts: Vec<Item<'a>>,
     pub clashes: Vec<Item<'a>>,
 }
 
-/// What the items give: for each name the first item, and the first one that gives it from another
-/// module than that.
+/// For each name the first item that gives it, and the first one that gives it from another module
+/// than that.
 pub(crate) fn find_imports<'a>(
     alloc: Global,
     mut items: Vec<Item<'a>>,
@@ -35,7 +35,8 @@ pub(crate) fn find_imports<'a>(
     Ok(found)
 }
 
-/// Adds what the items of one name give.
+/// Adds the first of the items, which all give one name, and the first one from another module if
+/// there is one.
 fn add<'a>(run: &[Item<'a>], found: &mut Imported<'a>) -> Result<(), AllocError>
     ensures firsts { OnOk result (map see_item found.new.firsts.items
         ≡ map see_item found.old.firsts.items ++ option_to_list (first_of (map see_item run.now))) }
@@ -53,7 +54,7 @@ fn add<'a>(run: &[Item<'a>], found: &mut Imported<'a>) -> Result<(), AllocError>
     Ok(())
 }
 
-/// The first of the items that isn't from that module.
+/// The first of the items that is from another module than `from_module`.
 fn other_module<'a>(from_module: &str, items: &[Item<'a>]) -> Option<Item<'a>>
     ensures { result ≡ find (from_another from_module.now) items.now }
 {

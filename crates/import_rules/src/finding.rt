@@ -1,4 +1,4 @@
-//! What is wrong, without its line and column.
+//! Import errors, without line and column.
 
 ghost use Rattle.std.specs.Prelude.{◌≡◌};
 ghost use Rattle.import_rules.specs.Flaws.{flaw_cmp};
@@ -7,7 +7,7 @@ ghost use Rattle.import_rules.specs.Findings.{see_finding};
 use clause_text::Cause;
 use std::cmp::Ordering;
 
-/// What is wrong at a byte offset of a file.
+/// An error at a byte offset of a file.
 #[derive(Clone, Copy)]
 pub(crate) struct Finding<'a> {
     pub file: &'a str,
@@ -15,7 +15,7 @@ pub(crate) struct Finding<'a> {
     pub cause: Cause,
 }
 
-/// By file, then by offset, then by the number of the cause.
+/// The order of errors: by file, then by offset, then by the number of the cause.
 pub(crate) fn compare(a: &Finding<'_>, b: &Finding<'_>) -> Ordering
     ensures { result ≡ flaw_cmp (see_finding a.now) (see_finding b.now) }
 {

@@ -1,4 +1,4 @@
-//! What is wrong with modules, exports and loads.
+//! Errors of modules, exports and loads.
 
 ghost use Rattle.std.specs.Prelude.{◌≡◌, ◌++◌, ◌&&◌, not, map, filter, OnOk};
 ghost use Rattle.std.specs.List.{list_any};
@@ -18,7 +18,8 @@ use clause_text::Cause;
 use module_table::{FileFacts, Load, LoadKind};
 use std::alloc::AllocError;
 
-/// A file that declares a module which a file of lesser name declares.
+/// Adds an error if the file declares a module that a file of lesser name declares too. Its offset
+/// is that of the term `module(M, L)`.
 pub(crate) fn push_module_flaws<'a>(
     known: &KnownFile<'a>,
     flaws: &mut Vec<Finding<'a>>,
@@ -41,7 +42,7 @@ pub(crate) fn push_module_flaws<'a>(
     Ok(())
 }
 
-/// The exports that no file of the module defines.
+/// Adds an error for each export that no file defines for the module, in the order of the exports.
 pub(crate) fn push_export_flaws<'a>(
     lookups: &Lookups<'a, '_>,
     file: &'a FileFacts,
@@ -63,7 +64,7 @@ pub(crate) fn push_export_flaws<'a>(
     Ok(())
 }
 
-/// A load of a file that isn't there.
+/// Adds an error if the file of the load isn't there.
 pub(crate) fn push_absent_flaws<'a>(
     lookups: &Lookups<'a, '_>,
     user: &'a FileFacts,
@@ -85,7 +86,8 @@ pub(crate) fn push_absent_flaws<'a>(
     Ok(())
 }
 
-/// What is wrong with a load of a file that is there.
+/// Adds the errors of a load of a file that is there. Only `use_module` asks for a module file, so
+/// other loads have no errors here.
 pub(crate) fn push_use_flaws<'a>(
     user: &'a FileFacts,
     load: &Load,
@@ -113,7 +115,7 @@ pub(crate) fn push_use_flaws<'a>(
     push_unlisted_flaws(user, load, file, flaws)
 }
 
-/// The indicators of the load that the file doesn't export.
+/// Adds an error for each indicator of the load that the file doesn't export.
 fn push_unlisted_flaws<'a>(
     user: &'a FileFacts,
     load: &Load,

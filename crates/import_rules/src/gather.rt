@@ -1,4 +1,4 @@
-//! What is wrong, and what modules import, file by file.
+//! The import errors and the import items, file by file.
 
 ghost use Rattle.std.specs.Prelude.{◌≡◌, ◌++◌, List, map, filter, flat_map, IfOk, OnOk};
 ghost use Rattle.module_table.specs.Facts.{see_facts};
@@ -21,15 +21,16 @@ use prolog_tokens::Text;
 use std::alloc::{AllocError, Global};
 use std::collections::BTreeSet;
 
-/// What is wrong but for what is imported from two modules, and the import items whose predicates
-/// aren't local, without those of a load that a load of the file before it makes useless.
+/// All errors except clashes, and the import items of predicates that no file defines under the
+/// imported name. Once a file has taken all exports of another one, its later loads of that one add
+/// no items. These would change no meaning and no clash.
 #[derive(Drop)]
 pub(crate) struct Gathered<'a> {
     pub flaws: Vec<Finding<'a>>,
     pub items: Vec<Item<'a>>,
 }
 
-/// All that is found in the files, in the order of the files.
+/// The errors and the import items of all files, in the order of the files.
 pub(crate) fn gather<'a>(
     alloc: Global,
     lookups: &Lookups<'a, '_>,
@@ -49,7 +50,7 @@ pub(crate) fn gather<'a>(
     Ok(found)
 }
 
-/// What is found in one file. A file that was taken whole has nothing more to give.
+/// Adds the errors and the import items of one file.
 fn push_file<'a>(
     alloc: Global,
     lookups: &Lookups<'a, '_>,
@@ -81,7 +82,7 @@ fn push_file<'a>(
     Ok(())
 }
 
-/// What is wrong at one load.
+/// Adds the errors of one load.
 fn push_load_flaws<'a>(
     lookups: &Lookups<'a, '_>,
     user: &'a FileFacts,
@@ -99,7 +100,7 @@ fn push_load_flaws<'a>(
     push_use_flaws(user, load, file, flaws)
 }
 
-/// What one load gives.
+/// Adds the import items of one load. If its file isn't there, it has none.
 fn push_load_items<'a>(
     lookups: &Lookups<'a, '_>,
     user: &'a FileFacts,

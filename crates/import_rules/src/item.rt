@@ -1,4 +1,4 @@
-//! Import items.
+//! Import items: predicates that modules import, each with the position of its import.
 
 ghost use Rattle.std.specs.Prelude.{◌≡◌};
 ghost use Rattle.import_rules.specs.Names.{pred_cmp, is_same};
@@ -6,8 +6,8 @@ ghost use Rattle.import_rules.specs.Clashes.{see_item};
 
 use std::cmp::Ordering;
 
-/// A module gets a predicate, under that name, from a module; and where that stands: the file and the
-/// byte offset.
+/// A predicate that a module imports from another under the same name and arity. The file and the
+/// byte offset are the position of the load or of the indicator in its list.
 #[derive(Clone, Copy)]
 pub(crate) struct Item<'a> {
     pub module: &'a str,
@@ -18,7 +18,7 @@ pub(crate) struct Item<'a> {
     pub offset: u32,
 }
 
-/// The order of the names that the items give.
+/// The order of items by the name that they give: module, name and arity.
 pub(crate) fn compare(a: &Item<'_>, b: &Item<'_>) -> Ordering
     ensures { result ≡ pred_cmp (see_item a.now).into (see_item b.now).into }
 {
@@ -26,7 +26,7 @@ pub(crate) fn compare(a: &Item<'_>, b: &Item<'_>) -> Ordering
     a.module.cmp(b.module).then(names)
 }
 
-/// Whether the items give the same name.
+/// Whether the items give the same name: module, name and arity.
 pub(crate) fn is_same(a: &Item<'_>, b: &Item<'_>) -> bool
     ensures { result ≡ is_same (see_item a.now).into (see_item b.now).into }
 {

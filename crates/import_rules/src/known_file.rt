@@ -1,4 +1,4 @@
-//! The loaded files with what looking them up wants.
+//! The loaded files, indexed for look-ups.
 
 ghost use Rattle.std.specs.Prelude.{◌≡◌, ◌&&◌, ◌||◌, not, ℕ, List, IfOk, IfSome, OnOk, All, Contains, map, option_map};
 ghost use Rattle.std.specs.List.Sorted.{IsPermutation, IsSortedByKey};
@@ -15,7 +15,7 @@ use std::alloc::{AllocError, Global};
 use std::cmp::Ordering;
 use std::collections::BTreeSet;
 
-/// A loaded file, with its exports in order of name and arity. It leads where it declares a module
+/// A loaded file, with its exports in order of name and arity. It leads if it declares a module
 /// that no file of lesser name declares.
 #[derive(Drop)]
 pub(crate) struct KnownFile<'a> {
@@ -24,7 +24,7 @@ pub(crate) struct KnownFile<'a> {
     pub leads: bool,
 }
 
-/// The files, which are in order of name, each with what looking it up wants.
+/// The files, in order of name, each indexed for look-ups.
 pub(crate) fn known_files<'a>(
     alloc: Global,
     files: &'a [FileFacts],
@@ -46,7 +46,7 @@ pub(crate) fn known_files<'a>(
     Ok(known)
 }
 
-/// Puts the module of a module file to those that are declared, and tells whether it is a new one.
+/// Adds the module of a module file to those that are declared. Returns whether it is a new one.
 fn declare(
     alloc: Global,
     file: &FileFacts,
@@ -79,7 +79,7 @@ fn in_order<'a>(
     Ok(sorted)
 }
 
-/// By name, then by arity.
+/// The order of indicators: by name, then by arity.
 fn compare(a: &Indicator, b: &Indicator) -> Ordering
     ensures { result ≡ indicator_cmp a.now b.now }
 {
@@ -87,7 +87,7 @@ fn compare(a: &Indicator, b: &Indicator) -> Ordering
 }
 
 impl<'a> KnownFile<'a> {
-    /// Whether the file exports the indicator.
+    /// Whether the file exports the indicator. It is a binary search.
     pub(crate) fn has_export(&self, indicator: &Indicator) -> bool
         requires { AreExports self.now }
         ensures { result ≡ has_export (see_known self.now) indicator.now }
@@ -98,7 +98,7 @@ impl<'a> KnownFile<'a> {
     }
 }
 
-/// The file of that name.
+/// The file of that name, or None if there is none. It is a binary search.
 pub(crate) fn file_at<'t, 'a>(known: &'t [KnownFile<'a>], name: &str) -> Option<&'t KnownFile<'a>>
     requires { AreRising (map see_known known.now) }
     ensures is { option_map (λ file. see_known file.now) result ≡ file_named (map see_known known.now) name.now }

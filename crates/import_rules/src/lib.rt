@@ -1,16 +1,21 @@
-//! The predicates of all files of a program, and what a name means in each module.
+//! The symbol table of a Prolog program (`Program`): it numbers the predicates of all files, and
+//! resolves names through the imports of modules.
 //!
-//! `resolve_all` takes what was loaded by one call of `load_all` and answers the `Program`, or why
-//! there is none: more predicates than `MOST_PREDICATES`, which is 1,048,576, or else the import
-//! faults, each with its line and column. A `Program` numbers its predicates from 0 in order of
-//! module, name and arity. `find` is the predicate that a name means in a module: the module's own,
-//! else the one that it imports, and `own` is the module's own alone. Neither takes memory. `meta_of` is how the arguments of a predicate's
-//! goals stand, by the first declaration for it, whichever file has that.
+//! `resolve_all` takes what one call of `load_all` loaded. It returns the `Program`, or why there
+//! is none (`ImportStop`). More than 1,048,576 predicates (`MOST_PREDICATES`) are one reason, and
+//! import errors another, each with its line and column. It also fails if memory runs out.
 //!
-//! With `:- module(a, [x/0]).` and `x.` in `a.pl`, and `:- use_module(a).` and `p :- x.` in `f.pl`,
-//! the predicates are `a:x/0` and `user:p/0`, and `find("user", "x", 0)` is 0.
+//! A `Program` numbers its predicates from 0, in strictly ascending order of module, name and
+//! arity. `find` returns the predicate that a name means in a module: the module's own, or else the
+//! one that it imports. `own` returns only the module's own. Neither of them allocates. `meta_of`
+//! returns how the arguments of a predicate's goals are called. The first declaration for the
+//! predicate decides, whichever file it is in.
 //!
-//! Which predicates the clauses call is for the layers above.
+//! Say `a.pl` has `:- module(a, [x/0]).` and `x.`, and `f.pl` has `:- use_module(a).` and
+//! `p :- x.`. Then the predicates are `a:x/0` and `user:p/0`, and `find("user", "x", 0)` returns
+//! the number 0.
+//!
+//! It sees no bodies of clauses. Which predicates they call is for the layers above.
 #![tactic(auto)]
 
 mod check;

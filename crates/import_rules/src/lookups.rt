@@ -1,4 +1,4 @@
-//! What import rules look up.
+//! The tables that the import rules look names up in.
 
 ghost use Rattle.std.specs.Prelude.{◌≡◌, IfSome, Contains, option_map};
 ghost use Rattle.std.specs.List.{list_any};
@@ -21,7 +21,7 @@ pub(crate) struct Lookups<'a, 't> {
 }
 
 impl<'a> Lookups<'a, '_> {
-    /// Whether a file defines the predicate.
+    /// Whether some file defines the predicate, for its own module or for another one.
     pub(crate) fn is_local(&self, module: &str, name: &str, arity: u32) -> bool
         requires { IsReady self.now }
         ensures { result ≡ is_local (files_of self.now) (pred_name module.now name.now arity) }
@@ -29,7 +29,7 @@ impl<'a> Lookups<'a, '_> {
         self.predicates.find(module, name, arity).is_some()
     }
 
-    /// Whether a file of that name was asked for and isn't there.
+    /// Whether a file of that name was asked for and isn't there. It is a binary search.
     pub(crate) fn is_absent(&self, name: &Text) -> bool
         requires { IsReady self.now }
         ensures { result ≡ list_any (bytes_eq name.now) (absent_of self.now) }
@@ -37,7 +37,7 @@ impl<'a> Lookups<'a, '_> {
         self.absent.binary_search(name).is_ok()
     }
 
-    /// The file of that name.
+    /// The file of that name, or None if it wasn't loaded.
     pub(crate) fn file(&self, name: &Text) -> Option<&KnownFile<'a>>
         requires { IsReady self.now }
         ensures is { option_map (λ file. see_known file.now) result ≡ file_named (files_of self.now) name.now }

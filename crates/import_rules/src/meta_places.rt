@@ -1,4 +1,4 @@
-//! Where the goal arguments of predicates are declared.
+//! The positions of the declarations of goal arguments.
 
 ghost use Rattle.std.specs.Prelude.{◌≡◌, ◌≢◌, ◌≤◌, ◌<◌, ◌++◌, ℕ, List, [], Some, All, AllPairs, length, map, slice_index_or, IfOk, OnOk};
 ghost use Rattle.std.specs.declared.cmp.Ordering.TheVariants.{Less};
@@ -11,7 +11,7 @@ use crate::predicates::Predicates;
 use module_table::FileFacts;
 use std::alloc::{AllocError, Global};
 
-/// Makes room for a place for each of so many predicates, where there is none yet.
+/// Makes an empty entry for each of `count` predicates, unless there are entries already.
 fn make_room(alloc: Global, count: usize, kept: &mut Vec<(u32, u32)>) -> Result<(), AllocError>
     requires { kept.old.items ≢ [] → length kept.old.items ≡ count }
     ensures long { OnOk result (length kept.new.items ≡ count) }
@@ -24,7 +24,7 @@ fn make_room(alloc: Global, count: usize, kept: &mut Vec<(u32, u32)>) -> Result<
     Ok(())
 }
 
-/// Keeps a place for the predicate of that number, where it has none.
+/// Records a position for the predicate of that number, unless it has one.
 fn keep(node: usize, place: (u32, u32), kept: &mut Vec<(u32, u32)>)
     requires { node < length kept.old.items }
     ensures long { length kept.new.items ≡ length kept.old.items }
@@ -37,7 +37,8 @@ fn keep(node: usize, place: (u32, u32), kept: &mut Vec<(u32, u32)>)
     kept[node] = place;
 }
 
-/// Keeps the places of the declarations of a file.
+/// Records the positions of the declarations of a file. Those for predicates that no file defines
+/// are skipped.
 fn keep_file(
     alloc: Global,
     place: u32,
@@ -65,9 +66,9 @@ fn keep_file(
     Ok(())
 }
 
-/// For each predicate the place of its declaration: that of a file, and one more than that of the
-/// declaration in the file's `metas`; 0 where it has none. Where no predicate is declared, the list is
-/// empty and takes no memory.
+/// For each predicate the position of its first declaration: the index of a file, and one more than
+/// the index in the file's `metas`. The latter is 0 if the predicate has no declaration. If no
+/// predicate has one, the list is empty and takes no memory.
 pub(crate) fn meta_places(
     alloc: Global,
     files: &[FileFacts],

@@ -1,4 +1,4 @@
-//! The predicates of files, numbered.
+//! The numbering of the predicates of files.
 
 ghost use Rattle.std.specs.Prelude.{◌≡◌, ◌++◌, IfOk, OnOk, map, option_map, option_to_list};
 ghost use Rattle.module_table.specs.Kinds.{first_of};
@@ -10,7 +10,7 @@ use crate::places::{Places, places_of};
 use module_table::FileFacts;
 use std::alloc::{AllocError, Global};
 
-/// Adds the predicate whose places the parts are, of which there is one at least.
+/// Adds the predicate that is defined at these positions. If there are none, nothing is added.
 fn add(alloc: Global, run: &[Part], predicates: &mut Vec<Places>) -> Result<(), AllocError>
     ensures { OnOk result (lists_of predicates.new.items ≡ lists_of predicates.old.items
         ++ option_to_list (option_map (λ first. places_of_parts run.now) (first_of run.now))) }
@@ -22,7 +22,8 @@ fn add(alloc: Global, run: &[Part], predicates: &mut Vec<Places>) -> Result<(), 
     Ok(())
 }
 
-/// The predicates that the files define at these parts, in order and each once: the places of each.
+/// The predicates that are defined at these positions, each once and in order: the positions of
+/// each. The index in this list is the predicate's number.
 pub(crate) fn number(
     alloc: Global,
     files: &[FileFacts],

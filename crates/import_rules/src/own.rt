@@ -1,4 +1,4 @@
-//! The predicate of a name itself, whatever its module imports.
+//! The predicate that has a name itself, whatever its module imports.
 
 ghost use Rattle.std.specs.Prelude.{◌≡◌, ◌↔◌, Contains, IsTrue, MatchOption, Some, slice_get};
 ghost use Rattle.import_rules.specs.Parts.{see_name};
@@ -8,7 +8,7 @@ use crate::laws::found_means;
 use crate::names::{NameView, PredName};
 use crate::tables::ProgramTables;
 
-/// Whether the names are those of one predicate.
+/// Whether the names are equal. Modules are compared last.
 fn is_same(name: NameView<'_>, other: NameView<'_>) -> bool
     ensures { IsTrue result ↔ (see_name name.entry ≡ see_name other.entry) }
 {
@@ -22,7 +22,8 @@ fn is_same(name: NameView<'_>, other: NameView<'_>) -> bool
 }
 
 impl ProgramTables {
-    /// The number of the predicate of that name. One that the module imports by it is none of it.
+    /// The number of the predicate that has exactly this name, or None if no file defines it. A
+    /// predicate that the module imports under this name doesn't count.
     pub(crate) fn own(&self, name: &PredName) -> Option<u32>
         ensures { MatchOption result
             (Contains (see_program self.now).predicates name.now → ⊥)

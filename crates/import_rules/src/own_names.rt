@@ -1,5 +1,5 @@
-//! The predicates of files by the numbers of their names: what a name means in the module of its own
-//! file is mostly found without a look at any text.
+//! The predicates of files by the numbers of their names in the file. By these, what a name means
+//! in the module of its own file is mostly found without hashing it.
 
 ghost use Rattle.std.specs.Prelude.{◌≡◌, ◌<◌, ◌≤◌, ◌⊎◌, ◌+◌, ℕ, List, Some, AllPairs, length, IfOk};
 ghost use Rattle.std.specs.declared.cmp.Ordering.TheVariants.{Less};
@@ -14,25 +14,26 @@ use crate::places::Places;
 use module_table::FileFacts;
 use std::alloc::{AllocError, Global};
 
-/// What is kept of a name of a file: how many arguments a predicate of the file's module has that has
-/// this name, and one more than the predicate's number; both 0 where none is kept.
+/// What is recorded of a name of a file, for a predicate of the file's module with this name.
+/// `arity` is the predicate's arity, and `after` one more than its number. Both are 0 if nothing is
+/// recorded.
 #[derive(Clone, Copy)]
 pub(crate) struct OwnName {
     pub arity: u32,
     pub after: u32,
 }
 
-/// What is kept where there is nothing.
+/// The entry of a name of which nothing is recorded.
 const NOTHING: OwnName = OwnName { arity: 0, after: 0 };
 
-/// For each file, by the numbers of its names, the predicates of its own module that it defines. Of
-/// those of one name the first is kept.
+/// For each file, by the numbers of its names, a predicate of its own module that it defines. Of
+/// several with one name the one of least number is recorded.
 #[derive(Drop)]
 pub(crate) struct OwnNames {
     lists: Vec<Vec<OwnName>>,
 }
 
-/// How many names of a file are counted: those up to the last one of a predicate that it defines.
+/// How many names of a file have an entry: those up to the last one of a predicate that it defines.
 fn name_count(file: &FileFacts) -> usize {
     let mut count: usize = 0;
     for defined in &file.defined {
@@ -41,7 +42,7 @@ fn name_count(file: &FileFacts) -> usize {
     count
 }
 
-/// For each file a list in which nothing is kept yet.
+/// For each file a list of entries in which nothing is recorded yet.
 fn empty_lists(alloc: Global, files: &[FileFacts]) -> Result<Vec<Vec<OwnName>>, AllocError>
     ensures { IfOk result (λ lists. AreNothing lists.items) }
 {
@@ -52,7 +53,7 @@ fn empty_lists(alloc: Global, files: &[FileFacts]) -> Result<Vec<Vec<OwnName>>, 
     Ok(lists)
 }
 
-/// Keeps it for the name of that number, where nothing is kept for that yet.
+/// Records the entry for the name of that number, unless one is recorded already.
 fn keep(list: &mut [OwnName], number: usize, own: OwnName)
     ensures long { length list.new ≡ length list.old }
     ensures kept { (n : ℕ) → (kept_in list.new n ≡ kept_in list.old n) ⊎ ((n ≡ number) × (kept_in list.new n ≡ own)) }
@@ -66,7 +67,8 @@ fn keep(list: &mut [OwnName], number: usize, own: OwnName)
     list[number] = own;
 }
 
-/// Keeps it for the name of that number in the file of that place, where nothing is kept for it yet.
+/// Records the entry for the name of that number in the file of that index, unless one is recorded
+/// already.
 fn keep_in(lists: &mut [Vec<OwnName>], file: usize, number: usize, own: OwnName)
     ensures long { length lists.new ≡ length lists.old }
     ensures kept { (f n : ℕ) → (kept_at lists.new f n ≡ kept_at lists.old f n)
@@ -77,8 +79,9 @@ fn keep_in(lists: &mut [Vec<OwnName>], file: usize, number: usize, own: OwnName)
     }
 }
 
-/// Keeps the predicate of that number, which is defined at that place: that of a file, and of the
-/// predicate in the file's `defined`. One of another module than the file's isn't kept.
+/// Records the predicate of that number, which is defined at that position: the index of a file,
+/// and the index in the file's `defined`. Nothing is recorded for a predicate of another module
+/// than the file's.
 fn keep_place(files: &[FileFacts], place: (u32, u32), node: u32, lists: &mut [Vec<OwnName>])
     requires { node < 4294967295 }
     ensures long { length lists.new ≡ length lists.old }
@@ -102,7 +105,8 @@ fn keep_place(files: &[FileFacts], place: (u32, u32), node: u32, lists: &mut [Ve
 }
 
 impl OwnNames {
-    /// What is kept of these predicates, which are few and in order.
+    /// The entries for these predicates, which are in the order of their numbers. A predicate is
+    /// recorded at most in the first file that defines it.
     pub(crate) fn make(
         alloc: Global,
         files: &[FileFacts],
@@ -122,7 +126,7 @@ impl OwnNames {
         Ok(OwnNames { lists })
     }
 
-    /// What is kept of the name of that number in the file of that place.
+    /// What is recorded of the name of that number in the file of that index.
     pub(crate) fn get(&self, file: u32, number: u32) -> OwnName
         ensures { result ≡ kept_at self.now.lists.items file number }
     {

@@ -1,4 +1,4 @@
-//! The predicates of files by the places at which they are defined.
+//! The positions at which files define predicates.
 
 ghost use Rattle.std.specs.Prelude.{◌≡◌, ◌++◌, ◌≤◌, [], All, IfOk, OnOk, length, map};
 ghost use Rattle.std.specs.Bool.{OnTrue};
@@ -12,15 +12,15 @@ use module_table::FileFacts;
 use std::alloc::{AllocError, Global};
 use std::cmp::Ordering;
 
-/// The place at which a predicate is defined: the place of a file, and that of the predicate in the
-/// file's `defined`. It is small, since a program has as many of them as predicates.
+/// The position at which a predicate is defined: the index of a file, and the index in the file's
+/// `defined`. It is small, since a program has at least as many of them as predicates.
 #[derive(Clone, Copy)]
 pub(crate) struct Part {
     pub file: u32,
     pub part: u32,
 }
 
-/// The name where nothing is defined.
+/// The empty name, for a position at which nothing is defined.
 pub(crate) fn no_name<'a>() -> NameView<'a>
     ensures { see_name result ≡ pred_name [] [] 0 }
 {
@@ -31,7 +31,7 @@ pub(crate) fn no_name<'a>() -> NameView<'a>
     }
 }
 
-/// The name of the predicate that is defined at that place of the files.
+/// The name of the predicate that is defined at that position in the files.
 pub(crate) fn part_name<'a>(files: &'a [FileFacts], part: &Part) -> NameView<'a>
     ensures { see_name result ≡ name_of_part files.now part.now }
 {
@@ -48,7 +48,8 @@ pub(crate) fn part_name<'a>(files: &'a [FileFacts], part: &Part) -> NameView<'a>
     }
 }
 
-/// Whether the predicates are of one module by its number in the names of one file. No text is read.
+/// Whether both predicates are in one file and have one module, by its number in the names of the
+/// file. No text is read. Otherwise their modules can still be equal.
 fn are_of_one_module(files: &[FileFacts], a: &Part, b: &Part) -> bool
     ensures { OnTrue result ((name_of_part files.now a.now).module ≡ (name_of_part files.now b.now).module) }
 {
@@ -79,7 +80,7 @@ pub(crate) fn compare(files: &[FileFacts], a: &Part, b: &Part) -> Ordering
     one.module.cmp(other.module).then(in_module)
 }
 
-/// Whether the parts are of one predicate.
+/// Whether one predicate is defined at both positions.
 pub(crate) fn is_same(files: &[FileFacts], a: &Part, b: &Part) -> bool
     ensures { result ≡ is_same (name_of_part files.now a.now) (name_of_part files.now b.now) }
 {
@@ -90,7 +91,7 @@ pub(crate) fn is_same(files: &[FileFacts], a: &Part, b: &Part) -> bool
     one.module == other.module && one.arity == other.arity
 }
 
-/// Adds the places of so many predicates of a file.
+/// Adds the positions of the first `count` predicates of a file.
 fn push_parts(file: u32, count: u32, parts: &mut Vec<Part>) -> Result<(), AllocError>
     ensures { OnOk result (parts.new.items ≡ parts.old.items ++ parts_to file count) }
 {
@@ -100,7 +101,7 @@ fn push_parts(file: u32, count: u32, parts: &mut Vec<Part>) -> Result<(), AllocE
     Ok(())
 }
 
-/// How many parts there are, so that there is just room for them.
+/// How many positions there are, so that the list gets exactly the capacity that it needs.
 fn part_count(files: &[FileFacts]) -> usize {
     let mut count: usize = 0;
     for file in files {
@@ -109,7 +110,7 @@ fn part_count(files: &[FileFacts]) -> usize {
     count
 }
 
-/// What the files define, file by file.
+/// The positions of all that the files define, file by file.
 pub(crate) fn parts_of(alloc: Global, files: &[FileFacts]) -> Result<Vec<Part>, AllocError>
     requires few { length files.now ≤ 4294967295 }
     requires small { All (λ (file : Facts). length file.defined ≤ 4294967295) (map see_facts files.now) }

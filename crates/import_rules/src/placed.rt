@@ -1,4 +1,4 @@
-//! Lines and columns of what is wrong.
+//! Lines and columns of errors.
 
 ghost use Rattle.std.specs.Prelude.{◌≡◌, ℕ, List, All, Contains, IfOk, Some, slice_get};
 ghost use Rattle.std.specs.List.{AllZip};
@@ -11,7 +11,7 @@ use file_library::{Fault, places_of_spots};
 use prolog_tokens::{Place, Text};
 use std::alloc::{AllocError, Global};
 
-/// What is wrong in order of file, offset and cause, each with its line and column.
+/// The errors in order of file, offset and cause, each with its line and column.
 pub(crate) fn placed(
     alloc: Global,
     texts: &[(Text, Vec<u8>)],
@@ -28,7 +28,7 @@ pub(crate) fn placed(
     Ok(faults)
 }
 
-/// The place of the text of a file that is there.
+/// The index of the text of a file that is there. It is a binary search.
 fn text_place(texts: &[(Text, Vec<u8>)], file: &str) -> usize
     requires texts { AreTexts (texts_of texts.now) }
     requires there { (text : List ℕ) × Contains (texts_of texts.now) (file.now, text) }
@@ -40,7 +40,7 @@ fn text_place(texts: &[(Text, Vec<u8>)], file: &str) -> usize
     place
 }
 
-/// Where each of these stands.
+/// For each error the index of its file's text and its byte offset (a spot).
 fn spots_of(
     alloc: Global,
     texts: &[(Text, Vec<u8>)],
@@ -58,7 +58,7 @@ fn spots_of(
     Ok(spots)
 }
 
-/// What is wrong, with these places.
+/// The errors with these lines and columns, which are in the same order.
 fn faults_of(
     alloc: Global,
     flaws: &[Finding<'_>],

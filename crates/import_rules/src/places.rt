@@ -1,4 +1,4 @@
-//! The places at which a predicate is defined.
+//! The positions at which a predicate is defined.
 
 ghost use Rattle.std.specs.Prelude.{◌≡◌, IfOk};
 ghost use Rattle.import_rules.specs.Names.{is_same, pred_name};
@@ -10,9 +10,9 @@ use crate::part::{Part, no_name, part_name};
 use module_table::FileFacts;
 use std::alloc::{AllocError, Global};
 
-/// The places at which a predicate is defined, each that of a file and of a part of the file. Most
-/// predicates are defined at one, which takes no memory of its own. Those of the others stand behind
-/// one pointer, since a program has as many of these values as predicates.
+/// The positions at which a predicate is defined: each is the index of a file, and the index in the
+/// file's `defined`. Most predicates have one position, which takes no memory of its own. The
+/// others have a boxed list, since a program has as many of these values as predicates.
 #[derive(Drop)]
 pub(crate) enum Places {
     One([(u32, u32); 1]),
@@ -29,7 +29,7 @@ impl Places {
         }
     }
 
-    /// The name of the predicate, which is read at the first of the places.
+    /// The name of the predicate, which is read at its first position.
     pub(crate) fn name<'a>(&self, files: &'a [FileFacts]) -> NameView<'a>
         ensures { see_name result ≡ name_of_places files.now self.now }
     {
@@ -45,7 +45,8 @@ impl Places {
         )
     }
 
-    /// Whether that is the name of the predicate. Modules, which are mostly one, are compared last.
+    /// Whether that is the name of the predicate. Modules are compared last, since most predicates
+    /// have the same one.
     pub(crate) fn are_named(
         &self,
         files: &[FileFacts],
@@ -66,7 +67,7 @@ impl Places {
     }
 }
 
-/// The places of the parts.
+/// The positions of one predicate, in the same order.
 pub(crate) fn places_of(alloc: Global, parts: &[Part]) -> Result<Places, AllocError>
     ensures { IfOk result (λ places. see_places places ≡ places_of_parts parts.now) }
 {

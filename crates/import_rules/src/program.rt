@@ -1,4 +1,4 @@
-//! The predicates of a program, as the layers above see them.
+//! The symbol table of a program, as the layers above see it.
 
 ghost use Rattle.std.specs.Prelude.{◌≡◌, ◌<◌, ℕ, List, [], true, Some, Contains, MatchOption, length, slice_get, IfOk};
 ghost use Rattle.std.specs.List.{AllZip};
@@ -14,9 +14,9 @@ use prolog_tokens::Place;
 use std::alloc::{AllocError, Global};
 use std::marker::Model;
 
-/// The predicates of all files that were loaded, numbered from 0 in order of module, name and
-/// arity, and what each name means in each module. In clauses it is what was loaded, and the names of
-/// the predicates by their numbers.
+/// The predicates of all files that were loaded, and what each name means in each module.
+/// Predicates are numbered from 0 in order of module, name and arity. Contracts see it as what was
+/// loaded, and the names of the predicates by their numbers.
 #[derive(Drop)]
 pub struct Program {
     tables: ProgramTables,
@@ -49,8 +49,9 @@ impl Program {
         Program { tables }
     }
 
-    /// A program is few predicates in order, and files in order of name, each read from its text. It
-    /// does nothing, and is called for this.
+    /// A theorem about each program: it has at most 1,048,576 predicates and 1,024 files, both in
+    /// order. Each file was read from its text. The function does nothing, and is called for what
+    /// it ensures.
     pub fn is_known(&self)
         ensures { IsKnown self.now }
     {
@@ -64,7 +65,7 @@ impl Program {
         self.tables.count()
     }
 
-    /// The predicate of a number below the count.
+    /// The name of the predicate of a number below the count.
     pub fn name_of(&self, node: u32) -> NameView<'_>
         requires { node < length self.now.predicates }
         ensures { slice_get self.now.predicates node ≡ Some (see_name result) }
@@ -72,15 +73,16 @@ impl Program {
         self.tables.name_of(node)
     }
 
-    /// What was loaded, as it was handed in.
+    /// What was loaded, as it was passed to `resolve_all`.
     pub fn loaded(&self) -> &Loaded
         ensures { self.now.loaded ≡ see_loaded result.now }
     {
         self.tables.loaded()
     }
 
-    /// The places at which the predicate of a number below the count is defined, ascending: the place
-    /// of a file in `files`, and of the predicate in the `defined` of that file.
+    /// The positions at which the predicate of a number below the count is defined, in strictly
+    /// ascending order. Each is the index of a file in `files`, and the index in the `defined` of
+    /// that file.
     pub fn places_of(&self, node: u32) -> &[(u32, u32)]
         requires { node < length self.now.predicates }
         ensures { result.now ≡ places_in self.now node }
@@ -88,8 +90,8 @@ impl Program {
         self.tables.places_of(node)
     }
 
-    /// How the arguments of goals of the predicate of a number below the count stand, by the first
-    /// declaration for it; empty where there is none.
+    /// How the arguments of goals of the predicate of a number below the count are called, by the
+    /// first declaration for it. It is empty if there is none.
     pub fn meta_of(&self, node: u32) -> &[GoalArg]
         requires { node < length self.now.predicates }
         ensures { result.now ≡ meta_in self.now node }
@@ -97,32 +99,34 @@ impl Program {
         self.tables.meta_of(node)
     }
 
-    /// Whether no predicate has such a declaration. Then no name needs to be looked up for one.
+    /// Whether no predicate has a declaration of goal arguments. If so, no name needs to be looked
+    /// up for one.
     pub fn declares_nothing(&self) -> bool
         ensures { result ≡ true → (owner name : List ℕ) (arity : ℕ) → meta_meant self.now owner name arity ≡ [] }
     {
         self.tables.declares_nothing()
     }
 
-    /// Those of the predicate that a name means in a module. Where nothing is declared, no name is
-    /// looked up.
+    /// What `meta_of` returns for the predicate that a name means in a module. It is empty if the
+    /// name means none. If no predicate has a declaration, no name is looked up.
     pub fn meta_meant(&self, module: &str, name: &str, arity: u32) -> &[GoalArg]
         ensures { result.now ≡ meta_meant self.now module.now name.now arity }
     {
         self.tables.meta_meant(module, name, arity)
     }
 
-    /// The number of the predicate that a name means in a module: of the module's own predicate, else
-    /// of the one that the module imports.
+    /// The number of the predicate that a name means in a module: the module's own predicate, or
+    /// else the one that the module imports. None if there is neither. It hashes the name once and
+    /// looks it up in at most two tables.
     pub fn find(&self, module: &str, name: &str, arity: u32) -> Option<u32>
         ensures { result ≡ found self.now module.now name.now arity }
     {
         self.tables.find(module, name, arity)
     }
 
-    /// What `find` answers, mostly without a look-up of the texts: where the name is that of the number
-    /// in the names of the file of that place, and the file is one of the module and defines the
-    /// predicate, as in most calls. Any other number serves too, and then the texts are looked up.
+    /// What `find` returns, whatever `file` and `number` are. It mostly needs no hash if `number`
+    /// is that of the name in the names of the file at index `file`. For that, the file has to be
+    /// of the module and to define the predicate, as for most calls.
     pub fn find_numbered(
         &self,
         file: u32,
@@ -136,7 +140,8 @@ impl Program {
         self.tables.find_numbered(file, number, module, name, arity)
     }
 
-    /// The number of the predicate of that name. One that the module imports by it is none of it.
+    /// The number of the predicate that has exactly this name, or None if no file defines it. A
+    /// predicate that the module imports under this name doesn't count.
     pub fn own(&self, name: &PredName) -> Option<u32>
         ensures { MatchOption result
             (Contains self.now.predicates name.now → ⊥)
@@ -145,8 +150,9 @@ impl Program {
         self.tables.own(name)
     }
 
-    /// The line and the column of each of the spots, which are in order of file and offset: one sweep
-    /// a file. A spot is the place of a file in `loaded().texts`, and a byte offset of its text.
+    /// The line and the column of each spot, in the same order. A spot is the index of a file in
+    /// `loaded().texts`, and a byte offset in its text. Spots are in ascending order of file and
+    /// offset. It takes one pass over the text of a file.
     pub fn places_of_spots(
         &self,
         alloc: Global,

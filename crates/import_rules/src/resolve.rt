@@ -1,4 +1,4 @@
-//! The program of what was loaded.
+//! From what was loaded to a program.
 
 ghost use Rattle.std.specs.Prelude.{◌≡◌, ◌≤◌, [], IfOk, IfErr, length, map};
 ghost use Rattle.module_table.specs.Facts.{see_facts};
@@ -26,10 +26,10 @@ use crate::stop::ImportStop;
 use file_library::Loaded;
 use std::alloc::{AllocError, Global};
 
-/// How many predicates a program may have.
+/// The greatest number of predicates that a program may have.
 pub const MOST_PREDICATES: usize = 1_048_576;
 
-/// The predicates of the files, numbered: the places of each.
+/// The predicates of the files in the order of their numbers: the positions of each.
 fn numbered(alloc: Global, loaded: &Loaded) -> Result<Vec<Places>, AllocError>
     requires { WasLoaded (see_loaded loaded.now) }
     ensures { IfOk result (λ places.
@@ -39,7 +39,7 @@ fn numbered(alloc: Global, loaded: &Loaded) -> Result<Vec<Places>, AllocError>
     number(alloc, &loaded.files, parts)
 }
 
-/// What imported names mean, where no import is at fault.
+/// What imported names mean, or the import errors if there are any.
 fn meanings<'a>(
     alloc: Global,
     loaded: &'a Loaded,
@@ -59,8 +59,9 @@ fn meanings<'a>(
     Ok(find_meanings(alloc, predicates, &imports)?)
 }
 
-/// The program of what was loaded by one call of `load_all`. That there are too many predicates is
-/// told before any import fault.
+/// The program of what one call of `load_all` loaded, or why there is none. If there are more than
+/// 1,048,576 predicates, it fails with that, and reports no import errors. Otherwise it fails with
+/// all import errors, if there are any. It also fails if memory runs out.
 pub fn resolve_all(alloc: Global, loaded: Loaded) -> Result<Program, ImportStop>
     requires { WasLoaded (see_loaded loaded) }
     ensures ok { IfOk result (λ program. IsProgram (see_loaded loaded) program) }

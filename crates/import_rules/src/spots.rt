@@ -9,8 +9,9 @@ impl ProgramTables {
     ghost use Rattle.file_library.specs.Spots.{AreSpots, IsSpotPlace};
     ghost use Rattle.import_rules.specs.Program.{see_program};
 
-    /// The line and the column of each of the spots, which are in order of file and offset: one sweep
-    /// a file. A spot is the place of a file in `loaded().texts`, and a byte offset of its text.
+    /// The line and the column of each spot, in the same order. A spot is the index of a file in
+    /// `loaded().texts`, and a byte offset in its text. Spots are in ascending order of file and
+    /// offset. It takes one pass over the text of a file.
     pub(crate) fn places_of_spots(
         &self,
         alloc: Global,

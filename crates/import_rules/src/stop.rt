@@ -1,12 +1,12 @@
 use file_library::Fault;
 use std::alloc::AllocError;
 
-/// Why what was loaded is no program.
+/// Why what was loaded makes no program.
 #[derive(Drop)]
 pub enum ImportStop {
-    /// The import faults, in order of file, of offset and of the number of the cause.
+    /// All import errors, in order of file, offset and the number of the cause.
     Faults(Vec<Fault>),
-    /// More than 1,048,576 predicates are defined.
+    /// The files define more than 1,048,576 predicates.
     TooManyPredicates,
     NoMemory,
 }

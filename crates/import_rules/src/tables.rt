@@ -20,12 +20,11 @@ use crate::predicates::{Chains, Predicates};
 use file_library::Loaded;
 use module_table::GoalArg;
 
-/// The tables of a program, and what is known of them.
+/// The tables of a program, and what holds of them.
 #[derive(Drop)]
 pub(crate) struct ProgramTables {
     pub(crate) loaded: Loaded,
-    /// The predicates, in the order of their numbers: the places at which each is defined. Their names
-    /// stand in the files alone.
+    /// For each predicate the positions at which it is defined. Names are only in the files.
     pub(crate) places: Vec<Places>,
     pub(crate) chains: Chains,
     /// The predicates by the numbers of their names in their files.
@@ -34,8 +33,9 @@ pub(crate) struct ProgramTables {
     pub(crate) imported: NameTable,
     /// For each imported name the number of the predicate that it means.
     pub(crate) targets: Vec<u32>,
-    /// For each predicate the place of its declaration of goal arguments: that of a file, and one more
-    /// than that in the file; 0 where it has none. Empty where no predicate has one.
+    /// For each predicate the position of its first declaration of goal arguments. That is the
+    /// index of a file, and one more than the index in its `metas`. The latter is 0 if the
+    /// predicate has none. The list is empty if no predicate has one.
     pub(crate) meta_places: Vec<(u32, u32)>,
     pub ghost was_loaded: { ∥ WasLoaded (see_loaded loaded) ∥₁ },
     pub ghost few: { length places.items ≤ MOST_PREDICATES },
@@ -52,8 +52,9 @@ impl ProgramTables {
     ghost use Rattle.import_rules.specs.Parts.{see_name};
     ghost use Rattle.import_rules.specs.Program.{see_program, places_in, meta_in, meta_meant, found, IsKnown};
 
-    /// A program is few predicates in order, and files in order of name, each read from its text. It
-    /// does nothing, and is called for this.
+    /// A theorem about each program: it has at most 1,048,576 predicates and 1,024 files, both in
+    /// order. Each file was read from its text. The function does nothing, and is called for what
+    /// it ensures.
     pub(crate) fn is_known(&self)
         ensures { IsKnown (see_program self.now) }
     {}
@@ -65,7 +66,7 @@ impl ProgramTables {
         self.places.len() as u32
     }
 
-    /// The predicate of a number below the count.
+    /// The name of the predicate of a number below the count.
     pub(crate) fn name_of(&self, node: u32) -> NameView<'_>
         requires { node < length (see_program self.now).predicates }
         ensures { slice_get (see_program self.now).predicates node ≡ Some (see_name result) }
@@ -73,7 +74,7 @@ impl ProgramTables {
         self.places[node as usize].name(&self.loaded.files)
     }
 
-    /// The predicates, as they are looked up.
+    /// The predicates with their hash chains, for look-ups by name.
     fn predicates(&self) -> Predicates<'_>
         ensures { result ≡ (see_program self.now).predicates }
     {
@@ -84,15 +85,16 @@ impl ProgramTables {
         }
     }
 
-    /// What was loaded, as it was handed in.
+    /// What was loaded, as it was passed to `resolve_all`.
     pub(crate) fn loaded(&self) -> &Loaded
         ensures { (see_program self.now).loaded ≡ see_loaded result.now }
     {
         &self.loaded
     }
 
-    /// The places at which the predicate of a number below the count is defined, ascending: the place
-    /// of a file in `files`, and of the predicate in the `defined` of that file.
+    /// The positions at which the predicate of a number below the count is defined, in strictly
+    /// ascending order. Each is the index of a file in `files`, and the index in the `defined` of
+    /// that file.
     pub(crate) fn places_of(&self, node: u32) -> &[(u32, u32)]
         requires { node < length (see_program self.now).predicates }
         ensures { result.now ≡ places_in (see_program self.now) node }
@@ -100,8 +102,8 @@ impl ProgramTables {
         self.places[node as usize].as_slice()
     }
 
-    /// How the arguments of goals of the predicate of a number below the count stand, by the first
-    /// declaration for it; empty where there is none.
+    /// How the arguments of goals of the predicate of a number below the count are called, by the
+    /// first declaration for it. It is empty if there is none.
     pub(crate) fn meta_of(&self, node: u32) -> &[GoalArg]
         requires { node < length (see_program self.now).predicates }
         ensures { result.now ≡ meta_in (see_program self.now) node }
@@ -116,15 +118,16 @@ impl ProgramTables {
         &self.loaded.files[file as usize].metas[place as usize - 1].args
     }
 
-    /// Whether no predicate has such a declaration. Then no name needs to be looked up for one.
+    /// Whether no predicate has a declaration of goal arguments. If so, no name needs to be looked
+    /// up for one.
     pub(crate) fn declares_nothing(&self) -> bool
         ensures { result ≡ true → (owner name : List ℕ) (arity : ℕ) → meta_meant (see_program self.now) owner name arity ≡ [] }
     {
         self.meta_places.is_empty()
     }
 
-    /// Those of the predicate that a name means in a module. Where nothing is declared, no name is
-    /// looked up.
+    /// What `meta_of` returns for the predicate that a name means in a module. It is empty if the
+    /// name means none. If no predicate has a declaration, no name is looked up.
     pub(crate) fn meta_meant(&self, module: &str, name: &str, arity: u32) -> &[GoalArg]
         ensures { result.now ≡ meta_meant (see_program self.now) module.now name.now arity }
     {
@@ -137,8 +140,9 @@ impl ProgramTables {
         }
     }
 
-    /// The number of the predicate that a name means in a module: of the module's own predicate, else
-    /// of the one that the module imports.
+    /// The number of the predicate that a name means in a module: the module's own predicate, or
+    /// else the one that the module imports. None if there is neither. It hashes the name once and
+    /// looks it up in at most two tables.
     pub(crate) fn find(&self, module: &str, name: &str, arity: u32) -> Option<u32>
         ensures { result ≡ found (see_program self.now) module.now name.now arity }
     {
@@ -153,8 +157,8 @@ impl ProgramTables {
         Some(self.targets[at])
     }
 
-    /// The number of the predicate of a file's own module that is kept of the name of a number of the
-    /// file, where it is the predicate of that name.
+    /// The number of the predicate that is recorded for the name of that number in the file. None
+    /// if nothing is recorded, or if it is recorded for another name, arity or module.
     fn find_kept(&self, file: u32, number: u32, module: &str, name: &str, arity: u32) -> Option<u32>
         ensures { IfSome result (λ node. found (see_program self.now) module.now name.now arity ≡ Some node) }
     {
@@ -175,9 +179,9 @@ impl ProgramTables {
         Some(kept.after - 1)
     }
 
-    /// What `find` answers, mostly without a look-up of the texts: where the name is that of the number
-    /// in the names of the file of that place, and the file is one of the module and defines the
-    /// predicate, as in most calls. Any other number serves too, and then the texts are looked up.
+    /// What `find` returns, whatever `file` and `number` are. It mostly needs no hash if `number`
+    /// is that of the name in the names of the file at index `file`. For that, the file has to be
+    /// of the module and to define the predicate, as for most calls.
     pub(crate) fn find_numbered(
         &self,
         file: u32,

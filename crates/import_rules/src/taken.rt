@@ -14,8 +14,8 @@ use crate::lookups::Lookups;
 use module_table::{FileFacts, Indicator, Load, LoadKind};
 use std::alloc::AllocError;
 
-/// What the load takes of the exports of the file, but for local predicates: nothing where the file
-/// doesn't lead, or is of the user's own module.
+/// Adds an item for each export of the file that the load imports, except for local predicates.
+/// Nothing is added if the file doesn't lead, or is of the user's own module.
 pub(crate) fn push_given<'a>(
     lookups: &Lookups<'a, '_>,
     user: &'a FileFacts,
@@ -40,7 +40,7 @@ pub(crate) fn push_given<'a>(
     push_exports(lookups, user, load, file.facts, items)
 }
 
-/// The indicators of the load that the file exports.
+/// Adds an item for each indicator of the load that the file exports.
 fn push_listed<'a>(
     lookups: &Lookups<'a, '_>,
     user: &'a FileFacts,
@@ -64,7 +64,7 @@ fn push_listed<'a>(
     Ok(())
 }
 
-/// All exports of the file.
+/// Adds an item for each export of the file.
 fn push_exports<'a>(
     lookups: &Lookups<'a, '_>,
     user: &'a FileFacts,
@@ -83,7 +83,8 @@ fn push_exports<'a>(
     Ok(())
 }
 
-/// The module of the user gets the indicator from that of the file, by what stands at the offset.
+/// The item by which the user's module imports the indicator from the file's module. The offset is
+/// that of the load or of the indicator in its list.
 fn make_item<'a>(
     user: &'a FileFacts,
     file: &'a FileFacts,
@@ -102,7 +103,7 @@ fn make_item<'a>(
     }
 }
 
-/// Adds the item, unless its predicate is local.
+/// Adds the item, unless a file defines a predicate of that name for the importing module.
 fn push_item<'a>(
     lookups: &Lookups<'a, '_>,
     item: Item<'a>,
