@@ -21,8 +21,8 @@ use crate::part::parts_of;
 use crate::places::Places;
 use crate::predicates::{Chains, Predicates};
 use crate::program::Program;
-use crate::tables::ProgramTables;
 use crate::stop::ImportStop;
+use crate::tables::ProgramTables;
 use file_library::Loaded;
 use std::alloc::{AllocError, Global};
 
