@@ -1,13 +1,14 @@
 -- Chains of names in buckets: how one is followed, and how a place is added.
-use Rattle.std.proofs.Common.{◌≡◌, ◌≢◌, ℕ, zero, suc, ◌-◌, ◌<◌, ◌≤◌, inl, inr, List, [], length, map, take, get_or, false, refl, sym, ap, subst, ◌∙◌, arith, replicate}
+use Rattle.std.proofs.Common.{◌≡◌, ◌≢◌, ℕ, zero, suc, ◌-◌, ◌<◌, ◌≤◌, inl, inr, List, [], length, map, take, get_or, false, refl, sym, ap, subst, ◌∙◌, AllPairs, arith, replicate}
 use Rattle.std.specs.List.{list_any}
+use Rattle.std.specs.declared.cmp.Ordering.TheVariants.{Less}
 use Rattle.std.proofs.lemmas.Bool.{cases_lt, false_from_ne_true}
 use Rattle.std.proofs.lemmas.List.{get_or-map, get_or-replicate, length-map, take_all}
 use Rattle.std.proofs.lemmas.List.Elements.{All-from_get_or}
 use Rattle.std.proofs.lemmas.List.Folds.{list_any_none}
 use Rattle.import_rules.specs.declared.name_table.Link.{Link}
 use Rattle.import_rules.specs.declared.names.PredName.{PredName}
-use Rattle.import_rules.specs.Names.{is_same}
+use Rattle.import_rules.specs.Names.{is_same, pred_cmp}
 use Rattle.std.proofs.lemmas.Simd.{map-map}
 use Rattle.prolog_names.specs.Table.{bucket_at, bucket_in, IsLast, AreChains}
 use Rattle.prolog_names.proofs.ChainSteps.{ArePassed, head_passed, next_passed}
@@ -111,6 +112,6 @@ all_chained names size n hashes heads next kept are chains hashed sized some end
 
 pub all_linked : (names : List PredName) (size n : ℕ) (hashes heads : List ℕ) (links : List Link) → hashes ≡ map name_hash names
     → AreChains (map (bucket_in size) hashes) n heads (next_of links) → hashes_of links ≡ take n hashes
-    → length heads ≡ size → 0 < size → n ≡ length hashes → IsLinked names heads links
-all_linked names size n hashes heads links are chains hashed sized some end =
-    let all = all_chained names size n hashes heads (next_of links) (hashes_of links) are chains hashed sized some end in record { chained = all.0; hashed = all.1 }
+    → length heads ≡ size → 0 < size → n ≡ length hashes → AllPairs (λ p q. pred_cmp p q ≡ Less) names → IsLinked names heads links
+all_linked names size n hashes heads links are chains hashed sized some end up =
+    let all = all_chained names size n hashes heads (next_of links) (hashes_of links) are chains hashed sized some end in record { chained = all.0; hashed = all.1; in_order = up }

@@ -14,6 +14,7 @@ pub mod PartsSoFar
 pub mod Numbering
 pub mod NumberLemmas
 pub mod SourceLemmas
+pub mod Ordered
 pub mod Targets
 pub mod Faultless
 pub mod Members

@@ -1,8 +1,10 @@
--- Names in chains, one for each bucket.
-use Rattle.std.specs.Prelude.{ℕ, ◌≡◌, ◌+◌, ◌*◌, ◌%◌, ◌^◌, ◌<◌, List, length, map}
+-- Names in order and in chains, one for each bucket.
+use Rattle.std.specs.Prelude.{ℕ, ◌≡◌, ◌+◌, ◌*◌, ◌%◌, ◌^◌, ◌<◌, List, AllPairs, length, map}
+use Rattle.std.specs.declared.cmp.Ordering.TheVariants.{Less}
 use Rattle.prolog_names.specs.Table.{text_hash, bucket_in, AreChains}
 use Rattle.import_rules.specs.declared.name_table.Link.{Link}
 use Rattle.import_rules.specs.declared.names.PredName.{PredName}
+use Rattle.import_rules.specs.Names.{pred_cmp}
 
 -- the hash of a name by those of its module and of its own name
 abbrev pub joint_hash : ℕ → ℕ → ℕ → ℕ
@@ -29,7 +31,8 @@ next_of links = map (λ (link : Link). link.next) links
 abbrev pub hashes_of : List Link → List ℕ
 hashes_of links = map (λ (link : Link). link.hash) links
 
--- the links are those of the chains, with the hashes of the names
+-- the links are those of the chains, with the hashes of the names; the names are in order
 pub record IsLinked (names : List PredName) (heads : List ℕ) (links : List Link) : Type 0 where
   pub chained : IsChained names heads (next_of links)
   pub hashed : hashes_of links ≡ map name_hash names
+  pub in_order : AllPairs (λ p q. pred_cmp p q ≡ Less) names

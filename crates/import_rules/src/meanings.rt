@@ -3,7 +3,7 @@
 ghost use Rattle.std.specs.Prelude.{◌≡◌, ◌≤◌, List, [], IfOk, AllPairs, length, map};
 ghost use Rattle.std.specs.declared.cmp.Ordering.TheVariants.{Less};
 ghost use Rattle.module_table.specs.Facts.{Facts};
-ghost use Rattle.import_rules.specs.Clashes.{see_item, AreClashes, AreFirsts};
+ghost use Rattle.import_rules.specs.Clashes.{see_item, AreClashes, AreFirsts, Imports};
 ghost use Rattle.import_rules.specs.Files.{AreNumbered};
 ghost use Rattle.import_rules.specs.Items.{foreign_items};
 ghost use Rattle.import_rules.specs.Meanings.{AreTargets};
@@ -42,14 +42,17 @@ fn name_given(alloc: Global, item: &Item<'_>) -> Result<PredName, AllocError>
     })
 }
 
-/// The names that the items give, without those of items that give no predicate.
+/// The names that the items give, without those of items that give no predicate. They are in the
+/// order of the items.
 fn find_sources(
     alloc: Global,
     predicates: &Predicates<'_>,
     items: &[Item<'_>],
 ) -> Result<Sources, AllocError>
-    requires { AllPairs (λ p q. pred_cmp p q ≡ Less) predicates.now }
-    ensures { IfOk result (λ made. AreSources predicates.now (map see_item items.now) made.names.items made.targets.items) }
+    requires predicates { AllPairs (λ p q. pred_cmp p q ≡ Less) predicates.now }
+    requires items { AllPairs (λ (i j : Imports). pred_cmp i.into j.into ≡ Less) (map see_item items.now) }
+    ensures sources { IfOk result (λ made. AreSources predicates.now (map see_item items.now) made.names.items made.targets.items) }
+    ensures in_order { IfOk result (λ made. AllPairs (λ p q. pred_cmp p q ≡ Less) made.names.items) }
 {
     let mut made = Sources {
         names: Vec::new(alloc),
@@ -65,13 +68,14 @@ fn find_sources(
     Ok(made)
 }
 
-/// What imported names mean, by the items of imports that don't clash.
+/// What imported names mean, by the items of imports that don't clash: one for each name, in order.
 pub(crate) fn find_meanings(
     alloc: Global,
     predicates: &Predicates<'_>,
     items: &[Item<'_>],
 ) -> Result<Meanings, AllocError>
-    requires { AllPairs (λ p q. pred_cmp p q ≡ Less) predicates.now }
+    requires predicates { AllPairs (λ p q. pred_cmp p q ≡ Less) predicates.now }
+    requires items { AllPairs (λ (i j : Imports). pred_cmp i.into j.into ≡ Less) (map see_item items.now) }
     ensures { IfOk result (λ made. (files : List Facts) → AreNumbered files predicates.now → AreClashes (foreign_items files) []
         → AreFirsts (foreign_items files) (map see_item items.now) → AreTargets files predicates.now made.names made.targets.items) }
 {

@@ -1,15 +1,22 @@
-//! Names in chains, one for each bucket of a hash: a name is found by one look-up, without memory.
+//! Names in order and in chains, one for each bucket of a hash: a name is found by one look-up,
+//! without memory.
 
-ghost use Rattle.std.specs.Prelude.{◌≡◌, ◌<◌, length, map, slice_get, Some, false, IfOk, IfSome, MatchOption};
+ghost use Rattle.std.specs.Prelude.{◌≡◌, ◌<◌, AllPairs, length, map, slice_get, Some, false, IfOk, IfSome, MatchOption};
+ghost use Rattle.std.specs.declared.cmp.Ordering.TheVariants.{Less};
 ghost use Rattle.std.specs.List.{list_any};
 ghost use Rattle.prolog_names.specs.Table.{bucket_in};
-ghost use Rattle.import_rules.specs.Names.{is_same, pred_name};
+ghost use Rattle.import_rules.specs.Names.{is_same, pred_cmp, pred_name};
 ghost use Rattle.import_rules.specs.NameTable.{joint_hash, name_hash};
 
-use crate::names::PredName;
+use crate::names::{PredName, compare};
 use prolog_names::text_hash;
 use std::alloc::{AllocError, Global};
 use std::marker::Model;
+
+/// The longest walk along a chain, in names. After it a name is found by binary search, which takes
+/// 20 comparisons among a million names. Chains of ordinary programs are shorter. But a text can be
+/// made so that all its names share one hash, and a look-up is to be short there too.
+pub(crate) const MOST_IN_CHAIN: usize = 32;
 
 /// What stands beside a name: its hash, and one more than the place of the name before it in its
 /// bucket; 0 where there is none.
@@ -19,9 +26,9 @@ struct Link {
     next: usize,
 }
 
-/// Names with their places: those that are imported, of which there may be any number. A name is found by
-/// the hashes of its two texts and its arity. On the way the names of other hashes are passed by their
-/// links, without a look at their texts.
+/// Names in order, with their places: those that are imported, of which there may be any number. A
+/// name is found by the hashes of its two texts and its arity. On the way the names of other hashes
+/// are passed by their links, without a look at their texts.
 #[derive(Drop)]
 pub(crate) struct NameTable {
     names: Vec<PredName>,
@@ -61,8 +68,8 @@ pub(crate) fn name_hash(module: &str, name: &str, arity: u32) -> u32
     joint_hash(text_hash(module), text_hash(name), arity)
 }
 
-/// The bucket of a hash, of so many. Neighbouring hashes have neighbouring buckets, since names that
-/// stand side by side are put into a table and looked up one after another.
+/// The bucket of a hash, of so many. Neighbouring hashes have neighbouring buckets, since names
+/// that stand side by side are put into a table and looked up one after another.
 pub(crate) fn bucket_of(hash: u32, size: usize) -> usize
     requires { 0 < size }
     ensures is { result ≡ bucket_in size hash }
@@ -96,9 +103,10 @@ fn hashes_of(alloc: Global, names: &[PredName]) -> Result<Vec<u32>, AllocError>
 }
 
 impl NameTable {
-    /// The table of these names. Their hashes are found first, since a processor that has no texts to
-    /// read between two buckets looks many of them up at once.
+    /// The table of these names, which are in order. Their hashes are found first, since a
+    /// processor that has no texts to read between two buckets looks many of them up at once.
     pub(crate) fn make(alloc: Global, names: Vec<PredName>) -> Result<NameTable, AllocError>
+        requires { AllPairs (λ p q. pred_cmp p q ≡ Less) names.items }
         ensures { IfOk result (λ table. table ≡ names.items) }
     {
         let size = names.len().max(1);
@@ -120,7 +128,8 @@ impl NameTable {
         })
     }
 
-    /// The last place at which the name of that hash stands.
+    /// The place of the name whose hash that is, or `None` if it isn't in the table. It takes at
+    /// most `MOST_IN_CHAIN` steps along a chain and one binary search, and no memory.
     pub(crate) fn find(&self, module: &str, name: &str, arity: u32, hash: u32) -> Option<usize>
         requires { hash ≡ name_hash (pred_name module.now name.now arity) }
         ensures is { MatchOption result
@@ -129,7 +138,10 @@ impl NameTable {
         ensures below { IfSome result (λ n. n < length self.now) }
     {
         let mut at = self.heads[bucket_of(hash, self.heads.len())];
-        while at > 0 {
+        for _ in 0..MOST_IN_CHAIN {
+            if at == 0 {
+                return None;
+            }
             let place = at - 1;
             let link = self.links[place];
             if is_named(&self.names[place], link.hash, module, name, arity, hash) {
@@ -137,6 +149,23 @@ impl NameTable {
             }
             at = link.next;
         }
-        None
+        self.find_ordered(module, name, arity)
+    }
+
+    /// The place of the name, found by binary search. Each step compares texts, so `find` walks a
+    /// chain first.
+    fn find_ordered(&self, module: &str, name: &str, arity: u32) -> Option<usize>
+        ensures is { MatchOption result
+            (list_any (is_same (pred_name module.now name.now arity)) self.now ≡ false)
+            (λ n. slice_get self.now n ≡ Some (pred_name module.now name.now arity)) }
+        ensures below { IfSome result (λ n. n < length self.now) }
+    {
+        let Ok(place) = self
+            .names
+            .binary_search_by(|one| compare(one.view(), module, name, arity))
+        else {
+            return None;
+        };
+        Some(place)
     }
 }

@@ -1,9 +1,11 @@
 //! The names of predicates.
 
 ghost use Rattle.std.specs.Prelude.{◌≡◌};
+ghost use Rattle.import_rules.specs.Names.{pred_cmp, pred_name};
 ghost use Rattle.import_rules.specs.Parts.{see_name};
 
 use prolog_tokens::Text;
+use std::cmp::Ordering;
 
 /// The name of a predicate: its module, its own name and its number of arguments.
 #[derive(Debug, Drop)]
@@ -32,4 +34,12 @@ impl PredName {
             arity: self.arity,
         }
     }
+}
+
+/// The order of a name and another one: by module, then by name, then by arity.
+pub(crate) fn compare(own: NameView<'_>, module: &str, name: &str, arity: u32) -> Ordering
+    ensures { result ≡ pred_cmp (see_name own.entry) (pred_name module.now name.now arity) }
+{
+    let in_module = own.name.cmp(name).then(own.arity.cmp(&arity));
+    own.module.cmp(module).then(in_module)
 }

@@ -1,21 +1,23 @@
 //! The predicates of files in the order of their numbers, and how one is found by its name.
 
-ghost use Rattle.std.specs.Prelude.{◌≡◌, ◌<◌, ◌≤◌, length, map, slice_get, Some, false, IfOk, IfSome, MatchOption};
+ghost use Rattle.std.specs.Prelude.{◌≡◌, ◌<◌, ◌≤◌, AllPairs, length, map, slice_get, Some, false, IfOk, IfSome, MatchOption};
 ghost use Rattle.std.specs.List.{list_any};
+ghost use Rattle.std.specs.declared.cmp.Ordering.TheVariants.{Less};
 ghost use Rattle.import_rules.specs.Chained.{AreChained};
 ghost use Rattle.import_rules.specs.declared.resolve.TheConstants.{MOST_PREDICATES};
-ghost use Rattle.import_rules.specs.Names.{is_same, pred_name};
+ghost use Rattle.import_rules.specs.Names.{is_same, pred_cmp, pred_name};
 ghost use Rattle.import_rules.specs.NameTable.{name_hash};
 ghost use Rattle.import_rules.specs.Parts.{name_of_places, names_at};
 
-use crate::name_table::{bucket_of, name_hash};
+use crate::name_table::{MOST_IN_CHAIN, bucket_of, name_hash};
+use crate::names::compare;
 use crate::places::Places;
 use module_table::FileFacts;
 use std::alloc::{AllocError, Global};
 use std::marker::Model;
 
-/// What stands beside a predicate: the hash of its name, and one more than the number of the predicate
-/// before it in its bucket; 0 where there is none.
+/// What stands beside a predicate: the hash of its name, and one more than the number of the
+/// predicate before it in its bucket; 0 where there is none.
 #[derive(Clone, Copy)]
 struct Link {
     hash: u32,
@@ -68,8 +70,8 @@ fn hashes_of(
     Ok(hashes)
 }
 
-/// Whether it is the predicate of that name and hash. `kept` is the hash of its own name: where it is
-/// another one, that isn't read.
+/// Whether it is the predicate of that name and hash. `kept` is the hash of its own name: where it
+/// is another one, that isn't read.
 fn is_named(
     files: &[FileFacts],
     places: &Places,
@@ -90,14 +92,16 @@ fn is_named(
 }
 
 impl Chains {
-    /// The chains of these predicates. Their hashes are found first, since a processor that has no texts
-    /// to read between two buckets looks many of them up at once.
+    /// The chains of these predicates, which are few and in order. Their hashes are found first,
+    /// since a processor that has no texts to read between two buckets looks many of them up at
+    /// once.
     pub(crate) fn make(
         alloc: Global,
         files: &[FileFacts],
         predicates: &[Places],
     ) -> Result<Chains, AllocError>
-        requires { length predicates.now ≤ MOST_PREDICATES }
+        requires few { length predicates.now ≤ MOST_PREDICATES }
+        requires in_order { AllPairs (λ p q. pred_cmp p q ≡ Less) (names_at files.now predicates.now) }
         ensures { IfOk result (AreChained (names_at files.now predicates.now)) }
     {
         let size = predicates.len().max(1);
@@ -134,7 +138,9 @@ impl<'a> Predicates<'a> {
         self.find_hashed(module, name, arity, name_hash(module, name, arity))
     }
 
-    /// The number of the predicate of that name and hash.
+    /// The number of the predicate of that name, whose hash that is, or `None` if no file defines
+    /// it. It takes at most `MOST_IN_CHAIN` steps along a chain and one binary search, and no
+    /// memory.
     pub(crate) fn find_hashed(&self, module: &str, name: &str, arity: u32, hash: u32) -> Option<u32>
         requires { hash ≡ name_hash (pred_name module.now name.now arity) }
         ensures is { MatchOption result
@@ -143,7 +149,10 @@ impl<'a> Predicates<'a> {
         ensures below { IfSome result (λ n. n < length self.now) }
     {
         let mut at = self.chains.heads[bucket_of(hash, self.chains.heads.len())];
-        while at > 0 {
+        for _ in 0..MOST_IN_CHAIN {
+            if at == 0 {
+                return None;
+            }
             let node = at - 1;
             let link = self.chains.links[node as usize];
             let places = &self.places[node as usize];
@@ -152,6 +161,24 @@ impl<'a> Predicates<'a> {
             }
             at = link.next;
         }
-        None
+        self.find_ordered(module, name, arity)
+    }
+
+    /// The number of the predicate of that name, found by binary search. Each step reads a name in
+    /// the files and compares texts, so `find_hashed` walks a chain first.
+    fn find_ordered(&self, module: &str, name: &str, arity: u32) -> Option<u32>
+        ensures is { MatchOption result
+            (list_any (is_same (pred_name module.now name.now arity)) self.now ≡ false)
+            (λ n. slice_get self.now n ≡ Some (pred_name module.now name.now arity)) }
+        ensures below { IfSome result (λ n. n < length self.now) }
+    {
+        let files = self.files;
+        let Ok(node) = self
+            .places
+            .binary_search_by(|places| compare(places.name(files), module, name, arity))
+        else {
+            return None;
+        };
+        Some(node as u32)
     }
 }

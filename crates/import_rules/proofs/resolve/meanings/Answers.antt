@@ -1,8 +1,10 @@
-use Rattle.std.proofs.Common.{◌≡◌, List, [], map, sym, subst, arith}
+use Rattle.std.proofs.Common.{◌≡◌, AllPairs, List, [], map, sym, subst, arith}
+use Rattle.std.specs.declared.cmp.Ordering.TheVariants.{Less}
 use Rattle.file_library.specs.SortedOut.{see_loaded}
 use Rattle.import_rules.specs.declared.item.Item.{Item}
-use Rattle.import_rules.specs.Clashes.{see_item, AreFirsts}
+use Rattle.import_rules.specs.Clashes.{see_item, AreFirsts, Imports}
 use Rattle.import_rules.specs.Items.{foreign_items}
+use Rattle.import_rules.specs.Names.{pred_cmp}
 use Rattle.import_rules.proofs.Faultless.{empty_is, faultless, no_clashes}
 use Rattle.import_rules.proofs.resolve.meanings.Goals as goal
 
@@ -21,3 +23,8 @@ returns-clause-faultless c =
     let found = c.in_ok-faults.field-0 in
     let none : found.faults.items ≡ [] = empty_is found.faults.items (omega (arith, c.if-len-gt0.false, c.len.ensures, found.faults.ok.0)) in
     faultless loaded found.faults.items none c.in_ok-faults.ensures.faults
+
+pub find_meanings-requires-clause-items : goal.find_meanings-requires-clause-items
+find_meanings-requires-clause-items c =
+    subst (λ (is : List Item). AllPairs (λ (i j : Imports). pred_cmp i.into j.into ≡ Less) (map see_item is)) (sym c.deref.ensures.value)
+    c.in_ok-faults.ensures.imports.in_order

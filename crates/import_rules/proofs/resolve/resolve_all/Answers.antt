@@ -29,9 +29,15 @@ returns-then-len-gt-MOST_PREDICATES-clause-refused c =
       many_are = omega (arith, c.if-len-gt-MOST_PREDICATES.true, c.len.ensures, places.ok.0, length-map places.items (name_of_places loaded.files.items));
     }
 
-pub make-requires : goal.make-requires
-make-requires c =
+pub make-requires-clause-few : goal.make-requires-clause-few
+make-requires-clause-few c =
     omega (arith, c.if-len-gt-MOST_PREDICATES.false, c.len.ensures, c.in_ok-places.places.ok.0, ap length c.deref-2.ensures.value)
+
+pub make-requires-clause-in_order : goal.make-requires-clause-in_order
+make-requires-clause-in_order c =
+    let same : names_at c.deref.result.now c.deref-2.result.now ≡ names_at c.args.loaded.files.items c.in_ok-places.places.items =
+    λ i. names_at (c.deref.ensures.value i) (c.deref-2.ensures.value i) in
+    subst (λ (ps : List PredName). AllPairs (λ p q. pred_cmp p q ≡ Less) ps) (sym same) c.in_ok-places.ensures.in_order
 
 pub meanings-requires-clause-numbered : goal.meanings-requires-clause-numbered
 meanings-requires-clause-numbered c =

@@ -4,8 +4,5 @@ use Rattle.import_rules.proofs.Chains.{IsPassed}
 use Rattle.import_rules.proofs.name_table.NameTable.find.Given as goal
 
 -- the name stands at no place from here on
-abbrev pub invariant-loop-at : goal.invariant-loop-at
-invariant-loop-at l = IsPassed l.self-inside.names.items (length l.self-inside.heads.items) (pred_name l.module l.name l.arity) l.at
-
-abbrev pub decreases-loop-at : goal.decreases-loop-at
-decreases-loop-at l = l.at
+abbrev pub invariant-loop : goal.invariant-loop
+invariant-loop l = IsPassed l.self-inside.names.items (length l.self-inside.heads.items) (pred_name l.module l.name l.arity) l.at

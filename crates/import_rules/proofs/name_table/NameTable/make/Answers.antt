@@ -49,4 +49,4 @@ invariant_of-result c =
     let so_far = c.loop-hash.invariant in
     all_linked c.args.names.items c.max-size.result c.loop-hash.hash-index hashes c.loop-hash.heads.items c.loop-hash.links.items
     (c.deref-hash-items.ensures.value ∙ c.in_ok-hashes.ensures ∙ ap (map name_hash) c.deref.ensures.value) so_far.0 so_far.1 so_far.2 so_far.3
-    (omega (arith, c.loop-hash-test.false, c.loop-hash.auto.hash-index-end))
+    (omega (arith, c.loop-hash-test.false, c.loop-hash.auto.hash-index-end)) c.requires

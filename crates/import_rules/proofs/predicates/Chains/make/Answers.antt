@@ -5,7 +5,7 @@ use Rattle.import_rules.specs.declared.predicates.Link.{Link}
 use Rattle.prolog_names.specs.Table.{bucket_in, bucket_at, AreChains}
 use Rattle.prolog_names.proofs.ChainSteps.{add_place}
 use Rattle.import_rules.specs.Chained.{next_in, hashes_in}
-use Rattle.import_rules.specs.Parts.{names_at}
+use Rattle.import_rules.specs.Parts.{name_of_places, names_at}
 use Rattle.import_rules.proofs.Chains.{all_chained}
 use Rattle.import_rules.proofs.predicates.Chains.make.Goals as goal
 
@@ -52,4 +52,9 @@ returns c =
     let all =
     all_chained names c.max-size.result c.loop-hash.hash-index hashes c.loop-hash.heads.items (next_in c.loop-hash.links.items) (hashes_in c.loop-hash.links.items)
     (c.deref-hash-items.ensures.value ∙ c.in_ok-hashes.ensures) so_far.0 so_far.1 so_far.2 so_far.3
-    (omega (arith, c.loop-hash-test.false, c.loop-hash.auto.hash-index-end)) in record { chained = all.0; hashed = all.1 }
+    (omega (arith, c.loop-hash-test.false, c.loop-hash.auto.hash-index-end)) in record {
+      chained = all.0;
+      hashed = all.1;
+      few = omega (arith, c.requires.few, length-map c.args.predicates.now (name_of_places c.args.files.now));
+      in_order = c.requires.in_order;
+    }

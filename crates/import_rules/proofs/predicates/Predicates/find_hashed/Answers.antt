@@ -13,8 +13,8 @@ use Rattle.import_rules.proofs.NameOrder.{same_parts}
 use Rattle.import_rules.proofs.Chains.{IsPassed, from_head, from_next, none_named, kept_hash}
 use Rattle.import_rules.proofs.predicates.Predicates.find_hashed.Goals as goal
 
-pub loop-at-init : goal.loop-at-init
-loop-at-init c =
+pub loop-init : goal.loop-init
+loop-init c =
     let wanted = pred_name c.args.module.now c.args.name.now c.args.arity in
     let names = names_at c.self.inside.files.now c.self.inside.places.now in
     let chains = c.self.inside.chains.now in
@@ -34,9 +34,9 @@ returns-then-is_named-clause-is c =
     let files = c.self.inside.files.now in
     let places = c.self.inside.places.now in
     let names = names_at files places in
-    let node = c.loop-at.at - 1 in
+    let node = c.loop.at - 1 in
     let own = name_of_places files (get_or places node c.index-self-node.result) in
-    let below : node < length names = omega (arith, c.loop-at.invariant.within, c.loop-at-test.true) in
+    let below : node < length names = omega (arith, c.loop.invariant.within, c.if-at-eq0.false) in
     let here : own ≡ get_or names node own =
     sym (get_or-map (name_of_places files) places node c.index-self-node.result own (omega (arith, below, length-map places (name_of_places files)))) in
     let is : wanted ≡ own = same_parts wanted own (sym c.is_named.ensures ∙ c.if-is_named.true) in
@@ -51,9 +51,9 @@ is_named-requires-clause-kept c =
     let names = names_at files places in
     let links = c.self.inside.chains.now.links.items in
     let link = c.index-link.result.now in
-    let node = c.loop-at.at - 1 in
+    let node = c.loop.at - 1 in
     let own = name_of_places files (get_or places node c.index-self-node.result) in
-    let below : node < length names = omega (arith, c.loop-at.invariant.within, c.loop-at-test.true) in
+    let below : node < length names = omega (arith, c.loop.invariant.within, c.if-at-eq0.false) in
     let inside : node < length links = omega (arith, below, c.self.invariant.chained.chains.as_many, length-map links (λ (l : Link). l.next)) in
     let here : own ≡ get_or names node own =
     sym (get_or-map (name_of_places files) places node c.index-self-node.result own (omega (arith, below, length-map places (name_of_places files)))) in
@@ -61,8 +61,8 @@ is_named-requires-clause-kept c =
     ap (λ (l : Link). l.hash) c.index-link.ensures ∙ sym (get_or-map (λ (l : Link). l.hash) links node link 0 inside) in
     kept_hash names (hashes_in links) node link.hash own c.self.invariant.hashed below kept here
 
-pub loop-at-preserved : goal.loop-at-preserved
-loop-at-preserved c =
+pub loop-preserved : goal.loop-preserved
+loop-preserved c =
     let wanted = pred_name c.args.module.now c.args.name.now c.args.arity in
     let files = c.self.inside.files.now in
     let places = c.self.inside.places.now in
@@ -71,9 +71,9 @@ loop-at-preserved c =
     let links = c.self.inside.chains.now.links.items in
     let next = next_in links in
     let link = c.index-link.result.now in
-    let node = c.loop-at.at - 1 in
+    let node = c.loop.at - 1 in
     let own = name_of_places files (get_or places node c.index-self-node.result) in
-    let below : node < length names = omega (arith, c.loop-at.invariant.within, c.loop-at-test.true) in
+    let below : node < length names = omega (arith, c.loop.invariant.within, c.if-at-eq0.false) in
     let inside : node < length links = omega (arith, below, c.self.invariant.chained.chains.as_many, length-map links (λ (l : Link). l.next)) in
     let here : own ≡ get_or names node own =
     sym (get_or-map (name_of_places files) places node c.index-self-node.result own (omega (arith, below, length-map places (name_of_places files)))) in
@@ -81,11 +81,11 @@ loop-at-preserved c =
     let other : is_same wanted (get_or names node wanted) ≡ false =
     ap (is_same wanted) (sym (get_or_read names node own below here wanted)) ∙ sym c.is_named.ensures ∙ c.if-is_named.false in
     subst (IsPassed names (length heads) wanted) (sym read)
-    (from_next names heads next wanted c.loop-at.at c.self.invariant.chained c.loop-at.invariant c.loop-at-test.true other)
+    (from_next names heads next wanted c.loop.at c.self.invariant.chained c.loop.invariant (omega (arith, c.if-at-eq0.false)) other)
 
-pub returns-clause-is : goal.returns-clause-is
-returns-clause-is c =
+pub returns-then-at-eq0-clause-is : goal.returns-then-at-eq0-clause-is
+returns-then-at-eq0-clause-is c =
     let wanted = pred_name c.args.module.now c.args.name.now c.args.arity in
     let names = names_at c.self.inside.files.now c.self.inside.places.now in
     ap (list_any (is_same wanted)) (sym c.self.view_is)
-    ∙ none_named names (length c.self.inside.chains.now.heads.items) wanted c.loop-at.at (omega (arith, c.loop-at-test.false)) c.loop-at.invariant
+    ∙ none_named names (length c.self.inside.chains.now.heads.items) wanted c.loop.at c.if-at-eq0.true c.loop.invariant

@@ -5,9 +5,6 @@ use Rattle.import_rules.proofs.Chains.{IsPassed}
 use Rattle.import_rules.proofs.predicates.Predicates.find_hashed.Given as goal
 
 -- the name stands at no place from here on
-abbrev pub invariant-loop-at : goal.invariant-loop-at
-invariant-loop-at l =
+abbrev pub invariant-loop : goal.invariant-loop
+invariant-loop l =
     IsPassed (names_at l.self-inside.files.now l.self-inside.places.now) (length l.self-inside.chains.now.heads.items) (pred_name l.module l.name l.arity) l.at
-
-abbrev pub decreases-loop-at : goal.decreases-loop-at
-decreases-loop-at l = l.at
