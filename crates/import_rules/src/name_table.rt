@@ -1,5 +1,4 @@
-//! Names in order and in chains, one for each bucket of a hash: a name is found by one look-up,
-//! without memory.
+//! A hash table over names in order: a name is found by one look-up, which allocates nothing.
 
 ghost use Rattle.std.specs.Prelude.{◌≡◌, ◌<◌, AllPairs, length, map, slice_get, Some, false, IfOk, IfSome, MatchOption};
 ghost use Rattle.std.specs.declared.cmp.Ordering.TheVariants.{Less};
@@ -13,26 +12,26 @@ use prolog_names::text_hash;
 use std::alloc::{AllocError, Global};
 use std::marker::Model;
 
-/// The longest walk along a chain, in names. After it a name is found by binary search, which takes
-/// 20 comparisons among a million names. Chains of ordinary programs are shorter. But a text can be
-/// made so that all its names share one hash, and a look-up is to be short there too.
+/// The longest walk along a chain, in names. A longer chain is given up for a binary search, which
+/// takes 20 comparisons among a million names. Chains of ordinary programs are shorter. But all
+/// names of a text may be chosen to share one hash, and a look-up is short there too.
 pub(crate) const MOST_IN_CHAIN: usize = 32;
 
-/// What stands beside a name: its hash, and one more than the place of the name before it in its
-/// bucket; 0 where there is none.
+/// The hash of a name, and one more than the index of the name before it in its bucket, or 0 if
+/// there is none.
 #[derive(Clone, Copy)]
 struct Link {
     hash: u32,
     next: usize,
 }
 
-/// Names in order, with their places: those that are imported, of which there may be any number. A
-/// name is found by the hashes of its two texts and its arity. On the way the names of other hashes
-/// are passed by their links, without a look at their texts.
+/// Names in order with their indices: those that are imported, of which there may be any number. A
+/// name is found by the hashes of its two texts and its arity. Names with other hashes are passed
+/// without a look at their texts.
 #[derive(Drop)]
 pub(crate) struct NameTable {
     names: Vec<PredName>,
-    /// For each bucket one more than the place of its last name; 0 where it has none.
+    /// For each bucket one more than the index of its last name, or 0 if it has none.
     heads: Vec<usize>,
     links: Vec<Link>,
 }
@@ -49,8 +48,8 @@ impl Model for NameTable {
     ghost invariant = { λ table. IsLinked table.names.items table.heads.items table.links.items };
 }
 
-/// The hash of a name by those of its module and of its own name. The latter is added last, and so
-/// names of one module whose hashes are neighbouring stay so.
+/// The hash of a name, from those of its module and of its own name. The latter is added last, so
+/// names of one module whose own hashes are adjacent have adjacent hashes.
 fn joint_hash(owner: u32, name: u32, arity: u32) -> u32
     ensures { result ≡ joint_hash owner name arity }
 {
@@ -68,8 +67,8 @@ pub(crate) fn name_hash(module: &str, name: &str, arity: u32) -> u32
     joint_hash(text_hash(module), text_hash(name), arity)
 }
 
-/// The bucket of a hash, of so many. Neighbouring hashes have neighbouring buckets, since names
-/// that stand side by side are put into a table and looked up one after another.
+/// The bucket of a hash among `size` buckets. Adjacent hashes have adjacent buckets, since adjacent
+/// names are added and looked up one after another.
 pub(crate) fn bucket_of(hash: u32, size: usize) -> usize
     requires { 0 < size }
     ensures is { result ≡ bucket_in size hash }
@@ -78,8 +77,8 @@ pub(crate) fn bucket_of(hash: u32, size: usize) -> usize
     hash as usize % size
 }
 
-/// Whether it is the name of that hash. `kept` is its own hash: where it is another one, the texts
-/// aren't read.
+/// Whether it is the name with that hash. `kept` is its own hash: if that differs, the texts aren't
+/// read.
 fn is_named(one: &PredName, kept: u32, module: &str, name: &str, arity: u32, hash: u32) -> bool
     requires kept { kept ≡ name_hash one.now }
     requires wanted { hash ≡ name_hash (pred_name module.now name.now arity) }
@@ -103,8 +102,8 @@ fn hashes_of(alloc: Global, names: &[PredName]) -> Result<Vec<u32>, AllocError>
 }
 
 impl NameTable {
-    /// The table of these names, which are in order. Their hashes are found first, since a
-    /// processor that has no texts to read between two buckets looks many of them up at once.
+    /// The table of these names, which are in order. All hashes are computed first. A processor that
+    /// reads no texts between two buckets looks up many of them at once.
     pub(crate) fn make(alloc: Global, names: Vec<PredName>) -> Result<NameTable, AllocError>
         requires { AllPairs (λ p q. pred_cmp p q ≡ Less) names.items }
         ensures { IfOk result (λ table. table ≡ names.items) }
@@ -128,8 +127,8 @@ impl NameTable {
         })
     }
 
-    /// The place of the name whose hash that is, or `None` if it isn't in the table. It takes at
-    /// most `MOST_IN_CHAIN` steps along a chain and one binary search, and no memory.
+    /// The index of the name with that hash, or `None` if it isn't in the table. It takes at most
+    /// `MOST_IN_CHAIN` steps along a chain and one binary search, and allocates nothing.
     pub(crate) fn find(&self, module: &str, name: &str, arity: u32, hash: u32) -> Option<usize>
         requires { hash ≡ name_hash (pred_name module.now name.now arity) }
         ensures is { MatchOption result
@@ -152,8 +151,8 @@ impl NameTable {
         self.find_ordered(module, name, arity)
     }
 
-    /// The place of the name, found by binary search. Each step compares texts, so `find` walks a
-    /// chain first.
+    /// The index of the name, by binary search. Each step compares texts, so `find` walks a chain
+    /// first.
     fn find_ordered(&self, module: &str, name: &str, arity: u32) -> Option<usize>
         ensures is { MatchOption result
             (list_any (is_same (pred_name module.now name.now arity)) self.now ≡ false)

@@ -15,7 +15,7 @@ pub struct PredName {
     pub arity: u32,
 }
 
-/// The name of a predicate where it stands, as in the file that defines it.
+/// A view of the name of a predicate, as in the file that defines it.
 #[derive(Clone, Copy)]
 pub struct NameView<'a> {
     pub module: &'a str,
@@ -24,7 +24,7 @@ pub struct NameView<'a> {
 }
 
 impl PredName {
-    /// The name where it stands.
+    /// A view of the name.
     pub fn view(&self) -> NameView<'_>
         ensures { see_name result ≡ self.now }
     {
@@ -36,7 +36,7 @@ impl PredName {
     }
 }
 
-/// The order of a name and another one: by module, then by name, then by arity.
+/// How a name compares with another one: by module, then by name, then by arity.
 pub(crate) fn compare(own: NameView<'_>, module: &str, name: &str, arity: u32) -> Ordering
     ensures { result ≡ pred_cmp (see_name own.entry) (pred_name module.now name.now arity) }
 {

@@ -16,24 +16,23 @@ use module_table::FileFacts;
 use std::alloc::{AllocError, Global};
 use std::marker::Model;
 
-/// What stands beside a predicate: the hash of its name, and one more than the number of the
-/// predicate before it in its bucket; 0 where there is none.
+/// The hash of the name of a predicate, and one more than the number of the predicate before it in
+/// its bucket, or 0 if there is none.
 #[derive(Clone, Copy)]
 struct Link {
     hash: u32,
     next: u32,
 }
 
-/// Predicates in chains, one for each bucket of a hash. Their names aren't kept here: they stand in
-/// the files.
+/// A hash table over predicates, with a chain for each bucket. Their names are only in the files.
 #[derive(Drop)]
 pub(crate) struct Chains {
-    /// For each bucket one more than the number of its last predicate; 0 where it has none.
+    /// For each bucket one more than the number of its last predicate, or 0 if it has none.
     heads: Vec<u32>,
     links: Vec<Link>,
 }
 
-/// The predicates of files, each by the places at which it is defined.
+/// The predicates of files, each by the positions at which it is defined.
 #[derive(Drop)]
 pub(crate) struct Predicates<'a> {
     pub(crate) files: &'a [FileFacts],
@@ -70,8 +69,8 @@ fn hashes_of(
     Ok(hashes)
 }
 
-/// Whether it is the predicate of that name and hash. `kept` is the hash of its own name: where it
-/// is another one, that isn't read.
+/// Whether it is the predicate with that name and hash. `kept` is the hash of its own name: if that
+/// differs, the name isn't read.
 fn is_named(
     files: &[FileFacts],
     places: &Places,
@@ -92,9 +91,8 @@ fn is_named(
 }
 
 impl Chains {
-    /// The chains of these predicates, which are few and in order. Their hashes are found first,
-    /// since a processor that has no texts to read between two buckets looks many of them up at
-    /// once.
+    /// The chains of these predicates, which are few and in order. All hashes are computed first. A
+    /// processor that reads no texts between two buckets looks up many of them at once.
     pub(crate) fn make(
         alloc: Global,
         files: &[FileFacts],
@@ -138,9 +136,8 @@ impl<'a> Predicates<'a> {
         self.find_hashed(module, name, arity, name_hash(module, name, arity))
     }
 
-    /// The number of the predicate of that name, whose hash that is, or `None` if no file defines
-    /// it. It takes at most `MOST_IN_CHAIN` steps along a chain and one binary search, and no
-    /// memory.
+    /// The number of the predicate with that name and hash, or `None` if no file defines it. It takes
+    /// at most `MOST_IN_CHAIN` steps along a chain and one binary search, and allocates nothing.
     pub(crate) fn find_hashed(&self, module: &str, name: &str, arity: u32, hash: u32) -> Option<u32>
         requires { hash ≡ name_hash (pred_name module.now name.now arity) }
         ensures is { MatchOption result
@@ -164,8 +161,8 @@ impl<'a> Predicates<'a> {
         self.find_ordered(module, name, arity)
     }
 
-    /// The number of the predicate of that name, found by binary search. Each step reads a name in
-    /// the files and compares texts, so `find_hashed` walks a chain first.
+    /// The number of the predicate with that name, by binary search. Each step reads a name in the
+    /// files and compares texts, so `find_hashed` walks a chain first.
     fn find_ordered(&self, module: &str, name: &str, arity: u32) -> Option<u32>
         ensures is { MatchOption result
             (list_any (is_same (pred_name module.now name.now arity)) self.now ≡ false)
