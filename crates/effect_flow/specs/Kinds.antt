@@ -2,6 +2,7 @@
 use Rattle.std.specs.Prelude.{ℕ, ◌&&◌, nat_eq, Bool, List, [], ◌∷◌, if◌then◌else◌, codes}
 use Rattle.std.specs.List.{list_any}
 use Rattle.std.specs.Str.{bytes_eq}
+use Rattle.effect_flow.specs.declared.kinds.TheConstants.{OUTPUT, INPUT, DATABASE, STREAMS, THROW, HALT, FLAGS}
 
 -- a name and an arity
 pub record Indicator : Type 0 where
@@ -50,11 +51,11 @@ is_in_row row name arity = list_any (λ (one : Indicator). nat_eq one.arity arit
 -- the bit of the kind in whose row they stand, or 0
 abbrev pub kinds : List ℕ → ℕ → ℕ
 kinds name arity =
-    if is_in_row output_row name arity then 1
-    else if is_in_row input_row name arity then 2
-    else if is_in_row database_row name arity then 4
-    else if is_in_row streams_row name arity then 8
-    else if is_in_row throw_row name arity then 16
-    else if is_in_row halt_row name arity then 32
-    else if is_in_row flags_row name arity then 64
+    if is_in_row output_row name arity then OUTPUT
+    else if is_in_row input_row name arity then INPUT
+    else if is_in_row database_row name arity then DATABASE
+    else if is_in_row streams_row name arity then STREAMS
+    else if is_in_row throw_row name arity then THROW
+    else if is_in_row halt_row name arity then HALT
+    else if is_in_row flags_row name arity then FLAGS
     else 0

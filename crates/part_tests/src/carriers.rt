@@ -1,10 +1,11 @@
 ghost use Rattle.std.specs.Prelude.{◌<◌};
+ghost use Rattle.effect_flow.specs.declared.kinds.TheConstants.{KINDS};
 
 use crate::draws::Draws;
 use crate::graphs::nodes_in;
 use crate::paths::groups;
 use crate::walks::{alone, reached};
-use effect_flow::{Flow, flow};
+use effect_flow::{Flow, KINDS, flow};
 use graph_law::{Graph, Opener};
 use group_release::levels;
 use std::alloc::{AllocError, Global};
@@ -21,7 +22,7 @@ fn random_kinds(alloc: Global, count: usize, draws: &mut Draws) -> Result<Vec<u6
 
 /// The nodes that have a kind themselves.
 fn nodes_with(own: &[u64], kind: u32) -> u32
-    requires { kind < 7 }
+    requires { kind < KINDS }
 {
     let mut found = 0;
     let mut node = 0u32;
@@ -37,7 +38,7 @@ fn nodes_with(own: &[u64], kind: u32) -> u32
 /// Whether the witnesses of a group that reaches these nodes are the least of them that have the
 /// kinds.
 fn carriers_are(own: &[u64], reached: u32, flow: &Flow) -> bool {
-    for kind in 0..7 {
+    for kind in 0..KINDS as u32 {
         let carried = nodes_with(own, kind) & reached;
         let least = (carried != 0).then_some(carried.trailing_zeros());
         if flow.first(kind) != least {
