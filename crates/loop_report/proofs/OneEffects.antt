@@ -7,6 +7,7 @@ use Rattle.std.proofs.lemmas.List.Folds.{flat_map-map}
 use Rattle.std.proofs.lemmas.List.FromFn.{get_or-range_with_len, length-range_with_len}
 use Rattle.graph_law.specs.Classes.{group_at, least_member}
 use Rattle.group_release.specs.declared.level.Level.{Level}
+use Rattle.effect_flow.specs.declared.kinds.TheConstants.{KINDS}
 use Rattle.effect_flow.specs.Carriers.{AreFlows, HasKind, IsCarrier, first_at, flow_at}
 use Rattle.effect_flow.proofs.Known.{one_carrier}
 use Rattle.import_rules.specs.declared.names.PredName.{PredName}
@@ -27,20 +28,20 @@ flat_same F G xs ys long same =
     sym (flat_map-map (λ (t : List ℕ). t) F xs) ∙ (ap (flat_map (λ (t : List ℕ). t)) all ∙ flat_map-map (λ (t : List ℕ). t) G ys)
 
 -- the lines of a group are those of its least member and its carriers
-same_group : (predicates : List PredName) (least other : ℕ) (flow row : List (Option ℕ)) → least ≡ other → ((kind : ℕ) → kind < 7 → first_at flow kind ≡ first_at row kind)
+same_group : (predicates : List PredName) (least other : ℕ) (flow row : List (Option ℕ)) → least ≡ other → ((kind : ℕ) → kind < KINDS → first_at flow kind ≡ first_at row kind)
     → group_effects predicates least flow ≡ group_effects predicates other row
 same_group predicates least other flow row is same =
     flat_same (λ kind. effect_line predicates least (kind_word kind) (first_at flow kind)) (λ kind. effect_line predicates other (kind_word kind) (first_at row kind))
-    (range_with_len 0 7) (range_with_len 0 7) (λ i. length (range_with_len 0 7))
+    (range_with_len 0 KINDS) (range_with_len 0 KINDS) (λ i. length (range_with_len 0 KINDS))
     (λ k lt.
-    let low : k < 7 = omega (arith, lt, length-range_with_len 0 7) in
-    let at : get_or (range_with_len 0 7) k 0 < 7 = omega (arith, get_or-range_with_len 0 7 k 0 low, low) in
-    let kind : ℕ = get_or (range_with_len 0 7) k 0 in
+    let low : k < KINDS = omega (arith, lt, length-range_with_len 0 KINDS) in
+    let at : get_or (range_with_len 0 KINDS) k 0 < KINDS = omega (arith, get_or-range_with_len 0 KINDS k 0 low, low) in
+    let kind : ℕ = get_or (range_with_len 0 KINDS) k 0 in
     λ i. effect_line predicates (is i) (kind_word kind) (same kind at i))
 
 pub same_effects : {calls : ℕ → ℕ → Type 0} {starts : List ℕ} {groups others : List (List ℕ)} {levels marks : List Level} (predicates : List PredName) (own more : List ℕ)
     (flows rows : List (List (Option ℕ))) (bytes other : List ℕ) → AreLeveled calls starts groups levels → AreLeveled calls starts others marks
-    → ((kind q : ℕ) → kind < 7 → HasKind own kind q → HasKind more kind q) → ((kind q : ℕ) → kind < 7 → HasKind more kind q → HasKind own kind q)
+    → ((kind q : ℕ) → kind < KINDS → HasKind own kind q → HasKind more kind q) → ((kind q : ℕ) → kind < KINDS → HasKind more kind q → HasKind own kind q)
     → AreFlows calls own groups flows → AreFlows calls more others rows
     → AreEffectLines predicates groups levels flows bytes → AreEffectLines predicates others marks rows other → bytes ≡ other
 same_effects {calls} {starts} {groups} {others} {levels} {marks} predicates own more flows rows bytes other a b to from are also first second =

@@ -2,6 +2,7 @@
 use Rattle.std.specs.Prelude.{◌≡◌, ℕ, List, [], ◌∷◌, ◌++◌, Option, Some, None, slice_index_or, codes}
 use Rattle.std.specs.List.{flat_map, range_with_len}
 use Rattle.group_release.specs.declared.level.Level.{Level}
+use Rattle.effect_flow.specs.declared.kinds.TheConstants.{KINDS}
 use Rattle.effect_flow.specs.Carriers.{first_at, flow_at}
 use Rattle.import_rules.specs.declared.names.PredName.{PredName}
 use Rattle.loop_report.specs.Names.{member_name}
@@ -22,7 +23,7 @@ effect_line predicates least word (Some carrier) =
 
 -- the lines of a group, kind by kind
 abbrev pub group_effects : List PredName → ℕ → List (Option ℕ) → List ℕ
-group_effects predicates least flow = flat_map (λ kind. effect_line predicates least (kind_word kind) (first_at flow kind)) (range_with_len 0 7)
+group_effects predicates least flow = flat_map (λ kind. effect_line predicates least (kind_word kind) (first_at flow kind)) (range_with_len 0 KINDS)
 
 -- the lines of the group at a place
 abbrev pub place_effects : List PredName → List (List ℕ) → List (List (Option ℕ)) → ℕ → List ℕ

@@ -5,23 +5,21 @@ ghost use Rattle.std.specs.String.{string_bytes};
 ghost use Rattle.graph_law.specs.Graph.{lists_of};
 ghost use Rattle.effect_flow.specs.Carriers.{first_at, flow_at};
 ghost use Rattle.effect_flow.specs.Seen.{see_flow, see_flows};
+ghost use Rattle.effect_flow.specs.declared.kinds.TheConstants.{KINDS};
 ghost use Rattle.loop_report.specs.Effects.{AreEffectLines, effect_line, group_effects, kind_word};
 ghost use Rattle.loop_report.specs.Reportable.{AreReportable};
 
 use crate::last_module::LastModule;
 use crate::line_order::lines_in_order;
 use crate::names::push_member;
-use effect_flow::Flow;
+use effect_flow::{Flow, KINDS};
 use group_release::Level;
 use import_rules::Program;
 use std::alloc::{AllocError, Global};
 
-/// How many kinds of effects there are.
-const KINDS: u32 = 7;
-
 /// The word of a kind.
 fn kind_word(kind: u32) -> &'static str
-    requires { kind < 7 }
+    requires { kind < KINDS }
     ensures { result.now ≡ kind_word kind }
 {
     match kind {
@@ -44,7 +42,7 @@ fn push_effect<'a>(
     kind: u32,
     carrier: u32,
 ) -> Result<(), AllocError>
-    requires kind { kind < 7 }
+    requires kind { kind < KINDS }
     requires least { least < length program.now.predicates }
     requires carrier { carrier < length program.now.predicates }
     ensures { OnOk result (string_bytes text.new
@@ -67,12 +65,12 @@ fn push_effects<'a>(
     flow: Flow,
 ) -> Result<(), AllocError>
     requires least { least < length program.now.predicates }
-    requires carriers { (kind q : ℕ) → kind < 7
+    requires carriers { (kind q : ℕ) → kind < KINDS
         → first_at (see_flow flow) kind ≡ Some q → q < length program.now.predicates }
     ensures { OnOk result (string_bytes text.new
         ≡ string_bytes text.old ++ group_effects program.now.predicates least (see_flow flow)) }
 {
-    for kind in 0..KINDS {
+    for kind in 0..KINDS as u32 {
         let Some(carrier) = flow.first(kind) else {
             continue;
         };
@@ -103,7 +101,7 @@ pub fn effect_lines(
 ) -> Result<Vec<u8>, AllocError>
     requires groups { AreReportable (length program.now.predicates) (lists_of groups.now) levels.now }
     requires each { length flows.now ≡ length groups.now }
-    requires carriers { (place kind q : ℕ) → place < length groups.now → kind < 7
+    requires carriers { (place kind q : ℕ) → place < length groups.now → kind < KINDS
         → first_at (flow_at (see_flows flows.now) place) kind ≡ Some q → q < length program.now.predicates }
     ensures { IfOk result (λ bytes. AreEffectLines program.now.predicates (lists_of groups.now) levels.now
         (see_flows flows.now) bytes.items) }

@@ -1,6 +1,7 @@
 use Rattle.std.proofs.Common.{◌≡◌, ℕ, List, ◌++◌, sym, ◌∙◌, ap, arith}
 use Rattle.std.specs.List.{flat_map, range_with_len}
 use Rattle.std.specs.String.{string_bytes}
+use Rattle.effect_flow.specs.declared.kinds.TheConstants.{KINDS}
 use Rattle.effect_flow.specs.Carriers.{first_at}
 use Rattle.effect_flow.specs.Seen.{see_flow}
 use Rattle.loop_report.specs.Effects.{effect_line, kind_word}
@@ -30,5 +31,5 @@ pub returns : goal.returns
 returns c =
     let predicates = c.args.program.now.predicates in
     let line : ℕ → List ℕ = λ kind. effect_line predicates c.args.least (kind_word kind) (first_at (see_flow c.args.flow) kind) in
-    let end : c.loop-kind.kind ≡ 7 = omega (arith, c.loop-kind-test.false, c.loop-kind.auto.kind-end) in
+    let end : c.loop-kind.kind ≡ KINDS = omega (arith, c.loop-kind-test.false, c.loop-kind.auto.kind-end) in
     c.loop-kind.invariant ∙ ap (λ n. string_bytes c.args.text.now ++ flat_map line (range_with_len 0 n)) end
