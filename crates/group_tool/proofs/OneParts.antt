@@ -4,6 +4,7 @@ use Rattle.std.specs.Int.{IsBitSet}
 use Rattle.std.proofs.lemmas.Bool.{cases_lt}
 use Rattle.std.proofs.lemmas.List.{get_or_past}
 use Rattle.group_release.specs.declared.level.Level.{Level}
+use Rattle.effect_flow.specs.declared.kinds.TheConstants.{KINDS}
 use Rattle.effect_flow.specs.Carriers.{HasKind}
 use Rattle.loop_paths.specs.Circuits.{IsShortest}
 use Rattle.loop_paths.proofs.OneLeast.{one_shortest}
@@ -26,7 +27,7 @@ same_part true Tells Told bytes other same is also = same is also
 none_past : (kind : ℕ) → IsBitSet 0 kind → ⊥
 none_past kind set = set refl
 
-same_kinds : (seen : Seen) (own more : List ℕ) → AreOwnKinds seen own → AreOwnKinds seen more → (kind q : ℕ) → kind < 7 → HasKind own kind q → HasKind more kind q
+same_kinds : (seen : Seen) (own more : List ℕ) → AreOwnKinds seen own → AreOwnKinds seen more → (kind q : ℕ) → kind < KINDS → HasKind own kind q → HasKind more kind q
 same_kinds seen own more are also kind q low has = elim (cases_lt q (length seen.predicates)) [
   | inl below ↦ (also.are kind q low below).1 ((are.are kind q low below).0 has)
   | inr past ↦

@@ -8,6 +8,7 @@ use Rattle.graph_law.specs.Graph.{Calls, IsClosed}
 use Rattle.graph_law.specs.Reach.{IsWalk}
 use Rattle.graph_law.proofs.ClassLaws.{least_is_member}
 use Rattle.group_release.specs.declared.level.Level.{Level}
+use Rattle.effect_flow.specs.declared.kinds.TheConstants.{KINDS}
 use Rattle.effect_flow.specs.Carriers.{AreFlows, first_at, flow_at}
 use Rattle.effect_flow.proofs.Moved.{AreFlows-agree, carriers_below}
 use Rattle.loop_paths.specs.Circuits.{AreCircuits, IsCircuit, IsShortest}
@@ -71,7 +72,7 @@ path_within seen p q path low is =
 pub carriers_within : (seen : Seen) (roots : List ℕ) (groups : List (List ℕ)) (levels : List Level) (own : List ℕ) (flows : List (List (Option ℕ)))
     → All (λ q. q < length seen.predicates) roots → AreLeveled (Calls (successor_lists seen)) roots groups levels
     → AreFlows (Calls (successor_lists seen)) own groups flows
-    → (place kind q : ℕ) → place < length groups → kind < 7 → first_at (flow_at flows place) kind ≡ Some q → q < length seen.predicates
+    → (place kind q : ℕ) → place < length groups → kind < KINDS → first_at (flow_at flows place) kind ≡ Some q → q < length seen.predicates
 carriers_within seen roots groups levels own flows below leveled are place kind q lt low at =
     let there = carriers_below (successor_lists seen) (lists_closed seen) (members_listed seen roots groups below leveled.are) are place kind q lt low at in
     omega (arith, there, lists_count seen)

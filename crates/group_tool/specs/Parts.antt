@@ -1,6 +1,7 @@
 -- The parts behind the report: effects, circuits and a path.
 use Rattle.std.specs.Prelude.{◌≡◌, ℕ, ◌<◌, ◌↔◌, ◌++◌, Bool, true, false, List, [], ◌∷◌, Option, Some, None, Contains, length, codes, IsBitSet}
 use Rattle.group_release.specs.declared.level.Level.{Level}
+use Rattle.effect_flow.specs.declared.kinds.TheConstants.{KINDS}
 use Rattle.effect_flow.specs.Carriers.{AreFlows, HasKind}
 use Rattle.effect_flow.specs.Kinds.{kinds}
 use Rattle.loop_paths.specs.Circuits.{AreCircuits, IsShortest}
@@ -37,12 +38,12 @@ kinds_given None = 0
 
 -- the kinds that the predicate has itself
 abbrev pub IsOwnKinds : Seen → ℕ → ℕ → Type 0
-IsOwnKinds seen node own = (kind : ℕ) → kind < 7 → IsBitSet own kind ↔ HasEffect seen kind node
+IsOwnKinds seen node own = (kind : ℕ) → kind < KINDS → IsBitSet own kind ↔ HasEffect seen kind node
 
 -- the kinds that each predicate has itself
 pub record AreOwnKinds (seen : Seen) (own : List ℕ) : Type 0 where
   pub each : length own ≡ length seen.predicates
-  pub are : (kind node : ℕ) → kind < 7 → node < length seen.predicates → HasKind own kind node ↔ HasEffect seen kind node
+  pub are : (kind node : ℕ) → kind < KINDS → node < length seen.predicates → HasKind own kind node ↔ HasEffect seen kind node
 
 -- the lines of the carriers of all groups
 pub record TellEffects (seen : Seen) (groups : List (List ℕ)) (levels : List Level) (bytes : List ℕ) : Type 0 where
