@@ -6,7 +6,6 @@ pub mod Listed
 pub mod Calls
 pub mod Bodies
 pub mod Successors
-pub mod Opened
 pub mod GoalFaults
 pub mod FaultPlaces
 pub mod Roots
@@ -17,5 +16,4 @@ pub mod CallPlaces
 pub mod PlacedSeen
 pub mod KeptCalls
 pub mod OpenedPieces
-pub mod PlacedLists
 pub mod FileOrder

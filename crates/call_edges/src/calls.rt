@@ -15,6 +15,7 @@ use crate::walking::walk;
 use graph_law::Opener;
 use import_rules::Program;
 use std::alloc::AllocError;
+use std::marker::Model;
 
 /// The predicate that a call in that file goes to. Its name is looked up if it wasn't yet.
 pub fn target(program: &Program, file: u32, met: Met) -> Option<u32>
@@ -113,28 +114,36 @@ fn callees(program: &Program, node: u32, out: &mut Vec<u32>) -> Result<(), Alloc
 }
 
 /// The call graph of a program: its nodes are the numbers of the predicates. Expanding a node walks
-/// the clauses of the predicate.
-#[derive(Clone, Copy)]
+/// the clauses of the predicate. Contracts see it as the program.
+#[derive(Drop)]
 pub struct Calls<'a> {
     program: &'a Program,
 }
 
-impl<'a> Calls<'a> {
-    ghost use Rattle.call_edges.specs.Opened.{see_calls};
+impl<'a> Model for Calls<'a> {
+    ghost use Rattle.import_rules.specs.Program.{Seen};
+    ghost use Rattle.import_rules.specs.contracts.program.Program.{the_row};
 
+    ghost Value = { Seen };
+
+    ghost coded = { the_row.coded };
+
+    ghost view = { λ calls. calls.program.now };
+}
+
+impl<'a> Calls<'a> {
     /// The call graph of this program. It takes no memory.
     pub fn new(program: &'a Program) -> Calls<'a>
-        ensures { see_calls result ≡ program.now }
+        ensures { result ≡ program.now }
     {
         Calls { program }
     }
 }
 
 impl Opener for Calls<'_> {
-    ghost use Rattle.call_edges.specs.Opened.{see_calls};
     ghost use Rattle.call_edges.specs.Successors.{successor_lists};
 
-    ghost lists = { λ calls. successor_lists (see_calls calls) };
+    ghost lists = { successor_lists };
 
     fn count(&self) -> u32 {
         self.program.count()

@@ -7,9 +7,7 @@ ghost use Rattle.call_edges.specs.CallLists.{ArePieces};
 ghost use Rattle.call_edges.specs.FaultPlaces.{AreFaultPlaces, HasPlace};
 ghost use Rattle.call_edges.specs.GoalFaults.{AreGoalFaults, IsGoalStop};
 ghost use Rattle.call_edges.specs.KeptCalls.{AreKept};
-ghost use Rattle.call_edges.specs.Opened.{see_call_lists};
 ghost use Rattle.call_edges.specs.OpenedPieces.{AreOpened, AreOpenedPieces, IsOpenedPiece, pieces_of, kept_of};
-ghost use Rattle.call_edges.specs.PlacedLists.{see_placed_lists};
 
 use crate::faults::directive_faults;
 use crate::goal_stop::GoalStop;
@@ -159,7 +157,7 @@ pub fn call_lists<'a, R: Threads + Sync>(
     alloc: Global,
     program: &'a Program,
 ) -> Result<CallLists<'a>, GoalStop>
-    ensures calls { IfOk result (λ calls. see_call_lists calls ≡ program.now) }
+    ensures calls { IfOk result (λ calls. calls ≡ program.now) }
     ensures callable { OnOk result (AreGoalFaults program.now []) }
     ensures refused { IfErr result (IsGoalStop program.now) }
 {
@@ -174,7 +172,7 @@ pub fn placed_call_lists<'a, R: Threads + Sync>(
     alloc: Global,
     program: &'a Program,
 ) -> Result<PlacedCallLists<'a>, GoalStop>
-    ensures calls { IfOk result (λ calls. see_placed_lists calls ≡ program.now) }
+    ensures calls { IfOk result (λ calls. calls ≡ program.now) }
     ensures callable { OnOk result (AreGoalFaults program.now []) }
     ensures refused { IfErr result (IsGoalStop program.now) }
 {

@@ -5,7 +5,6 @@ ghost use Rattle.std.specs.Option.{option_to_list};
 ghost use Rattle.file_library.specs.Spots.{StandsInText};
 ghost use Rattle.call_edges.specs.CallPlaces.{AreCallsOf, CallAt, IsCallOf};
 ghost use Rattle.call_edges.specs.Calls.{IsAmong};
-ghost use Rattle.call_edges.specs.PlacedLists.{see_placed_lists};
 ghost use Rattle.call_edges.specs.PlacedSeen.{call_to, see_call, see_calls};
 ghost use Rattle.call_edges.specs.Seen.{see_met};
 
@@ -92,8 +91,8 @@ fn gathered<'a>(
     lists: &PlacedCallLists<'a>,
     callers: &[u32],
 ) -> Result<Vec<PlacedCall<'a>>, AllocError>
-    requires { All (λ p. p < length (see_placed_lists lists.now).predicates) callers.now }
-    ensures { IfOk result (λ calls. (c : CallAt) → Contains (see_calls calls.items) c ↔ IsAmong (IsCallOf (see_placed_lists lists.now)) callers.now c) }
+    requires { All (λ p. p < length lists.now.predicates) callers.now }
+    ensures { IfOk result (λ calls. (c : CallAt) → Contains (see_calls calls.items) c ↔ IsAmong (IsCallOf lists.now) callers.now c) }
 {
     let mut calls = Vec::new(alloc);
     for caller in callers {
@@ -112,9 +111,9 @@ pub fn calls_of<'a>(
     lists: &PlacedCallLists<'a>,
     callers: &[u32],
 ) -> Result<Vec<PlacedCall<'a>>, AllocError>
-    requires { All (λ p. p < length (see_placed_lists lists.now).predicates) callers.now }
-    ensures calls { IfOk result (λ calls. AreCallsOf (see_placed_lists lists.now) callers.now (see_calls calls.items)) }
-    ensures stand { IfOk result (λ calls. All (λ (c : CallAt). StandsInText (see_placed_lists lists.now).loaded.texts c.file c.offset)
+    requires { All (λ p. p < length lists.now.predicates) callers.now }
+    ensures calls { IfOk result (λ calls. AreCallsOf lists.now callers.now (see_calls calls.items)) }
+    ensures stand { IfOk result (λ calls. All (λ (c : CallAt). StandsInText lists.now.loaded.texts c.file c.offset)
         (see_calls calls.items)) }
 {
     lists.is_known();

@@ -1,9 +1,7 @@
 //! The call graph of a program in memory, and all calls with the positions of their goals.
 
 ghost use Rattle.std.specs.Prelude.{◌≡◌};
-ghost use Rattle.std.proofs.Props.{props};
 ghost use Rattle.call_edges.specs.KeptCalls.{AreKept};
-ghost use Rattle.call_edges.specs.Opened.{see_call_lists};
 
 use crate::kept_calls::PieceCalls;
 use crate::laid_out::CallLists;
@@ -11,21 +9,35 @@ use crate::lists::between;
 use crate::piece::PIECE_SIZE;
 use crate::placed_calls::PlacedCall;
 use import_rules::Program;
+use std::marker::Model;
 
 /// The call graph of a program, as `CallLists`, and all calls, each with the position of its goal
-/// and with what its name means. `calls_of` selects those of some predicates.
+/// and with what its name means. `calls_of` selects those of some predicates. Contracts see it as
+/// the program.
 #[derive(Drop)]
 pub struct PlacedCallLists<'a> {
     lists: CallLists<'a>,
     /// The calls, piece by piece.
     pieces: Vec<PieceCalls<'a>>,
-    pub ghost kept: { AreKept (see_call_lists lists) pieces.items } by { Prim.hlevel props },
+}
+
+impl<'a> Model for PlacedCallLists<'a> {
+    ghost use Rattle.import_rules.specs.Program.{Seen};
+    ghost use Rattle.import_rules.specs.contracts.program.Program.{the_row};
+    ghost use Rattle.call_edges.specs.KeptCalls.{AreKept};
+
+    ghost Value = { Seen };
+
+    ghost coded = { the_row.coded };
+
+    ghost view = { λ calls. calls.lists };
+
+    ghost invariant = { λ calls. AreKept calls.lists calls.pieces.items };
 }
 
 impl<'a> PlacedCallLists<'a> {
     ghost use Rattle.std.specs.Prelude.{◌<◌, ◌↔◌, Contains, length};
     ghost use Rattle.call_edges.specs.CallPlaces.{CallAt, IsCallOf};
-    ghost use Rattle.call_edges.specs.PlacedLists.{see_placed_lists};
     ghost use Rattle.call_edges.specs.PlacedSeen.{see_calls};
     ghost use Rattle.import_rules.specs.Program.{IsKnown};
 
@@ -34,22 +46,22 @@ impl<'a> PlacedCallLists<'a> {
         lists: CallLists<'a>,
         pieces: Vec<PieceCalls<'a>>,
     ) -> PlacedCallLists<'a>
-        requires { AreKept (see_call_lists lists) pieces.items }
-        ensures { see_placed_lists result ≡ see_call_lists lists.entry }
+        requires { AreKept lists pieces.items }
+        ensures { result ≡ lists.entry }
     {
         PlacedCallLists { lists, pieces }
     }
 
     /// What the predicates call, as a graph.
     pub fn lists(&self) -> &CallLists<'a>
-        ensures { see_call_lists result.now ≡ see_placed_lists self.now }
+        ensures { result.now ≡ self.now }
     {
         &self.lists
     }
 
     /// The program whose calls they are.
     pub fn program(&self) -> &'a Program
-        ensures { result.now ≡ see_placed_lists self.now }
+        ensures { result.now ≡ self.now }
     {
         self.lists.program()
     }
@@ -57,15 +69,15 @@ impl<'a> PlacedCallLists<'a> {
     /// The invariant of the program, as `is_known` states it. The function does nothing, and is
     /// called for what it ensures.
     pub(crate) fn is_known(&self)
-        ensures { IsKnown (see_placed_lists self.now) }
+        ensures { IsKnown self.now }
     {
         self.program().is_known()
     }
 
     /// The calls in the clauses of a predicate. Some of them may be there twice.
     pub(crate) fn calls_by(&self, node: u32) -> &[PlacedCall<'a>]
-        requires { node < length (see_placed_lists self.now).predicates }
-        ensures { (c : CallAt) → Contains (see_calls result.now) c ↔ IsCallOf (see_placed_lists self.now) node c }
+        requires { node < length self.now.predicates }
+        ensures { (c : CallAt) → Contains (see_calls result.now) c ↔ IsCallOf self.now node c }
     {
         let piece = &self.pieces[(node / PIECE_SIZE) as usize];
         let span = piece.spans[(node % PIECE_SIZE) as usize];

@@ -1,7 +1,6 @@
 //! The groups of what the roots reach, with their levels.
 
 ghost use Rattle.std.specs.Prelude.{◌≡◌, ◌<◌, All, IfOk, length};
-ghost use Rattle.call_edges.specs.Opened.{see_call_lists};
 ghost use Rattle.call_edges.specs.Successors.{successor_lists};
 ghost use Rattle.call_table.specs.Reached.{AreNodes};
 ghost use Rattle.graph_law.specs.Graph.{Calls as ListCalls, lists_of};
@@ -29,7 +28,7 @@ pub fn groups_from(
     calls: &CallLists<'_>,
     roots: &[u32],
 ) -> Result<Reached, AllocError>
-    requires calls { see_call_lists calls.now ≡ program.now }
+    requires calls { calls.now ≡ program.now }
     requires below { All (λ q. q < length program.now.predicates) roots.now }
     ensures groups { IfOk result (λ found. AreLeveled (ListCalls (successor_lists program.now))
         roots.now (lists_of found.groups.items) found.levels.items) }

@@ -1,7 +1,6 @@
 //! The table of a program's calls.
 
 ghost use Rattle.std.specs.Prelude.{◌≡◌, ◌<◌, All, IfOk, length, map};
-ghost use Rattle.call_edges.specs.PlacedLists.{see_placed_lists};
 ghost use Rattle.call_table.specs.Table.{ArePlacedCalls, ArePlacedClauses, IsTable, clause_spot, kept_spot};
 ghost use Rattle.graph_law.specs.Graph.{lists_of};
 
@@ -70,8 +69,8 @@ fn calls_with_places<'a>(
     lists: &PlacedCallLists<'a>,
     nodes: &[u32],
 ) -> Result<(Vec<PlacedCall<'a>>, Vec<Place>), AllocError>
-    requires { All (λ p. p < length (see_placed_lists lists.now).predicates) nodes.now }
-    ensures { IfOk result (λ found. ArePlacedCalls (see_placed_lists lists.now) nodes.now found.0.items found.1.items) }
+    requires { All (λ p. p < length lists.now.predicates) nodes.now }
+    ensures { IfOk result (λ found. ArePlacedCalls lists.now nodes.now found.0.items found.1.items) }
 {
     let calls = calls_of(alloc, lists, nodes)?;
     let spots = call_spots(alloc, &calls)?;
@@ -88,19 +87,19 @@ fn clauses_beside_calls<'a, R: Threads + Sync>(
     lists: &PlacedCallLists<'a>,
     nodes: &[u32],
 ) -> Result<(Vec<ClauseAt>, Vec<Place>, Vec<PlacedCall<'a>>, Vec<Place>), AllocError>
-    requires below { All (λ p. p < length (see_placed_lists lists.now).predicates) nodes.now }
-    ensures clauses { IfOk result (λ found. ArePlacedClauses (see_placed_lists lists.now) nodes.now found.0.items found.1.items) }
-    ensures calls { IfOk result (λ found. ArePlacedCalls (see_placed_lists lists.now) nodes.now found.2.items found.3.items) }
+    requires below { All (λ p. p < length lists.now.predicates) nodes.now }
+    ensures clauses { IfOk result (λ found. ArePlacedClauses lists.now nodes.now found.0.items found.1.items) }
+    ensures calls { IfOk result (λ found. ArePlacedCalls lists.now nodes.now found.2.items found.3.items) }
 {
     let (clauses, calls) = thread::join_mut(
         rt,
         &mut || -> Result<(Vec<ClauseAt>, Vec<Place>), AllocError>
-            requires { All (λ p. p < length (see_placed_lists lists.now).predicates) nodes.now }
-            ensures { IfOk result (λ found. ArePlacedClauses (see_placed_lists lists.entry.now) nodes.entry.now found.0.items found.1.items) }
+            requires { All (λ p. p < length lists.now.predicates) nodes.now }
+            ensures { IfOk result (λ found. ArePlacedClauses lists.entry.now nodes.entry.now found.0.items found.1.items) }
         { clauses_with_places(alloc, lists.program(), nodes) },
         &mut || -> Result<(Vec<PlacedCall<'_>>, Vec<Place>), AllocError>
-            requires { All (λ p. p < length (see_placed_lists lists.now).predicates) nodes.now }
-            ensures { IfOk result (λ found. ArePlacedCalls (see_placed_lists lists.entry.now) nodes.entry.now found.0.items found.1.items) }
+            requires { All (λ p. p < length lists.now.predicates) nodes.now }
+            ensures { IfOk result (λ found. ArePlacedCalls lists.entry.now nodes.entry.now found.0.items found.1.items) }
         { calls_with_places(alloc, lists, nodes) },
     );
     let (clauses, clause_places) = match clauses {
@@ -126,9 +125,9 @@ pub fn call_table<'a, R: Threads + Sync>(
     nodes: &[u32],
     groups: &[Vec<u32>],
 ) -> Result<CallTable<'a>, AllocError>
-    requires below { All (λ p. p < length (see_placed_lists lists.now).predicates) nodes.now }
-    requires members { All (All (λ member. member < length (see_placed_lists lists.now).predicates)) (lists_of groups.now) }
-    ensures { IfOk result (IsTable (see_placed_lists lists.now) nodes.now (lists_of groups.now)) }
+    requires below { All (λ p. p < length lists.now.predicates) nodes.now }
+    requires members { All (All (λ member. member < length lists.now.predicates)) (lists_of groups.now) }
+    ensures { IfOk result (IsTable lists.now nodes.now (lists_of groups.now)) }
 {
     let program = lists.program();
     let order = in_file_order(rt, alloc, program, nodes)?;

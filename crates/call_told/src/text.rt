@@ -3,8 +3,6 @@
 ghost use Rattle.std.specs.Prelude.{◌≡◌, ◌<◌, ◌++◌, [], All, IfOk, OnOk, length, slice_index_or};
 ghost use Rattle.std.specs.List.{flat_map};
 ghost use Rattle.std.specs.String.{string_bytes};
-ghost use Rattle.call_edges.specs.Opened.{see_call_lists};
-ghost use Rattle.call_edges.specs.PlacedLists.{see_placed_lists};
 ghost use Rattle.call_edges.specs.Successors.{successor_lists};
 ghost use Rattle.call_table.specs.Table.{IsTable};
 ghost use Rattle.call_writer.specs.Dot.{cluster, edge_line};
@@ -36,7 +34,7 @@ fn table_of<'a, R: Threads + Sync>(
     calls: &PlacedCallLists<'a>,
 ) -> Result<CallTable<'a>, AllocError>
     requires told { IsTold told.now }
-    requires calls { see_placed_lists calls.now ≡ told.now.program.now }
+    requires calls { calls.now ≡ told.now.program.now }
     ensures { IfOk result (IsTable told.now.program.now told.now.nodes.items (lists_of told.now.groups.items)) }
 {
     call_table(rt, alloc, calls, &told.nodes, &told.groups)
@@ -65,7 +63,7 @@ fn table_beside_predicates<'a, R: Threads + Sync>(
     calls: &PlacedCallLists<'a>,
 ) -> Result<(CallTable<'a>, Vec<String>), AllocError>
     requires told { IsTold told.now }
-    requires calls { see_placed_lists calls.now ≡ told.now.program.now }
+    requires calls { calls.now ≡ told.now.program.now }
     ensures table { IfOk result (λ found. IsTable told.now.program.now told.now.nodes.items (lists_of told.now.groups.items) found.0) }
     ensures lines { IfOk result (λ found. joined found.1.items
         ≡ predicate_lines told.now.program.now (lists_of told.now.groups.items) told.now.levels.items told.now.places.items
@@ -80,7 +78,7 @@ fn table_beside_predicates<'a, R: Threads + Sync>(
                 told.entry.now.places.items told.entry.now.nodes.items) }
         { told_predicates(rt, alloc, told) },
         &mut || -> Result<CallTable<'_>, AllocError>
-            requires { IsTold told.now × (see_placed_lists calls.now ≡ told.now.program.now) }
+            requires { IsTold told.now × (calls.now ≡ told.now.program.now) }
             ensures { IfOk result (IsTable told.entry.now.program.now told.entry.now.nodes.items (lists_of told.entry.now.groups.items)) }
         { table_of(rt, alloc, told, calls) },
     );
@@ -103,7 +101,7 @@ fn lines_texts<R: Threads + Sync>(
     calls: &PlacedCallLists<'_>,
 ) -> Result<Vec<String>, AllocError>
     requires told { IsTold told.now }
-    requires calls { see_placed_lists calls.now ≡ told.now.program.now }
+    requires calls { calls.now ≡ told.now.program.now }
     ensures { IfOk result (λ texts. TellsForm Lines told.now.program.now (lists_of told.now.groups.items) told.now.levels.items
         told.now.places.items told.now.nodes.items (joined texts.items)) }
 {
@@ -124,7 +122,7 @@ fn undefined_texts<R: Threads + Sync>(
     calls: &PlacedCallLists<'_>,
 ) -> Result<Vec<String>, AllocError>
     requires told { IsTold told.now }
-    requires calls { see_placed_lists calls.now ≡ told.now.program.now }
+    requires calls { calls.now ≡ told.now.program.now }
     ensures { IfOk result (λ texts. TellsForm Undefined told.now.program.now (lists_of told.now.groups.items) told.now.levels.items
         told.now.places.items told.now.nodes.items (joined texts.items)) }
 {
@@ -189,7 +187,7 @@ fn push_callees(
     node: u32,
     callees: &mut Vec<u32>,
 ) -> Result<(), AllocError>
-    requires calls { see_call_lists calls.now ≡ told.now.program.now }
+    requires calls { calls.now ≡ told.now.program.now }
     requires below { node < length told.now.program.now.predicates }
     ensures { OnOk result (string_bytes text.new ≡ string_bytes text.old
         ++ flat_map (edge_line node) (slice_index_or (successor_lists told.now.program.now) node [])) }
@@ -207,7 +205,7 @@ fn push_all_callees(
     calls: &CallLists<'_>,
 ) -> Result<(), AllocError>
     requires told { IsTold told.now }
-    requires calls { see_call_lists calls.now ≡ told.now.program.now }
+    requires calls { calls.now ≡ told.now.program.now }
     ensures { OnOk result (string_bytes text.new ≡ string_bytes text.old
         ++ flat_map (λ p. flat_map (edge_line p) (slice_index_or (successor_lists told.now.program.now) p [])) told.now.nodes.items) }
 {
@@ -221,7 +219,7 @@ fn push_all_callees(
 /// The graph: a cluster for each group, the predicates that are in none, and the edges.
 fn dot_graph(alloc: Global, told: &Told<'_>, calls: &CallLists<'_>) -> Result<String, AllocError>
     requires told { IsTold told.now }
-    requires calls { see_call_lists calls.now ≡ told.now.program.now }
+    requires calls { calls.now ≡ told.now.program.now }
     ensures { IfOk result (λ text. string_bytes text
         ≡ dot_graph told.now.program.now (lists_of told.now.groups.items) told.now.places.items told.now.nodes.items) }
 {
@@ -240,7 +238,7 @@ fn dot_texts(
     calls: &CallLists<'_>,
 ) -> Result<Vec<String>, AllocError>
     requires told { IsTold told.now }
-    requires calls { see_call_lists calls.now ≡ told.now.program.now }
+    requires calls { calls.now ≡ told.now.program.now }
     ensures { IfOk result (λ texts. joined texts.items
         ≡ dot_graph told.now.program.now (lists_of told.now.groups.items) told.now.places.items told.now.nodes.items) }
 {
@@ -259,7 +257,7 @@ fn texts_of<R: Threads + Sync>(
     calls: &PlacedCallLists<'_>,
 ) -> Result<Vec<String>, AllocError>
     requires told { IsTold told.now }
-    requires calls { see_placed_lists calls.now ≡ told.now.program.now }
+    requires calls { calls.now ≡ told.now.program.now }
     ensures { IfOk result (λ texts. TellsForm form told.now.program.now (lists_of told.now.groups.items) told.now.levels.items
         told.now.places.items told.now.nodes.items (joined texts.items)) }
 {
@@ -281,7 +279,7 @@ pub fn told_texts<R: Threads + Sync>(
     calls: &PlacedCallLists<'_>,
     roots: &[u32],
 ) -> Result<Vec<String>, AllocError>
-    requires calls { see_placed_lists calls.now ≡ program.now }
+    requires calls { calls.now ≡ program.now }
     requires below { All (λ q. q < length program.now.predicates) roots.now }
     ensures { IfOk result (λ texts. TellsFrom (see_wanted wanted.now) program.now roots.now (joined texts.items)) }
 {

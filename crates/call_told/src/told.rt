@@ -2,7 +2,6 @@
 //! the roots reach.
 
 ghost use Rattle.std.specs.Prelude.{◌≡◌, ◌<◌, ◌==◌, ◌||◌, All, IfOk, length, not};
-ghost use Rattle.call_edges.specs.Opened.{see_call_lists};
 ghost use Rattle.call_edges.specs.Successors.{successor_lists};
 ghost use Rattle.call_table.specs.Reached.{AreNodes};
 ghost use Rattle.loop_report.specs.Reportable.{AreLeveled};
@@ -69,7 +68,7 @@ pub fn make_told<'a>(
     calls: &CallLists<'_>,
     roots: &[u32],
 ) -> Result<Told<'a>, AllocError>
-    requires calls { see_call_lists calls.now ≡ program.now }
+    requires calls { calls.now ≡ program.now }
     requires below { All (λ q. q < length program.now.predicates) roots.now }
     ensures told { IfOk result IsTold }
     ensures same { IfOk result (λ (told : ToldHere). told.program.now ≡ program.now) }

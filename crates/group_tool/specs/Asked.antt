@@ -1,6 +1,5 @@
 -- What is asked of a program, and the groups that it has.
 use Rattle.std.specs.Prelude.{◌≡◌, ◌<◌, [], All, length}
-use Rattle.call_edges.specs.Opened.{see_call_lists}
 use Rattle.call_edges.specs.Successors.{successor_lists}
 use Rattle.call_edges.specs.GoalFaults.{AreGoalFaults}
 use Rattle.graph_law.specs.Graph.{Calls, lists_of}
@@ -14,7 +13,7 @@ use Rattle.group_tool.specs.declared.asked.Grouped.{Grouped}
 
 -- these are the calls of the program, each of whose goals is callable, the numbers of all roots, and those of the ends of the path
 pub record IsAskedOf (settings : Settings) (seen : Seen) (asked : Asked) : Type 0 where
-  pub calls : see_call_lists asked.calls ≡ seen
+  pub calls : asked.calls ≡ seen
   pub callable : AreGoalFaults seen []
   pub roots : AreRootNumbers settings.roots seen asked.roots.items
   pub below : All (λ q. q < length seen.predicates) asked.roots.items

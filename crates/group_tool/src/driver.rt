@@ -3,7 +3,6 @@
 
 ghost use Rattle.std.specs.Prelude.{◌≡◌, ◌<◌, ◌≤◌, [], List, ℕ, None, true, All, IfOk, length};
 ghost use Rattle.graph_law.specs.Graph.{Calls as ListCalls, lists_of};
-ghost use Rattle.call_edges.specs.Opened.{see_call_lists};
 ghost use Rattle.call_edges.specs.Successors.{successor_lists};
 ghost use Rattle.loop_report.specs.Reportable.{AreGroups, AreLeveled};
 ghost use Rattle.group_words.specs.Settings.{AreLawful, see_options};
@@ -30,7 +29,7 @@ pub fn groups_alone(
     roots: &[u32],
 ) -> Result<Vec<Vec<u32>>, AllocError>
     requires lawful { (words : List (List ℕ)) × AreLawful words (see_options options.now) }
-    requires calls { see_call_lists calls.now ≡ program.now }
+    requires calls { calls.now ≡ program.now }
     requires roots { All (λ q. q < length program.now.predicates) roots.now }
     ensures groups { IfOk result (λ groups. AreGroups (ListCalls (successor_lists program.now)) roots.now (lists_of groups.items)) }
     ensures order { IfOk result (λ groups.
@@ -55,7 +54,7 @@ pub fn groups_by_workers<R: Threads + Wait + Sync, G: Gate>(
     gate: &G,
 ) -> Result<Vec<Vec<u32>>, AllocError>
     requires lawful { (words : List (List ℕ)) × AreLawful words (see_options options.now) }
-    requires calls { see_call_lists calls.now ≡ program.now }
+    requires calls { calls.now ≡ program.now }
     requires roots { All (λ q. q < length program.now.predicates) roots.now }
     ensures { IfOk result (λ groups. AreGroups (ListCalls (successor_lists program.now)) roots.now (lists_of groups.items)) }
 {
@@ -76,9 +75,9 @@ pub fn groups_by_stream<R: Threads + Wait + Sync, G: Gate>(
     taker: &mut LevelTaker<'_, CallLists<'_>>,
 ) -> Result<Vec<Vec<u32>>, AllocError>
     requires lawful { (words : List (List ℕ)) × AreLawful words (see_options options.now) }
-    requires calls { see_call_lists calls.now ≡ program.now }
+    requires calls { calls.now ≡ program.now }
     requires roots { All (λ q. q < length program.now.predicates) roots.now }
-    requires lists { taker.old.lists ≡ successor_lists (see_call_lists calls.now) }
+    requires lists { taker.old.lists ≡ successor_lists calls.now }
     requires fresh { taker.old.taken ≡ [] }
     ensures groups { IfOk result (λ groups. AreGroups (ListCalls (successor_lists program.now)) roots.now (lists_of groups.items)) }
     ensures leveled { IfOk result (λ groups.

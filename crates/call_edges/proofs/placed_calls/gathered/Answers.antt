@@ -1,7 +1,6 @@
 use Rattle.std.proofs.Common.{[], get_or, refl}
 use Rattle.call_edges.specs.Calls.{IsAmong}
 use Rattle.call_edges.specs.CallPlaces.{IsCallOf}
-use Rattle.call_edges.specs.PlacedLists.{see_placed_lists}
 use Rattle.call_edges.specs.PlacedSeen.{see_calls}
 use Rattle.call_edges.proofs.AmongLemmas.{among_next, among_all}
 use Rattle.call_edges.proofs.CallLemmas.{adds_from_none}
@@ -10,7 +9,7 @@ use Rattle.call_edges.proofs.placed_calls.gathered.Goals as goal
 
 pub loop-caller-preserved : goal.loop-caller-preserved
 loop-caller-preserved c =
-    let seen = see_placed_lists c.args.lists.now in
+    let seen = c.args.lists.now in
     let callers = c.args.callers.now in
     let k = c.loop-caller.caller-index in
     let calls = c.loop-caller.calls.items in
@@ -20,7 +19,7 @@ loop-caller-preserved c =
 
 pub returns : goal.returns
 returns c =
-    let seen = see_placed_lists c.args.lists.now in
+    let seen = c.args.lists.now in
     let callers = c.args.callers.now in
     let calls = see_calls c.loop-caller.calls.items in
     adds_from_none (IsAmong (IsCallOf seen) callers) [] calls refl

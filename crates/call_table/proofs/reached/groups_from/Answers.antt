@@ -1,5 +1,4 @@
 use Rattle.std.proofs.Common.{◌<◌, All, length, sym, subst}
-use Rattle.call_edges.specs.Opened.{see_call_lists}
 use Rattle.call_edges.specs.Successors.{successor_lists}
 use Rattle.graph_law.specs.Classes.{HasMember}
 use Rattle.graph_law.specs.LegalOrder.{IsLegalOrder}
@@ -19,7 +18,7 @@ pub levels-requires-clause-nodes : goal.levels-requires-clause-nodes
 levels-requires-clause-nodes c κs p has =
     subst (λ (s : Seen). p < length (successor_lists s)) (sym c.requires.calls)
     (members_listed c.args.program.now c.args.roots.now (lists_of c.in_ok-groups.groups.items) c.requires.below
-    (reached_by (see_call_lists c.args.calls.now) c.args.program.now c.args.roots.now (lists_of c.in_ok-groups.groups.items) c.requires.calls c.in_ok-groups.ensures.reached) p
+    (reached_by c.args.calls.now c.args.program.now c.args.roots.now (lists_of c.in_ok-groups.groups.items) c.requires.calls c.in_ok-groups.ensures.reached) p
     (subst (λ gs. HasMember (lists_of gs) p) c.deref.ensures.value has))
 
 pub returns-clause-groups : goal.returns-clause-groups
@@ -27,7 +26,7 @@ returns-clause-groups c =
     subst (λ (s : Seen). AreLeveled (ListCalls (successor_lists s)) c.args.roots.now (lists_of c.in_ok-groups.groups.items) c.in_ok-levels.levels.items) c.requires.calls
     (record {
       are = record { legal = c.in_ok-groups.ensures.legal; complete = c.in_ok-groups.ensures.complete; reached = c.in_ok-groups.ensures.reached };
-      leveled = subst (λ gs. AreLevels (ListCalls (successor_lists (see_call_lists c.args.calls.now))) (lists_of gs) c.in_ok-levels.levels.items) c.deref.ensures.value c.in_ok-levels.ensures;
+      leveled = subst (λ gs. AreLevels (ListCalls (successor_lists c.args.calls.now)) (lists_of gs) c.in_ok-levels.levels.items) c.deref.ensures.value c.in_ok-levels.ensures;
     })
 
 pub returns-clause-nodes : goal.returns-clause-nodes
@@ -36,4 +35,4 @@ returns-clause-nodes c =
     let groups = lists_of c.in_ok-groups.groups.items in
     are_nodes seen c.args.roots.now groups c.requires.below
     (subst (λ (s : Seen). IsLegalOrder (ListCalls (successor_lists s)) groups) c.requires.calls c.in_ok-groups.ensures.legal)
-    (reached_by (see_call_lists c.args.calls.now) seen c.args.roots.now groups c.requires.calls c.in_ok-groups.ensures.reached)
+    (reached_by c.args.calls.now seen c.args.roots.now groups c.requires.calls c.in_ok-groups.ensures.reached)

@@ -1,7 +1,6 @@
 use Rattle.std.proofs.Common.{◌≡◌, ◌<◌, List, ℕ, All, length, ap, sym, ◌∙◌, subst}
 use Rattle.import_rules.specs.Program.{Seen}
 use Rattle.graph_law.specs.Graph.{lists_of}
-use Rattle.call_edges.specs.PlacedLists.{see_placed_lists}
 use Rattle.call_table.specs.Memberships.{AreGroupsOf}
 use Rattle.call_table.specs.Table.{ArePlacedCalls, ArePlacedClauses}
 use Rattle.call_table.proofs.OrderLemmas.{all_same, calls_same, clauses_same}
@@ -9,14 +8,14 @@ use Rattle.call_table.proofs.table.call_table.Goals as goal
 
 pub clauses_beside_calls-requires-clause-below : goal.clauses_beside_calls-requires-clause-below
 clauses_beside_calls-requires-clause-below g c κs within =
-    let seen = see_placed_lists c.args.lists.now in
+    let seen = c.args.lists.now in
     let order = c.in_ok-order.order.items in
     let below = all_same seen order c.args.nodes.now c.in_ok-order.ensures.same (λ p. p < length seen.predicates) c.requires.below in
     subst (λ (ps : List ℕ). All (λ p. p < length seen.predicates) ps) (sym c.deref.ensures.value) below
 
 pub returns : goal.returns
 returns g c =
-    let seen = see_placed_lists c.args.lists.now in
+    let seen = c.args.lists.now in
     let order = c.in_ok-order.order.items in
     let nodes = c.args.nodes.now in
     let same = c.in_ok-order.ensures.same in

@@ -3,7 +3,6 @@ use Rattle.std.proofs.lemmas.Simd.{map-map}
 use Rattle.std.specs.List.{AllZip}
 use Rattle.import_rules.specs.Program.{Seen}
 use Rattle.file_library.specs.Spots.{AreSpots, IsSpotPlace}
-use Rattle.call_edges.specs.PlacedLists.{see_placed_lists}
 use Rattle.call_edges.specs.PlacedSeen.{see_call, see_calls}
 use Rattle.call_table.specs.Table.{call_spot, kept_spot}
 use Rattle.call_table.proofs.SpotOrder.{calls_are_spots}
@@ -11,7 +10,7 @@ use Rattle.call_table.proofs.table.calls_with_places.Goals as goal
 
 pub places_of_spots-requires : goal.places_of_spots-requires
 places_of_spots-requires c =
-    let seen = see_placed_lists c.args.lists.now in
+    let seen = c.args.lists.now in
     let calls = c.in_ok-calls.calls.items in
     let is : c.deref-2.result.now ≡ map call_spot (see_calls calls) =
     c.deref-2.ensures.value ∙ (c.in_ok-spots.ensures ∙ (ap (map kept_spot) c.deref.ensures.value ∙ sym (map-map call_spot see_call calls))) in
@@ -21,7 +20,7 @@ places_of_spots-requires c =
 
 pub returns : goal.returns
 returns c =
-    let seen = see_placed_lists c.args.lists.now in
+    let seen = c.args.lists.now in
     let calls = c.in_ok-calls.calls.items in
     let places = c.in_ok-places.places.items in
     let is : c.deref-2.result.now ≡ map call_spot (see_calls calls) =

@@ -1,7 +1,6 @@
 use Rattle.std.proofs.Common.{◌<◌, All, length, sym, subst}
 use Rattle.graph_law.specs.Graph.{lists_of}
 use Rattle.import_rules.specs.Program.{Seen}
-use Rattle.call_edges.specs.Opened.{see_call_lists}
 use Rattle.call_edges.specs.Successors.{successor_lists}
 use Rattle.group_tool.proofs.GroupLemmas.{roots_listed, searched}
 use Rattle.group_tool.proofs.driver.groups_alone.Goals as goal
@@ -18,10 +17,10 @@ groups_plain-requires-after_bounds c κs =
 
 pub returns-in-Some-clause-groups : goal.returns-in-Some-clause-groups
 returns-in-Some-clause-groups c =
-    searched c.drive_many.result (λ groups. lists_of groups.items) c.args.program.now (see_call_lists c.args.calls.now) c.args.roots.now c.requires.calls
+    searched c.drive_many.result (λ groups. lists_of groups.items) c.args.program.now c.args.calls.now c.args.roots.now c.requires.calls
     c.drive_many.ensures.legal c.drive_many.ensures.complete c.drive_many.ensures.reached
 
 pub returns-in-None-clause-groups : goal.returns-in-None-clause-groups
 returns-in-None-clause-groups c =
-    searched c.groups_plain.result (λ groups. lists_of groups.items) c.args.program.now (see_call_lists c.args.calls.now) c.args.roots.now c.requires.calls
+    searched c.groups_plain.result (λ groups. lists_of groups.items) c.args.program.now c.args.calls.now c.args.roots.now c.requires.calls
     c.groups_plain.ensures.legal c.groups_plain.ensures.complete c.groups_plain.ensures.reached

@@ -11,7 +11,6 @@ use Rattle.graph_law.specs.Reach.{IsReached}
 use Rattle.group_release.specs.Level.{AreLevels}
 use Rattle.group_release.specs.declared.level.Level.{Level}
 use Rattle.import_rules.specs.Program.{Seen}
-use Rattle.call_edges.specs.Opened.{see_call_lists}
 use Rattle.call_edges.specs.Successors.{successor_lists}
 use Rattle.loop_report.specs.Reportable.{AreGroups}
 use Rattle.group_tool.proofs.GroupLemmas.{roots_listed}
@@ -39,14 +38,14 @@ levels_fed seen called lists groups taken levels same own all are =
 
 pub returns-clause-groups : goal.returns-clause-groups
 returns-clause-groups g c =
-    fed c.args.program.now (see_call_lists c.args.calls.now) c.args.roots.now (lists_of c.in_ok-groups.groups.items) c.drive_feed.new.taker.taken c.requires.calls
+    fed c.args.program.now c.args.calls.now c.args.roots.now (lists_of c.in_ok-groups.groups.items) c.drive_feed.new.taker.taken c.requires.calls
     c.in_ok-groups.ensures.taken c.in_ok-groups.ensures.part c.in_ok-groups.ensures.complete c.in_ok-groups.ensures.reached
 
 pub returns-clause-leveled : goal.returns-clause-leveled
 returns-clause-leveled g c = record {
-  are = fed c.args.program.now (see_call_lists c.args.calls.now) c.args.roots.now (lists_of c.in_ok-groups.groups.items) c.drive_feed.new.taker.taken
+  are = fed c.args.program.now c.args.calls.now c.args.roots.now (lists_of c.in_ok-groups.groups.items) c.drive_feed.new.taker.taken
       c.requires.calls c.in_ok-groups.ensures.taken c.in_ok-groups.ensures.part c.in_ok-groups.ensures.complete c.in_ok-groups.ensures.reached;
-  leveled = levels_fed c.args.program.now (see_call_lists c.args.calls.now) c.drive_feed.new.taker.lists (lists_of c.in_ok-groups.groups.items)
+  leveled = levels_fed c.args.program.now c.args.calls.now c.drive_feed.new.taker.lists (lists_of c.in_ok-groups.groups.items)
       c.drive_feed.new.taker.taken c.drive_feed.new.taker.levels c.requires.calls c.in_ok-groups.ensures.lists c.in_ok-groups.ensures.taken c.levels.ensures.are;
 }
 

@@ -5,7 +5,6 @@ use Rattle.group_tool.proofs.SharedCalls.{program_shared}
 use Rattle.std.proofs.Common.{◌<◌, All, length, sym, subst}
 use Rattle.graph_law.specs.Graph.{lists_of}
 use Rattle.import_rules.specs.Program.{Seen}
-use Rattle.call_edges.specs.Opened.{see_call_lists}
 use Rattle.call_edges.specs.Successors.{successor_lists}
 use Rattle.group_tool.proofs.GroupLemmas.{roots_listed, searched}
 use Rattle.group_tool.proofs.driver.groups_by_workers.Goals as goal
@@ -17,7 +16,7 @@ drive_workers-requires-clause-roots g c κs within =
 
 pub returns : goal.returns
 returns g c =
-    searched c.drive_workers.result (λ groups. lists_of groups.items) c.args.program.now (see_call_lists c.args.calls.now) c.args.roots.now c.requires.calls
+    searched c.drive_workers.result (λ groups. lists_of groups.items) c.args.program.now c.args.calls.now c.args.roots.now c.requires.calls
     c.drive_workers.ensures.legal c.drive_workers.ensures.complete c.drive_workers.ensures.reached
 
 pub drive_workers-requires-sync-O : goal.drive_workers-requires-sync-O

@@ -1,6 +1,0 @@
-use Rattle.call_edges.specs.PlacedLists.{see_placed_lists}
-use Rattle.call_edges.proofs.placed_lists.PlacedCallLists.program.Goals as goal
-
-pub returns : goal.returns
-unfolding see_placed_lists
-returns c = c.program.ensures
