@@ -35,8 +35,9 @@ WORDS = {
     "theorem": (r"\blaws?\b", 1),
     "return": (r"\banswers?\b", 64),
 }
-# The same in the comments of crates/*/src, where some words are right in another sense more often.
-IN_COMMENTS = {better: (pattern, 0) for better, (pattern, _) in WORDS.items() if better not in ("CI", "mutant")}
+# The same in the comments of crates/*/src. Some are right in another sense there: a node stands for a name, words are words of memory, an answer is a noun.
+RIGHT = {"except": 2, "is": 6, "arguments": 6, "return": 24}
+IN_COMMENTS = {better: (pattern, RIGHT.get(better, 0)) for better, (pattern, _) in WORDS.items() if better not in ("CI", "mutant")}
 MACRO = re.compile(r"^[.'](?:[A-Z]{1,2}|br|in)\b ?")
 
 
