@@ -1,16 +1,17 @@
 #!/usr/bin/env python3
-"""Times whole runs of `groups` on made programs, beside a C++ program that reads just such texts, and SWI-Prolog's `read_term/2`.
+"""Times whole runs of `groups` on generated programs, compared with a C++ program that reads only such texts, and SWI-Prolog's `read_term/2`.
 
-The C++ program (`floor.cpp`) writes the same report, and its bytes are compared; SWI-Prolog reads the clauses and finds no groups.
-Needs `g++`, `swipl` and `rt`, or the built program. Prints a table: the best of five runs of each, in seconds, and the most memory
-that one held, in MB. With `--keep FOLDER` the texts stay there.
+The C++ program (`floor.cpp`) writes the same report, and its bytes are compared; SWI-Prolog reads the clauses and finds no groups. The last family is text
+as people write it: several clauses a predicate, with arguments, lists, strings and sums. The C++ program can't read it, so there are no factors. Needs `g++`,
+`swipl` and `rt`, or the built program. Prints a table: the best of five runs of each, in seconds, and the most memory that one held, in MB. With `--keep FOLDER`
+the texts stay there.
 """
 
 import random
 import subprocess
 import sys
 
-from common import ROOT, RUNS, folders
+from common import MOST_BYTES, ROOT, RUNS, folders
 
 GROUPS = ROOT / "groups"
 
@@ -103,6 +104,28 @@ def written(folder, calls, count):
     return names
 
 
+def spoken(count):
+    """Predicates of one to four clauses with two to four arguments, until the text is as large as a file may be."""
+    source, parts, size, number = random.Random(13), [], 0, 0
+    terms = ["[]", "[X|Xs]", "[X, Y|Zs]", "f(X, Y)", "pair(K-V, Rest)", "'a quoted name'", '"a string of text"', "0'c", "42", "-1", "3.14", "X", "Acc", "State"]
+    goals = ["Y is X * 2 + 1", "X > 0", "length(Xs, N)", "\\+ member(X, Xs)", "format(\"~w: ~a~n\", [X, Y])", "( X == Y -> true ; fail )", "findall(Z, member(Z, Xs), Zs)", "atom(X)"]
+    while True:
+        clauses = []
+        for _ in range(source.randint(1, 4)):
+            body = [source.choice(goals) for _ in range(source.randint(0, 2))]
+            for _ in range(source.randint(0, 2)):
+                callee = max(0, number + source.randint(-20, 60))
+                body.append(f"do_step_{callee}({', '.join(source.choice(terms) for _ in range(2 + callee % 3))})")
+            head = f"do_step_{number}({', '.join(source.choice(terms) for _ in range(2 + number % 3))})"
+            clauses.append(f"{head} :-\n    " + ",\n    ".join(body) + ".\n" if body else f"{head}.\n")
+        text = "% What the step does, in a line.\n" + "".join(clauses) + "\n"
+        if size + len(text) > count:
+            return "".join(parts)
+        parts.append(text)
+        size += len(text)
+        number += 1
+
+
 # Starts a program from a small process, since the peak of a child counts what its parent held when it began it.
 MEASURED = """
 import os, subprocess, sys, time
@@ -150,6 +173,12 @@ def main():
                 f"{floor_mb:>10.1f}{mb:>11.1f}{mb / floor_mb:>8.2f}",
                 flush=True,
             )
+        text = spoken(MOST_BYTES)
+        (texts / "spoken.pl").write_text(text)
+        took, mb, answer = best([GROUPS, "spoken.pl"], texts)
+        theirs, _, _ = best(["swipl", script, "--", "spoken.pl"], texts)
+        calls = text.count("    do_step_")
+        print(f"{'as people write':<22}{calls:>9}{len(text) / 1e6:>12.1f}{'':>10}{took:>10.3f}{'':>8}{theirs:>8.2f}{'':>10}{mb:>11.1f}")
 
 
 if __name__ == "__main__":
