@@ -18,7 +18,7 @@ use Rattle.file_library.specs.declared.fault.Fault.{Fault}
 use Rattle.import_rules.specs.Files.{AreNumbered, pair_cmp}
 use Rattle.import_rules.specs.Program.{Seen, IsProgram, IsKnown, IsReadFrom}
 use Rattle.import_rules.proofs.Lists.{all_by}
-use Rattle.import_rules.proofs.Loaded.{was_read}
+use Rattle.import_rules.proofs.Loaded.{few_files, was_read}
 use Rattle.call_edges.specs.Goals.{Met, call, fault, Rows}
 use Rattle.call_edges.specs.ProgramRows.{rows_of}
 use Rattle.call_edges.specs.GoalFaults.{AreGoalFaults, IsMetInFile}
@@ -38,6 +38,8 @@ known loaded seen was program =
     record {
       numbered = subst (λ (l : LoadedFiles). AreNumbered l.files seen.predicates) (sym program.is) program.numbered;
       few = program.few;
+      few_files = few_files seen.loaded own;
+      roots = own.is.root_names.ordered;
       ordered = own.is.ordered;
       read = was_read seen.loaded own;
     }
