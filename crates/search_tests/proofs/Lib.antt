@@ -1,2 +1,1 @@
 mod LedSteps
-mod NewGroups

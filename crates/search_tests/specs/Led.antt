@@ -21,8 +21,3 @@ pub record LeadsTo (book : BookValue) (search : SearchValue) (next : ℕ) : Type
 pub record IsFreeIn (book : BookValue) (node : ℕ) : Type 0 where
   pub unkept : IsFree book.kept node
   pub unreleased : HasMember book.groups node → ⊥
-
--- the other book is of the same graph and roots
-pub record IsSameGraph (book other : BookValue) : Type 0 where
-  pub lists : other.lists ≡ book.lists
-  pub roots : other.roots ≡ book.roots

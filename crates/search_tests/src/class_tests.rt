@@ -1,7 +1,8 @@
-use crate::graphs::tailed_ring;
+use crate::graphs::{graph_of_lists, tailed_ring};
 use crate::shown::levels_shown;
 use graph_law::{Graph, Opener, is_recursive};
 use search_stack::groups_plain;
+use std::alloc::Global;
 use std::test::Fail;
 
 #[test]
@@ -31,15 +32,22 @@ fn a_node_that_calls_itself_is_recursive(rt: HostRuntime) -> Result<(), Fail> {
 #[test]
 fn releases_callees_first_with_their_levels(rt: HostRuntime) -> Result<(), Fail> {
     let alloc = rt.alloc();
-    let graph = tailed_ring(alloc)?;
-    let groups = groups_plain(alloc, &graph, graph.roots())?;
+    let ring = tailed_ring(alloc)?;
     assert_eq!(rt;
-        format!(in alloc; "{groups:?}")?.as_str(),
-        "[[2], [0, 1], [3]]"
+        searched(alloc, &ring)?.as_str(),
+        "[[2], [0, 1], [3]] [(0, false), (1, true), (2, false)]"
     );
+    let called = graph_of_lists(alloc, &[&[2], &[2], &[3], &[1, 0], &[1]], &[4, 0])?;
     assert_eq!(rt;
-        levels_shown(alloc, &graph, &groups)?.as_str(),
-        "[(0, false), (1, true), (2, false)]"
+        searched(alloc, &called)?.as_str(),
+        "[[0, 1, 2, 3], [4]] [(0, true), (1, false)]"
     );
     Ok(())
+}
+
+/// The groups that one search finds, and their levels.
+fn searched(alloc: Global, graph: &Graph) -> Result<String, Fail> {
+    let groups = groups_plain(alloc, graph, graph.roots())?;
+    let levels = levels_shown(alloc, graph, &groups)?;
+    Ok(format!(in alloc; "{groups:?} {levels}")?)
 }

@@ -1,13 +1,11 @@
-//! Searches that are led by hand with a book, step by step.
+//! Searches that run one after another with a book, step by step.
 
 ghost use Rattle.std.specs.Prelude.{◌≡◌, ◌⊎◌, [], None, slice_index_or, OnOk, IfOk, IfSome};
 ghost use Rattle.std.specs.Bool.{OnTrue};
-ghost use Rattle.graph_law.specs.Classes.{HasMember};
-ghost use Rattle.search_stack.specs.Search.{IsLastBegun, IsOn, pushed};
+ghost use Rattle.search_stack.specs.Search.{IsDone, IsLastBegun, IsOn, IsRipe, pushed};
 ghost use Rattle.search_stack.specs.Stack.{size};
-ghost use Rattle.blocked_table.specs.Kept.{IsFree};
 ghost use Rattle.group_release.specs.Book.{RunsBeside};
-ghost use Rattle.search_tests.specs.Led.{IsFreeIn, IsSameGraph, LeadsTo};
+ghost use Rattle.search_tests.specs.Led.{IsFreeIn, LeadsTo};
 
 use blocked_table::Suspended;
 use graph_law::{Graph, Opener};
@@ -16,10 +14,23 @@ use search_stack::{Opening, Search};
 use std::alloc::Global;
 use std::test::Fail;
 
-/// A search that has pushed the next root, which no other search holds.
-pub(crate) fn start(alloc: Global, graph: &Graph, book: &mut Book) -> Result<Search, Fail>
+/// A search that goes on: a suspended one that is ready, or else one that has pushed the next root,
+/// which no other search holds.
+pub(crate) fn next_search(alloc: Global, graph: &Graph, book: &mut Book) -> Result<Search, Fail>
     requires { book.old.lists ≡ graph.now.lists }
-    ensures same { IfOk result (λ _. IsSameGraph book.old book.new) }
+    ensures same { IfOk result (λ _. book.new.lists ≡ graph.now.lists) }
+    ensures runs { IfOk result (RunsBeside book.new) }
+{
+    match book.take_ready() {
+        Some(search) => Ok(search),
+        None => start(alloc, graph, book),
+    }
+}
+
+/// A search that has pushed the next root.
+fn start(alloc: Global, graph: &Graph, book: &mut Book) -> Result<Search, Fail>
+    requires { book.old.lists ≡ graph.now.lists }
+    ensures same { IfOk result (λ _. book.new.lists ≡ graph.now.lists) }
     ensures runs { IfOk result (RunsBeside book.new) }
 {
     let Some(root) = book.next_root() else {
@@ -64,61 +75,59 @@ fn push(alloc: Global, graph: &Graph, node: u32, search: &mut Search) -> Result<
     Ok(())
 }
 
-/// Begins the next edge, which must lead to the node.
-pub(crate) fn begin(book: &Book, search: &mut Search, node: u32) -> Result<(), Fail>
-    requires { RunsBeside book.now search.old }
-    ensures { OnOk result (LeadsTo book.now search.new node) }
-{
-    let Some(next) = search.begin() else {
-        return Err("all edges have begun".into());
-    };
-    if next != node {
-        return Err("the edge leads to another node".into());
-    }
-    Ok(())
-}
-
-/// Follows the next edge to a node that is free, and pushes it.
-pub(crate) fn enter(
+/// The search after its next step. None if it is suspended then, or has released its nodes.
+pub(crate) fn take_step(
     alloc: Global,
     graph: &Graph,
-    book: &Book,
-    search: &mut Search,
-    node: u32,
-) -> Result<(), Fail>
-    requires lists { book.now.lists ≡ graph.now.lists }
-    requires runs { RunsBeside book.now search.old }
-    ensures { OnOk result (RunsBeside book.now search.new) }
-{
-    begin(book, search, node)?;
-    if search.holds(node) || !is_free(book, node) {
-        return Err("the node isn't free".into());
-    }
-    push(alloc, graph, node, search)?;
-    Ok(())
-}
-
-/// Follows the next edge back to a node of the search.
-pub(crate) fn back(book: &Book, search: &mut Search, node: u32) -> Result<(), Fail>
-    requires { RunsBeside book.now search.old }
-    ensures { OnOk result (RunsBeside book.now search.new) }
-{
-    begin(book, search, node)?;
-    if !search.back(node) {
-        return Err("the node isn't on the search".into());
-    }
-    Ok(())
-}
-
-/// Suspends the search until the node is finished to which its next edge leads. None if it is
-/// suspended, and otherwise the search with what it waited for on top.
-pub(crate) fn wait(book: &mut Book, mut search: Search, node: u32) -> Result<Option<Search>, Fail>
-    requires { RunsBeside book.old search }
-    ensures same { IfOk result (λ _. IsSameGraph book.old book.new) }
+    book: &mut Book,
+    mut search: Search,
+) -> Result<Option<Search>, Fail>
+    requires lists { book.old.lists ≡ graph.now.lists }
+    requires runs { RunsBeside book.old search }
+    ensures same { IfOk result (λ _. book.new.lists ≡ book.old.lists) }
     ensures runs { IfOk result (λ after. IfSome after (RunsBeside book.new)) }
 {
-    begin(book, &mut search, node)?;
-    if search.holds(node) || book.released().holds(node) {
+    match search.begin() {
+        Some(node) => follow(alloc, graph, book, search, node),
+        None => finish(book, search),
+    }
+}
+
+/// Follows an edge that has begun: back to a node of the search, or to a free node, which is
+/// pushed. A root is left to the search that begins there. So at a root, or a node of a suspended
+/// search, the search is suspended too, or goes on with what it waited for on top.
+fn follow(
+    alloc: Global,
+    graph: &Graph,
+    book: &mut Book,
+    mut search: Search,
+    node: u32,
+) -> Result<Option<Search>, Fail>
+    requires lists { book.old.lists ≡ graph.now.lists }
+    requires leads { LeadsTo book.old search node }
+    ensures same { IfOk result (λ _. book.new.lists ≡ book.old.lists) }
+    ensures runs { IfOk result (λ after. IfSome after (RunsBeside book.new)) }
+{
+    if search.holds(node) {
+        search.back(node);
+        return Ok(Some(search));
+    }
+    if book.roots().contains(&node) || !is_free(book, node) {
+        return wait(book, search, node);
+    }
+    push(alloc, graph, node, &mut search)?;
+    Ok(Some(search))
+}
+
+/// Suspends a search until the node is finished to which its last edge leads. The search if it goes
+/// on with what it waited for on top.
+fn wait(book: &mut Book, search: Search, node: u32) -> Result<Option<Search>, Fail>
+    requires leads { LeadsTo book.old search node }
+    requires off { IsOn search.stack node → ⊥ }
+    ensures same { IfOk result (λ _. book.new.lists ≡ book.old.lists) }
+    ensures runs { IfOk result (λ after. IfSome after (RunsBeside book.new)) }
+{
+    if book.released().holds(node) {
         return Err("the search need not wait".into());
     }
     match book.suspend(search, node) {
@@ -128,35 +137,33 @@ pub(crate) fn wait(book: &mut Book, mut search: Search, node: u32) -> Result<Opt
     }
 }
 
-/// Joins the top segment to the one below.
-pub(crate) fn join(book: &Book, search: &mut Search) -> Result<(), Fail>
-    requires { RunsBeside book.now search.old }
-    ensures { OnOk result (RunsBeside book.now search.new) }
+/// Joins the top segment to the one below, or releases it if it is a group.
+fn finish(book: &mut Book, mut search: Search) -> Result<Option<Search>, Fail>
+    requires runs { RunsBeside book.old search }
+    requires done { IsDone search.stack }
+    ensures same { IfOk result (λ _. book.new.lists ≡ book.old.lists) }
+    ensures runs { IfOk result (λ after. IfSome after (RunsBeside book.new)) }
 {
-    let None = search.begin() else {
-        return Err("an edge of the top segment had not begun".into());
-    };
     if search.is_ripe() {
-        return Err("the top segment is a group".into());
+        release(book, search)?;
+        return Ok(None);
     }
     search.retreat();
-    Ok(())
+    Ok(Some(search))
 }
 
-/// Releases the top segment of a search, which is all of it: these nodes.
-pub(crate) fn release(book: &mut Book, mut search: Search, nodes: &[u32]) -> Result<(), Fail>
-    requires { RunsBeside book.old search }
-    ensures { OnOk result (IsSameGraph book.old book.new) }
+/// Releases the top segment of a search, which is all of it.
+fn release(book: &mut Book, mut search: Search) -> Result<(), Fail>
+    requires runs { RunsBeside book.old search }
+    requires ripe { IsRipe search.stack }
+    ensures { OnOk result (book.new.lists ≡ book.old.lists) }
 {
-    if !search.is_ripe() {
-        return Err("the top segment is no group yet".into());
+    if search.frame_count() > 1 {
+        return Err("the search goes on below the group".into());
     }
     search.len();
     book.keeps();
     let group = search.take_ripe()?;
-    if !search.is_empty() || group.as_slice() != nodes {
-        return Err("another group".into());
-    }
     book.release(group);
     Ok(())
 }

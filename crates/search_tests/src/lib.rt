@@ -11,8 +11,6 @@ mod graphs;
 #[cfg(test)]
 mod led;
 #[cfg(test)]
-mod level_tests;
-#[cfg(test)]
 mod machine_tests;
 #[cfg(test)]
 mod memory_tests;
@@ -23,4 +21,4 @@ mod step_tests;
 #[cfg(test)]
 mod table_tests;
 #[cfg(test)]
-mod worked_tests;
+mod trace_tests;

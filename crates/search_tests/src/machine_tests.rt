@@ -4,57 +4,75 @@ use crate::graphs::{graph_of_lists, small_graph};
 use graph_law::{Graph, Opener, classes_slow};
 use search_machine::{Machine, Step};
 use search_stack::Opening;
-use std::alloc::Global;
+use std::alloc::{AllocError, Global};
 use std::test::Fail;
 
-#[test]
-fn searches_at_two_places_become_one_group(rt: HostRuntime) -> Result<(), Fail> {
-    let alloc = rt.alloc();
-    // 0 and 1 call each other, and both are roots.
-    let graph = graph_of_lists(alloc, &[&[1], &[0]], &[0, 1])?;
-    // Each place takes a root. The first search is suspended, and moves on top of the second, which
-    // joins its segments and releases them.
-    let seen = turns_of_two(alloc, &graph, &[0, 1, 0, 1, 1, 1])?;
-    assert_eq!(rt;
-        seen.as_str(),
-        "[(Some(0), true, true), (Some(1), true, true), (None, false, true), \
-         (None, false, true), (None, false, true), (None, false, false)] [[0, 1]]"
-    );
-    Ok(())
+/// What is seen after a turn: the node that was claimed, and whether the first place and the second
+/// can act then.
+type Seen = (Option<u32>, bool, bool);
+
+/// A graph, the order in which two places act, and what is seen after each turn, with the released
+/// groups at the end.
+struct Row {
+    lists: &'static [&'static [u32]],
+    roots: &'static [u32],
+    places: &'static [u32],
+    seen: &'static str,
 }
 
-#[test]
-fn a_kept_search_comes_whole_where_a_low_is_below_the_cut(rt: HostRuntime) -> Result<(), Fail> {
-    let alloc = rt.alloc();
-    let graph = graph_of_lists(alloc, &[&[2], &[2], &[3], &[1, 0]], &[0, 1])?;
-    // The second place has 1, 2 and 3, goes back to 1, and is suspended at 0. The first waits for
-    // 2, but 3 has gone back to below 2. So all three nodes move on top of 0, are joined to it and
-    // released with it.
-    let seen = turns_of_two(alloc, &graph, &[0, 1, 1, 1, 1, 1, 0, 0, 0, 0, 0])?;
-    assert_eq!(rt;
-        seen.as_str(),
-        "[(Some(0), true, true), (Some(1), true, true), (Some(2), true, true), \
-         (Some(3), true, true), (None, true, true), (None, true, false), (None, true, false), \
-         (None, true, false), (None, true, false), (None, true, false), (None, false, false)] \
-         [[0, 1, 2, 3]]"
-    );
-    Ok(())
+fn rows() -> &'static [Row] {
+    &[
+        // 0 and 1 call each other, and both are roots. Each place takes a root. The first search is
+        // suspended, and moves on top of the second, which joins its segments and releases them.
+        Row {
+            lists: &[&[1], &[0]],
+            roots: &[0, 1],
+            places: &[0, 1, 0, 1, 1, 1],
+            seen: "[(Some(0), true, true), (Some(1), true, true), (None, false, true), \
+                 (None, false, true), (None, false, true), (None, false, false)] [[0, 1]]",
+        },
+        // The second place has 1, 2 and 3, goes back to 1, and is suspended at 0. The first waits
+        // for 2, but 3 has gone back to below 2. So all three nodes move on top of 0, are joined to
+        // it and released with it.
+        Row {
+            lists: &[&[2], &[2], &[3], &[1, 0]],
+            roots: &[0, 1],
+            places: &[0, 1, 1, 1, 1, 1, 0, 0, 0, 0, 0],
+            seen: "[(Some(0), true, true), (Some(1), true, true), (Some(2), true, true), \
+                 (Some(3), true, true), (None, true, true), (None, true, false), \
+                 (None, true, false), (None, true, false), (None, true, false), \
+                 (None, true, false), (None, false, false)] [[0, 1, 2, 3]]",
+        },
+        // The same, but the second place begins at 4, which stays suspended when 1, 2 and 3 are
+        // moved, and waits for 1. The second place has nothing to take until 1 is released: then 4
+        // is ready.
+        Row {
+            lists: &[&[2], &[2], &[3], &[1, 0], &[1]],
+            roots: &[0, 4],
+            places: &[0, 1, 1, 1, 1, 1, 1, 0, 0, 0, 0, 0, 1, 1],
+            seen: "[(Some(0), true, true), (Some(4), true, true), (Some(1), true, true), \
+                 (Some(2), true, true), (Some(3), true, true), (None, true, true), \
+                 (None, true, false), (None, true, false), (None, true, false), \
+                 (None, true, false), (None, true, false), (None, true, true), \
+                 (None, false, true), (None, false, false)] [[0, 1, 2, 3], [4]]",
+        },
+    ]
 }
 
+/// Searches at two places become one group. A suspended search comes whole where a low is below the
+/// cut. Otherwise its rest waits for the release.
 #[test]
-fn the_rest_of_a_kept_search_waits_for_the_release(rt: HostRuntime) -> Result<(), Fail> {
+fn searches_at_two_places_wait_for_each_other(rt: HostRuntime) -> Result<(), Fail> {
     let alloc = rt.alloc();
-    let graph = graph_of_lists(alloc, &[&[2], &[2], &[3], &[1, 0], &[1]], &[0, 4])?;
-    // The same, but the second place begins at 4, which stays suspended when 1, 2 and 3 are moved,
-    // and waits for 1. The second place has nothing to take until 1 is released: then 4 is ready.
-    let seen = turns_of_two(alloc, &graph, &[0, 1, 1, 1, 1, 1, 1, 0, 0, 0, 0, 0, 1, 1])?;
-    assert_eq!(rt;
-        seen.as_str(),
-        "[(Some(0), true, true), (Some(4), true, true), (Some(1), true, true), \
-         (Some(2), true, true), (Some(3), true, true), (None, true, true), (None, true, false), \
-         (None, true, false), (None, true, false), (None, true, false), (None, true, false), \
-         (None, true, true), (None, false, true), (None, false, false)] [[0, 1, 2, 3], [4]]"
-    );
+    for row in rows() {
+        let graph = graph_of_lists(alloc, row.lists, row.roots)?;
+        let mut seen = Vec::new(alloc);
+        let groups = groups_in_turns(alloc, &graph, 2, row.places, &mut seen)?;
+        assert_eq!(rt;
+            format!(in alloc; "{seen:?} {groups:?}")?.as_str(),
+            row.seen
+        );
+    }
     Ok(())
 }
 
@@ -70,25 +88,15 @@ fn releases_the_classes_of_all_small_graphs(rt: HostRuntime) -> Result<(), Fail>
     Ok(())
 }
 
-/// Two places act, in the listed order. For each turn: the node that was claimed, and whether the
-/// first place and the second can act then. After them the released groups.
-fn turns_of_two(alloc: Global, graph: &Graph, places: &[u32]) -> Result<String, Fail> {
-    let mut machine = Machine::make(alloc, graph, graph.roots(), 2)?;
-    let mut seen = Vec::new(alloc);
-    'turns: for &place in places {
-        let claimed = take_turn(alloc, graph, &mut machine, place)?;
-        seen.push((claimed, machine.can_act(0), machine.can_act(1)))?;
-    }
-    let groups = machine.into_groups();
-    Ok(format!(in alloc; "{seen:?} {groups:?}")?)
-}
-
 /// Whether the groups, in order of their least members, are the SCCs. There are two and three
 /// places, which act one to three times in a row.
 fn agrees(alloc: Global, graph: &Graph) -> Result<bool, Fail> {
     let classes = classes_slow(alloc, graph)?;
     for pattern in 0..6u32 {
-        let mut groups = groups_in_turns(alloc, graph, 2 + pattern % 2, 1 + pattern / 2)?;
+        let mut seen = Vec::new(alloc);
+        let places = 2 + pattern % 2;
+        let turns = turns_in_rows(alloc, places, 1 + pattern / 2)?;
+        let mut groups = groups_in_turns(alloc, graph, places, &turns, &mut seen)?;
         groups.sort()?;
         if groups != classes {
             return Ok(false);
@@ -97,23 +105,34 @@ fn agrees(alloc: Global, graph: &Graph) -> Result<bool, Fail> {
     Ok(true)
 }
 
-/// The groups that a machine releases. Each place acts `row` times in a row if it can.
+/// An order in which each place acts `row` times in a row.
+fn turns_in_rows(alloc: Global, places: u32, row: u32) -> Result<Vec<u32>, AllocError>
+    requires places { 0 < places }
+    requires row { 0 < row }
+{
+    let mut turns = Vec::new(alloc);
+    for turn in 0..200u32 {
+        turns.push(turn / row % places)?;
+    }
+    Ok(turns)
+}
+
+/// The groups that a machine releases whose places act in the listed order. A place whose turn it
+/// is does nothing if it can't act.
 fn groups_in_turns(
     alloc: Global,
     graph: &Graph,
     places: u32,
-    row: u32,
-) -> Result<Vec<Vec<u32>>, Fail>
-    requires places { 0 < places }
-    requires row { 0 < row }
-{
+    turns: &[u32],
+    seen: &mut Vec<Seen>,
+) -> Result<Vec<Vec<u32>>, Fail> {
     let mut machine = Machine::make(alloc, graph, graph.roots(), places)?;
-    'turns: for turn in 0..200u32 {
-        let place = turn / row % places;
+    'turns: for &place in turns {
         if !machine.can_act(place) {
             continue;
         }
-        take_turn(alloc, graph, &mut machine, place)?;
+        let claimed = take_turn(alloc, graph, &mut machine, place)?;
+        seen.push((claimed, machine.can_act(0), machine.can_act(1)))?;
     }
     Ok(machine.into_groups())
 }
