@@ -65,7 +65,7 @@ pub enum Ask {
 impl Ask {
     /// What the first word of a heading asks.
     pub fn of(heading: &str) -> Ask {
-        let word = heading.split_once(' ').map_or(heading, |parts| parts.0);
+        let (word, _) = heading.split_once(' ').unwrap_or((heading, ""));
         match word {
             "tokens" => Ask::Tokens,
             "rows" => Ask::Rows,
@@ -92,6 +92,14 @@ impl Ask {
     }
 }
 
+/// The number before a row's text, and the text. Only a place has a number.
+fn parts_of(ask: Ask, row: &str) -> (&str, &str) {
+    match ask {
+        Ask::Place => row.split_once(' ').unwrap_or(("", row)),
+        _ => ("", row),
+    }
+}
+
 /// The output for a row.
 pub fn told<R: Threads + Sync>(
     rt: &R,
@@ -99,10 +107,7 @@ pub fn told<R: Threads + Sync>(
     ask: Ask,
     row: &str,
 ) -> Result<String, AllocError> {
-    let (number, text) = match ask {
-        Ask::Place => row.split_once(' ').unwrap_or(("", row)),
-        _ => ("", row),
-    };
+    let (number, text) = parts_of(ask, row);
     let bytes = bytes_of(alloc, text)?;
     if bytes.len() > MOST_BYTES as usize {
         return String::from_str(alloc, "too long");

@@ -1,11 +1,13 @@
 ghost use Rattle.std.specs.Prelude.{◌≤◌, length};
 ghost use Rattle.prolog_tokens.specs.declared.limits.TheConstants.{MOST_BYTES};
 
+use crate::pieces::push_made;
 use clause_text::{TextFault, cause_text, read_text};
 use module_table::{
-    DirectiveGoals, FactFault, FileFacts, GoalArg, Indicator, Load, LoadKind, Meta, facts,
+    Defined, DirectiveGoals, FactFault, FileFacts, GoalArg, Indicator, Load, LoadKind, Meta, facts,
     resolve_name,
 };
+use prolog_names::Names;
 use prolog_terms::Term;
 use std::alloc::{AllocError, Global};
 use std::thread::Threads;
@@ -20,138 +22,151 @@ fn push_indicators(
     for one in indicators {
         let name = one.name.as_str();
         let (arity, from) = (one.arity, one.from);
-        let text = format!(in alloc; "{mark}{name}/{arity}@{from}{end}")?;
-        out.push_str(&text)?;
+        push_made(out, format!(in alloc; "{mark}{name}/{arity}@{from}{end}"))?;
     }
     Ok(())
 }
 
-fn kind_word(kind: LoadKind) -> &'static str {
+/// The word for a load, with the brackets round its indicators.
+fn load_words(kind: LoadKind) -> (&'static str, &'static str, &'static str) {
     match kind {
-        LoadKind::UseAll => "all",
-        LoadKind::UseSome => "some",
-        LoadKind::Ensure => "ensure",
+        LoadKind::UseAll => ("all", "", ""),
+        LoadKind::UseSome => ("some", "(", ")"),
+        LoadKind::Ensure => ("ensure", "", ""),
     }
 }
 
-fn push_loads(alloc: Global, out: &mut String, loads: &[Load]) -> Result<(), AllocError> {
-    for load in loads {
-        let word = kind_word(load.kind);
-        let file = load.file.as_str();
-        let from = load.from;
-        let text = format!(in alloc; "{word} {file}@{from}")?;
-        out.push_str(&text)?;
-        if load.kind == LoadKind::UseSome {
-            out.push_str("(")?;
-            push_indicators(alloc, out, "", &load.items, " ")?;
-            out.push_str(")")?;
-        }
-        out.push_str(";")?;
-    }
-    Ok(())
+/// Adds a load, which has indicators only where it takes some of a file.
+fn push_load(alloc: Global, out: &mut String, load: &Load) -> Result<(), AllocError> {
+    let (word, open, close) = load_words(load.kind);
+    let (file, from) = (load.file.as_str(), load.from);
+    push_made(out, format!(in alloc; "{word} {file}@{from}{open}"))?;
+    push_indicators(alloc, out, "", &load.items, " ")?;
+    push_made(out, format!(in alloc; "{close};"))
 }
 
-/// Adds each predicate with the number of its clauses, and with its module unless it is that of the
+/// Adds the predicate with the number of its clauses, and with its module unless it is that of the
 /// file.
-fn push_defined(alloc: Global, out: &mut String, facts: &FileFacts) -> Result<(), AllocError> {
-    for predicate in &facts.defined {
-        let owner = facts.names.text(predicate.module);
-        if owner != facts.module.as_str() {
-            out.push_str(owner)?;
-            out.push_str(":")?;
-        }
-        let name = facts.names.text(predicate.name);
-        let (arity, clauses) = (predicate.arity, predicate.clauses.as_slice().len());
-        let text = format!(in alloc; "{name}/{arity}:{clauses};")?;
-        out.push_str(&text)?;
-    }
-    Ok(())
-}
-
-/// Adds each declaration as it may be written, with its offset.
-fn push_metas(alloc: Global, out: &mut String, metas: &[Meta]) -> Result<(), AllocError> {
-    for meta in metas {
-        let (owner, name) = (meta.module.as_str(), meta.name.as_str());
-        let text = format!(in alloc; "takes {owner}:{name}")?;
-        out.push_str(&text)?;
-        for arg in &meta.args {
-            let text = match arg {
-                GoalArg::Plain => String::from_str(alloc, " ?")?,
-                GoalArg::Goal(more) => format!(in alloc; " {more}")?,
-                GoalArg::Caret => String::from_str(alloc, " ^")?,
-                GoalArg::Grammar => String::from_str(alloc, " //")?,
-            };
-            out.push_str(&text)?;
-        }
-        let from = meta.from;
-        let text = format!(in alloc; "@{from};")?;
-        out.push_str(&text)?;
-    }
-    Ok(())
-}
-
-/// Adds the goals of a directive.
-fn push_goals_in(
+fn push_defined(
     alloc: Global,
     out: &mut String,
     facts: &FileFacts,
+    predicate: &Defined,
+) -> Result<(), AllocError> {
+    let owner = facts.names.text(predicate.module);
+    let name = facts.names.text(predicate.name);
+    let (arity, clauses) = (predicate.arity, predicate.clauses.as_slice().len());
+    if owner == facts.module.as_str() {
+        return push_made(out, format!(in alloc; "{name}/{arity}:{clauses};"));
+    }
+    push_made(out, format!(in alloc; "{owner}:{name}/{arity}:{clauses};"))
+}
+
+/// Adds an argument as it may be written in a declaration.
+fn push_arg(alloc: Global, out: &mut String, arg: &GoalArg) -> Result<(), AllocError> {
+    match arg {
+        GoalArg::Plain => out.push_str(" ?"),
+        GoalArg::Goal(more) => push_made(out, format!(in alloc; " {more}")),
+        GoalArg::Caret => out.push_str(" ^"),
+        GoalArg::Grammar => out.push_str(" //"),
+    }
+}
+
+/// Adds a declaration as it may be written, with its offset.
+fn push_meta(alloc: Global, out: &mut String, meta: &Meta) -> Result<(), AllocError> {
+    let (owner, name, from) = (meta.module.as_str(), meta.name.as_str(), meta.from);
+    push_made(out, format!(in alloc; "takes {owner}:{name}"))?;
+    for arg in &meta.args {
+        push_arg(alloc, out, arg)?;
+    }
+    push_made(out, format!(in alloc; "@{from};"))
+}
+
+/// Adds the goals of a directive.
+fn push_goals(
+    alloc: Global,
+    out: &mut String,
+    names: &Names,
     goals: &DirectiveGoals,
 ) -> Result<(), AllocError> {
     for end in &goals.ends {
         let goal = Term {
-            names: &facts.names,
+            names,
             nodes: &goals.nodes,
             end: *end,
         };
         let from = goal.span().from;
-        let text = format!(in alloc; "goal@{from};")?;
-        out.push_str(&text)?;
+        push_made(out, format!(in alloc; "goal@{from};"))?;
     }
     Ok(())
 }
 
-fn push_goals(alloc: Global, out: &mut String, facts: &FileFacts) -> Result<(), AllocError> {
+/// Adds the module, if the file is one.
+fn push_module(alloc: Global, out: &mut String, facts: &FileFacts) -> Result<(), AllocError> {
+    if !facts.is_module {
+        return Ok(());
+    }
+    let (name, from) = (facts.module.as_str(), facts.module_from);
+    push_made(out, format!(in alloc; "module {name}@{from};"))
+}
+
+/// Adds the module with its exports, and the loads.
+fn push_outside(alloc: Global, out: &mut String, facts: &FileFacts) -> Result<(), AllocError> {
+    push_module(alloc, out, facts)?;
+    push_indicators(alloc, out, "+", &facts.exports, ";")?;
+    for load in &facts.loads {
+        push_load(alloc, out, load)?;
+    }
+    Ok(())
+}
+
+/// Adds each predicate with the number of its clauses, the declarations of goal arguments, and the
+/// goals.
+fn push_inside(alloc: Global, out: &mut String, facts: &FileFacts) -> Result<(), AllocError> {
+    for predicate in &facts.defined {
+        push_defined(alloc, out, facts, predicate)?;
+    }
+    for meta in &facts.metas {
+        push_meta(alloc, out, meta)?;
+    }
     for goals in &facts.goals {
-        push_goals_in(alloc, out, facts, goals)?;
+        push_goals(alloc, out, &facts.names, goals)?;
     }
     Ok(())
 }
 
-/// The module with its exports, the loads, each predicate with the number of its clauses, the
-/// declarations of goal arguments, and the goals.
+/// What the file says, or that it says nothing.
 fn written(alloc: Global, facts: &FileFacts) -> Result<String, AllocError> {
     let mut out = String::new(alloc);
-    if facts.is_module {
-        let name = facts.module.as_str();
-        let from = facts.module_from;
-        let text = format!(in alloc; "module {name}@{from};")?;
-        out.push_str(&text)?;
-    }
-    push_indicators(alloc, &mut out, "+", &facts.exports, ";")?;
-    push_loads(alloc, &mut out, &facts.loads)?;
-    push_defined(alloc, &mut out, facts)?;
-    push_metas(alloc, &mut out, &facts.metas)?;
-    push_goals(alloc, &mut out, facts)?;
+    push_outside(alloc, &mut out, facts)?;
+    push_inside(alloc, &mut out, facts)?;
     if out.is_empty() {
-        out.push_str("nothing")?;
+        return String::from_str(alloc, "nothing");
     }
     Ok(out)
 }
 
-/// Each predicate with the offsets of its clauses, in their order.
+/// Adds a predicate with the offsets of its clauses, in their order.
+fn push_starts(
+    alloc: Global,
+    out: &mut String,
+    names: &Names,
+    predicate: &Defined,
+) -> Result<(), AllocError> {
+    let (name, arity) = (names.text(predicate.name), predicate.arity);
+    push_made(out, format!(in alloc; "{name}/{arity}"))?;
+    for clause in predicate.clauses.as_slice() {
+        let from = clause.term(names).span().from;
+        push_made(out, format!(in alloc; " {from}"))?;
+    }
+    out.push_str(";")
+}
+
+/// Each predicate with the offsets of its clauses.
 fn starts(alloc: Global, facts: &FileFacts) -> Result<String, AllocError> {
     let mut out = String::new(alloc);
     for predicate in &facts.defined {
-        let name = facts.names.text(predicate.name);
-        let arity = predicate.arity;
-        let text = format!(in alloc; "{name}/{arity}")?;
-        out.push_str(&text)?;
-        for clause in predicate.clauses.as_slice() {
-            let from = clause.term(&facts.names).span().from;
-            let text = format!(in alloc; " {from}")?;
-            out.push_str(&text)?;
-        }
-        out.push_str(";")?;
+        push_starts(alloc, &mut out, &facts.names, predicate)?;
     }
     Ok(out)
 }

@@ -14,6 +14,7 @@
 mod ask;
 mod file_facts;
 mod operators;
+mod pieces;
 mod places;
 mod row;
 mod terms;
@@ -23,7 +24,20 @@ mod words;
 
 use crate::ask::{Ask, told};
 use crate::row::shown;
+use std::alloc::{AllocError, Global};
 use std::io;
+use std::thread::Threads;
+
+/// What is printed after a row.
+fn answer_to<R: Threads + Sync>(
+    rt: &R,
+    alloc: Global,
+    ask: Ask,
+    row: &str,
+) -> Result<String, AllocError> {
+    let answer = told(rt, alloc, ask, row)?;
+    shown(alloc, answer.as_str())
+}
 
 fn main(rt: HostRuntime) -> io::Result<()> {
     let alloc = rt.alloc();
@@ -35,8 +49,7 @@ fn main(rt: HostRuntime) -> io::Result<()> {
             println!(rt; "{line}")?;
             continue;
         }
-        let answer = told(&rt, alloc, ask, line.as_str())?;
-        let answer = shown(alloc, answer.as_str())?;
+        let answer = answer_to(&rt, alloc, ask, line.as_str())?;
         println!(rt; "{line} => {answer}")?;
     }
     Ok(())

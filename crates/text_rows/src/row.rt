@@ -1,3 +1,4 @@
+use crate::pieces::push_made;
 use std::alloc::{AllocError, Global};
 
 /// The bytes that a row means.
@@ -42,19 +43,23 @@ fn push_meant(alloc: Global, bytes: &mut Vec<u8>, inside: &str) -> Result<(), Al
     bytes.extend_from_slice(text.as_bytes())
 }
 
+/// Adds `¶` for a newline, the number of another control character, or the character itself.
+fn push_shown(alloc: Global, out: &mut String, c: char) -> Result<(), AllocError> {
+    if c == '\n' {
+        return out.push('¶');
+    }
+    if c < ' ' {
+        let code = u32::from(c);
+        return push_made(out, format!(in alloc; "«{code:x}»"));
+    }
+    out.push(c)
+}
+
 /// The output with `¶` for each newline, and each other control character as its number.
 pub fn shown(alloc: Global, answer: &str) -> Result<String, AllocError> {
     let mut out = String::new(alloc);
     for c in answer.chars() {
-        if c == '\n' {
-            out.push('¶')?;
-        } else if c < ' ' {
-            let code = u32::from(c);
-            let text = format!(in alloc; "«{code:x}»")?;
-            out.push_str(&text)?;
-        } else {
-            out.push(c)?;
-        }
+        push_shown(alloc, &mut out, c)?;
     }
     Ok(out)
 }

@@ -2,8 +2,10 @@ ghost use Rattle.std.specs.Prelude.{◌≡◌, ◌≤◌, ◌↔◌, length, sli
 ghost use Rattle.prolog_tokens.specs.declared.limits.TheConstants.{MOST_BYTES};
 ghost use Rattle.prolog_terms.specs.Clause.{IsOneClause};
 
+use crate::operators::changed_table;
+use crate::pieces::push_made;
 use prolog_names::{Names, number_names};
-use prolog_ops::{OpFault, OpKind, OpTable};
+use prolog_ops::{OpKind, OpTable};
 use prolog_terms::{
     ConstKind, Form, NodeList, Parts, ReadFault, Reader, Term, TermKind, read_clause,
 };
@@ -16,15 +18,10 @@ fn write_number(
     minus: bool,
     value: Option<u32>,
 ) -> Result<(), AllocError> {
-    if minus {
-        out.push_str("-")?;
-    }
+    let sign = if minus { "-" } else { "" };
     match value {
-        Some(value) => {
-            let digits = format!(in alloc; "{value}")?;
-            out.push_str(&digits)
-        }
-        None => out.push_str("?"),
+        Some(value) => push_made(out, format!(in alloc; "{sign}{value}")),
+        None => push_made(out, format!(in alloc; "{sign}?")),
     }
 }
 
@@ -65,15 +62,16 @@ fn write_parts(alloc: Global, out: &mut String, parts: &Parts) -> Result<(), All
     Ok(())
 }
 
-/// Writes the items of a list, up to its closing bracket or its bar.
+/// Writes terms between brackets.
 #[cycle(writing)]
 fn write_items(
     alloc: Global,
     out: &mut String,
+    open: &str,
     items: &Parts,
     close: &str,
 ) -> Result<(), AllocError> {
-    out.push_str("[")?;
+    out.push_str(open)?;
     write_parts(alloc, out, items)?;
     out.push_str(close)
 }
@@ -92,6 +90,32 @@ fn write_between(
     out.push_str(close)
 }
 
+/// Writes the items of a list up to its bar, and then its tail.
+#[cycle(writing)]
+fn write_tailed(
+    alloc: Global,
+    out: &mut String,
+    items: &Parts,
+    tail: &Term,
+) -> Result<(), AllocError> {
+    write_items(alloc, out, "[", items, "|")?;
+    write_between(alloc, out, "", tail, "]")
+}
+
+/// Writes a compound term with its form's mark before the name.
+#[cycle(writing)]
+fn write_compound(
+    alloc: Global,
+    out: &mut String,
+    form: Form,
+    name: &str,
+    args: &Parts,
+) -> Result<(), AllocError> {
+    let mark = form_mark(form);
+    push_made(out, format!(in alloc; "{mark}{name}"))?;
+    write_items(alloc, out, "(", args, ")")
+}
+
 /// Writes the term with its form's mark before each operator, and parts in brackets.
 #[cycle(writing)]
 fn write_term(alloc: Global, out: &mut String, term: &Term) -> Result<(), AllocError> {
@@ -99,19 +123,9 @@ fn write_term(alloc: Global, out: &mut String, term: &Term) -> Result<(), AllocE
         TermKind::Var => out.push_str("_"),
         TermKind::Const { kind, minus, value } => write_constant(alloc, out, kind, minus, value),
         TermKind::Atom { name } => out.push_str(name),
-        TermKind::Compound { name, args, form } => {
-            out.push_str(form_mark(form))?;
-            out.push_str(name)?;
-            out.push_str("(")?;
-            write_parts(alloc, out, &args)?;
-            out.push_str(")")
-        }
-        TermKind::List { items } => write_items(alloc, out, &items, "]"),
-        TermKind::Tailed { items, tail } => {
-            write_items(alloc, out, &items, "|")?;
-            write_term(alloc, out, &tail)?;
-            out.push_str("]")
-        }
+        TermKind::Compound { name, args, form } => write_compound(alloc, out, form, name, &args),
+        TermKind::List { items } => write_items(alloc, out, "[", &items, "]"),
+        TermKind::Tailed { items, tail } => write_tailed(alloc, out, &items, &tail),
         TermKind::Curly { inner } => write_between(alloc, out, "{", &inner, "}"),
         TermKind::Paren { inner } => write_between(alloc, out, "(", &inner, ")"),
     }
@@ -149,8 +163,9 @@ struct ReadTerm {
 }
 
 /// Why a text can't be read as a term.
-#[derive(Debug, Drop)]
+#[derive(Drop)]
 enum Unread {
+    Table,
     Cut(TokenFault),
     Apart,
     Clause(ReadFault),
@@ -195,35 +210,42 @@ fn read_term(alloc: Global, table: &OpTable, text: &str) -> Result<ReadTerm, Unr
 /// Why the text isn't read, in words.
 fn unread_told(alloc: Global, unread: &Unread) -> Result<String, AllocError> {
     match unread {
+        Unread::Table => String::from_str(alloc, "no table"),
         Unread::Cut(fault) => format!(in alloc; "{fault:?}"),
         Unread::Apart => String::from_str(alloc, "more than a clause"),
         Unread::Clause(fault) => format!(in alloc; "{fault:?}"),
     }
 }
 
-/// The opening table with two more postfix operators, and without `mode`. Proofs don't depend on
-/// what it has.
-fn changed_table(alloc: Global) -> Result<OpTable, OpFault> {
-    let mut table = OpTable::opening(alloc)?;
-    table.set(alloc, "once_more", OpKind::Xf, 300)?;
-    table.set(alloc, "again", OpKind::Yf, 300)?;
-    table.set(alloc, "mode", OpKind::Fx, 0)?;
-    Ok(table)
+/// The term that the text is, with two postfix operators more than the opening table has, and
+/// without `mode`.
+fn read_changed(alloc: Global, text: &str) -> Result<ReadTerm, Unread>
+    requires { length text.now ≤ MOST_BYTES }
+{
+    let changes = [
+        ("once_more", OpKind::Xf, 300),
+        ("again", OpKind::Yf, 300),
+        ("mode", OpKind::Fx, 0),
+    ];
+    match changed_table(alloc, &changes) {
+        Ok(table) => read_term(alloc, &table, text),
+        Err(_) => Err(Unread::Table),
+    }
+}
+
+/// The term in words.
+fn term_told(alloc: Global, read: &ReadTerm) -> Result<String, AllocError> {
+    let mut out = String::new(alloc);
+    write_term(alloc, &mut out, &Term::root(&read.names, &read.nodes))?;
+    Ok(out)
 }
 
 /// The term that the text reads as, in words, or its error.
 pub fn clause_told(alloc: Global, text: &str) -> Result<String, AllocError>
     requires { length text.now ≤ MOST_BYTES }
 {
-    let Ok(table) = changed_table(alloc) else {
-        return String::from_str(alloc, "no table");
-    };
-    match read_term(alloc, &table, text) {
-        Ok(read) => {
-            let mut out = String::new(alloc);
-            write_term(alloc, &mut out, &Term::root(&read.names, &read.nodes))?;
-            Ok(out)
-        }
+    match read_changed(alloc, text) {
+        Ok(read) => term_told(alloc, &read),
         Err(unread) => unread_told(alloc, &unread),
     }
 }
@@ -242,10 +264,7 @@ fn count_parts(term: &Term) -> usize {
 pub fn parts_told(alloc: Global, text: &str) -> Result<String, AllocError>
     requires { length text.now ≤ MOST_BYTES }
 {
-    let Ok(table) = changed_table(alloc) else {
-        return String::from_str(alloc, "no table");
-    };
-    match read_term(alloc, &table, text) {
+    match read_changed(alloc, text) {
         Ok(read) => {
             let count = count_parts(&Term::root(&read.names, &read.nodes));
             format!(in alloc; "{count}")

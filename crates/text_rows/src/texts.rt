@@ -1,7 +1,8 @@
 ghost use Rattle.std.specs.Prelude.{◌≤◌, length};
 ghost use Rattle.prolog_tokens.specs.declared.limits.TheConstants.{MOST_BYTES};
 
-use clause_text::read_text;
+use crate::pieces::push_made;
+use clause_text::{TextClauses, read_text};
 use prolog_terms::{Form, Term, TermKind, inside};
 use std::alloc::{AllocError, Global};
 use std::thread::Threads;
@@ -28,7 +29,17 @@ fn form_of(clause: &Term) -> Option<Form> {
     }
 }
 
-/// How each clause of the text is written.
+/// How each clause is written, with a semicolon after each.
+fn forms(alloc: Global, text: &TextClauses) -> Result<String, AllocError> {
+    let mut out = String::new(alloc);
+    for clause in &text.clauses {
+        let form = form_of(&clause.term(&text.names));
+        push_made(&mut out, format!(in alloc; "{form:?};"))?;
+    }
+    Ok(out)
+}
+
+/// How each clause of the text is written, or its error.
 pub fn forms_told<R: Threads + Sync>(
     rt: &R,
     alloc: Global,
@@ -36,15 +47,8 @@ pub fn forms_told<R: Threads + Sync>(
 ) -> Result<String, AllocError>
     requires { length bytes.now ≤ MOST_BYTES }
 {
-    let read = match read_text(rt, alloc, bytes) {
-        Ok(text) => text,
-        Err(fault) => return format!(in alloc; "{fault:?}"),
-    };
-    let mut out = String::new(alloc);
-    for clause in &read.clauses {
-        let form = form_of(&clause.term(&read.names));
-        let text = format!(in alloc; "{form:?};")?;
-        out.push_str(&text)?;
+    match read_text(rt, alloc, bytes) {
+        Ok(text) => forms(alloc, &text),
+        Err(fault) => format!(in alloc; "{fault:?}"),
     }
-    Ok(out)
 }

@@ -3,6 +3,7 @@ ghost use Rattle.prolog_tokens.specs.declared.limits.TheConstants.{MOST_BYTES};
 ghost use Rattle.prolog_tokens.specs.Cut.{IsTokenOf};
 ghost use Rattle.prolog_tokens.specs.Rows.{IsSpan};
 
+use crate::pieces::push_made;
 use prolog_tokens::{
     Kind, Span, Text, Token, TokenFault, cut_tokens, integer_value, is_bare_name, name_slice,
     name_text, spans, tokens, tokens_in,
@@ -32,20 +33,20 @@ fn sign(kind: Kind) -> char {
     }
 }
 
-/// The tokens in words: the sign of the kind, and where the token starts and ends. A `+` is before
-/// it if layout or the beginning of the text is directly before it.
+/// Adds a token in words: the sign of its kind, and where it starts and ends. A `+` is before them
+/// if layout or the beginning of the text is directly before the token.
+fn push_token(alloc: Global, out: &mut String, gap: &str, token: &Token) -> Result<(), AllocError> {
+    let plus = if token.after_layout { "+" } else { "" };
+    let (sign, start, end) = (sign(token.kind), token.start, token.end);
+    push_made(out, format!(in alloc; "{gap}{plus}{sign}{start}-{end}"))
+}
+
+/// The tokens in words, with a blank between.
 fn words(alloc: Global, tokens: &[Token]) -> Result<String, AllocError> {
     let mut words = String::new(alloc);
     for token in tokens {
-        if !words.is_empty() {
-            words.push(' ')?;
-        }
-        if token.after_layout {
-            words.push('+')?;
-        }
-        let sign = sign(token.kind);
-        let word = format!(in alloc; "{sign}{}-{}", token.start, token.end)?;
-        words.push_str(&word)?;
+        let gap = if words.is_empty() { "" } else { " " };
+        push_token(alloc, &mut words, gap, token)?;
     }
     Ok(words)
 }
@@ -60,18 +61,22 @@ pub fn tokens_told(alloc: Global, text: &str) -> Result<String, AllocError>
     }
 }
 
-/// A span of the text, how many tokens start in it, and where they end.
-fn row_told(alloc: Global, text: &str, span: &Span) -> Result<String, AllocError>
+/// Adds a span of the text, how many tokens start in it, and where they end.
+fn push_row(
+    alloc: Global,
+    out: &mut String,
+    gap: &str,
+    text: &str,
+    span: &Span,
+) -> Result<(), AllocError>
     requires small { length text.now ≤ MOST_BYTES }
     requires span { IsSpan text.now span.now }
 {
     let row = tokens_in(alloc, text, span)?;
-    format!(in alloc;
-        "{}-{}: {} up to {}",
-        span.from,
-        span.to,
-        row.tokens.len(),
-        row.end
+    let (from, to, count, end) = (span.from, span.to, row.tokens.len(), row.end);
+    push_made(
+        out,
+        format!(in alloc; "{gap}{from}-{to}: {count} up to {end}"),
     )
 }
 
@@ -79,13 +84,11 @@ fn row_told(alloc: Global, text: &str, span: &Span) -> Result<String, AllocError
 pub fn rows_told(alloc: Global, text: &str) -> Result<String, AllocError>
     requires { length text.now ≤ MOST_BYTES }
 {
+    let found = spans(alloc, text)?;
     let mut told = String::new(alloc);
-    for span in &spans(alloc, text)? {
-        if !told.is_empty() {
-            told.push_str(", ")?;
-        }
-        let row = row_told(alloc, text, span)?;
-        told.push_str(&row)?;
+    for span in &found {
+        let gap = if told.is_empty() { "" } else { ", " };
+        push_row(alloc, &mut told, gap, text, span)?;
     }
     Ok(told)
 }
@@ -113,19 +116,21 @@ fn token_at(alloc: Global, text: &str, index: usize) -> Result<Token, NoToken>
     Ok(found[index])
 }
 
+/// A name after the sign of its token's kind.
+fn signed(alloc: Global, sign: &str, name: Result<Text, AllocError>) -> Result<String, AllocError> {
+    let name = name?;
+    format!(in alloc; "{sign} {}", name.as_str())
+}
+
 /// The kind of a token, and its name.
 fn name_of(alloc: Global, text: &str, token: Token) -> Result<String, AllocError>
     requires { IsTokenOf text.now token }
 {
-    if token.kind == Kind::Quoted {
-        let name = name_text(alloc, text, token)?;
-        return format!(in alloc; "Q {}", name.as_str());
+    match token.kind {
+        Kind::Quoted => signed(alloc, "Q", name_text(alloc, text, token)),
+        Kind::Name => signed(alloc, "N", name_text(alloc, text, token)),
+        _ => String::from_str(alloc, "no name"),
     }
-    if token.kind == Kind::Name {
-        let name = name_text(alloc, text, token)?;
-        return format!(in alloc; "N {}", name.as_str());
-    }
-    String::from_str(alloc, "no name")
 }
 
 /// The kind of the token at an index, and its name.
@@ -179,15 +184,20 @@ pub fn bare_told(alloc: Global, text: &str) -> Result<String, AllocError> {
     format!(in alloc; "{is_bare}")
 }
 
-/// The order of two texts, of which one is made from a string. Both are written as they are stored.
-pub fn less_told(alloc: Global, text: &str) -> Result<String, AllocError> {
-    let (first, second) = text.split_once('|').unwrap_or((text, text));
-    let first = Text::new(alloc, first)?;
-    let second = Text::from_string(String::from_str(alloc, second)?);
-    let order = match first.cmp(&second) {
+/// Two texts with their order between.
+fn order_told(alloc: Global, first: &Text, second: &Text) -> Result<String, AllocError> {
+    let order = match first.cmp(second) {
         Ordering::Less => "less than",
         Ordering::Equal => "same as",
         Ordering::Greater => "greater than",
     };
     format!(in alloc; "{} {order} {}", first.as_str(), second.as_str())
+}
+
+/// The order of two texts, of which one is made from a string. Both are written as they are stored.
+pub fn less_told(alloc: Global, text: &str) -> Result<String, AllocError> {
+    let (first, second) = text.split_once('|').unwrap_or((text, text));
+    let first = Text::new(alloc, first)?;
+    let second = Text::from_string(String::from_str(alloc, second)?);
+    order_told(alloc, &first, &second)
 }

@@ -1,3 +1,4 @@
+use crate::pieces::push_made;
 use group_words::{Options, WordFault, make_text, parse_words};
 use import_rules::PredName;
 use prolog_tokens::Text;
@@ -7,11 +8,8 @@ use std::alloc::{AllocError, Global};
 const MOST_PREDICATES: u32 = 100_000;
 
 fn push_name(alloc: Global, out: &mut String, root: &PredName) -> Result<(), AllocError> {
-    let (owner, name) = (root.module.as_str(), root.name.as_str());
-    let arity = root.arity;
-    let text = format!(in alloc; " {owner}:{name}/{arity}")?;
-    out.push_str(&text)?;
-    Ok(())
+    let (owner, name, arity) = (root.module.as_str(), root.name.as_str(), root.arity);
+    push_made(out, format!(in alloc; " {owner}:{name}/{arity}"))
 }
 
 fn push_roots(alloc: Global, out: &mut String, roots: &[PredName]) -> Result<(), AllocError> {
@@ -22,54 +20,75 @@ fn push_roots(alloc: Global, out: &mut String, roots: &[PredName]) -> Result<(),
     Ok(())
 }
 
-fn push_files(out: &mut String, files: &[Text]) -> Result<(), AllocError> {
+fn push_files(alloc: Global, out: &mut String, files: &[Text]) -> Result<(), AllocError> {
     if files.is_empty() {
         return Ok(());
     }
     out.push_str(" files")?;
     for file in files {
-        out.push_str(" ")?;
-        out.push_str(file.as_str())?;
+        let name = file.as_str();
+        push_made(out, format!(in alloc; " {name}"))?;
     }
     Ok(())
 }
 
-/// The options as one line.
-fn shown(alloc: Global, options: &Options) -> Result<String, AllocError> {
+/// Adds how many threads search, and how many searches run in one thread.
+fn push_search(alloc: Global, out: &mut String, options: &Options) -> Result<(), AllocError> {
     let jobs = options.jobs;
-    let mut out = format!(in alloc; "jobs {jobs}")?;
-    if let Some((count, seed)) = options.searches {
-        let text = format!(in alloc; " searches {count} seed {seed}")?;
-        out.push_str(&text)?;
+    push_made(out, format!(in alloc; "jobs {jobs}"))?;
+    match options.searches {
+        Some((count, seed)) => {
+            push_made(out, format!(in alloc; " searches {count} seed {seed}"))
+        }
+        None => Ok(()),
     }
+}
+
+/// Adds the words of the options that are set and have no value.
+fn push_flags(out: &mut String, options: &Options) -> Result<(), AllocError> {
+    let flags = [
+        (options.order, " order"),
+        (options.unreached, " unreached"),
+        (options.effects, " effects"),
+        (options.loops, " loops"),
+        (options.stream, " stream"),
+    ];
+    for (is_set, word) in flags {
+        out.push_str(if is_set { word } else { "" })?;
+    }
+    Ok(())
+}
+
+/// Adds the two ends of a path.
+fn push_path(
+    alloc: Global,
+    out: &mut String,
+    path: &(PredName, PredName),
+) -> Result<(), AllocError> {
+    out.push_str(" path")?;
+    push_name(alloc, out, &path.0)?;
+    push_name(alloc, out, &path.1)
+}
+
+fn push_options(alloc: Global, out: &mut String, options: &Options) -> Result<(), AllocError> {
+    push_search(alloc, out, options)?;
     if let Some(roots) = &options.roots {
-        push_roots(alloc, &mut out, roots)?;
+        push_roots(alloc, out, roots)?;
     }
-    if options.order {
-        out.push_str(" order")?;
-    }
-    if options.unreached {
-        out.push_str(" unreached")?;
-    }
-    if options.effects {
-        out.push_str(" effects")?;
-    }
-    if options.loops {
-        out.push_str(" loops")?;
-    }
-    if options.stream {
-        out.push_str(" stream")?;
-    }
-    if let Some(both) = &options.path {
-        out.push_str(" path")?;
-        push_name(alloc, &mut out, &both.0)?;
-        push_name(alloc, &mut out, &both.1)?;
+    push_flags(out, options)?;
+    if let Some(path) = &options.path {
+        push_path(alloc, out, path)?;
     }
     if let Some(count) = options.make {
-        let text = format!(in alloc; " make {count}")?;
-        out.push_str(&text)?;
+        push_made(out, format!(in alloc; " make {count}"))?;
     }
-    push_files(&mut out, &options.files)?;
+    push_files(alloc, out, &options.files)
+}
+
+/// The options as one line.
+fn shown(alloc: Global, options: &Options) -> Result<String, AllocError> {
+    let mut out = String::new(alloc);
+    push_options(alloc, &mut out, options)?;
     Ok(out)
 }
 

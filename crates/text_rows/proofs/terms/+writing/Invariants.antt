@@ -11,8 +11,14 @@ decreases-write_parts l = 4 * weights (trees_of l.parts.now)
 abbrev pub decreases-write_items : goal.decreases-write_items
 decreases-write_items l = 4 * weights (trees_of l.items.now) + 1
 
-abbrev pub decreases-write_between : goal.decreases-write_between
-decreases-write_between l = 4 * weight (tree_of l.inner.now) + 3
+abbrev pub decreases-write_compound : goal.decreases-write_compound
+decreases-write_compound l = 4 * weights (trees_of l.args.now) + 2
 
 abbrev pub decreases-write_term : goal.decreases-write_term
-decreases-write_term l = 4 * weight (tree_of l.term.now) + 2
+decreases-write_term l = 4 * weight (tree_of l.term.now) + 3
+
+abbrev pub decreases-write_between : goal.decreases-write_between
+decreases-write_between l = 4 * weight (tree_of l.inner.now) + 4
+
+abbrev pub decreases-write_tailed : goal.decreases-write_tailed
+decreases-write_tailed l = 4 * weights (trees_of l.items.now) + 4 * weight (tree_of l.tail.now) + 5
