@@ -36,7 +36,7 @@ WORDS = {
     "return": (r"\banswers?\b", 64),
 }
 # The same in the comments of crates/*/src. Some are right in another sense there: a node stands for a name, words are words of memory, an answer is a noun.
-RIGHT = {"except": 2, "is": 6, "arguments": 6, "return": 24}
+RIGHT = {"except": 2, "is": 6, "arguments": 7, "return": 24}
 IN_COMMENTS = {better: (pattern, RIGHT.get(better, 0)) for better, (pattern, _) in WORDS.items() if better not in ("CI", "mutant")}
 MACRO = re.compile(r"^[.'](?:[A-Z]{1,2}|br|in)\b ?")
 
