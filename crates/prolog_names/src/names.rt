@@ -1,6 +1,7 @@
 ghost use Rattle.std.specs.Prelude.{◌≡◌};
 ghost use Rattle.std.specs.Str.{bytes_eq};
 ghost use Rattle.prolog_names.specs.Names.{name_at};
+ghost use Rattle.prolog_names.specs.Table.{text_hash};
 
 use crate::table::NameTable;
 use std::marker::Model;
@@ -54,5 +55,14 @@ impl Names {
         ensures { result ≡ bytes_eq (name_at self.now number) name.now }
     {
         self.table.is(number as usize, name)
+    }
+
+    /// The hash of the name of that number, which is kept: no text is read. Past the last name it is
+    /// that of the empty one.
+    #[inline(always)]
+    pub fn hash(&self, number: u32) -> u32
+        ensures { result ≡ text_hash (name_at self.now number) }
+    {
+        self.table.hash(number as usize)
     }
 }

@@ -6,6 +6,7 @@ ghost use Rattle.std.specs.List.{list_any};
 ghost use Rattle.std.specs.Str.{bytes_eq};
 ghost use Rattle.prolog_names.specs.Names.{name_at, AreDistinct};
 ghost use Rattle.std.specs.BTreeMap.{get_by_text};
+ghost use Rattle.std.specs.Option.{option_copied};
 ghost use Rattle.prolog_names.specs.Table.{text_hash, bucket_in, bytes_of, name_in, with_name, IsChainFor, IsSpan};
 
 use std::alloc::{AllocError, Global};
@@ -138,7 +139,7 @@ fn chain_for(
     ensures others { (other : List ℕ) → bytes_eq name.now other ≡ false → get_by_text far.new other ≡ get_by_text far.old other }
 {
     let last = heads.len() - 1;
-    if far.get(name).is_none() {
+    if far_place(far, name).is_none() {
         let bucket = bucket_of(hash, last);
         if has_room(entries, heads[bucket]) {
             return Ok(bucket);
@@ -147,6 +148,18 @@ fn chain_for(
     let key = String::from_str(alloc, name)?;
     far.insert(key, place)?;
     Ok(last)
+}
+
+/// The index of the name among the far ones. A usual text has none of them, so that its look-ups
+/// cost one test here.
+#[inline(always)]
+fn far_place<'a>(far: &'a BTreeMap<String, u32>, name: &str) -> Option<&'a u32>
+    ensures { option_copied result ≡ get_by_text far.now name.now }
+{
+    if far.is_empty() {
+        return None;
+    }
+    far.get(name)
 }
 
 impl NameTable {
@@ -192,13 +205,24 @@ impl NameTable {
         self.text(place) == name
     }
 
+    /// The hash of the name at the index, or that of the empty name past the last one.
+    #[inline(always)]
+    pub fn hash(&self, place: usize) -> u32
+        ensures { result ≡ text_hash (name_at self.now place) }
+    {
+        match self.entries.get(place) {
+            Some(entry) => entry.hash,
+            None => 0,
+        }
+    }
+
     /// The index of the name with that hash, if it is there.
     #[inline(always)]
     fn find(&self, name: &str, hash: u32) -> Option<u32>
         requires { hash ≡ text_hash name.now }
         ensures { MatchOption result (list_any (bytes_eq name.now) self.now ≡ false) (λ n. (n < length self.now) × (name_at self.now n ≡ name.now)) }
     {
-        if let Some(place) = self.far.get(name) {
+        if let Some(place) = far_place(&self.far, name) {
             let place = *place;
             if place as usize >= self.entries.len() {
                 return None;

@@ -22,7 +22,7 @@ loop-at-init c =
     let size : c.len-2.result ≡ length heads = c.len-2.ensures ∙ c.self.inside.heads.ok.0 in
     let bucket : c.bucket_of.result ≡ chain_of far (length heads - 1) name =
     c.bucket_of.ensures.is ∙ ap (λ n. bucket_in (n - 1) c.args.hash) size ∙ ap (bucket_in (length heads - 1)) c.requires
-    ∙ sym (near_chain far (length heads - 1) name (sym c.get.ensures.value ∙ ap option_copied c.in_default.is)) in
+    ∙ sym (near_chain far (length heads - 1) name (sym c.far_place.ensures ∙ ap option_copied c.in_default.is)) in
     let below : chain_of far (length heads - 1) name < length heads = chain_below far (names_of texts entries) heads (next_of entries) name c.self.invariant.chained in
     let read : c.index-at.result.now ≡ get_or heads (chain_of far (length heads - 1) name) 0 =
     get_or_read heads c.bucket_of.result c.index-at.result.now (subst (λ b. b < length heads) (sym bucket) below) c.index-at.ensures 0
@@ -79,7 +79,7 @@ returns-then-place-len c =
     let name = c.args.name.now in
     ap (list_any (bytes_eq name)) (sym c.self.view_is)
     ∙ not_there (get_by_text c.self.inside.far) (names_of texts entries) name c.in-Some.place.now c.self.invariant.told
-    (sym c.get.ensures.value ∙ ap option_copied c.in-Some.is)
+    (sym c.far_place.ensures ∙ ap option_copied c.in-Some.is)
     (λ within. absurd (omega (arith, within, length-map entries (name_in texts), c.len.ensures, c.self.inside.entries.ok.0, c.if-place-len.true)))
 
 pub returns-then-not-is : goal.returns-then-not-is
@@ -90,7 +90,7 @@ returns-then-not-is c =
     let place = c.in-Some.place.now in
     let other : bytes_eq name (name_at c.args.self.now place) ≡ false = turned (name_at c.args.self.now place) name (sym c.is.ensures ∙ c.if-not-is.true) in
     ap (list_any (bytes_eq name)) (sym c.self.view_is)
-    ∙ not_there (get_by_text c.self.inside.far) (names_of texts entries) name place c.self.invariant.told (sym c.get.ensures.value ∙ ap option_copied c.in-Some.is)
+    ∙ not_there (get_by_text c.self.inside.far) (names_of texts entries) name place c.self.invariant.told (sym c.far_place.ensures ∙ ap option_copied c.in-Some.is)
     (λ within. subst (λ ns. bytes_eq name (name_at ns place) ≡ false) (sym c.self.view_is) other)
 
 pub returns-in-Some : goal.returns-in-Some
