@@ -2,7 +2,7 @@
 use Rattle.std.proofs.Common.{◌≡◌, ◌≤◌, ℕ, Some, None, List, [], ◌∷◌, true, false, length, codes, refl, sym, ap, ◌∙◌, arith, lit<, lit≤}
 use Rattle.prolog_tokens.specs.declared.token.Kind.TheVariants.{Name, Quoted, Variable, Comma}
 use Rattle.prolog_names.specs.declared.table.Entry.{Entry}
-use Rattle.prolog_names.specs.Names.{name_at, opening_names, AreDistinct, IsOpened}
+use Rattle.prolog_names.specs.Names.{name_at, known_names, opening_names, AreDistinct, IsOpened}
 use Rattle.prolog_names.specs.Numbers.{has_name}
 use Rattle.prolog_names.specs.Table.{text_hash, bucket_in, chain_of, chains_of, bucket_at, bytes_of, name_in, names_of, next_of, IsLast, IsHashed, IsSpan, with_name}
 
@@ -148,12 +148,29 @@ user = refl
 behind_the_last : name_at opening_names 52 ≡ []
 behind_the_last = refl
 
+-- the known names: behind those, the names of predicates that take goals
+
+many_known : length known_names ≡ 64
+many_known = refl
+
+user_known : name_at known_names 51 ≡ codes "user"
+user_known = refl
+
+first_goal : name_at known_names 52 ≡ codes "call"
+first_goal = refl
+
+cut : name_at known_names 63 ≡ codes "!"
+cut = refl
+
+behind_the_cut : name_at known_names 64 ≡ []
+behind_the_cut = refl
+
 -- a table is opened where it begins with them
 
-opened : IsOpened opening_names
+opened : IsOpened known_names
 opened = ([], refl)
 
-opened_with_more : IsOpened (with_name opening_names (codes "foo"))
+opened_with_more : IsOpened (with_name known_names (codes "foo"))
 opened_with_more = (codes "foo" ∷ [], refl)
 
 too_few : IsOpened two → ⊥

@@ -6,7 +6,7 @@ pub mod NumberedParts
 pub mod GrownTable
 pub mod PlainNames
 pub mod OneNumber
-pub mod OpeningTable
+pub mod KnownTable
 pub mod Buckets
 pub mod Spans
 pub mod FewBytes

@@ -31,10 +31,20 @@ infix_names =
 abbrev pub module_names : List (List ℕ)
 module_names = codes "user" ∷ []
 
--- the names that each table begins with
+-- the names that those who read terms ask for
 abbrev pub opening_names : List (List ℕ)
 opening_names = asked_names ++ prefix_names ++ infix_names ++ module_names
 
+-- the names of the predicates that take goals, except those among the operators, and the cut
+abbrev pub goal_names : List (List ℕ)
+goal_names =
+    codes "call" ∷ codes "maplist" ∷ codes "once" ∷ codes "ignore" ∷ codes "not" ∷ codes "forall" ∷ codes "phrase" ∷ codes "findall"
+    ∷ codes "bagof" ∷ codes "setof" ∷ codes "catch" ∷ codes "!" ∷ []
+
+-- the names that each table begins with
+abbrev pub known_names : List (List ℕ)
+known_names = opening_names ++ goal_names
+
 -- the table begins with them
 abbrev pub IsOpened : List (List ℕ) → Type 0
-IsOpened names = (rest : List (List ℕ)) × (names ≡ opening_names ++ rest)
+IsOpened names = (rest : List (List ℕ)) × (names ≡ known_names ++ rest)

@@ -3,12 +3,14 @@
 
 ghost use Rattle.std.specs.Prelude.{◌≡◌, ◌≢◌, ◌<◌, ◌≤◌, ℕ, [], List, length, codes, slice_range};
 ghost use Rattle.prolog_tokens.specs.declared.token.Token.{Token as TokenOf};
-ghost use Rattle.prolog_names.specs.Names.{name_at, opening_names, AreDistinct, IsOpened};
+ghost use Rattle.prolog_names.specs.Names.{name_at, known_names, opening_names, AreDistinct, IsOpened};
 ghost use Rattle.prolog_names.specs.Numbers.{AreNumbered};
 
-use crate::names::{BAR, COMMA, CURLY, EMPTY, MINUS, Names, OPENING_COUNT, SQUARE, USER};
+use crate::names::{
+    BAR, COMMA, CURLY, EMPTY, KNOWN_COUNT, MINUS, Names, OPENING_COUNT, SQUARE, USER,
+};
 
-/// Each table begins with the opening names. No name is in it twice, so a name that isn't empty has
+/// Each table begins with the known names. No name is in it twice, so a name that isn't empty has
 /// one number only.
 pub fn names_law(names: &Names)
     ensures opened { IsOpened names.now }
@@ -31,6 +33,16 @@ pub fn opening_law(names: &Names)
     ensures named { (k : ℕ) → k < OPENING_COUNT → name_at names.now k ≡ name_at opening_names k }
     ensures others { (number k : ℕ) → OPENING_COUNT ≤ number → name_at names.now number ≢ [] → k < OPENING_COUNT
         → name_at opening_names k ≢ name_at names.now number }
+{
+    names_law(names);
+}
+
+/// The known names have the same numbers in each table. A name whose number is at least their count
+/// is none of them: no control construct, and no predicate that takes goals by itself.
+pub fn known_law(names: &Names)
+    ensures named { (k : ℕ) → k < KNOWN_COUNT → name_at names.now k ≡ name_at known_names k }
+    ensures others { (number k : ℕ) → KNOWN_COUNT ≤ number → name_at names.now number ≢ [] → k < KNOWN_COUNT
+        → name_at known_names k ≢ name_at names.now number }
 {
     names_law(names);
 }

@@ -3,7 +3,8 @@
 //!
 //! `number_names` returns the table of a text, and for each token the number of its name. Two
 //! tokens have the same number exactly if they have the same name. The names that the reader asks
-//! for come first in each table, so that their numbers are constants.
+//! for, and those of predicates that take goals, come first in each table, so that their numbers are
+//! constants.
 //!
 //! It knows no operators and no terms.
 #![tactic(auto)]
@@ -13,7 +14,7 @@ mod names;
 mod numbers;
 mod table;
 
-pub use laws::{names_law, numbered_part, opening_law};
-pub use names::{BAR, COMMA, CURLY, EMPTY, MINUS, Names, OPENING_COUNT, SQUARE, USER};
+pub use laws::{known_law, names_law, numbered_part, opening_law};
+pub use names::{BAR, COMMA, CURLY, EMPTY, KNOWN_COUNT, MINUS, Names, OPENING_COUNT, SQUARE, USER};
 pub use numbers::{Numbered, number_names};
 pub use table::text_hash;

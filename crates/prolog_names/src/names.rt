@@ -20,8 +20,11 @@ pub const CURLY: u32 = 4;
 pub const MINUS: u32 = 5;
 /// The number of `user`.
 pub const USER: u32 = 51;
-/// How many names each table begins with. Their numbers are below it, and all others aren't.
+/// How many names those who read terms ask for. Their numbers are below it, and all others aren't.
 pub const OPENING_COUNT: u32 = 52;
+/// How many names each table begins with: the opening names, then those of the predicates that take
+/// goals. Their numbers are below it, and all others aren't.
+pub const KNOWN_COUNT: u32 = 64;
 
 /// The names of a text, each once. The number of a name is its index. The constants of this crate
 /// are numbers in each table.

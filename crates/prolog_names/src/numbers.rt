@@ -3,11 +3,11 @@ ghost use Rattle.prolog_tokens.specs.declared.limits.TheConstants.{MOST_BYTES};
 ghost use Rattle.prolog_tokens.specs.Cut.{IsCut, IsTokenOf};
 ghost use Rattle.prolog_tokens.specs.Quoted.{IsQuoted};
 ghost use Rattle.prolog_tokens.specs.Values.{IsQuotedText};
-ghost use Rattle.prolog_names.specs.Names.{opening_names};
+ghost use Rattle.prolog_names.specs.Names.{known_names};
 ghost use Rattle.prolog_names.specs.Numbers.{IsNumberOf, AreNumbered};
 ghost use Rattle.prolog_names.specs.Table.{bytes_of};
 
-use crate::names::{Names, OPENING_COUNT};
+use crate::names::{KNOWN_COUNT, Names};
 use crate::table::NameTable;
 use prolog_tokens::{Kind, Token, cut_fewer, cut_tokens, name_slice, name_text};
 use std::alloc::{AllocError, Global};
@@ -17,8 +17,8 @@ const BUCKET_TOKENS: usize = 4;
 
 /// The names that each table begins with, whose indices are constants. First come those that the
 /// reader asks for, and then the names of the opening operators, in the order of their sides. The
-/// name of a module is last.
-const OPENING: [&str; OPENING_COUNT as usize] = [
+/// name of a module is next, and those of the predicates that take goals are last.
+const KNOWN: [&str; KNOWN_COUNT as usize] = [
     "",
     ",",
     "|",
@@ -71,6 +71,18 @@ const OPENING: [&str; OPENING_COUNT as usize] = [
     "^",
     ":",
     "user",
+    "call",
+    "maplist",
+    "once",
+    "ignore",
+    "not",
+    "forall",
+    "phrase",
+    "findall",
+    "bagof",
+    "setof",
+    "catch",
+    "!",
 ];
 
 /// The names of a text, and for each of its tokens the number of its name.
@@ -80,13 +92,13 @@ pub struct Numbered {
     pub numbers: Vec<u32>,
 }
 
-/// The table of the opening names, with more than `buckets` buckets.
-fn opening_table(alloc: Global, buckets: usize) -> Result<NameTable, AllocError>
+/// The table of the known names, with more than `buckets` buckets.
+fn known_table(alloc: Global, buckets: usize) -> Result<NameTable, AllocError>
     requires { buckets < 2 ^ 32 }
-    ensures { IfOk result (λ table. table ≡ opening_names) }
+    ensures { IfOk result (λ table. table ≡ known_names) }
 {
     let mut table = NameTable::new(alloc, buckets)?;
-    table.place_each(&OPENING)?;
+    table.place_each(&KNOWN)?;
     Ok(table)
 }
 
@@ -151,8 +163,8 @@ pub fn number_names(alloc: Global, text: &str, tokens: &[Token]) -> Result<Numbe
 {
     cut_fewer();
     cut_tokens();
-    let buckets = tokens.len() / BUCKET_TOKENS + OPENING.len();
-    let mut table = opening_table(alloc, buckets)?;
+    let buckets = tokens.len() / BUCKET_TOKENS + KNOWN.len();
+    let mut table = known_table(alloc, buckets)?;
     let mut numbers = Vec::with_capacity(alloc, tokens.len())?;
     for token in tokens {
         let number = number_of(alloc, &mut table, text, *token)?;

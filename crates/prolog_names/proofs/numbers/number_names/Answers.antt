@@ -2,7 +2,7 @@ use Rattle.std.proofs.Common.{◌+◌, ◌++◌, ◌∙◌, length, get_or, take
 use Rattle.std.proofs.lemmas.Option.{slice_get-get_or}
 use Rattle.prolog_tokens.specs.declared.token.Kind.TheVariants.{Name}
 use Rattle.prolog_tokens.specs.declared.token.Token.{Token}
-use Rattle.prolog_names.specs.Names.{opening_names}
+use Rattle.prolog_names.specs.Names.{known_names}
 use Rattle.prolog_names.specs.Numbers.{AreNumbered}
 use Rattle.prolog_names.specs.Table.{bytes_of}
 use Rattle.prolog_names.proofs.FewBytes.{few_ahead, few_with}
@@ -12,8 +12,8 @@ use Rattle.prolog_names.proofs.numbers.number_names.Goals as goal
 abbrev no_token : Token
 no_token = record { kind = Name; after_layout = false; start = 0; end = 0 }
 
-pub opening_table-requires : goal.opening_table-requires
-opening_table-requires c =
+pub known_table-requires : goal.known_table-requires
+known_table-requires c =
     omega (arith, c.requires.small, c.cut_fewer.ensures c.args.text.now c.args.tokens.now c.requires.cut)
 
 pub number_of-requires-clause-spelled : goal.number_of-requires-clause-spelled
@@ -39,7 +39,7 @@ loop-token-preserved c =
       bytes = λ k token from stands.
           let here = slice_get-get_or tokens i no_token c.loop-token-test.true in
           let own = get_or tokens i no_token in
-          few_ahead (bytes_of names) (bytes_of opening_names) own.start own.end (c.loop-token.invariant.bytes i own (omega arith) here)
+          few_ahead (bytes_of names) (bytes_of known_names) own.start own.end (c.loop-token.invariant.bytes i own (omega arith) here)
           (c.cut_tokens.ensures.some text own (c.cut_tokens.ensures.spelled text tokens c.requires.cut i own here)) c.in_ok-number.ensures.few
           (c.cut_tokens.ensures.order text tokens c.requires.cut i k own token (omega (arith, from)) here stands);
       numbered =
@@ -61,6 +61,6 @@ number_of-requires-clause-few c =
     omega (
       arith,
       c.requires.small,
-      few_with (bytes_of c.loop-token.table) (bytes_of opening_names) own.start own.end (c.loop-token.invariant.bytes i own (omega arith) here)
+      few_with (bytes_of c.loop-token.table) (bytes_of known_names) own.start own.end (c.loop-token.invariant.bytes i own (omega arith) here)
           (c.cut_tokens.ensures.some text own spelled) (c.cut_tokens.ensures.within text own spelled),
     )

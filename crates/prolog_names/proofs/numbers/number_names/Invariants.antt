@@ -1,7 +1,7 @@
 use Rattle.std.proofs.Common.{◌≡◌, ◌+◌, ◌*◌, ◌≤◌, ℕ, length, take, Some}
 use Rattle.std.specs.Prelude.{slice_get}
 use Rattle.prolog_tokens.specs.declared.token.Token.{Token}
-use Rattle.prolog_names.specs.Names.{IsOpened, opening_names}
+use Rattle.prolog_names.specs.Names.{IsOpened, known_names}
 use Rattle.prolog_names.specs.Numbers.{AreNumbered}
 use Rattle.prolog_names.specs.Table.{bytes_of}
 use Rattle.prolog_names.proofs.numbers.number_names.Given as goal
@@ -11,6 +11,6 @@ abbrev pub invariant-loop-token : goal.invariant-loop-token
 invariant-loop-token l = record {
   numbered : AreNumbered l.text l.table (take l.token-index l.tokens) l.numbers.items;
   opened : IsOpened l.table;
-  few : length l.table ≤ l.token-index + 52;
-  bytes : (k : ℕ) (token : Token) → l.token-index ≤ k → slice_get l.tokens k ≡ Some token → bytes_of l.table ≤ 4 * token.start + bytes_of opening_names;
+  few : length l.table ≤ l.token-index + 64;
+  bytes : (k : ℕ) (token : Token) → l.token-index ≤ k → slice_get l.tokens k ≡ Some token → bytes_of l.table ≤ 4 * token.start + bytes_of known_names;
 }

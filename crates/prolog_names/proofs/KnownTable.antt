@@ -1,9 +1,9 @@
--- The opening names are put into a table one by one.
+-- The known names are put into a table one by one.
 use Rattle.std.proofs.Common.{◌≡◌, Bool, true, false, not, ◌&&◌, List, [], ◌∷◌, ◌++◌, ℕ, fold, refl, sym, ap, ◌∙◌}
 use Rattle.std.specs.List.{list_any}
 use Rattle.std.specs.Str.{bytes_eq}
 use Rattle.std.proofs.lemmas.List.{append-nil, append_assoc}
-use Rattle.prolog_names.specs.Names.{opening_names}
+use Rattle.prolog_names.specs.Names.{known_names}
 use Rattle.prolog_names.specs.Table.{with_name}
 use Rattle.prolog_names.proofs.GrownTable.{named_anew}
 
@@ -24,5 +24,5 @@ put_behind before (name ∷ names) new =
     ∙ put_behind (before ++ name ∷ []) names split.1
     ∙ append_assoc before (name ∷ []) names
 
-pub opening_put : fold with_name [] opening_names ≡ opening_names
-opening_put = put_behind [] opening_names refl
+pub known_put : fold with_name [] known_names ≡ known_names
+known_put = put_behind [] known_names refl
