@@ -49,6 +49,8 @@ pub(crate) struct ProgramTables {
 }
 
 impl ProgramTables {
+    ghost use Rattle.import_rules.specs.NameTable.{name_hash};
+    ghost use Rattle.import_rules.specs.Names.{pred_name};
     ghost use Rattle.import_rules.specs.Parts.{see_name};
     ghost use Rattle.import_rules.specs.Program.{see_program, places_in, meta_in, meta_meant, found, IsKnown};
 
@@ -146,7 +148,14 @@ impl ProgramTables {
     pub(crate) fn find(&self, module: &str, name: &str, arity: u32) -> Option<u32>
         ensures { result ≡ found (see_program self.now) module.now name.now arity }
     {
-        let hash = name_hash(module, name, arity);
+        self.find_hashed(module, name, arity, name_hash(module, name, arity))
+    }
+
+    /// What `find` returns, for a name whose hash is known.
+    fn find_hashed(&self, module: &str, name: &str, arity: u32, hash: u32) -> Option<u32>
+        requires { hash ≡ name_hash (pred_name module.now name.now arity) }
+        ensures { result ≡ found (see_program self.now) module.now name.now arity }
+    {
         let predicates = self.predicates();
         if let Some(node) = predicates.find_hashed(module, name, arity, hash) {
             return Some(node);

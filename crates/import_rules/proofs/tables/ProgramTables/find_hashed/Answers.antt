@@ -7,7 +7,7 @@ use Rattle.import_rules.specs.Program.{see_program}
 use Rattle.import_rules.proofs.Known.{known}
 use Rattle.import_rules.proofs.OwnLemmas.{own_at}
 use Rattle.import_rules.proofs.Seen.{unfound, found_at}
-use Rattle.import_rules.proofs.tables.ProgramTables.find.Goals as goal
+use Rattle.import_rules.proofs.tables.ProgramTables.find_hashed.Goals as goal
 
 pub returns-in-Some : goal.returns-in-Some
 returns-in-Some c =
