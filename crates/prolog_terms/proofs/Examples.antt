@@ -7,7 +7,7 @@ use Rattle.prolog_terms.specs.declared.term.Span.{Span}
 use Rattle.prolog_terms.specs.declared.term.Form.TheVariants.{Functional, Infix}
 use Rattle.prolog_terms.specs.Grammar.{Parse, GroupStart, square, leaf, bare, group, tailed as with_tail, prefixed, infixed, one, more as more_parts, IsAboveSpine, IsClause, parse_depth}
 use Rattle.prolog_terms.specs.Tree.{Tree, atom, compound, listed, tailed, paren, none, more, depth}
-use Rattle.prolog_terms.specs.Views.{start_of, sides_of, joined, name_and_arity, atom_name}
+use Rattle.prolog_terms.specs.Views.{start_of, sides_of, joined, name_and_arity, name_and_args, atom_name}
 use Rattle.prolog_terms.specs.Weight.{weight}
 use Rattle.prolog_terms.specs.Words.{Word, Table, table_of, is_atom, is_prefix, is_functor, is_negative}
 
@@ -164,6 +164,17 @@ compound_named = refl
 
 list_without_name : name_and_arity (listed (more a none) (at 0)) ≡ None
 list_without_name = refl
+
+-- an atom has no arguments
+
+atom_parted : name_and_args (paren a (at 0)) ≡ Some (record { name = codes "a"; args = none })
+atom_parted = refl
+
+compound_parted : name_and_args (paren (f a b) (at 0)) ≡ Some (record { name = codes "f"; args = more a (more b none) })
+compound_parted = refl
+
+list_not_parted : name_and_args (listed (more a none) (at 0)) ≡ None
+list_not_parted = refl
 
 no_atom : atom_name (f a b) ≡ None
 no_atom = refl

@@ -75,6 +75,19 @@ named_at tree = None
 abbrev pub name_and_arity : Tree → Option Named
 name_and_arity tree = named_at (inside tree)
 
+-- the name and the arguments of an atom or a compound: an atom has none
+pub record Parted : Type 0 where
+  pub name : List ℕ
+  pub args : Trees
+
+abbrev pub parted_at : Tree → Option Parted
+parted_at (atom name span) = Some (record { name = name; args = none })
+parted_at (compound name args form span) = Some (record { name = name; args = args })
+parted_at tree = None
+
+abbrev pub name_and_args : Tree → Option Parted
+name_and_args tree = parted_at (inside tree)
+
 -- the name of an atom
 abbrev pub name_at : Tree → Option (List ℕ)
 name_at (atom name span) = Some name

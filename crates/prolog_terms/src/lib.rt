@@ -36,6 +36,7 @@ pub use node_list::NodeList;
 pub use reader::{DEEPEST, ReadFault, read_clause, read_onto};
 pub use term::{ConstKind, Form, Parts, Span, Term, TermKind};
 pub use views::{
-    atom_name, atom_number, binary, inside, name_and_arity, number_and_arity, sides, start_of,
+    atom_name, atom_number, binary, inside, name_and_arity, number_and_args, number_and_arity,
+    numbered_binary, sides, start_of,
 };
 pub use waiting::Reader;

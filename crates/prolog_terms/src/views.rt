@@ -2,12 +2,12 @@
 
 ghost use Rattle.std.specs.Prelude.{◌≡◌, option_map, IfSome};
 ghost use Rattle.prolog_names.specs.Names.{name_at};
-ghost use Rattle.prolog_terms.specs.Terms.{tree_of, IsOf};
-ghost use Rattle.prolog_terms.specs.Views.{inside as inner_tree, start_of, binary as binary_tree, sides_of, name_and_arity, atom_name};
+ghost use Rattle.prolog_terms.specs.Terms.{tree_of, trees_of, IsOf, IsPartsOf};
+ghost use Rattle.prolog_terms.specs.Views.{inside as inner_tree, start_of, binary as binary_tree, sides_of, name_and_arity, name_and_args, atom_name};
 
 use crate::binary_term::Binary;
 use crate::node::Shape;
-use crate::term::Term;
+use crate::term::{Parts, Term};
 
 /// The term inside all brackets round it.
 #[inline(always)]
@@ -27,7 +27,7 @@ pub fn start_of(term: &Term) -> u32
 
 /// The number of the name and the arguments of a compound of two arguments, in any notation and brackets.
 #[inline(always)]
-fn numbered_binary<'a>(term: &Term<'a>) -> Option<(u32, Term<'a>, Term<'a>)>
+pub fn numbered_binary<'a>(term: &Term<'a>) -> Option<(u32, Term<'a>, Term<'a>)>
     ensures trees { option_map (λ pair. record { name = name_at term.now.names.now pair.0; left = tree_of pair.1; right = tree_of pair.2 }) result
         ≡ binary_tree (tree_of term.now) }
     ensures within { IfSome result (λ pair. IsOf term.now.names.now term.now.nodes.now pair.1 × IsOf term.now.names.now term.now.nodes.now pair.2) }
@@ -72,6 +72,23 @@ pub fn number_and_arity(term: &Term) -> Option<(u32, usize)>
     match node.shape {
         Shape::Atom { name } => Some((name, 0)),
         Shape::Compound { name, count, .. } => Some((name, count as usize)),
+        _ => None,
+    }
+}
+
+/// The number of the name and the arguments of an atom or a compound, in any notation and brackets.
+/// An atom has no arguments. No text is read.
+#[inline(always)]
+pub fn number_and_args<'a>(term: &Term<'a>) -> Option<(u32, Parts<'a>)>
+    ensures trees { option_map (λ pair. record { name = name_at term.now.names.now pair.0; args = trees_of pair.1 }) result
+        ≡ name_and_args (tree_of term.now) }
+    ensures within { IfSome result (λ pair. IsPartsOf term.now.names.now term.now.nodes.now pair.1) }
+{
+    let inner = inside(term);
+    let (node, before) = inner.node();
+    match node.shape {
+        Shape::Atom { name } => Some((name, inner.parts(before, 0))),
+        Shape::Compound { name, count, .. } => Some((name, inner.parts(before, count))),
         _ => None,
     }
 }
