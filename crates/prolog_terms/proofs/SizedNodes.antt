@@ -5,6 +5,7 @@ use Rattle.std.proofs.lemmas.List.{take-append-le, take_more, length_push, get_o
 use Rattle.std.proofs.lemmas.List.Sums.{fold-append}
 use Rattle.std.proofs.lemmas.Option.{slice_get_within, get_or_from_slice_get, slice_get-get_or}
 use Rattle.prolog_terms.specs.declared.node.Node.{Node}
+use Rattle.prolog_terms.specs.declared.node.TheConstants.{MANY}
 use Rattle.prolog_terms.specs.Tree.{Tree, Trees, compound, none, more, count}
 use Rattle.prolog_terms.specs.declared.term.Form.{Form}
 use Rattle.prolog_terms.specs.declared.term.Span.{Span}
@@ -29,7 +30,7 @@ forest_push names nodes node = fold-append (step names) [] nodes (node ∷ [])
 
 -- a node more, whose size leads to what stood before its parts
 module _ (nodes : List Node) (node : Node) (some : 1 ≤ node.size) (small : node.size ≤ length nodes + 1)
-    (leads : (names : List (List ℕ)) → forest names (take (length nodes + 1 - node.size) nodes) ≡ without (taken node.shape) (forest names nodes)) where
+    (leads : node.size < MANY → (names : List (List ℕ)) → forest names (take (length nodes + 1 - node.size) nodes) ≡ without (taken node.shape) (forest names nodes)) where
   all_there : take (length nodes + 1) (nodes ++ node ∷ []) ≡ nodes ++ node ∷ []
   all_there = take_all (length nodes + 1) (nodes ++ node ∷ []) (omega (arith, length_push nodes node))
 
@@ -52,12 +53,12 @@ module _ (nodes : List Node) (node : Node) (some : 1 ≤ node.size) (small : nod
         omega (arith, small, same, ap (λ (x : Node). x.size) (this at n is same))
   ]
 
-  leads_at : IsSized nodes → (at : ℕ) (n : Node) → slice_get (nodes ++ node ∷ []) at ≡ Some n → (names : List (List ℕ))
+  leads_at : IsSized nodes → (at : ℕ) (n : Node) → slice_get (nodes ++ node ∷ []) at ≡ Some n → n.size < MANY → (names : List (List ℕ))
       → forest names (take (at + 1 - n.size) (nodes ++ node ∷ [])) ≡ before_last (forest names (take (at + 1) (nodes ++ node ∷ [])))
-  leads_at sized at n is names = elim (cases_lt at (length nodes)) [
+  leads_at sized at n is few names = elim (cases_lt at (length nodes)) [
     | inl lt ↦
         ap (forest names) (take-append-le (at + 1 - n.size) nodes (node ∷ []) (omega (arith, lt)))
-        ∙ (sized.leads at n (earlier at n is lt) names
+        ∙ (sized.leads at n (earlier at n is lt) few names
         ∙ sym (ap (λ ns. before_last (forest names ns)) (take-append-le (at + 1) nodes (node ∷ []) (omega (arith, lt)))))
     | inr ge ↦
         let same : length nodes ≡ at = last_place at n is ge in
@@ -66,7 +67,7 @@ module _ (nodes : List Node) (node : Node) (some : 1 ≤ node.size) (small : nod
         let end : at + 1 ≡ length nodes + 1 = omega (arith, same) in
         ap (λ k. forest names (take k (nodes ++ node ∷ []))) place
         ∙ (ap (forest names) (take-append-le (length nodes + 1 - node.size) nodes (node ∷ []) (omega (arith, some)))
-        ∙ (leads names
+        ∙ (leads (subst (λ size. size < MANY) (sym own) few) names
         ∙ sym (ap (λ k. before_last (forest names (take k (nodes ++ node ∷ [])))) end
         ∙ (ap (λ ns. before_last (forest names ns)) all_there ∙ ap before_last (forest_push names nodes node)))))
   ]

@@ -6,6 +6,7 @@ use Rattle.std.proofs.lemmas.List.{take-append-le, length_push, get_or_append_le
 use Rattle.std.proofs.lemmas.List.Sums.{fold-append}
 use Rattle.std.proofs.lemmas.Option.{slice_get_within, get_or_from_slice_get, slice_get-get_or}
 use Rattle.prolog_terms.specs.declared.node.Node.{Node}
+use Rattle.prolog_terms.specs.declared.node.TheConstants.{MANY}
 use Rattle.prolog_terms.specs.declared.node.Shape.{Shape}
 use Rattle.prolog_terms.specs.declared.node.Shape.TheVariants as shape
 use Rattle.prolog_terms.specs.declared.term.Span.{Span}
@@ -189,12 +190,12 @@ module _ (front nodes : List Node) where
         | inr past ↦ omega (arith, past, sized.within (at - length front) node (later at node is past))
       ]
 
-      leads : (at : ℕ) (node : Node) → slice_get (front ++ nodes) at ≡ Some node → (names : List (List ℕ))
+      leads : (at : ℕ) (node : Node) → slice_get (front ++ nodes) at ≡ Some node → node.size < MANY → (names : List (List ℕ))
           → forest names (take (at + 1 - node.size) (front ++ nodes)) ≡ before_last (forest names (take (at + 1) (front ++ nodes)))
-      leads at node is names = elim (cases_lt at (length front)) [
+      leads at node is few names = elim (cases_lt at (length front)) [
         | inl lt ↦
             ap (forest names) (take-append-le (at + 1 - node.size) front nodes (omega (arith, lt)))
-            ∙ (first.leads at node (earlier at node is lt) names
+            ∙ (first.leads at node (earlier at node is lt) few names
             ∙ sym (ap (λ ns. before_last (forest names ns)) (take-append-le (at + 1) front nodes (omega (arith, lt)))))
         | inr past ↦
             let k = at - length front in
@@ -205,7 +206,7 @@ module _ (front nodes : List Node) where
             let trees = forest names front in
             ap (forest names) (so_many (at + 1 - node.size) (omega (arith, past, small)) ∙ ap (λ n. front ++ take n nodes) start)
             ∙ (behind_front whole names (k + 1 - node.size)
-            ∙ (ap (λ ts. ts ++ trees) (sized.leads k node there names)
+            ∙ (ap (λ ts. ts ++ trees) (sized.leads k node there few names)
             ∙ (sym (first_left k node names trees there)
             ∙ sym (ap (λ ns. before_last (forest names ns)) (so_many (at + 1) (omega (arith, past)) ∙ ap (λ n. front ++ take n nodes) end)
             ∙ ap before_last (behind_front whole names (k + 1))))))
@@ -226,7 +227,7 @@ module _ (front nodes : List Node) where
 
 -- with one node more
 pub terms_push : (nodes : List Node) (node : Node) (terms : ℕ) → 1 ≤ node.size → node.size ≤ length nodes + 1
-    → ((names : List (List ℕ)) → forest names (take (length nodes + 1 - node.size) nodes) ≡ without (taken node.shape) (forest names nodes))
+    → (node.size < MANY → (names : List (List ℕ)) → forest names (take (length nodes + 1 - node.size) nodes) ≡ without (taken node.shape) (forest names nodes))
     → taken node.shape ≤ terms → AreTerms nodes terms → AreTerms (nodes ++ node ∷ []) (terms - taken node.shape + 1)
 terms_push nodes node terms some small leads enough are =
     let each : (names : List (List ℕ)) → taken node.shape ≤ length (forest names nodes) = λ names. omega (arith, enough, are.count names) in
@@ -242,7 +243,7 @@ one_term node size alone =
     let place : 0 + 1 - node.size ≡ 0 = omega (arith, size) in
     subst (AreTerms (node ∷ [])) (omega (arith, alone))
     (terms_push [] node 0 (omega (arith, size)) (omega (arith, size))
-    (λ names. ap (λ k. forest names (take k [])) place ∙ sym (ap (λ n. without n (forest names [])) alone)) (omega (arith, alone)) no_terms)
+    (λ few names. ap (λ k. forest names (take k [])) place ∙ sym (ap (λ n. without n (forest names [])) alone)) (omega (arith, alone)) no_terms)
 
 -- there are no more terms than nodes
 pub few_terms : (nodes : List Node) (names : List (List ℕ)) → length (forest names nodes) ≤ length nodes

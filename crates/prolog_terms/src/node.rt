@@ -31,13 +31,17 @@ pub enum Shape {
     Paren,
 }
 
+/// The size of a term of so many nodes or more.
+pub const MANY: u32 = 4_294_967_295;
+
 /// A term in a list of nodes, in which its parts come before it. Its size is how many nodes it has,
-/// with itself. So the term before it ends that many nodes further to the front.
+/// with itself, if they are fewer than `MANY`. So the term before it ends that many nodes further to
+/// the front. A size in 32 bits keeps a node to 24 bytes.
 #[derive(Clone, Copy)]
 pub struct Node {
     pub shape: Shape,
     pub span: Span,
-    pub size: usize,
+    pub size: u32,
 }
 
 /// The node of a term if there is none: a variable at 0.

@@ -2,12 +2,13 @@
 
 ghost use Rattle.std.specs.Prelude.{◌≡◌, ◌≤◌, ◌<◌, ◌∷◌, ◌++◌, [], ℕ, List, Some, IfOk, OnOk, length, take, slice_get, MatchOption};
 ghost use Rattle.prolog_terms.specs.declared.node.Node.{Node as NodeOf};
+ghost use Rattle.prolog_terms.specs.declared.node.TheConstants.{MANY};
 ghost use Rattle.prolog_terms.specs.Forest.{before_last, forest, last_of, node_tree, taken, without};
 ghost use Rattle.prolog_terms.specs.Sized.{filled};
 ghost use Rattle.prolog_terms.specs.Terms.{root_tree};
 ghost use Rattle.prolog_terms.specs.Views.{inside};
 
-use crate::node::{NO_NODE, Node, Shape, taken};
+use crate::node::{MANY, NO_NODE, Node, Shape, taken};
 use crate::term::Span;
 use std::alloc::{AllocError, Global};
 use std::marker::Model;
@@ -39,6 +40,20 @@ fn node_at(list: &[Node], at: usize) -> Node
     ensures { slice_get list.now at ≡ Some result }
 {
     list[at]
+}
+
+/// The size of a term of that many nodes.
+#[inline(always)]
+fn size_of(count: usize) -> u32
+    requires { 0 < count }
+    ensures some { 0 < result }
+    ensures within { result ≤ count }
+    ensures is { result < MANY → result ≡ count }
+{
+    if count >= MANY as usize {
+        return MANY;
+    }
+    count as u32
 }
 
 impl NodeList {
@@ -118,10 +133,48 @@ impl NodeList {
         ensures rest { (names : List (List ℕ)) → forest names (take result self.now) ≡ before_last (forest names (take end self.now)) }
         ensures within { result ≤ end }
     {
-        if end == 0 {
-            return 0;
+        match self.before_sized(end) {
+            Some(before) => before,
+            None => self.before_parts(end),
         }
-        end - node_at(&self.list, end - 1).size
+    }
+
+    /// What `before_these` returns, by the size of the last term. `None` if that has `MANY` nodes or
+    /// more.
+    #[inline(always)]
+    fn before_sized(&self, end: usize) -> Option<usize>
+        requires { end ≤ length self.now }
+        ensures { MatchOption result (0 < end) (λ before. (before ≤ end)
+            × ((names : List (List ℕ)) → forest names (take before self.now) ≡ before_last (forest names (take end self.now)))) }
+    {
+        if end == 0 {
+            return Some(0);
+        }
+        let size = node_at(&self.list, end - 1).size;
+        if size == MANY {
+            return None;
+        }
+        Some(end - size as usize)
+    }
+
+    /// What `before_these` returns, found part by part. It is called only for terms of `MANY` nodes
+    /// or more, which take 100 GB.
+    fn before_parts(&self, end: usize) -> usize
+        requires some { 0 < end }
+        requires there { end ≤ length self.now }
+        ensures rest { (names : List (List ℕ)) → forest names (take result self.now) ≡ before_last (forest names (take end self.now)) }
+        ensures within { result ≤ end }
+    {
+        let mut at = end - 1;
+        let count = taken(node_at(&self.list, at).shape);
+        for _part in 0..count {
+            if let Some(before) = self.before_sized(at) {
+                at = before;
+                continue;
+            }
+            at = self.before_parts(at);
+        }
+        at
     }
 
     /// How many of the first `end` nodes come before their last `count` terms.
@@ -177,7 +230,7 @@ impl NodeList {
         self.fill(count)?;
         let end = self.list.len();
         let from = self.before_many(end, count);
-        let size = end - from + 1;
+        let size = size_of(end - from + 1);
         self.list.push(Node { shape, span, size })?;
         self.terms = self.terms - count + 1;
         Ok(())

@@ -1,6 +1,7 @@
-use Rattle.std.proofs.Common.{◌≡◌, ◌+◌, ◌-◌, ◌≤◌, ◌∷◌, ◌++◌, [], length, take, subst, sym, arith, ap, ◌∙◌}
+use Rattle.std.proofs.Common.{◌≡◌, ◌+◌, ◌-◌, ◌<◌, ◌≤◌, ◌∷◌, ◌++◌, [], length, take, subst, sym, arith, ap, ◌∙◌}
 use Rattle.std.proofs.lemmas.List.{take_all}
 use Rattle.prolog_terms.specs.declared.node.Node.{Node}
+use Rattle.prolog_terms.specs.declared.node.TheConstants.{MANY}
 use Rattle.prolog_terms.specs.Forest.{forest, node_tree, taken, without}
 use Rattle.prolog_terms.specs.Sized.{AreTerms, filled}
 use Rattle.prolog_terms.proofs.SizedNodes.{forest_push}
@@ -20,16 +21,18 @@ invariant_of-self-2 c =
     let from = c.before_many-from.result in
     let end = c.len-end.result in
     let count = taken c.args.shape in
-    let node : Node = record { shape = c.args.shape; span = c.args.span; size = end - from + 1 } in
+    let size = c.size_of-size.result in
+    let node : Node = record { shape = c.args.shape; span = c.args.span; size = size } in
     let all : end ≡ length nodes = omega (arith, c.len-end.ensures, c.self.inside.list.ok) in
     let within : from ≤ end = c.before_many-from.ensures.within in
-    let place : length nodes + 1 - (end - from + 1) ≡ from = omega (arith, all, within) in
+    let small : size ≤ end - from + 1 = c.size_of-size.ensures.within in
+    let place : size < MANY → length nodes + 1 - size ≡ from = λ few. omega (arith, all, within, c.size_of-size.ensures.is few) in
     let enough : count ≤ terms = omega (arith, c.taken-count.ensures, c.in_ok-fill.ensures.some [], ap (λ ns. length (forest [] ns)) c.self.view_is, c.self.invariant.count []) in
     subst (λ ns. AreTerms ns (terms - c.taken-count.result + 1)) (sym c.in_ok-push.ensures.items)
     (subst (λ n. AreTerms (nodes ++ node ∷ []) (terms - n + 1)) (sym c.taken-count.ensures)
-    (terms_push nodes node terms (omega arith) (omega (arith, all))
-    (λ names.
-    ap (λ k. forest names (take k nodes)) place
+    (terms_push nodes node terms (omega (arith, c.size_of-size.ensures.some)) (omega (arith, all, small))
+    (λ few names.
+    ap (λ k. forest names (take k nodes)) (place few)
     ∙ (ap (λ ns. forest names (take from ns)) c.self.view_is
     ∙ (c.before_many-from.ensures.rest names
     ∙ (ap (λ n. without n (forest names (take end c.fill.new.self))) c.taken-count.ensures
@@ -39,7 +42,7 @@ invariant_of-self-2 c =
 pub returns : goal.returns
 returns c = λ names.
     let nodes = c.self.inside.list.items in
-    let node : Node = record { shape = c.args.shape; span = c.args.span; size = c.len-end.result - c.before_many-from.result + 1 } in
+    let node : Node = record { shape = c.args.shape; span = c.args.span; size = c.size_of-size.result } in
     let old = forest names c.args.self.now in
     let count = taken c.args.shape in
     let trees : forest names nodes ≡ filled count old =
