@@ -66,15 +66,19 @@ def made(source):
 
 def told(words, folder):
     lines = [json.loads(line) for line in output([CALLS, *words], folder).split("\n")[:-1]]
-    return [[line for line in lines if line["is"] == kind] for kind in ("predicate", "clause", "call")]
+    return [[line for line in lines if line["is"] == kind] for kind in ("predicate", "group", "clause", "call")]
 
 
-def beside_groups(words, folder, predicates):
-    """The groups and heights are those of the report."""
+def beside_groups(words, folder, predicates, told_groups):
+    """The groups and heights are those of the report, and the lines of the groups say what those of their members do."""
     mine = {}
     for line in predicates:
         if line["group"] is not None:
             mine.setdefault((line["height"], line["group"], line["recursive"]), []).append(line["id"])
+    of_members = [{"is": "group", "id": least, "height": height, "recursive": recursive, "members": members}
+                  for (height, least, recursive), members in sorted(mine.items(), key=lambda it: it[0][1])]
+    if told_groups != of_members:
+        sys.exit(f"{words}: lines of groups {told_groups} beside {of_members}")
     report = output([GROUPS, *words], folder).split("\n")
     groups = [line for line in report[1:] if re.match(r"\d", line)]
     if len(groups) != len(mine):
@@ -103,7 +107,7 @@ def one_random(number, folder):
     source = random.Random(number)
     text, clauses, calls = made(source)
     (folder / "f.pl").write_text(text)
-    predicates, found, goals = told(["--unreached", "f.pl"], folder)
+    predicates, told_groups, found, goals = told(["--unreached", "f.pl"], folder)
     names = {line["id"]: line["name"] for line in predicates}
     if [(line["line"], line["column"], names[line["predicate"]]) for line in found] != clauses:
         sys.exit(f"random program {number}: other clauses")
@@ -116,7 +120,7 @@ def one_random(number, folder):
     undefined = [json.loads(line) for line in output([CALLS, "--unreached", "--undefined", "f.pl"], folder).split("\n")[:-1]]
     if undefined != [line for line in goals if line["callee"] is None]:
         sys.exit(f"random program {number}: other undefined names")
-    beside_groups(["f.pl"], folder, predicates)
+    beside_groups(["f.pl"], folder, predicates, told_groups)
     beside_graph(["--unreached", "f.pl"], folder, predicates, goals)
 
 
@@ -126,7 +130,7 @@ def all_code_points(folder):
     for start in range(0, len(points), 200_000):
         part = points[start : start + 200_000]
         (folder / "f.pl").write_text("".join(f"'a\\x{point:x}\\'.\n" for point in part))
-        predicates, _, _ = told(["--unreached", "f.pl"], folder)
+        predicates, _, _, _ = told(["--unreached", "f.pl"], folder)
         if sorted(line["name"] for line in predicates) != [f"a{chr(point)}" for point in part]:
             sys.exit(f"code points from {start}: other names")
 
@@ -197,8 +201,8 @@ def main():
         all_code_points(folder)
         examples = sorted((ROOT / "examples").glob("*.pl"))
         for path in examples:
-            predicates, _, goals = told([path.name], path.parent)
-            beside_groups([path.name], path.parent, predicates)
+            predicates, told_groups, _, goals = told([path.name], path.parent)
+            beside_groups([path.name], path.parent, predicates, told_groups)
             beside_graph([path.name], path.parent, predicates, goals)
     if not HAS_DOT:
         print("dot isn't installed: no graph is read back")

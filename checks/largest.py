@@ -106,6 +106,10 @@ def predicate_line(number, name, group, height, recursive):
     return f'{{"is":"predicate","id":{number},"module":"user","name":"{name}","arity":0,"group":{group},"height":{height},"recursive":{recursive}}}\n'
 
 
+def group_line(least, height, recursive, members):
+    return f'{{"is":"group","id":{least},"height":{height},"recursive":{recursive},"members":[{",".join(map(str, members))}]}}\n'
+
+
 def clause_line(predicate, file, line):
     return f'{{"is":"clause","predicate":{predicate},"file":"{file}","line":{line},"column":1}}\n'
 
@@ -124,9 +128,10 @@ def listed_facts(folder, calls):
     names = sorted(f"p{number}" for number in range(MOST))
     ids = {name: number for number, name in enumerate(names)}
     predicates = [predicate_line(number, name, number, 0, "false") for number, name in enumerate(names)]
+    groups = (group_line(number, 0, "false", [number]) for number in range(MOST))
     half = MOST // 2
     clauses = (clause_line(ids[f"p{number}"], f"f{number // half}.pl", number % half + 1) for number in range(MOST))
-    expect_lines("facts, listed", run(folder, "f0.pl", "f1.pl", tool=calls), (predicates, clauses))
+    expect_lines("facts, listed", run(folder, "f0.pl", "f1.pl", tool=calls), (predicates, groups, clauses))
     expect("facts, undefined calls", run(folder, "--undefined", "f0.pl", "f1.pl", tool=calls), (0, b"", b""))
 
 
@@ -139,7 +144,7 @@ def listed_ring(folder, calls):
     predicates = [predicate_line(number, name, 0, 0, "true") for number, name in enumerate(names)]
     clauses = (clause_line(ids[name], file, line) for name, _, file, line in places)
     made = (call_line(ids[name], ids[next], next, file, line, len(name) + 5) for name, next, file, line in places)
-    expect_lines("a ring, listed", run(folder, *files, tool=calls), (predicates, clauses, made))
+    expect_lines("a ring, listed", run(folder, *files, tool=calls), (predicates, [group_line(0, 0, "true", range(size))], clauses, made))
     status, out, err = run(folder, "--dot", *files, tool=calls)
     if (status, err, out.count(b" -> ")) != (0, b"", size):
         wrong.append(f"a ring as a graph: status {status}, {out.count(b' -> ')} edges")
@@ -151,9 +156,9 @@ def listed_names(folder, calls):
     (folder / "long.pl").write_text("".join(f"p :- {name}.\n" for name in names))
     clauses = (clause_line(0, "long.pl", number + 1) for number in range(len(names)))
     made = (call_line(0, "null", name, "long.pl", number + 1, 6) for number, name in enumerate(names))
-    expect_lines("long names, listed", run(folder, "long.pl", tool=calls), ([predicate_line(0, "p", 0, 0, "false")], clauses, made))
+    expect_lines("long names, listed", run(folder, "long.pl", tool=calls), ([predicate_line(0, "p", 0, 0, "false")], [group_line(0, 0, "false", [0])], clauses, made))
     status, out, err = run(folder, *(f"n{number}.pl" for number in range(MOST_FILES)), tool=calls)
-    if (status, err, out.count(b"\n")) != (0, b"", 3 * MOST_FILES - 1):
+    if (status, err, out.count(b"\n")) != (0, b"", 4 * MOST_FILES - 1):
         wrong.append(f"{MOST_FILES} files, listed: status {status}, {len(out.splitlines())} lines")
 
 

@@ -15,9 +15,11 @@ use Rattle.loop_report.specs.Reportable.{AreLeveled}
 use Rattle.call_table.specs.Table.{IsTable}
 use Rattle.call_table.specs.declared.table.CallTable.{CallTable}
 use Rattle.call_writer.specs.Dot.{cluster, edge_line, node_line_of}
-use Rattle.call_writer.specs.Lines.{call_line_if, clause_line, predicate_line_of}
+use Rattle.call_writer.specs.Lines.{call_line_if, clause_line, group_line_at, predicate_line_of}
 use Rattle.call_told.specs.Wanted.{Asked}
 use Rattle.call_told.specs.declared.told.Told.{Told}
+use Rattle.call_told.specs.declared.node_texts.NodeLines.{NodeLines}
+use Rattle.call_told.specs.declared.node_texts.NodeLines.TheVariants.{Predicates, Groups}
 use Rattle.call_told.specs.declared.words.Form.{Form}
 use Rattle.call_told.specs.declared.words.Form.TheVariants.{Lines, Undefined, Dot}
 
@@ -49,10 +51,18 @@ ToldIs asked roots told = IsReach asked told.program.now roots (lists_of told.gr
 abbrev pub joined : List (String Global) → List ℕ
 joined texts = flat_map (λ (text : String Global). string_bytes text) texts
 
--- the lines of the predicates
-abbrev pub predicate_lines : Seen → List (List ℕ) → List Level → List ℕ → List ℕ → List ℕ
-predicate_lines seen groups levels places nodes =
-    flat_map (λ p. predicate_line_of seen.predicates groups levels p (slice_index places p)) nodes
+-- the line of a predicate, or that of the group of which it is the least member, where it is that of one
+abbrev pub node_line : NodeLines → Seen → List (List ℕ) → List Level → List ℕ → ℕ → List ℕ
+node_line Predicates seen groups levels places p = predicate_line_of seen.predicates groups levels p (slice_index places p)
+node_line Groups seen groups levels places p = group_line_at groups levels p (slice_index places p)
+
+abbrev pub node_lines : NodeLines → Seen → List (List ℕ) → List Level → List ℕ → List ℕ → List ℕ
+node_lines lines seen groups levels places nodes = flat_map (node_line lines seen groups levels places) nodes
+
+-- the lines of the predicates, and behind them those of their groups, by least member
+abbrev pub told_lines : Seen → List (List ℕ) → List Level → List ℕ → List ℕ → List ℕ
+told_lines seen groups levels places nodes =
+    node_lines Predicates seen groups levels places nodes ++ node_lines Groups seen groups levels places nodes
 
 -- the lines of the clauses
 abbrev pub clause_lines : Seen → CallTable → List ℕ
@@ -81,10 +91,10 @@ pub record TellsTable (seen : Seen) (groups : List (List ℕ)) (nodes : List ℕ
   pub is_table : IsTable seen nodes groups table
   pub is : bytes ≡ text table
 
--- the lines of predicates, clauses and calls; those of undefined calls alone; or the graph
+-- the lines of predicates, groups, clauses and calls; those of undefined calls alone; or the graph
 abbrev pub TellsForm : Form → Seen → List (List ℕ) → List Level → List ℕ → List ℕ → List ℕ → Type 0
 TellsForm Lines seen groups levels places nodes bytes =
-    TellsTable seen groups nodes (λ table. predicate_lines seen groups levels places nodes ++ (clause_lines seen table ++ call_lines false seen table)) bytes
+    TellsTable seen groups nodes (λ table. told_lines seen groups levels places nodes ++ (clause_lines seen table ++ call_lines false seen table)) bytes
 TellsForm Undefined seen groups levels places nodes bytes = TellsTable seen groups nodes (call_lines true seen) bytes
 TellsForm Dot seen groups levels places nodes bytes = bytes ≡ dot_graph seen groups places nodes
 

@@ -1,7 +1,7 @@
 //! What the arguments of `calls` ask for, and the bytes that answer them.
 //!
 //! `read_wanted` returns what valid arguments ask for, and `Usage` exactly if they aren't valid.
-//! `told_texts` returns that of a program: its predicates, clauses and calls, or only the calls
+//! `told_texts` returns that of a program: its predicates, groups, clauses and calls, or only the calls
 //! whose names mean no predicate, or the graph of its predicates.
 //!
 //! ```text
@@ -12,7 +12,7 @@
 //! It reads no file.
 #![tactic(auto)]
 
-mod predicate_texts;
+mod node_texts;
 mod stretches;
 mod text;
 mod told;

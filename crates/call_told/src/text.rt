@@ -6,13 +6,13 @@ ghost use Rattle.std.specs.String.{string_bytes};
 ghost use Rattle.call_edges.specs.Successors.{successor_lists};
 ghost use Rattle.call_table.specs.Table.{IsTable};
 ghost use Rattle.call_writer.specs.Dot.{cluster, edge_line};
-ghost use Rattle.call_told.specs.Told.{IsTold, TellsForm, TellsFrom, dot_graph, joined, predicate_lines, ungrouped_line};
+ghost use Rattle.call_told.specs.Told.{IsTold, TellsForm, TellsFrom, dot_graph, joined, told_lines, ungrouped_line};
 ghost use Rattle.call_told.specs.Wanted.{see_wanted};
 ghost use Rattle.call_told.specs.declared.words.Form.TheVariants.{Lines, Undefined};
 ghost use Rattle.graph_law.specs.Classes.{group_at};
 ghost use Rattle.graph_law.specs.Graph.{lists_of};
 
-use crate::predicate_texts::predicate_texts;
+use crate::node_texts::node_texts;
 use crate::stretches::{call_texts, clause_texts};
 use crate::told::{Told, make_told};
 use crate::words::{Form, Wanted};
@@ -40,7 +40,7 @@ fn table_of<'a, R: Threads + Sync>(
     call_table(rt, alloc, calls, &told.nodes, &told.groups)
 }
 
-/// The lines of the predicates that are listed, in texts one after the other.
+/// The lines of the predicates that are listed, and of their groups, in texts one after the other.
 fn told_predicates<R: Threads + Sync>(
     rt: &R,
     alloc: Global,
@@ -48,14 +48,14 @@ fn told_predicates<R: Threads + Sync>(
 ) -> Result<Vec<String>, AllocError>
     requires { IsTold told.now }
     ensures { IfOk result (λ texts. joined texts.items
-        ≡ predicate_lines told.now.program.now (lists_of told.now.groups.items) told.now.levels.items told.now.places.items
+        ≡ told_lines told.now.program.now (lists_of told.now.groups.items) told.now.levels.items told.now.places.items
         told.now.nodes.items) }
 {
-    predicate_texts(rt, alloc, told, &told.nodes)
+    node_texts(rt, alloc, told, &told.nodes)
 }
 
-/// The clauses and calls of what is listed, and the lines of its predicates. Both are made in parallel.
-/// What runs out of memory is made once more after the threads have ended, as in `call_table`.
+/// The clauses and calls of what is listed, and the lines of its predicates and groups. Both are
+/// made in parallel. What runs out of memory is made once more after the threads have ended, as in `call_table`.
 fn table_beside_predicates<'a, R: Threads + Sync>(
     rt: &R,
     alloc: Global,
@@ -66,7 +66,7 @@ fn table_beside_predicates<'a, R: Threads + Sync>(
     requires calls { calls.now ≡ told.now.program.now }
     ensures table { IfOk result (λ found. IsTable told.now.program.now told.now.nodes.items (lists_of told.now.groups.items) found.0) }
     ensures lines { IfOk result (λ found. joined found.1.items
-        ≡ predicate_lines told.now.program.now (lists_of told.now.groups.items) told.now.levels.items told.now.places.items
+        ≡ told_lines told.now.program.now (lists_of told.now.groups.items) told.now.levels.items told.now.places.items
         told.now.nodes.items) }
 {
     let (texts, table) = thread::join_mut(
@@ -74,7 +74,7 @@ fn table_beside_predicates<'a, R: Threads + Sync>(
         &mut || -> Result<Vec<String>, AllocError>
             requires { IsTold told.now }
             ensures { IfOk result (λ texts. joined texts.items
-                ≡ predicate_lines told.entry.now.program.now (lists_of told.entry.now.groups.items) told.entry.now.levels.items
+                ≡ told_lines told.entry.now.program.now (lists_of told.entry.now.groups.items) told.entry.now.levels.items
                 told.entry.now.places.items told.entry.now.nodes.items) }
         { told_predicates(rt, alloc, told) },
         &mut || -> Result<CallTable<'_>, AllocError>
@@ -93,7 +93,7 @@ fn table_beside_predicates<'a, R: Threads + Sync>(
     Ok((table, texts))
 }
 
-/// All lines, of predicates, clauses and calls, in texts one after the other.
+/// All lines, of predicates, groups, clauses and calls, in texts one after the other.
 fn lines_texts<R: Threads + Sync>(
     rt: &R,
     alloc: Global,

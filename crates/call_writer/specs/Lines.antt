@@ -1,6 +1,7 @@
 -- The lines of a table of calls, as JSON: an object a line.
-use Rattle.std.specs.Prelude.{ℕ, ◌-◌, ◌==◌, List, [], ◌++◌, Option, Some, None, Bool, true, false, ◌&&◌, is_some, slice_get, if◌then◌else◌, codes}
+use Rattle.std.specs.Prelude.{ℕ, ◌-◌, ◌==◌, List, [], ◌∷◌, ◌++◌, Option, Some, None, Bool, true, false, ◌&&◌, is_some, slice_get, if◌then◌else◌, codes}
 use Rattle.std.specs.Fmt.{decimal}
+use Rattle.std.specs.List.{flat_map}
 use Rattle.prolog_tokens.specs.declared.token.Place.{Place}
 use Rattle.file_library.specs.Loaded.{NamedText}
 use Rattle.graph_law.specs.Classes.{group_at, least_member}
@@ -90,3 +91,28 @@ predicate_line groups levels node name place = predicate_head node name ++ (code
 abbrev pub predicate_line_of : List PredName → List (List ℕ) → List Level → ℕ → ℕ → List ℕ
 predicate_line_of predicates groups levels node place =
     elim (slice_get predicates node) [ Some name ↦ predicate_line groups levels node name place | None ↦ [] ]
+
+-- numbers with commas between them
+abbrev pub after_comma : ℕ → List ℕ
+after_comma n = codes "," ++ decimal n
+
+abbrev pub listed : List ℕ → List ℕ
+listed [] = []
+listed (n ∷ ns) = decimal n ++ flat_map after_comma ns
+
+-- `{"is":"group","id":0,"height":1,"recursive":true`
+abbrev pub group_head : ℕ → Level → List ℕ
+group_head least level =
+    codes "{\"is\":\"group\",\"id\":" ++ (decimal least ++ (codes ",\"height\":" ++ (decimal level.height ++ (codes ",\"recursive\":" ++ truth level.recursive))))
+
+-- `{"is":"group","id":0,"height":1,"recursive":true,"members":[0,1]}`
+abbrev pub group_line : ℕ → List ℕ → Level → List ℕ
+group_line least members level = group_head least level ++ (codes ",\"members\":[" ++ (listed members ++ codes "]}\n"))
+
+-- the line of a group where the node is its least member, and nothing at its other members
+abbrev pub line_at_least : ℕ → List ℕ → Level → List ℕ
+line_at_least node members level = if least_member members == node then group_line node members level else []
+
+-- that of the group at one less than the place; nothing where it is 0, in no group
+abbrev pub group_line_at : List (List ℕ) → List Level → ℕ → ℕ → List ℕ
+group_line_at groups levels node place = if place == 0 then [] else line_at_least node (group_at groups (place - 1)) (level_at levels (place - 1))

@@ -3,6 +3,7 @@
 //!
 //! ```text
 //! {"is":"predicate","id":0,"module":"user","name":"p","arity":0,"group":0,"height":1,"recursive":false}
+//! {"is":"group","id":0,"height":1,"recursive":false,"members":[0]}
 //! {"is":"clause","predicate":0,"file":"f.pl","line":1,"column":1}
 //! {"is":"call","caller":0,"callee":1,"module":"user","name":"q","arity":0,"file":"f.pl","line":1,"column":6}
 //! ```
@@ -11,10 +12,12 @@
 #![tactic(auto)]
 
 mod dot;
+mod group_line;
 mod json;
 mod last;
 mod lines;
 
 pub use dot::{push_cluster, push_edges, push_node};
+pub use group_line::push_group_line;
 pub use json::push_json_string;
 pub use lines::{push_call_lines, push_clause_lines, push_predicate_line};

@@ -242,7 +242,7 @@ fn line_end(recursive: bool) -> &'static str
 }
 
 /// The least member of the group at the index, which is its first.
-fn least_at(groups: &[Vec<u32>], place: usize) -> u32
+pub(crate) fn least_at(groups: &[Vec<u32>], place: usize) -> u32
     requires inhabited { All (λ members. 0 < length members) (lists_of groups.now) }
     requires within { place < length groups.now }
     ensures { result ≡ least_member (group_at (lists_of groups.now) place) }

@@ -1,5 +1,5 @@
 -- What is told of a program is one list of bytes, where it isn't the graph.
-use Rattle.std.proofs.Common.{◌≡◌, ◌≢◌, ◌++◌, ℕ, Bool, true, false, List, [], Some, None, codes, flat_map, get_or, length, slice_get, zip, refl, sym}
+use Rattle.std.proofs.Common.{◌≡◌, ◌≢◌, ◌++◌, ℕ, Bool, true, false, List, [], Some, None, codes, flat_map, length, slice_get, zip, refl, sym}
 use Rattle.std.proofs.Common.{ap, ◌∙◌, subst}
 use Rattle.graph_law.specs.Graph.{Calls}
 use Rattle.group_release.specs.declared.level.Level.{Level}
@@ -10,11 +10,12 @@ use Rattle.loop_report.specs.Reportable.{AreLeveled}
 use Rattle.call_table.specs.Memberships.{AreGroupsOf}
 use Rattle.call_table.specs.Table.{IsTable}
 use Rattle.call_table.specs.declared.table.CallTable.{CallTable}
+use Rattle.call_told.specs.declared.node_texts.NodeLines.TheVariants.{Predicates, Groups}
 use Rattle.call_told.specs.declared.words.Form.{Form}
 use Rattle.call_told.specs.declared.words.Form.TheVariants.{Lines, Undefined, Dot}
-use Rattle.call_told.specs.Told.{TellsForm, TellsFrom, call_lines, clause_lines, predicate_lines}
+use Rattle.call_told.specs.Told.{TellsForm, TellsFrom, call_lines, clause_lines, node_line, told_lines}
 use Rattle.call_told.specs.Wanted.{Asked}
-use Rattle.call_writer.specs.Lines.{call_line_if, clause_line, predicate_head, predicate_line_of}
+use Rattle.call_writer.specs.Lines.{call_line_if, clause_line, predicate_head}
 use Rattle.laws.proofs.OneTable.{one_call_places, one_calls, one_clause_places, one_clauses}
 use Rattle.laws.proofs.SameGroups.{each_same, same_nodes}
 
@@ -45,24 +46,23 @@ module _ (seen : Seen) (roots : List ℕ) where
   abbrev ArePlaced : List (List ℕ) → List ℕ → Type 0
   ArePlaced groups places = AreGroupsOf (length seen.predicates) groups places
 
-  abbrev line_of : List (List ℕ) → List Level → List ℕ → ℕ → List ℕ
-  line_of groups levels places p = predicate_line_of seen.predicates groups levels p (get_or places p 0)
-
   module _ (groups others : List (List ℕ)) (levels marks : List Level) (places other_places nodes : List ℕ)
       (leveled : IsLeveled groups levels) (marked : IsLeveled others marks) (placed : ArePlaced groups places) (placed_too : ArePlaced others other_places)
     where
-      same_predicate_lines : predicate_lines seen groups levels places nodes ≡ predicate_lines seen others marks other_places nodes
-      same_predicate_lines =
+      same_told_lines : told_lines seen groups levels places nodes ≡ told_lines seen others marks other_places nodes
+      same_told_lines =
           let same = each_same leveled marked (length seen.predicates) places other_places placed placed_too in
-          let each : line_of groups levels places ≡ line_of others marks other_places = λ i p. line_with seen.predicates p ((same p).fields i) in
-          ap (λ line. flat_map line nodes) each
+          let own : node_line Predicates seen groups levels places ≡ node_line Predicates seen others marks other_places =
+          λ i p. line_with seen.predicates p ((same p).fields i) in
+          let grouped : node_line Groups seen groups levels places ≡ node_line Groups seen others marks other_places = λ i p. (same p).line p i in
+          λ i. flat_map (own i) nodes ++ flat_map (grouped i) nodes
 
       same_form : (form : Form) → form ≢ Dot → (bytes other : List ℕ) → TellsForm form seen groups levels places nodes bytes
           → TellsForm form seen others marks other_places nodes other → bytes ≡ other
       same_form Lines lines bytes other is also =
           let clauses = same_clause_lines seen nodes groups others is.table also.table is.is_table also.is_table in
           let calls = same_call_lines seen nodes groups others is.table also.table is.is_table also.is_table false in
-          is.is ∙ ((λ i. same_predicate_lines i ++ (clauses i ++ calls i)) ∙ sym also.is)
+          is.is ∙ ((λ i. same_told_lines i ++ (clauses i ++ calls i)) ∙ sym also.is)
       same_form Undefined lines bytes other is also =
           is.is ∙ (same_call_lines seen nodes groups others is.table also.table is.is_table also.is_table true ∙ sym also.is)
       same_form Dot lines bytes other is also = absurd (lines refl)

@@ -1,5 +1,5 @@
 -- Predicates have the same groups in any legal order.
-use Rattle.std.proofs.Common.{◌≡◌, ◌-◌, inl, inr, ℕ, zero, suc, Bool, true, false, ◌==◌, ◌||◌, not, List, filter, get_or, refl}
+use Rattle.std.proofs.Common.{◌≡◌, ◌-◌, inl, inr, ℕ, zero, suc, Bool, true, false, ◌==◌, ◌||◌, not, List, [], filter, get_or, refl}
 use Rattle.std.proofs.Common.{sym, ap, ◌∙◌, subst, arith}
 use Rattle.std.specs.List.{range_with_len}
 use Rattle.std.proofs.lemmas.Bool.{cases_lt}
@@ -13,7 +13,7 @@ use Rattle.loop_report.specs.Reportable.{AreLeveled}
 use Rattle.loop_report.proofs.OneLine.{one_level, reached_has}
 use Rattle.call_table.specs.Memberships.{AreGroupsOf, IsGroupOf}
 use Rattle.call_told.specs.Told.{told_nodes}
-use Rattle.call_writer.specs.Lines.{group_fields, level_fields}
+use Rattle.call_writer.specs.Lines.{group_fields, group_line_at, level_fields, line_at_least}
 
 not_zero : (n : ℕ) → (suc n == 0) ≡ false
 not_zero n = at (suc n == 0) refl
@@ -29,6 +29,13 @@ fields_behind groups levels place =
     let back : suc place - 1 ≡ place = omega arith in
     rw (not_zero place) (ap (λ n. level_fields (least_member (group_at groups n)) (level_at levels n)) back)
 
+-- its line
+line_behind : (groups : List (List ℕ)) (levels : List Level) (node place : ℕ)
+    → group_line_at groups levels node (suc place) ≡ line_at_least node (group_at groups place) (level_at levels place)
+line_behind groups levels node place =
+    let back : suc place - 1 ≡ place = omega arith in
+    rw (not_zero place) (ap (λ n. line_at_least node (group_at groups n) (level_at levels n)) back)
+
 module _ {calls : ℕ → ℕ → Type 0} {starts : List ℕ} {groups others : List (List ℕ)} {levels marks : List Level}
     (a : AreLeveled calls starts groups levels) (b : AreLeveled calls starts others marks)
   where
@@ -36,9 +43,10 @@ module _ {calls : ℕ → ℕ → Type 0} {starts : List ℕ} {groups others : L
     pub record IsSamePlace (place other : ℕ) : Type 0 where
       pub none : (place == 0) ≡ (other == 0)
       pub fields : group_fields groups levels place ≡ group_fields others marks other
+      pub line : (node : ℕ) → group_line_at groups levels node place ≡ group_line_at others marks node other
 
     same_place : (p place other : ℕ) → IsGroupOf groups p place → IsGroupOf others p other → IsSamePlace place other
-    same_place p zero zero is also = record { none = refl; fields = refl }
+    same_place p zero zero is also = record { none = refl; fields = refl; line = λ node. refl }
     same_place p zero (suc other) is also =
         absurd (is (reached_has a.are p (b.are.reached p (record { place = other; within = also.0; member = also.1 }))))
     same_place p (suc place) zero is also =
@@ -51,6 +59,9 @@ module _ {calls : ℕ → ℕ → Type 0} {starts : List ℕ} {groups others : L
           none = not_zero place ∙ sym (not_zero other);
           fields = fields_behind groups levels place
               ∙ ((λ i. level_fields (least_member (same i)) (level i)) ∙ sym (fields_behind others marks other));
+          line = λ node.
+              line_behind groups levels node place
+              ∙ ((λ i. line_at_least node (same i) (level i)) ∙ sym (line_behind others marks node other));
         }
 
     module _ (count : ℕ) (places other_places : List ℕ) (are : AreGroupsOf count groups places) (also : AreGroupsOf count others other_places) where
@@ -61,7 +72,7 @@ module _ {calls : ℕ → ℕ → Type 0} {starts : List ℕ} {groups others : L
             | inr past ↦
                 let none : get_or places p 0 ≡ 0 = get_or_past places p 0 (omega (arith, are.each, past)) in
                 let none_too : get_or other_places p 0 ≡ 0 = get_or_past other_places p 0 (omega (arith, also.each, past)) in
-                let both : IsSamePlace 0 0 = record { none = refl; fields = refl } in
+                let both : IsSamePlace 0 0 = record { none = refl; fields = refl; line = λ node. refl } in
                 subst (λ n. IsSamePlace n (get_or other_places p 0)) (sym none) (subst (λ n. IsSamePlace 0 n) (sym none_too) both)
           ]
 

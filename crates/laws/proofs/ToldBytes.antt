@@ -18,7 +18,7 @@ use Rattle.call_table.specs.declared.table.CallTable.{CallTable}
 use Rattle.call_table.proofs.ReachedLemmas.{roots_listed}
 use Rattle.call_told.specs.declared.words.Form.{Form}
 use Rattle.call_told.specs.declared.words.Form.TheVariants.{Lines, Undefined, Dot}
-use Rattle.call_told.specs.Told.{TellsForm, TellsFrom, call_lines, clause_lines, dot_graph, predicate_lines, told_nodes}
+use Rattle.call_told.specs.Told.{TellsForm, TellsFrom, call_lines, clause_lines, dot_graph, told_lines, told_nodes}
 use Rattle.call_told.specs.Wanted.{Asked}
 
 -- what there is for each graph, as the laws say it
@@ -37,7 +37,7 @@ SomeTable seen nodes groups = (table : CallTable) × IsTable seen nodes groups t
 form_told : (form : Form) (seen : Seen) (groups : List (List ℕ)) (levels : List Level) (places nodes : List ℕ) → SomeTable seen nodes groups
     → (bytes : List ℕ) × TellsForm form seen groups levels places nodes bytes
 form_told Lines seen groups levels places nodes table = (
-  predicate_lines seen groups levels places nodes ++ (clause_lines seen table.0 ++ call_lines false seen table.0),
+  told_lines seen groups levels places nodes ++ (clause_lines seen table.0 ++ call_lines false seen table.0),
   record { table = table.0; is_table = table.1; is = refl },
 )
 form_told Undefined seen groups levels places nodes table = (call_lines true seen table.0, record { table = table.0; is_table = table.1; is = refl })
