@@ -1,4 +1,5 @@
 use Rattle.std.proofs.Common.{rules, ◌≡◌, ◌∷◌, ◌++◌, [], ap, sym, ◌∙◌, append-nil}
+use Rattle.std.proofs.lemmas.List.{nil_from_length}
 use Rattle.std.specs.Fmt.{decimal}
 use Rattle.std.specs.List.{flat_map}
 use Rattle.std.specs.String.{string_bytes}
@@ -7,7 +8,9 @@ use Rattle.call_writer.proofs.Appended.{two}
 use Rattle.call_writer.proofs.group_line.push_listed.Goals as goal
 
 pub returns-in_default : goal.returns-in_default
-returns-in_default c = ?
+returns-in_default c =
+    let none : c.args.members.now ≡ [] = nil_from_length c.args.members.now c.in_default.ensures.cases in
+    sym (append-nil (string_bytes c.args.text.now)) ∙ ap (λ ms. string_bytes c.args.text.now ++ listed ms) (sym none)
 
 pub returns : goal.returns
 returns c =
