@@ -110,7 +110,7 @@ fn node_pieces<R: Threads + Sync>(
                 requires told { IsTold told.now }
                 requires below { All (λ p. p < length told.now.program.now.predicates) part.now }
                 ensures { IfOk result (λ text. string_bytes text
-                    ≡ node_lines lines.entry told.entry.now.program.now (lists_of told.entry.now.groups.items) told.entry.now.levels.items
+                    ≡ node_lines lines told.entry.now.program.now (lists_of told.entry.now.groups.items) told.entry.now.levels.items
                     told.entry.now.places.items part.now) }
             { node_text(alloc, told, lines, part) },
         )

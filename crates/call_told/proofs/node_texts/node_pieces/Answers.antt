@@ -28,7 +28,7 @@ returns g c =
     let made =
     subst
     (λ f. AllZip (λ (part : Bor (List ℕ)) (one : Result (String Global) AllocError). IfOk one
-    (λ text. string_bytes text ≡ node_lines c.args.lines (f.1.now.program.now) (lists_of f.1.now.groups.items) f.1.now.levels.items f.1.now.places.items part.now)) chain.0 h.0)
+    (λ text. string_bytes text ≡ node_lines (f.2.now) (f.1.now.program.now) (lists_of f.1.now.groups.items) f.1.now.levels.items f.1.now.places.items part.now)) chain.0 h.0)
     c.map.ensures.f chain.2 in
     let line : ℕ → List ℕ = node_line c.args.lines told.program.now (lists_of told.groups.items) told.levels.items told.places.items in
     let whole = parts_lines line parts ∙ ap (flat_map line) (chunks_of-concat 2048 nodes (omega arith)) in
