@@ -10,7 +10,7 @@ ghost use Rattle.loop_report.specs.Effects.{AreEffectLines, effect_line, group_e
 ghost use Rattle.loop_report.specs.Reportable.{AreReportable};
 
 use crate::last_module::LastModule;
-use crate::line_order::lines_in_order;
+use crate::line_order::{least_of, line_order};
 use crate::names::push_member;
 use effect_flow::{Flow, KINDS};
 use group_release::Level;
@@ -80,11 +80,11 @@ fn push_effects<'a>(
 }
 
 /// The flow of the group at the index.
-fn flow_there(flows: &[Flow], place: usize) -> Flow
+fn flow_there(flows: &[Flow], place: u32) -> Flow
     requires { place < length flows.now }
     ensures { see_flow result ≡ flow_at (see_flows flows.now) place }
 {
-    flows[place]
+    flows[place as usize]
 }
 
 /// A line for each group and each kind of effect with a witness, in order of height, least member
@@ -106,12 +106,13 @@ pub fn effect_lines(
     ensures { IfOk result (λ bytes. AreEffectLines program.now.predicates (lists_of groups.now) levels.now
         (see_flows flows.now) bytes.items) }
 {
-    let lines = lines_in_order(alloc, groups, levels)?;
+    let order = line_order(alloc, program.count(), groups, levels)?;
     let mut text = String::new(alloc);
     let mut last = LastModule::none(alloc);
-    for line in &lines {
-        let flow = flow_there(flows, line.place);
-        push_effects(&mut text, program, &mut last, line.least, flow)?;
+    for &place in &order {
+        let flow = flow_there(flows, place);
+        let least = least_of(groups, place);
+        push_effects(&mut text, program, &mut last, least, flow)?;
     }
     Ok(text.into_bytes())
 }

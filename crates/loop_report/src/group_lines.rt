@@ -18,7 +18,7 @@ pub(crate) fn push_groups(
     program: &Program,
     groups: &[Vec<u32>],
     levels: &[Level],
-    order: &[usize],
+    order: &[u32],
 ) -> Result<(), AllocError>
     requires one_level_each { length levels.now ≡ length groups.now }
     requires within { All (All (λ member. member < length program.now.predicates)) (lists_of groups.now) }
@@ -28,7 +28,13 @@ pub(crate) fn push_groups(
 {
     let mut last = LastModule::none(alloc);
     for &place in order {
-        push_group(text, program, &mut last, &groups[place], levels[place])?;
+        push_group(
+            text,
+            program,
+            &mut last,
+            &groups[place as usize],
+            levels[place as usize],
+        )?;
     }
     Ok(())
 }

@@ -69,7 +69,7 @@ fn push_circuits(
     text: &mut String,
     program: &Program,
     circuits: &[Option<Vec<u32>>],
-    order: &[usize],
+    order: &[u32],
 ) -> Result<(), AllocError>
     requires within { All (IsCircuitWithin (length program.now.predicates)) (map see_circuit circuits.now) }
     requires places { All (λ place. place < length circuits.now) order.now }
@@ -78,7 +78,7 @@ fn push_circuits(
 {
     let mut last = LastModule::none(alloc);
     for &place in order {
-        push_circuit(text, program, &mut last, &circuits[place])?;
+        push_circuit(text, program, &mut last, &circuits[place as usize])?;
     }
     Ok(())
 }
@@ -101,7 +101,7 @@ pub fn circuit_lines(
     ensures { IfOk result (λ bytes. AreCircuitLines program.now.predicates (lists_of groups.now) levels.now
         (map see_circuit circuits.now) bytes.items) }
 {
-    let order = line_order(alloc, groups, levels)?;
+    let order = line_order(alloc, program.count(), groups, levels)?;
     let mut text = String::new(alloc);
     push_circuits(alloc, &mut text, program, circuits, &order)?;
     Ok(text.into_bytes())

@@ -5,7 +5,7 @@ ghost use Rattle.loop_report.specs.Reportable.{ArePrintable, AreReportable};
 
 use crate::group_lines::push_groups;
 use crate::head::push_head;
-use crate::line_order::{line_order, order_given};
+use crate::line_order::{group_count, line_order, order_given};
 use crate::loops::{import_loops, push_loops};
 use crate::unreached::push_unreached;
 use group_release::Level;
@@ -32,7 +32,7 @@ pub fn report(
     ensures { IfOk result (λ bytes.
         IsReport program.now.predicates program.now.loaded.files (lists_of groups.now) levels.now unreached bytes.items) }
 {
-    let order = line_order(alloc, groups, levels)?;
+    let order = line_order(alloc, program.count(), groups, levels)?;
     written(alloc, program, groups, levels, &order, unreached)
 }
 
@@ -48,7 +48,8 @@ pub fn order_report(
     ensures { IfOk result (λ bytes.
         IsOrderReport program.now.predicates program.now.loaded.files (lists_of groups.now) levels.now unreached bytes.items) }
 {
-    let order = order_given(alloc, groups.len())?;
+    program.is_known();
+    let order = order_given(alloc, group_count(groups))?;
     written(alloc, program, groups, levels, &order, unreached)
 }
 
@@ -58,7 +59,7 @@ fn written(
     program: &Program,
     groups: &[Vec<u32>],
     levels: &[Level],
-    order: &[usize],
+    order: &[u32],
     unreached: bool,
 ) -> Result<Vec<u8>, AllocError>
     requires printable { ArePrintable (length program.now.predicates) (lists_of groups.now) levels.now }

@@ -3,12 +3,10 @@ use Rattle.std.specs.List.{flat_map}
 use Rattle.std.specs.String.{string_bytes}
 use Rattle.graph_law.specs.Graph.{lists_of}
 use Rattle.effect_flow.specs.Seen.{see_flows}
-use Rattle.loop_report.specs.declared.line_order.Line.{Line}
 use Rattle.loop_report.specs.Effects.{place_effects}
 use Rattle.loop_report.proofs.effects.effect_lines.Given as goal
 
 -- the lines of the groups so far
-abbrev pub invariant-loop-line : goal.invariant-loop-line
-invariant-loop-line l =
-    string_bytes l.text
-    ≡ flat_map (λ (line : Line). place_effects l.program.predicates (lists_of l.groups) (see_flows l.flows) line.place) (take l.line-index l.line-items)
+abbrev pub invariant-loop-place : goal.invariant-loop-place
+invariant-loop-place l =
+    string_bytes l.text ≡ flat_map (place_effects l.program.predicates (lists_of l.groups) (see_flows l.flows)) (take l.place-index l.place-items)

@@ -1,12 +1,13 @@
 use Rattle.std.proofs.Common.{◌<◌, ◌∙◌, sym, All, subst}
 use Rattle.graph_law.specs.Graph.{lists_of}
 use Rattle.graph_law.proofs.GraphLaws.{length-lists_of}
+use Rattle.loop_report.specs.Reportable.{ArePrintable}
 use Rattle.loop_report.proofs.LineOrder.{places_within}
 use Rattle.loop_report.proofs.Printable.{printable_groups}
 use Rattle.loop_report.proofs.walks.circuit_lines.Goals as goal
 
-pub line_order-requires-clause-least_differ : goal.line_order-requires-clause-least_differ
-line_order-requires-clause-least_differ c = (printable_groups c.requires.groups).least_differ
+pub line_order-requires : goal.line_order-requires
+line_order-requires c = subst (λ n. ArePrintable n (lists_of c.args.groups.now) c.args.levels.now) (sym c.count.ensures) (printable_groups c.requires.groups)
 
 pub push_circuits-requires-clause-places : goal.push_circuits-requires-clause-places
 push_circuits-requires-clause-places c =

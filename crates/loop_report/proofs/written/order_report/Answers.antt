@@ -1,17 +1,19 @@
-use Rattle.std.proofs.Common.{ℕ, ◌<◌, All, length, arith}
+use Rattle.std.proofs.Common.{◌<◌, ◌^◌, ◌∙◌, ℕ, All, length, ap, sym, subst, arith}
 use Rattle.std.specs.List.{range_with_len}
-use Rattle.std.proofs.lemmas.List.FromFn.{length-range_with_len, get_or-range_with_len}
-use Rattle.loop_report.proofs.Printable.{printable_groups}
+use Rattle.graph_law.proofs.GraphLaws.{length-lists_of}
+use Rattle.loop_report.proofs.LineOrder.{range_within}
+use Rattle.loop_report.proofs.Printable.{few_groups, printable_groups}
 use Rattle.loop_report.proofs.written.order_report.Goals as goal
+
+pub group_count-requires : goal.group_count-requires
+group_count-requires c =
+    let few : length c.args.program.now.predicates < 2 ^ 32 = omega (arith, c.is_known.ensures.few) in
+    omega (arith, few_groups few (printable_groups c.requires), length-lists_of c.args.groups.now)
 
 pub written-requires-clause-printable : goal.written-requires-clause-printable
 written-requires-clause-printable c = printable_groups c.requires
 
-range_within : (n : ℕ) → All (λ place. place < n) (range_with_len 0 n)
-range_within n k d lt =
-    let below : k < n = omega (arith, lt, length-range_with_len 0 n) in omega (arith, below, get_or-range_with_len 0 n k d below)
-
 pub written-requires-clause-places : goal.written-requires-clause-places
 written-requires-clause-places c =
     let n : ℕ = length c.args.groups.now in
-    rw (c.deref.ensures.value, c.in_ok-order.ensures) (range_within n)
+    subst (All (λ place. place < n)) (sym (c.deref.ensures.value ∙ (c.in_ok-order.ensures ∙ ap (range_with_len 0) c.group_count.ensures))) (range_within n)

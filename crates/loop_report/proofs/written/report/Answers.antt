@@ -1,12 +1,13 @@
-use Rattle.std.proofs.Common.{◌<◌, All, subst}
+use Rattle.std.proofs.Common.{◌<◌, All, subst, sym}
 use Rattle.graph_law.specs.Graph.{lists_of}
 use Rattle.graph_law.proofs.GraphLaws.{length-lists_of}
+use Rattle.loop_report.specs.Reportable.{ArePrintable}
 use Rattle.loop_report.proofs.LineOrder.{places_within}
 use Rattle.loop_report.proofs.Printable.{printable_groups}
 use Rattle.loop_report.proofs.written.report.Goals as goal
 
-pub line_order-requires-clause-least_differ : goal.line_order-requires-clause-least_differ
-line_order-requires-clause-least_differ c = (printable_groups c.requires).least_differ
+pub line_order-requires : goal.line_order-requires
+line_order-requires c = subst (λ n. ArePrintable n (lists_of c.args.groups.now) c.args.levels.now) (sym c.count.ensures) (printable_groups c.requires)
 
 pub written-requires-clause-printable : goal.written-requires-clause-printable
 written-requires-clause-printable c = printable_groups c.requires
