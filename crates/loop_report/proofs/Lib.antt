@@ -10,11 +10,13 @@ pub mod OneLine
 pub mod OneLoops
 pub mod OneHead
 pub mod OneReport
+pub mod Pieces
 pub mod Printable
 pub mod ProgramFiles
 mod QuotedNames
 mod ReadBack
 mod ReportRows
+pub mod ReportTexts
 pub mod RingLemmas
 pub mod SpelledLemmas
 pub mod Texts

@@ -7,4 +7,5 @@ pub mod ReadBack
 pub mod Report
 pub mod Reportable
 pub mod Spelled
+pub mod Texts
 pub mod Walks

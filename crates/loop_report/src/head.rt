@@ -22,6 +22,19 @@ pub fn head_line(
     requires { (count : ℕ) × (count < 2 ^ 32) × AreReportable count (lists_of groups.now) levels.now }
     ensures { IfOk result (λ bytes. bytes.items ≡ head_line (lists_of groups.now) levels.now) }
 {
+    head_text(alloc, groups, levels)
+}
+
+/// The first line, as a text of its own.
+pub(crate) fn head_text(
+    alloc: Global,
+    groups: &[Vec<u32>],
+    levels: &[Level],
+) -> Result<Vec<u8>, AllocError>
+    requires few { length groups.now < 2 ^ 32 }
+    requires short { All (λ members. length members < 2 ^ 32) (lists_of groups.now) }
+    ensures { IfOk result (λ bytes. bytes.items ≡ head_line (lists_of groups.now) levels.now) }
+{
     let mut text = String::new(alloc);
     push_head(&mut text, groups, levels)?;
     Ok(text.into_bytes())

@@ -16,7 +16,8 @@
 //! ```
 //!
 //! It is the same for all reverse topological orders of the groups; `order_report` prints them in
-//! the given order.
+//! the given order. `report_pieces` and `order_report_pieces` return the same bytes in texts one
+//! after another, whose lines are written in parallel.
 //!
 //! Further parts follow a report, each with lines of its own. `effect_lines` has the effects that
 //! each group may reach, `circuit_lines` a cycle of calls for each recursive group, and `walk_line`
@@ -34,6 +35,7 @@
 
 mod effects;
 mod group_lines;
+mod group_texts;
 mod head;
 mod last_module;
 mod laws;
@@ -55,4 +57,4 @@ pub use loops::import_loops;
 pub use names::predicate_name;
 pub use spelled::quote_atom;
 pub use walks::{circuit_lines, walk_line};
-pub use written::{order_report, report};
+pub use written::{order_report, order_report_pieces, report, report_pieces};
