@@ -1,5 +1,6 @@
 -- What the parts behind the report are made of.
-use Rattle.std.proofs.Common.{◌≡◌, Bool, true, ◌<◌, ◌++◌, ◌∷◌, [], ℕ, List, Option, Some, None, All, length, get_or, refl, sym, subst, arith}
+use Rattle.std.proofs.Common.{◌≡◌, Bool, true, ◌<◌, ◌++◌, ◌∷◌, [], ℕ, List, Vec, Global, Option, Some, None, All, length, get_or, append_assoc, append-nil, refl, ap, ◌∙◌, sym, subst, arith}
+use Rattle.std.proofs.lemmas.Grind.{flat_map-append}
 use Rattle.std.proofs.lemmas.List.{get_or_default}
 use Rattle.std.proofs.lemmas.List.Elements.{All-cons, All-head, All-nil, All-tail}
 use Rattle.std.proofs.lemmas.Option.{slice_get_within}
@@ -24,6 +25,7 @@ use Rattle.loop_report.specs.Reportable.{AreLeveled}
 use Rattle.loop_report.specs.Walks.{AreCircuitLines, IsCircuitWithin}
 use Rattle.group_tool.specs.Parts.{AreOwnKinds, IsPart, IsPathPart, TellEffects, TellLoops, path_line}
 use Rattle.tool_run.specs.Roots.{AreEnds}
+use Rattle.tool_run.specs.Say.{concatenated}
 use Rattle.group_tool.proofs.GroupLemmas.{lists_agree, members_listed}
 
 -- the nodes of a path are nodes of the graph
@@ -121,3 +123,18 @@ told_path (Some both) seen from to found bytes are shortest is = record {
 pub ends_below : (path : Option (PredName × PredName)) (seen : Seen) (from to : ℕ) → AreEnds path seen (Some (from, to)) → (from < length seen.predicates) × (to < length seen.predicates)
 ends_below None seen from to are = absurd are
 ends_below (Some both) seen from to are = (slice_get_within seen.predicates from both.0 are.0, slice_get_within seen.predicates to both.1 are.1)
+
+-- one text more
+one_more : (texts : List (Vec ℕ Global)) (text : Vec ℕ Global) → concatenated (texts ++ text ∷ []) ≡ concatenated texts ++ text.items
+one_more texts text =
+    flat_map-append (λ (one : Vec ℕ Global). one.items) texts (text ∷ []) ∙ ap (λ l. concatenated texts ++ l) (append-nil text.items)
+
+-- three texts more
+pub three_more : (lines one two three : List (Vec ℕ Global)) (a b c : Vec ℕ Global) → one ≡ lines ++ a ∷ [] → two ≡ one ++ b ∷ []
+    → three ≡ two ++ c ∷ [] → concatenated three ≡ concatenated lines ++ (a.items ++ b.items ++ c.items)
+three_more lines one two three a b c is_one is_two is_three =
+    let first : concatenated one ≡ concatenated lines ++ a.items = ap concatenated is_one ∙ one_more lines a in
+    let second : concatenated two ≡ concatenated lines ++ (a.items ++ b.items) =
+    ap concatenated is_two ∙ (one_more one b ∙ (ap (λ l. l ++ b.items) first ∙ append_assoc (concatenated lines) a.items b.items)) in
+    ap concatenated is_three
+    ∙ (one_more two c ∙ (ap (λ l. l ++ c.items) second ∙ append_assoc (concatenated lines) (a.items ++ b.items) c.items))

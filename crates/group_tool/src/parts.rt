@@ -1,11 +1,13 @@
 //! The texts of a report: its lines, and after them effects, cycles and a path.
 
-ghost use Rattle.std.specs.Prelude.{◌≡◌, ◌++◌, IfOk, length};
+ghost use Rattle.std.specs.Prelude.{◌≡◌, ◌<◌, ◌^◌, ◌++◌, ℕ, IfOk, length};
 ghost use Rattle.graph_law.specs.Graph.{lists_of};
 ghost use Rattle.group_words.specs.Settings.{see_options};
 ghost use Rattle.group_tool.specs.Asked.{IsGroupedOf};
 ghost use Rattle.group_tool.specs.Groups.{IsOutput, ReportsProgram};
 ghost use Rattle.group_tool.specs.Parts.{IsPart, IsPathPart, TellEffects, TellLoops};
+ghost use Rattle.loop_report.specs.Report.{head_line};
+ghost use Rattle.loop_report.specs.Reportable.{AreReportable};
 ghost use Rattle.tool_run.specs.Say.{concatenated};
 
 use crate::asked::Grouped;
@@ -14,27 +16,50 @@ use effect_flow::flow;
 use group_words::Options;
 use import_rules::Program;
 use loop_paths::{circuits, shortest};
-use loop_report::{circuit_lines, effect_lines, head_line, order_report, report, walk_line};
+use loop_report::{
+    circuit_lines, effect_lines, head_line, order_report_pieces, report_pieces, walk_line,
+};
 use std::alloc::{AllocError, Global};
 use std::thread::Threads;
 
-/// The lines of the report itself.
-fn written(
+fn one_text(alloc: Global, text: Vec<u8>) -> Result<Vec<Vec<u8>>, AllocError>
+    ensures { IfOk result (λ texts. concatenated texts.items ≡ text.items) }
+{
+    let mut texts = Vec::new(alloc);
+    texts.push(text)?;
+    Ok(texts)
+}
+
+/// The first line of the report, as the only text.
+fn first_line(alloc: Global, grouped: &Grouped<'_, '_>) -> Result<Vec<Vec<u8>>, AllocError>
+    requires { (count : ℕ) × (count < 2 ^ 32) × AreReportable count (lists_of grouped.now.groups.now) grouped.now.levels.now }
+    ensures { IfOk result (λ texts. concatenated texts.items
+        ≡ head_line (lists_of grouped.now.groups.now) grouped.now.levels.now) }
+{
+    let line = head_line(alloc, grouped.groups, grouped.levels)?;
+    let texts = one_text(alloc, line)?;
+    Ok(texts)
+}
+
+/// The lines of the report itself, in texts one after another.
+fn written<R: Threads + Sync>(
+    rt: &R,
     alloc: Global,
     options: &Options,
     program: &Program,
     grouped: &Grouped<'_, '_>,
-) -> Result<Vec<u8>, AllocError>
+) -> Result<Vec<Vec<u8>>, AllocError>
     requires { IsGroupedOf (see_options options.now) program.now grouped.now }
-    ensures { IfOk result (λ bytes. IsOutput (see_options options.now).make (see_options options.now).order (see_options options.now).unreached
-        program.now (lists_of grouped.now.groups.now) grouped.now.levels.now bytes.items) }
+    ensures { IfOk result (λ texts. IsOutput (see_options options.now).make (see_options options.now).order (see_options options.now).unreached
+        program.now (lists_of grouped.now.groups.now) grouped.now.levels.now (concatenated texts.items)) }
 {
     program.is_known();
     if options.make.is_some() {
-        return head_line(alloc, grouped.groups, grouped.levels);
+        return first_line(alloc, grouped);
     }
     if options.order {
-        return order_report(
+        return order_report_pieces(
+            rt,
             alloc,
             program,
             grouped.groups,
@@ -42,7 +67,8 @@ fn written(
             options.unreached,
         );
     }
-    report(
+    report_pieces(
+        rt,
         alloc,
         program,
         grouped.groups,
@@ -120,18 +146,17 @@ fn path_part(
     }
 }
 
-/// The texts, one after another.
-fn four_texts(
-    alloc: Global,
-    first: Vec<u8>,
+/// The texts, and three more after them.
+fn with_parts(
+    lines: Vec<Vec<u8>>,
     second: Vec<u8>,
     third: Vec<u8>,
     fourth: Vec<u8>,
 ) -> Result<Vec<Vec<u8>>, AllocError>
-    ensures { IfOk result (λ texts. concatenated texts.items ≡ first.items ++ (second.items ++ third.items ++ fourth.items)) }
+    ensures { IfOk result (λ texts. concatenated texts.items
+        ≡ concatenated lines.items ++ (second.items ++ third.items ++ fourth.items)) }
 {
-    let mut texts = Vec::new(alloc);
-    texts.push(first)?;
+    let mut texts = lines;
     texts.push(second)?;
     texts.push(third)?;
     texts.push(fourth)?;
@@ -149,9 +174,9 @@ pub fn report_texts<R: Threads + Sync>(
     requires { IsGroupedOf (see_options options.now) program.now grouped.now }
     ensures { IfOk result (λ texts. ReportsProgram (see_options options.now) program.now (concatenated texts.items)) }
 {
-    let lines = written(alloc, options, program, grouped)?;
+    let lines = written(rt, alloc, options, program, grouped)?;
     let effects = effects_part(rt, alloc, options, program, grouped)?;
     let loops = loops_part(alloc, options, program, grouped)?;
     let path = path_part(alloc, options, program, grouped)?;
-    four_texts(alloc, lines, effects, loops, path)
+    with_parts(lines, effects, loops, path)
 }
