@@ -1,14 +1,19 @@
-use crate::agree::agree;
+use crate::agree::expect_groups;
+use crate::expect::expect;
 use crate::graphs::{Shape, draw, graph_of, graph_with};
 use search_pool::{Gate, MeetGate, OpenGate};
+use std::alloc::Global;
 use std::hint;
+use std::process::Abort;
+use std::sync::Wait;
 use std::test::Fail;
+use std::thread::Threads;
 
 // How many iterations the first expansion waits for one of another worker.
 const LOOPS: u32 = 50_000_000;
 
 // Successor lists and roots.
-const GRAPHS: [(&[&[u32]], &[u32]); 8] = [
+static GRAPHS: [(&[&[u32]], &[u32]); 8] = [
     (&[&[1], &[0]], &[0]),
     (&[&[1], &[2], &[0]], &[0, 1, 2]),
     (&[&[1], &[0, 2], &[3], &[2, 0]], &[3, 0]),
@@ -22,13 +27,10 @@ const GRAPHS: [(&[&[u32]], &[u32]); 8] = [
 #[test]
 fn workers_find_the_groups_of_one_search(rt: HostRuntime) -> Result<(), Fail> {
     let alloc = rt.alloc();
-    for (lists, roots) in GRAPHS {
+    for (lists, roots) in &GRAPHS {
         let graph = graph_of(alloc, lists, roots)?;
         for jobs in 1..9 {
-            assert!(rt;
-                agree(&rt, alloc, &graph, jobs, &OpenGate)?,
-                "{lists:?} by {jobs}"
-            );
+            expect_groups(&rt, alloc, &graph, jobs, &OpenGate)?;
         }
     }
     Ok(())
@@ -54,18 +56,23 @@ impl Gate for MixingGate {
 /// The workers of each graph expand nodes at once.
 #[test]
 fn workers_that_meet_find_the_groups_of_random_graphs(rt: HostRuntime) -> Result<(), Fail> {
-    let alloc = rt.alloc();
     for seed in 0..1_000 {
-        let graph = graph_with(alloc, Shape::Random(seed), 2 + seed % 11)?;
-        let gate = MixingGate {
-            meeting: MeetGate::new(LOOPS),
-            seed,
-        };
-        assert!(rt;
-            agree(&rt, alloc, &graph, 2 + seed % 3, &gate)?,
-            "graph {seed}"
-        );
-        assert!(rt; gate.meeting.met(), "graph {seed}");
+        expect_mixed(&rt, rt.alloc(), seed)?;
     }
+    Ok(())
+}
+
+fn expect_mixed<R: Threads + Wait + Sync + Abort>(
+    rt: &R,
+    alloc: Global,
+    seed: u32,
+) -> Result<(), Fail> {
+    let graph = graph_with(alloc, Shape::Random(seed), 2 + seed % 11)?;
+    let gate = MixingGate {
+        meeting: MeetGate::new(LOOPS),
+        seed,
+    };
+    expect_groups(rt, alloc, &graph, 2 + seed % 3, &gate)?;
+    expect(rt, gate.meeting.met(), "two nodes are expanded at once");
     Ok(())
 }

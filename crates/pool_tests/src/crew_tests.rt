@@ -1,9 +1,17 @@
-use crate::agree::{agree, are_groups};
+ghost use Rattle.std.specs.Prelude.{◌<◌, ◌≤◌};
+
+use crate::agree::{expect_groups, expect_same};
 use crate::counting_gate::CountingGate;
+use crate::expect::{expect, expect_count};
 use crate::graphs::{Shape, graph_of, graph_with};
 use crate::meeting::Meeting;
+use graph_law::Graph;
 use search_pool::{Gate, MeetGate, OpenGate, drive_workers};
+use std::alloc::{AllocError, Global};
+use std::process::Abort;
+use std::sync::Wait;
 use std::test::Fail;
+use std::thread::Threads;
 
 const LOOPS: u32 = 50_000_000;
 
@@ -15,14 +23,27 @@ const SLOW: u32 = 200;
 #[test]
 fn as_many_nodes_are_expanded_at_once_as_there_are_workers(rt: HostRuntime) -> Result<(), Fail> {
     let alloc = rt.alloc();
-    for jobs in [2, 3] {
+    for jobs in 2..4 {
         let graph = graph_with(alloc, Shape::Loose, jobs)?;
-        let meeting = Meeting::new(&graph, jobs);
-        let groups = drive_workers(&rt, alloc, &meeting, graph.roots(), jobs, &OpenGate)?;
-        assert_eq!(rt; (meeting.met(), meeting.begun()), (jobs, jobs));
-        assert!(rt; are_groups(alloc, &graph, groups)?);
+        expect_meeting(&rt, alloc, &graph, jobs)?;
     }
     Ok(())
+}
+
+fn expect_meeting<R: Threads + Wait + Sync + Abort>(
+    rt: &R,
+    alloc: Global,
+    graph: &Graph,
+    jobs: u32,
+) -> Result<(), AllocError>
+    requires some { 0 < jobs }
+    requires jobs { jobs ≤ 64 }
+{
+    let meeting = Meeting::new(graph, jobs);
+    let groups = drive_workers(rt, alloc, &meeting, graph.roots(), jobs, &OpenGate)?;
+    expect_count(rt, meeting.met(), jobs);
+    expect_count(rt, meeting.begun(), jobs);
+    expect_same(rt, alloc, graph, groups)
 }
 
 #[test]
@@ -30,8 +51,8 @@ fn two_expansions_meet_at_a_gate(rt: HostRuntime) -> Result<(), Fail> {
     let alloc = rt.alloc();
     let graph = graph_with(alloc, Shape::Loose, 2)?;
     let gate = MeetGate::new(LOOPS);
-    assert!(rt; agree(&rt, alloc, &graph, 2, &gate)?);
-    assert!(rt; gate.met());
+    expect_groups(&rt, alloc, &graph, 2, &gate)?;
+    expect(&rt, gate.met(), "two nodes are expanded at once");
     Ok(())
 }
 
@@ -40,7 +61,7 @@ fn expansions_one_after_another_never_meet(rt: HostRuntime) {
     let gate = MeetGate::new(10);
     gate.opened(0);
     gate.opened(1);
-    assert!(rt; !gate.met());
+    expect(&rt, !gate.met(), "no two at once");
 }
 
 /// The others hold back if nodes are expanded cheaply, and begin if they aren't. A single root
@@ -49,13 +70,25 @@ fn expansions_one_after_another_never_meet(rt: HostRuntime) {
 fn a_gate_is_told_of_each_node_once(rt: HostRuntime) -> Result<(), Fail> {
     let alloc = rt.alloc();
     let chain = graph_with(alloc, Shape::Chain, 20_000)?;
+    expect_opened(&rt, alloc, &chain, 0, 20_000)?;
+    expect_opened(&rt, alloc, &chain, SLOW, 20_000)?;
     let ring = graph_of(alloc, &[&[1], &[2], &[0], &[]], &[0])?;
-    for (graph, loops, told) in [(&chain, 0, 20_000), (&chain, SLOW, 20_000), (&ring, 0, 3)] {
-        for jobs in [1, 4] {
-            let gate = CountingGate::new(loops);
-            assert!(rt; agree(&rt, alloc, graph, jobs, &gate)?);
-            assert_eq!(rt; gate.told(), told);
-        }
+    expect_opened(&rt, alloc, &ring, 0, 3)?;
+    Ok(())
+}
+
+/// Expects that one worker and four expand this many nodes, each of which takes `loops` iterations.
+fn expect_opened<R: Threads + Wait + Sync + Abort>(
+    rt: &R,
+    alloc: Global,
+    graph: &Graph,
+    loops: u32,
+    nodes: u32,
+) -> Result<(), AllocError> {
+    for jobs in [1, 4] {
+        let gate = CountingGate::new(loops);
+        expect_groups(rt, alloc, graph, jobs, &gate)?;
+        expect_count(rt, gate.told(), nodes);
     }
     Ok(())
 }

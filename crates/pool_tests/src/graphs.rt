@@ -8,8 +8,14 @@ pub(crate) fn graph_of(alloc: Global, lists: &[&[u32]], roots: &[u32]) -> Result
     for list in lists {
         succs.push(list.to_vec(alloc)?)?;
     }
-    let graph = Graph::new(succs, roots.to_vec(alloc)?).ok_or("refused")?;
-    Ok(graph)
+    make_graph(succs, roots.to_vec(alloc)?)
+}
+
+fn make_graph(succs: Vec<Vec<u32>>, roots: Vec<u32>) -> Result<Graph, Fail> {
+    match Graph::new(succs, roots) {
+        Some(graph) => Ok(graph),
+        None => Err("refused".into()),
+    }
 }
 
 /// What the nodes of a graph call.
@@ -30,13 +36,10 @@ pub(crate) enum Shape {
 /// The graph of `count` nodes of this shape, all of which are roots.
 pub(crate) fn graph_with(alloc: Global, shape: Shape, count: u32) -> Result<Graph, Fail> {
     let mut succs = Vec::new(alloc);
-    let mut roots = Vec::new(alloc);
     for node in 0..count {
         succs.push(callees(alloc, shape, count, node)?)?;
-        roots.push(node)?;
     }
-    let graph = Graph::new(succs, roots).ok_or("refused")?;
-    Ok(graph)
+    make_graph(succs, range(alloc, 0, count)?)
 }
 
 fn callees(alloc: Global, shape: Shape, count: u32, node: u32) -> Result<Vec<u32>, AllocError> {

@@ -10,6 +10,8 @@ mod counting_gate;
 #[cfg(test)]
 mod crew_tests;
 #[cfg(test)]
+mod expect;
+#[cfg(test)]
 mod graphs;
 #[cfg(test)]
 mod many_tests;

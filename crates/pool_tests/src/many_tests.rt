@@ -1,5 +1,6 @@
-use crate::agree::{agree, agree_at_once};
+use crate::agree::{expect_groups, expect_groups_at_once};
 use crate::counting_gate::CountingGate;
+use crate::expect::expect;
 use crate::graphs::{Shape, graph_with};
 use crate::star_gate::StarGate;
 use crate::starved::Starved;
@@ -21,9 +22,10 @@ const SLOW: u32 = 200;
 fn workers_find_a_giant_group(rt: HostRuntime) -> Result<(), Fail> {
     let alloc = rt.alloc();
     let graph = graph_with(alloc, Shape::Tangle, 10_000)?;
+    let gate = CountingGate::new(SLOW);
     for jobs in [2, 4, 16] {
-        assert!(rt; agree_at_once(&rt, alloc, &graph, jobs, &OpenGate)?);
-        assert!(rt; agree(&rt, alloc, &graph, jobs, &CountingGate::new(SLOW))?);
+        expect_groups_at_once(&rt, alloc, &graph, jobs, &OpenGate)?;
+        expect_groups(&rt, alloc, &graph, jobs, &gate)?;
     }
     Ok(())
 }
@@ -38,8 +40,8 @@ fn a_worker_goes_on_beside_a_giant_group_that_is_dear_to_expand(
     let alloc = rt.alloc();
     let graph = graph_with(alloc, Shape::Star, STAR)?;
     let gate = StarGate::new(STAR / 2, 100_000_000);
-    assert!(rt; agree(&rt, alloc, &graph, 2, &gate)?);
-    assert!(rt; gate.came());
+    expect_groups(&rt, alloc, &graph, 2, &gate)?;
+    expect(&rt, gate.came(), "half of the nodes are expanded");
     Ok(())
 }
 
@@ -49,8 +51,8 @@ fn a_worker_holds_back_beside_a_giant_group(rt: HostRuntime) -> Result<(), Fail>
     let alloc = rt.alloc();
     let graph = graph_with(alloc, Shape::Star, STAR)?;
     let gate = StarGate::new(STAR / 2, 1_000_000);
-    assert!(rt; agree_at_once(&rt, alloc, &graph, 2, &gate)?);
-    assert!(rt; !gate.came());
+    expect_groups_at_once(&rt, alloc, &graph, 2, &gate)?;
+    expect(&rt, !gate.came(), "fewer are expanded");
     Ok(())
 }
 
@@ -67,32 +69,39 @@ fn a_worker_that_holds_back_sees_a_failure(rt: HostRuntime) -> Result<(), Fail> 
     let gate = StarGate::new(STAR / 2, 20_000_000);
     let (claims, pass) = Claims::make(alloc, &starved, graph.roots())?;
     let passes = split_for(alloc, &claims, pass, 2)?;
-    for ended in run_all(&rt, alloc, &claims, passes, &starved, &gate)? {
-        assert!(rt; matches!(ended, Ended::NoMemory { .. }));
+    for ended in &run_all(&rt, alloc, &claims, passes, &starved, &gate)? {
+        expect(&rt, ran_out(ended), "memory has run out");
     }
     Ok(())
 }
 
-/// Many more workers than processors take the lock in turn without end. If releasing it wakes
-/// nobody, they stay asleep, and the run doesn't end.
-#[test]
-fn a_turn_given_back_wakes_who_waits(rt: HostRuntime) -> Result<(), Fail> {
-    let alloc = rt.alloc();
-    let graph = graph_with(alloc, Shape::Loose, 4_000)?;
-    for _round in 0..5 {
-        assert!(rt; agree_at_once(&rt, alloc, &graph, 16, &OpenGate)?);
-    }
-    Ok(())
+fn ran_out(ended: &Ended) -> bool {
+    matches!(ended, Ended::NoMemory { .. })
 }
 
-/// The roots are handed out in stretches, of which the last is a short one.
+/// How many nodes without calls there are, and how many workers search them, run after run.
+///
+/// The roots are handed out in stretches, of which the last is a short one. In the first row many
+/// more workers than processors take the lock in turn without end. If releasing it wakes nobody,
+/// they stay asleep, and the run doesn't end.
+static LOOSE: [(u32, &[u32]); 8] = [
+    (4_000, &[16, 16, 16, 16, 16]),
+    (1, &[1, 2, 5]),
+    (255, &[1, 2, 5]),
+    (256, &[1, 2, 5]),
+    (257, &[1, 2, 5]),
+    (511, &[1, 2, 5]),
+    (513, &[1, 2, 5]),
+    (1_025, &[1, 2, 5]),
+];
+
 #[test]
 fn each_root_of_each_stretch_is_released(rt: HostRuntime) -> Result<(), Fail> {
     let alloc = rt.alloc();
-    for count in [1, 255, 256, 257, 511, 513, 1_025] {
-        let graph = graph_with(alloc, Shape::Loose, count)?;
-        for jobs in [1, 2, 5] {
-            assert!(rt; agree_at_once(&rt, alloc, &graph, jobs, &OpenGate)?);
+    for (count, runs) in &LOOSE {
+        let graph = graph_with(alloc, Shape::Loose, *count)?;
+        for jobs in *runs {
+            expect_groups_at_once(&rt, alloc, &graph, (*jobs).max(1), &OpenGate)?;
         }
     }
     Ok(())

@@ -2,6 +2,7 @@ ghost use Rattle.std.specs.Prelude.{◌≡◌, []};
 ghost use Rattle.node_claims.specs.Claims.{IsPassOf};
 ghost use Rattle.search_pool.specs.Worker.{EndsWell};
 
+use crate::expect::expect;
 use crate::graphs::graph_of;
 use crate::waiting::comes;
 use graph_law::Graph;
@@ -47,7 +48,7 @@ fn a_worker_goes_on_while_another_pass_has_the_turn(rt: HostRuntime) -> Result<(
         taken: AtomicBool::new(false),
     };
     let (ended, (pass, came)) = side_by_side(&rt, alloc, &claims, theirs, mine, &graph, &gate);
-    assert!(rt; came);
+    expect(&rt, came, "the worker expands a node meanwhile");
     let Ended::Finished { pass: other } = ended else {
         return Err("the worker has not finished".into());
     };
