@@ -1,6 +1,6 @@
 //! A search that is led by hand, with the claims of its pass, and released under the lock.
 
-ghost use Rattle.std.specs.Prelude.{◌≡◌, ◌⊎◌, ◌<◌, true, false, [], ◌∷◌, Some, length, Contains, IfOk, OnOk};
+ghost use Rattle.std.specs.Prelude.{◌≡◌, ◌⊎◌, ◌<◌, ◌≤◌, true, false, [], ◌∷◌, Some, length, Contains, IfOk, OnOk};
 ghost use Rattle.std.specs.Bool.{OnTrue};
 ghost use Rattle.graph_law.specs.Graph.{Calls};
 ghost use Rattle.graph_law.specs.Reach.{IsReached};
@@ -64,12 +64,7 @@ fn push(
 }
 
 /// Claims a node that the pass has already.
-pub(crate) fn claim_again(
-    claims: &Claims,
-    pass: &mut Pass,
-    search: &Search,
-    node: u32,
-) -> Result<(), Fail>
+fn claim_again(claims: &Claims, pass: &mut Pass, search: &Search, node: u32) -> Result<(), Fail>
     requires runs { IsRunning claims.now pass.old search.now false }
     requires below { node < length claims.now.lists }
     ensures { OnOk result (IsRunning claims.now pass.new search.now false) }
@@ -81,12 +76,7 @@ pub(crate) fn claim_again(
 }
 
 /// Looks at a node that no pass has claimed.
-pub(crate) fn look_unseen(
-    claims: &Claims,
-    pass: &mut Pass,
-    search: &Search,
-    node: u32,
-) -> Result<(), Fail>
+fn look_unseen(claims: &Claims, pass: &mut Pass, search: &Search, node: u32) -> Result<(), Fail>
     requires runs { IsRunning claims.now pass.old search.now false }
     requires below { node < length claims.now.lists }
     ensures { OnOk result (IsRunning claims.now pass.new search.now false) }
@@ -113,7 +103,7 @@ fn begin(claims: &Claims, pass: &Pass, search: &mut Search, node: u32) -> Result
 }
 
 /// Follows the next edge to a node that no pass has claimed, and pushes it.
-pub(crate) fn enter(
+fn enter(
     alloc: Global,
     graph: &Graph,
     claims: &Claims,
@@ -134,7 +124,7 @@ pub(crate) fn enter(
 }
 
 /// Follows the next edge back to a node of the search.
-pub(crate) fn back(claims: &Claims, pass: &Pass, search: &mut Search, node: u32) -> Result<(), Fail>
+fn back(claims: &Claims, pass: &Pass, search: &mut Search, node: u32) -> Result<(), Fail>
     requires { IsRunning claims.now pass.now search.old false }
     ensures { OnOk result (IsRunning claims.now pass.now search.new false) }
 {
@@ -146,7 +136,7 @@ pub(crate) fn back(claims: &Claims, pass: &Pass, search: &mut Search, node: u32)
 }
 
 /// Joins the top segment to the one below.
-pub(crate) fn join(claims: &Claims, pass: &Pass, search: &mut Search) -> Result<(), Fail>
+fn join(claims: &Claims, pass: &Pass, search: &mut Search) -> Result<(), Fail>
     requires { IsRunning claims.now pass.now search.old false }
     ensures { OnOk result (IsRunning claims.now pass.now search.new false) }
 {
@@ -196,20 +186,46 @@ fn is_ring(nodes: &[u32]) -> bool
     nodes == [0, 1, 2].as_slice()
 }
 
-/// Looks at a node that is finished.
-pub(crate) fn look_done(claims: &Claims, pass: &mut Pass, node: u32) -> Result<(), Fail>
-    requires idle { IsIdle claims.now pass.old }
-    requires below { node < length claims.now.lists }
-    ensures { OnOk result (IsIdle claims.now pass.new) }
+/// Searches the cycle from its root on, which the search has pushed: claims the root again, looks at
+/// the next node, enters it and the one after it, and goes back to the root. Then the whole cycle is
+/// the top segment.
+pub(crate) fn lead(
+    alloc: Global,
+    graph: &Graph,
+    claims: &Claims,
+    pass: &mut Pass,
+    search: &mut Search,
+) -> Result<(), Fail>
+    requires made { claims.now.lists ≡ graph.now.lists }
+    requires nodes { 3 ≤ length claims.now.lists }
+    requires runs { IsRunning claims.now pass.old search.old false }
+    ensures { OnOk result (IsRunning claims.now pass.new search.new false) }
 {
-    let Looked::Done = claims.look(pass, node) else {
+    claim_again(claims, pass, search, 0)?;
+    look_unseen(claims, pass, search, 1)?;
+    enter(alloc, graph, claims, pass, search, 1)?;
+    enter(alloc, graph, claims, pass, search, 2)?;
+    back(claims, pass, search, 0)?;
+    join(claims, pass, search)?;
+    join(claims, pass, search)
+}
+
+/// Finds two nodes finished, by a look at the one and a claim of the root, which the pass has seen
+/// then.
+pub(crate) fn see_done(claims: &Claims, pass: &mut Pass) -> Result<(), Fail>
+    requires idle { IsIdle claims.now pass.old }
+    requires nodes { 2 ≤ length claims.now.lists }
+    ensures idle { OnOk result (IsIdle claims.now pass.new) }
+    ensures seen { OnOk result (0 < times 0 pass.new.view.seen) }
+{
+    let Looked::Done = claims.look(pass, 1) else {
         return Err("the node isn't finished".into());
     };
-    Ok(())
+    claim_done(claims, pass, 0)
 }
 
 /// Claims a node that is finished, which the pass has seen then.
-pub(crate) fn claim_done(claims: &Claims, pass: &mut Pass, node: u32) -> Result<(), Fail>
+fn claim_done(claims: &Claims, pass: &mut Pass, node: u32) -> Result<(), Fail>
     requires idle { IsIdle claims.now pass.old }
     requires below { node < length claims.now.lists }
     ensures idle { OnOk result (IsIdle claims.now pass.new) }
