@@ -30,7 +30,7 @@ LEAST_MEMORY = 16_384
 # In bytes; threads that can just be made take most of it.
 LEAST_SPACE = 150_000 << 10
 # Sizes whose double the programs still take, by how the names of kinds begin or end: a body has at most 1,000 goals, a program 1,024 files.
-MOST_SIZES = {"dense": 480_000, "of_modules": 512}
+MOST_SIZES = {"dense": 480_000, "of_modules": 512, "loaded_by_each_other": 1_000_000}
 
 
 def hash_of(text):
@@ -109,6 +109,18 @@ def chain_of_modules(count):
     return {"f.pl" if at == 0 else f"f{at}.pl": text(at) for at in range(count)}
 
 
+def loaded_by_each_other(loads):
+    """Modules that load each other, each with as many exports as there are modules, with so many loads."""
+    count = math.isqrt(loads)
+    uses = [f":- use_module(m{at}).\n" for at in range(count)]
+
+    def text(at):
+        names = [f"p{at}_{it}" for it in range(count)]
+        calls = "".join(f"{name} :- p{(at + it) % count}_{it}.\n" for it, name in enumerate(names))
+        return exporting(f"m{at}", names, "".join(uses[:at] + uses[at + 1 :]) + calls)
+    return {"f.pl": "".join(uses) + "p.\n"} | {f"m{at}.pl": text(at) for at in range(count)}
+
+
 def complete(calls):
     """Predicates of which each calls all, with so many calls."""
     count = math.isqrt(calls)
@@ -157,6 +169,7 @@ MENDED = {
     "calls_of_one_hash": (lambda n: file(f"p:-{','.join(equal_names(n))}.\n"), 10_000, []),
     "imports_of_one_hash": (imported_names, 2_500, []),
     "equal_loads": (equal_loads, 4_000, []),
+    "loaded_by_each_other": (loaded_by_each_other, 10_000, []),
     "operators_taken_away": (lambda n: grown([f"o{at}" for at in range(n)]), 10_000, []),
 }
 NESTED = {

@@ -1,5 +1,5 @@
 -- All import faults of what was loaded.
-use Rattle.std.proofs.Common.{◌≡◌, ℕ, ◌<◌, ◌≤◌, List, [], ◌∷◌, ◌++◌, All, IsPermutation, length, map, get_or, refl, sym, ap, ◌∙◌, subst, arith}
+use Rattle.std.proofs.Common.{◌≡◌, ℕ, ◌<◌, ◌≤◌, List, [], ◌∷◌, ◌++◌, All, AllPairs, IsPermutation, length, map, get_or, refl, sym, ap, ◌∙◌, subst, arith}
 use Rattle.std.specs.List.{AllZip, flat_map}
 use Rattle.std.specs.Cmp.Lexicographic.{slice_cmp}
 use Rattle.std.specs.Ordering.{nat_cmp}
@@ -17,7 +17,8 @@ use Rattle.import_rules.specs.Clashes.{Imports, AreClashes}
 use Rattle.import_rules.specs.Files.{AreNumbered}
 use Rattle.import_rules.specs.Flaws.{Flaw, AreImportFaults, clash_flaw, file_flaws}
 use Rattle.import_rules.specs.Items.{foreign_items}
-use Rattle.import_rules.specs.KnownFiles.{AreKnown, AreRising, IsKnownIn, IsReady, absent_of, files_of}
+use Rattle.import_rules.specs.KnownFiles.{AreKnown, AreRising, IsKnownIn, IsReady, absent_of, files_of, shared_of}
+use Rattle.import_rules.specs.Names.{pred_cmp}
 use Rattle.import_rules.specs.PlacedFlaws.{AreTexts, ArePlacedFlaws, StandsIn}
 use Rattle.import_rules.specs.Program.{IsReadFrom}
 use Rattle.import_rules.proofs.FlawsStand.{all_stand}
@@ -53,12 +54,14 @@ module _ (loaded : LoadedFiles) (was : WasLoaded loaded) where
   }
 
   -- the look-ups are right
-  pub ready : (lookups : Lookups) → AreKnown loaded.files lookups.known.items → absent_of lookups ≡ loaded.absent → AreNumbered loaded.files lookups.predicates.now → IsReady lookups
-  ready lookups known absent numbered = record {
+  pub ready : (lookups : Lookups) → AreKnown loaded.files lookups.known.items → absent_of lookups ≡ loaded.absent → AreNumbered loaded.files lookups.predicates.now
+      → AllPairs (λ (i j : Imports). pred_cmp i.into j.into ≡ Less) (shared_of lookups) → IsReady lookups
+  ready lookups known absent numbered shared = record {
     rising = subst AreRising (sym known.are) files_rise;
     known = subst (λ files. All (IsKnownIn files) lookups.known.items) (sym known.are) known.each;
     absent = subst AreInOrder (sym absent) was.is.absent_are.ordered;
     numbered = subst (λ files. AreNumbered files lookups.predicates.now) (sym known.are) numbered;
+    shared = shared;
   }
 
   -- what is found by the look-ups is what is wrong with the files

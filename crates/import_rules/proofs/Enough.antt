@@ -19,8 +19,9 @@ use Rattle.import_rules.specs.declared.names.PredName.{PredName}
 use Rattle.import_rules.specs.Clashes.{Imports, items_for, first_other, clash, AreClashes, AreFirsts}
 use Rattle.import_rules.specs.Enough.{AreEnough, IsTakenWhole}
 use Rattle.import_rules.specs.Files.{file_named, has_export, is_local}
-use Rattle.import_rules.specs.Items.{gives, given, is_foreign, item, items_of_load, taken}
+use Rattle.import_rules.specs.Items.{gives, is_foreign, item, taken}
 use Rattle.import_rules.specs.Names.{is_same}
+use Rattle.import_rules.specs.Offers.{is_shared, kept, kept_given, kept_of_load}
 use Rattle.import_rules.proofs.Lists.{any_from, filter_none, filter_map_agrees, kept_next, kept_passes}
 use Rattle.import_rules.proofs.Members.{flat_map_has}
 use Rattle.import_rules.proofs.NameOrder.{same_itself, same_parts}
@@ -198,14 +199,14 @@ export_of file i has =
     (from.0, from.1, sym (ap (λ (p : PredName). p.name) is), sym (ap (λ (p : PredName). p.arity) is))
 
 -- the item of the export is among those that a load of the whole file takes
-whole_has : (user file : Facts) (load : Loads) (kind : LoadKind) → kind ≢ UseSome → (e : Indicator) → Contains file.exports e
+pub whole_has : (user file : Facts) (load : Loads) (kind : LoadKind) → kind ≢ UseSome → (e : Indicator) → Contains file.exports e
     → Contains (taken user file load kind) (item user file load.from e)
 whole_has user file load UseSome whole e has = absurd (whole refl)
 whole_has user file load UseAll whole e has = map_has (item user file load.from) file.exports e has
 whole_has user file load Ensure whole e has = map_has (item user file load.from) file.exports e has
 
 -- each item that a load takes is that of an export
-taken_from : (user file : Facts) (load : Loads) (kind : LoadKind) (i : Imports) → Contains (taken user file load kind) i
+pub taken_from : (user file : Facts) (load : Loads) (kind : LoadKind) (i : Imports) → Contains (taken user file load kind) i
     → (e : Indicator) × Contains file.exports e × (record { «module» = user.module_; name = e.name; arity = e.arity } ≡ i.into) × (file.module_ ≡ i.from_module)
 taken_from user file load UseAll i has =
     let from = map_from (item user file load.from) file.exports i has in
@@ -224,39 +225,57 @@ taken_from user file load UseSome i has =
       ap (λ (k : Imports). k.from_module) from.2,
     )
 
-load_doubles : (files : List Facts) (user : Facts) (one other : Loads) → one.file ≡ other.file → one.kind ≢ UseSome → (i : Imports)
-    → Contains (items_of_load files user other) i → (j : Imports) × Contains (items_of_load files user one) j × (j.into ≡ i.into) × (j.from_module ≡ i.from_module)
-load_doubles files user one other same whole i has =
+-- what a load of a whole file keeps is what each other one keeps
+
+whole_from : (shared : List Imports) (user file : Facts) (load : Loads) (kind : LoadKind) (i : Imports) → kind ≢ UseSome → Contains (kept shared user file load kind) i
+    → (e : Indicator) × Contains (filter (is_shared shared) file.exports) e × (item user file load.from e ≡ i)
+whole_from shared user file load UseSome i whole has = absurd (whole refl)
+whole_from shared user file load UseAll i whole has = map_from (item user file load.from) (filter (is_shared shared) file.exports) i has
+whole_from shared user file load Ensure i whole has = map_from (item user file load.from) (filter (is_shared shared) file.exports) i has
+
+whole_keeps : (shared : List Imports) (user file : Facts) (load : Loads) (kind : LoadKind) (e : Indicator) → kind ≢ UseSome → Contains (filter (is_shared shared) file.exports) e
+    → Contains (kept shared user file load kind) (item user file load.from e)
+whole_keeps shared user file load UseSome e whole has = absurd (whole refl)
+whole_keeps shared user file load UseAll e whole has = map_has (item user file load.from) (filter (is_shared shared) file.exports) e has
+whole_keeps shared user file load Ensure e whole has = map_has (item user file load.from) (filter (is_shared shared) file.exports) e has
+
+load_doubles : (files : List Facts) (shared : List Imports) (user : Facts) (one other : Loads) → one.file ≡ other.file → one.kind ≢ UseSome → other.kind ≢ UseSome → (i : Imports)
+    → Contains (kept_of_load files shared user other) i → (j : Imports) × Contains (kept_of_load files shared user one) j × (j.into ≡ i.into) × (j.from_module ≡ i.from_module)
+load_doubles files shared user one other same whole also i has =
     let found = at (file_named files other.file) refl has in (
       found.0,
-      subst (λ name. Contains (elim (file_named files name) [ Some file ↦ given files user one file | None ↦ [] ]) found.0) (sym same) found.1,
+      subst (λ name. Contains (elim (file_named files name) [ Some file ↦ kept_given files shared user one file | None ↦ [] ]) found.0) (sym same) found.1,
       found.2,
       found.3,
     )
   where
-    in_file : (file : Facts) (b : Bool) → Contains (if b then taken user file other other.kind else []) i
-        → (j : Imports) × Contains (if b then taken user file one one.kind else []) j × (j.into ≡ i.into) × (j.from_module ≡ i.from_module)
+    in_file : (file : Facts) (b : Bool) → Contains (if b then kept shared user file other other.kind else []) i
+        → (j : Imports) × Contains (if b then kept shared user file one one.kind else []) j × (j.into ≡ i.into) × (j.from_module ≡ i.from_module)
     in_file file false h = absurd (nothing_in i h)
     in_file file true h =
-        let from = taken_from user file other other.kind i h in
-        (item user file one.from from.0, whole_has user file one one.kind whole from.0 from.1, from.2, from.3)
+        let from = whole_from shared user file other other.kind i also h in (
+          item user file one.from from.0,
+          whole_keeps shared user file one one.kind from.0 whole from.1,
+          ap (λ (k : Imports). k.into) from.2,
+          ap (λ (k : Imports). k.from_module) from.2,
+        )
 
-    at : (named : Option Facts) → file_named files other.file ≡ named → Contains (elim named [ Some file ↦ given files user other file | None ↦ [] ]) i
-        → (j : Imports) × Contains (elim named [ Some file ↦ given files user one file | None ↦ [] ]) j × (j.into ≡ i.into) × (j.from_module ≡ i.from_module)
+    at : (named : Option Facts) → file_named files other.file ≡ named → Contains (elim named [ Some file ↦ kept_given files shared user other file | None ↦ [] ]) i
+        → (j : Imports) × Contains (elim named [ Some file ↦ kept_given files shared user one file | None ↦ [] ]) j × (j.into ≡ i.into) × (j.from_module ≡ i.from_module)
     at None is h = absurd (nothing_in i h)
     at (Some file) is h = in_file file (gives files user file) h
 
--- so a load of a file that one of the loads before took whole is left out
-pub load_left_out : (files : List Facts) (user : Facts) (loads : List Loads) (load : Loads) (before : List Imports) → IsTakenWhole loads load.file → (i : Imports)
-    → Contains (filter (is_foreign files) (items_of_load files user load)) i
-    → IsDouble (before ++ filter (is_foreign files) (flat_map (items_of_load files user) loads)) i
-load_left_out files user loads load before whole i has =
-    let double = load_doubles files user whole.0 load whole.2 whole.3 i (kept_there (is_foreign files) (items_of_load files user load) i has) in
+-- so a load of a whole file that one of the loads before took whole is left out
+pub load_left_out : (files : List Facts) (shared : List Imports) (user : Facts) (loads : List Loads) (load : Loads) (before : List Imports) → IsTakenWhole loads load.file
+    → load.kind ≢ UseSome → (i : Imports) → Contains (filter (is_foreign files) (kept_of_load files shared user load)) i
+    → IsDouble (before ++ filter (is_foreign files) (flat_map (kept_of_load files shared user) loads)) i
+load_left_out files shared user loads load before whole also i has =
+    let double = load_doubles files shared user whole.0 load whole.2 whole.3 also i (kept_there (is_foreign files) (kept_of_load files shared user load) i has) in
     let foreign : is_foreign files double.0 ≡ true =
-    ap (λ p. not (is_local files p)) double.2 ∙ kept_passes (is_foreign files) (items_of_load files user load) i has in (
+    ap (λ p. not (is_local files p)) double.2 ∙ kept_passes (is_foreign files) (kept_of_load files shared user load) i has in (
       double.0,
-      Contains-append_right before (filter (is_foreign files) (flat_map (items_of_load files user) loads)) double.0
-          (kept_in (is_foreign files) (flat_map (items_of_load files user) loads) double.0 (flat_map_has (items_of_load files user) loads whole.0 double.0 whole.1 double.1) foreign),
+      Contains-append_right before (filter (is_foreign files) (flat_map (kept_of_load files shared user) loads)) double.0
+          (kept_in (is_foreign files) (flat_map (kept_of_load files shared user) loads) double.0 (flat_map_has (kept_of_load files shared user) loads whole.0 double.0 whole.1 double.1) foreign),
       double.2,
       double.3,
     )
@@ -287,25 +306,25 @@ whole_more loads i load own new old within here whole before is there =
     ]
 
 -- what the loads up to the next one give
-module _ (files : List Facts) (user : Facts) (loads : List Loads) (i : ℕ) (load : Loads) (within : i < length loads) (here : load ≡ get_or loads i load)
+module _ (files : List Facts) (shared : List Imports) (user : Facts) (loads : List Loads) (i : ℕ) (load : Loads) (within : i < length loads) (here : load ≡ get_or loads i load)
     (before some : List Imports) where
   abbrev so_far : ℕ → List Imports
-  so_far k = before ++ filter (is_foreign files) (flat_map (items_of_load files user) (take k loads))
+  so_far k = before ++ filter (is_foreign files) (flat_map (kept_of_load files shared user) (take k loads))
 
   abbrev more : List Imports
-  more = filter (is_foreign files) (items_of_load files user load)
+  more = filter (is_foreign files) (kept_of_load files shared user load)
 
   grown : so_far i ++ more ≡ so_far (i + 1)
   grown =
-      append_assoc before (filter (is_foreign files) (flat_map (items_of_load files user) (take i loads))) more
-      ∙ ap (λ ys. before ++ ys) (sym (kept_next (is_foreign files) (items_of_load files user) loads i load within here))
+      append_assoc before (filter (is_foreign files) (flat_map (kept_of_load files shared user) (take i loads))) more
+      ∙ ap (λ ys. before ++ ys) (sym (kept_next (is_foreign files) (kept_of_load files shared user) loads i load within here))
 
-  pub enough_step : (new : List Imports) → AreEnough (before ++ filter (is_foreign files) (flat_map (items_of_load files user) (take i loads))) some
-      → new ≡ some ++ filter (is_foreign files) (items_of_load files user load)
-      → AreEnough (before ++ filter (is_foreign files) (flat_map (items_of_load files user) (take (i + 1) loads))) new
+  pub enough_step : (new : List Imports) → AreEnough (before ++ filter (is_foreign files) (flat_map (kept_of_load files shared user) (take i loads))) some
+      → new ≡ some ++ filter (is_foreign files) (kept_of_load files shared user load)
+      → AreEnough (before ++ filter (is_foreign files) (flat_map (kept_of_load files shared user) (take (i + 1) loads))) new
   enough_step new enough is = subst (λ all. AreEnough all new) grown (subst (AreEnough (so_far i ++ more)) (sym is) (enough_more (so_far i) some more enough))
 
-  pub enough_skip : AreEnough (before ++ filter (is_foreign files) (flat_map (items_of_load files user) (take i loads))) some → IsTakenWhole (take i loads) load.file
-      → AreEnough (before ++ filter (is_foreign files) (flat_map (items_of_load files user) (take (i + 1) loads))) some
-  enough_skip enough whole =
-      subst (λ all. AreEnough all some) grown (enough_without (so_far i) some more enough (load_left_out files user (take i loads) load before whole))
+  pub enough_skip : AreEnough (before ++ filter (is_foreign files) (flat_map (kept_of_load files shared user) (take i loads))) some → IsTakenWhole (take i loads) load.file → load.kind ≢ UseSome
+      → AreEnough (before ++ filter (is_foreign files) (flat_map (kept_of_load files shared user) (take (i + 1) loads))) some
+  enough_skip enough whole also =
+      subst (λ all. AreEnough all some) grown (enough_without (so_far i) some more enough (load_left_out files shared user (take i loads) load before whole also))

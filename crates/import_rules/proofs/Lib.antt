@@ -16,6 +16,10 @@ pub mod NumberLemmas
 pub mod SourceLemmas
 pub mod Ordered
 pub mod Targets
+pub mod Offered
+pub mod Kept
+pub mod TargetsFound
+pub mod CheckedImports
 pub mod Faultless
 pub mod Members
 pub mod PlacesTold

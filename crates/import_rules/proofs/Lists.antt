@@ -3,7 +3,7 @@ use Rattle.std.proofs.Common.{◌≡◌, ℕ, ◌+◌, ◌<◌, Bool, true, fals
 use Rattle.std.specs.List.{filter_map, cons_option, find, flat_map, list_any}
 use Rattle.std.proofs.lemmas.List.Elements.{All-head, All-tail, All-contains, All-map, filter_passes, filter_map-append, filter-append}
 use Rattle.std.proofs.lemmas.List.Kept.{AllPairs-cons}
-use Rattle.std.proofs.lemmas.List.{take_more}
+use Rattle.std.proofs.lemmas.List.{map-append, take_more}
 use Rattle.std.proofs.lemmas.Grind.{flat_map-append}
 use Rattle.module_table.specs.Kinds.{first_of}
 pub use Rattle.list_laws.proofs.Members.{all_by, any_from, any_there, kept_there, map_from, map_has}
@@ -144,3 +144,23 @@ given_more {X} {Y} f xs i x before now next within here so_far more =
 pub kept_next : {X Y : Type 0} (p : Y → Bool) (f : X → List Y) (xs : List X) (i : ℕ) (x : X) → i < length xs → x ≡ get_or xs i x
     → filter p (flat_map f (take (i + 1) xs)) ≡ filter p (flat_map f (take i xs)) ++ filter p (f x)
 kept_next {X} {Y} p f xs i x within here = ap (filter p) (flat_map_next f xs i x within here) ∙ filter-append p (flat_map f (take i xs)) (f x)
+
+-- what a function gives of those that pass, with one more of which the test is known
+
+kept_take : {X : Type 0} (p : X → Bool) (xs : List X) (i : ℕ) (x : X) → i < length xs → x ≡ get_or xs i x → filter p (take (i + 1) xs) ≡ filter p (take i xs) ++ cond (p x) (x ∷ []) []
+kept_take {X} p xs i x within here =
+    ap (filter p) (take_more xs i x within)
+    ∙ (filter-append p (take i xs) (get_or xs i x ∷ []) ∙ ap (λ y. filter p (take i xs) ++ filter p (y ∷ [])) (sym here))
+
+pub passed_over : {X Y : Type 0} (p : X → Bool) (f : X → Y) (q : Y → Bool) (xs : List X) (i : ℕ) (x : X) → i < length xs → x ≡ get_or xs i x → p x ≡ false
+    → filter q (map f (filter p (take i xs))) ≡ filter q (map f (filter p (take (i + 1) xs)))
+passed_over {X} {Y} p f q xs i x within here fails =
+    ap (λ ys. filter q (map f ys))
+    (sym (kept_take p xs i x within here ∙ (ap (λ b. filter p (take i xs) ++ cond b (x ∷ []) []) fails ∙ append-nil (filter p (take i xs)))))
+
+pub passed : {X Y : Type 0} (p : X → Bool) (f : X → Y) (q : Y → Bool) (xs : List X) (i : ℕ) (x : X) → i < length xs → x ≡ get_or xs i x → p x ≡ true
+    → filter q (map f (filter p (take i xs))) ++ filter q (f x ∷ []) ≡ filter q (map f (filter p (take (i + 1) xs)))
+passed {X} {Y} p f q xs i x within here passes =
+    sym
+    (ap (λ ys. filter q (map f ys)) (kept_take p xs i x within here ∙ ap (λ b. filter p (take i xs) ++ cond b (x ∷ []) []) passes)
+    ∙ (ap (filter q) (map-append f (filter p (take i xs)) (x ∷ [])) ∙ filter-append q (map f (filter p (take i xs))) (f x ∷ [])))

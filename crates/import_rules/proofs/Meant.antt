@@ -38,7 +38,7 @@ pub record IsExport (files : List Facts) (q : PredName) : Type 0 where
   pub has : Contains file.exports export_
   pub is : q ≡ exported file export_
 
-found_there : (files : List Facts) (name : List ℕ) (file : Facts) → file_named files name ≡ Some file → Contains files file
+pub found_there : (files : List Facts) (name : List ℕ) (file : Facts) → file_named files name ≡ Some file → Contains files file
 found_there files name file is =
     kept_there (λ (f : Facts). bytes_eq name f.file) files file (led (filter (λ (f : Facts). bytes_eq name f.file) files) is)
   where

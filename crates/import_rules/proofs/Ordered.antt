@@ -1,8 +1,8 @@
 -- Names in order: how one is found by a binary search, and that some of them stay in order.
-use Rattle.std.proofs.Common.{◌≡◌, ℕ, ◌<◌, List, [], ◌∷◌, ◌++◌, Some, Ok, Err, AllPairs, true, false, length, map, take, get_or, sym, ap, subst, ◌∙◌, arith}
+use Rattle.std.proofs.Common.{◌≡◌, ℕ, ◌<◌, List, [], ◌∷◌, ◌++◌, Some, Ok, Err, AllPairs, false, length, map, take, get_or, sym, ap, subst, ◌∙◌, arith}
 use Rattle.std.specs.Prelude.{slice_get}
 use Rattle.std.specs.List.{list_any}
-use Rattle.std.specs.List.Sorted.{IsBinarySearchResult, IsSearchInRange}
+use Rattle.std.specs.List.Sorted.{IsBinarySearchResult, IsSearchInRange, IsSortedBy}
 use Rattle.std.specs.Ordering.{is_eq}
 use Rattle.std.specs.declared.cmp.Ordering.TheVariants.{Less, Equal}
 use Rattle.std.proofs.lemmas.List.{get_or-map, get_or-take, length-map, length-take-le}
@@ -13,8 +13,10 @@ use Rattle.import_rules.specs.declared.names.PredName.{PredName}
 use Rattle.import_rules.specs.Clashes.{Imports, see_item}
 use Rattle.import_rules.specs.Names.{pred_cmp, is_same}
 use Rattle.import_rules.specs.Sources.{AreSources}
+use Rattle.import_rules.proofs.ImportedNames.{into}
 use Rattle.import_rules.proofs.Lists.{any-map, any_agrees, map_from}
 use Rattle.import_rules.proofs.NameOrder.{pred_cmp_total, same_parts, same_ties}
+use Rattle.import_rules.proofs.Runs.{comes_before}
 use Rattle.import_rules.proofs.Searches.{searched, sorted_from_rising}
 
 module _ {X : Type 0} (key : X → PredName) where
@@ -78,3 +80,15 @@ put_in_order predicates items n d names new_names targets name within up named a
         ap (λ (i : Imports). i.into) (get_or-map see_item items n d (see_item item) within) ∙ sym named in
         subst (λ q. pred_cmp q name ≡ Less) first
         (subst (λ q. pred_cmp (get_or (map see_item items) m (see_item item)).into q ≡ Less) last (up m n (see_item item) lower inside))
+
+-- items in order are sorted
+pub shared_sorted : (items : List Item) → AllPairs (λ (i j : Imports). pred_cmp i.into j.into ≡ Less) (map see_item items) → IsSortedBy (comes_before pred_cmp into) items
+shared_sorted items up = sorted_from_rising pred_cmp pred_cmp_total into items each
+  where
+    each : AllPairs (λ a b. pred_cmp (into a) (into b) ≡ Less) items
+    each i j d lt within =
+        let inside : j < length (map see_item items) = omega (arith, within, length-map items see_item) in
+        let lower : i < length items = omega (arith, lt, within) in
+        subst (λ (k : Imports). pred_cmp k.into (into (get_or items j d)) ≡ Less) (get_or-map see_item items i d (see_item d) lower)
+        (subst (λ (k : Imports). pred_cmp (get_or (map see_item items) i (see_item d)).into k.into ≡ Less) (get_or-map see_item items j d (see_item d) within)
+        (up i j (see_item d) lt inside))

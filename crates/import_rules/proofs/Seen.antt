@@ -1,10 +1,12 @@
 -- What a program is seen as, by its fields.
-use Rattle.std.proofs.Common.{◌≡◌, ℕ, ◌+◌, ◌<◌, ◌≤◌, List, [], Some, None, false, length, get_or, refl, sym, ap, ◌∙◌, arith}
+use Rattle.std.proofs.Common.{◌≡◌, ℕ, ◌+◌, ◌<◌, ◌≤◌, List, [], Some, None, true, false, Contains, length, get_or, refl, sym, ap, subst, ◌∙◌, arith}
 use Rattle.std.specs.Prelude.{slice_get}
 use Rattle.std.specs.List.{list_any}
 use Rattle.std.proofs.lemmas.List.{length-map, get_or-map}
 use Rattle.std.proofs.lemmas.Option.{slice_get-get_or, slice_get_within, get_or_from_slice_get}
+use Rattle.list_laws.proofs.Members.{stands_in}
 use Rattle.prolog_names.specs.Names.{name_at}
+use Rattle.prolog_terms.proofs.ViewLemmas.{some_once}
 use Rattle.module_table.specs.declared.file_facts.FileFacts.{FileFacts}
 use Rattle.file_library.specs.SortedOut.{see_loaded}
 use Rattle.import_rules.specs.declared.names.PredName.{PredName}
@@ -18,6 +20,9 @@ use Rattle.import_rules.specs.Parts.{name_of_places, names_at}
 use Rattle.import_rules.specs.declared.resolve.TheConstants.{MOST_PREDICATES}
 use Rattle.import_rules.specs.Files.{AreNumbered}
 use Rattle.import_rules.specs.Flaws.{AreFlaws}
+use Rattle.import_rules.proofs.Lists.{any_there}
+use Rattle.import_rules.proofs.NameOrder.{same_itself}
+use Rattle.import_rules.proofs.NumberLemmas.{number_at}
 use Rattle.import_rules.specs.Program.{see_program, places_in, places_at, found, IsProgram}
 
 pub loaded_is : (p : ProgramTables) → (see_program p).loaded ≡ see_loaded p.loaded
@@ -32,18 +37,61 @@ pub count_is : (p : ProgramTables) → length p.places.items ≡ length (see_pro
 unfolding see_program
 count_is p = sym (length-map p.places.items (name_of_places p.loaded.files.items))
 
-pub unfound : (p : ProgramTables) (owner name : List ℕ) (arity : ℕ) → list_any (is_same (pred_name owner name arity)) (see_program p).predicates ≡ false
-    → list_any (is_same (pred_name owner name arity)) p.imported ≡ false → found (see_program p) owner name arity ≡ None
+unfound : (p : ProgramTables) (owner name : List ℕ) (arity : ℕ) → list_any (is_same (pred_name owner name arity)) (see_program p).predicates ≡ false
+    → list_any (is_same (pred_name owner name arity)) p.imports.names ≡ false
+    → ((n : ℕ) (q : PredName) → slice_get p.imports.offered n ≡ Some (pred_name [] name arity)
+    → slice_get (see_program p).predicates (get_or p.imports.sources.items n 0) ≡ Some q → Contains p.imports.taken (pred_name owner q.module 0) → ⊥)
+    → found (see_program p) owner name arity ≡ None
 unfolding found see_program
-unfound p owner name arity other none = p.meant.unnamed (pred_name owner name arity) other none
+unfound p owner name arity other none not_taken = p.meant.unnamed (pred_name owner name arity) other none not_taken
 
-pub found_at : (p : ProgramTables) (owner name : List ℕ) (arity at : ℕ) → slice_get p.imported at ≡ Some (pred_name owner name arity)
-    → found (see_program p) owner name arity ≡ Some (get_or p.targets.items at 0)
+-- the name is neither kept nor offered
+pub not_offered : (p : ProgramTables) (owner name : List ℕ) (arity : ℕ) → list_any (is_same (pred_name owner name arity)) (see_program p).predicates ≡ false
+    → list_any (is_same (pred_name owner name arity)) p.imports.names ≡ false → list_any (is_same (pred_name [] name arity)) p.imports.offered ≡ false
+    → found (see_program p) owner name arity ≡ None
+not_offered p owner name arity other none apart =
+    unfound p owner name arity other none
+    (λ n q here is has.
+    let bare = pred_name [] name arity in
+    let passes : list_any (is_same bare) p.imports.offered ≡ true = any_there (is_same bare) p.imports.offered bare (stands_in p.imports.offered n bare here) (same_itself bare) in
+    let both : true ≡ false = sym passes ∙ apart in
+    cc)
+
+-- it is offered by a module that isn't taken
+pub not_taken : (p : ProgramTables) (owner name : List ℕ) (arity at : ℕ) (q : PredName) → list_any (is_same (pred_name owner name arity)) (see_program p).predicates ≡ false
+    → list_any (is_same (pred_name owner name arity)) p.imports.names ≡ false → slice_get p.imports.offered at ≡ Some (pred_name [] name arity)
+    → slice_get (see_program p).predicates (get_or p.imports.sources.items at 0) ≡ Some q → list_any (is_same (pred_name owner q.module 0)) p.imports.taken ≡ false
+    → found (see_program p) owner name arity ≡ None
+not_taken p owner name arity at q other none here is apart =
+    unfound p owner name arity other none
+    (λ n r there so has.
+    let bare = pred_name [] name arity in
+    let one : n ≡ at = some_once (sym (number_at p.imports.offered bare n p.meant.in_order there) ∙ number_at p.imports.offered bare at p.meant.in_order here) in
+    let same : r ≡ q = some_once (sym so ∙ ap (λ k. slice_get (see_program p).predicates (get_or p.imports.sources.items k 0)) one ∙ is) in
+    let pair = pred_name owner q.module 0 in
+    let passes : list_any (is_same pair) p.imports.taken ≡ true =
+    any_there (is_same pair) p.imports.taken pair (subst (λ (s : PredName). Contains p.imports.taken (pred_name owner s.module 0)) same has) (same_itself pair) in
+    let both : true ≡ false = sym passes ∙ apart in
+    cc)
+
+-- it is offered by a module that is taken
+pub taken_at : (p : ProgramTables) (owner name : List ℕ) (arity at : ℕ) (q : PredName) → list_any (is_same (pred_name owner name arity)) (see_program p).predicates ≡ false
+    → slice_get p.imports.offered at ≡ Some (pred_name [] name arity) → slice_get (see_program p).predicates (get_or p.imports.sources.items at 0) ≡ Some q
+    → Contains p.imports.taken (pred_name owner q.module 0) → found (see_program p) owner name arity ≡ Some (get_or p.imports.sources.items at 0)
+unfolding found see_program
+taken_at p owner name arity at q other here is has = p.meant.taken at (pred_name owner name arity) q other here is has
+
+pub source_below : (p : ProgramTables) (at : ℕ) → at < length p.imports.offered → get_or p.imports.sources.items at 0 < length (see_program p).predicates
+unfolding see_program
+source_below p at within = p.meant.below at within
+
+pub found_at : (p : ProgramTables) (owner name : List ℕ) (arity at : ℕ) → slice_get p.imports.names at ≡ Some (pred_name owner name arity)
+    → found (see_program p) owner name arity ≡ Some (get_or p.imports.targets.items at 0)
 unfolding found see_program
 found_at p owner name arity at is =
     let wanted = pred_name owner name arity in
-    ap (found_in (see_loaded p.loaded).files (names_at p.loaded.files.items p.places.items)) (sym (get_or_from_slice_get p.imported at wanted wanted is))
-    ∙ p.meant.named at wanted (slice_get_within p.imported at wanted is)
+    ap (found_in (see_loaded p.loaded).files (names_at p.loaded.files.items p.places.items)) (sym (get_or_from_slice_get p.imports.names at wanted wanted is))
+    ∙ p.meant.named at wanted (slice_get_within p.imports.names at wanted is)
 
 -- what is kept of a name is what is found of it
 pub kept_found : (p : ProgramTables) (place number node arity : ℕ) (file : FileFacts) (owner name : List ℕ) → slice_get p.loaded.files.items place ≡ Some file

@@ -12,7 +12,9 @@ use Rattle.module_table.specs.Facts.{Facts, see_facts}
 use Rattle.file_library.specs.Asked.{AreInOrder}
 use Rattle.import_rules.specs.declared.known_file.KnownFile.{KnownFile}
 use Rattle.import_rules.specs.declared.lookups.Lookups.{Lookups}
+use Rattle.import_rules.specs.Clashes.{Imports, see_item}
 use Rattle.import_rules.specs.Files.{AreNumbered, is_first}
+use Rattle.import_rules.specs.Names.{pred_cmp}
 
 -- by name, then by arity
 abbrev pub indicator_cmp : Indicator → Indicator → Ordering
@@ -50,12 +52,17 @@ pub record AreKnown (files : List Facts) (known : List KnownFile) : Type 0 where
 abbrev pub files_of : Lookups → List Facts
 files_of lookups = map see_known lookups.known.items
 
+abbrev pub shared_of : Lookups → List Imports
+shared_of lookups = map see_item lookups.shared.items
+
 abbrev pub absent_of : Lookups → List (List ℕ)
 absent_of lookups = lookups.absent.now
 
--- what is looked up is right: the files in order, each known, the absent names in order, and all predicates
+-- what is looked up is right: the files in order, each known, the absent names in order, all predicates, and the shared
+-- names in order
 pub record IsReady (lookups : Lookups) : Type 0 where
   pub rising : AreRising (files_of lookups)
   pub known : All (IsKnownIn (files_of lookups)) lookups.known.items
   pub absent : AreInOrder (absent_of lookups)
   pub numbered : AreNumbered (files_of lookups) lookups.predicates.now
+  pub shared : AllPairs (λ (i j : Imports). pred_cmp i.into j.into ≡ Less) (shared_of lookups)

@@ -4,6 +4,7 @@ pub mod Files
 pub mod Clashes
 pub mod Enough
 pub mod Items
+pub mod Offers
 pub mod Flaws
 pub mod Find
 pub mod Meanings

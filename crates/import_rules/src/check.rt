@@ -2,31 +2,41 @@
 
 ghost use Rattle.std.specs.Prelude.{◌≡◌, ◌++◌, map, IfOk, OnOk};
 ghost use Rattle.file_library.specs.SortedOut.{see_loaded};
-ghost use Rattle.import_rules.specs.Clashes.{AreFirsts, see_item};
+ghost use Rattle.import_rules.specs.Clashes.{see_item};
 ghost use Rattle.import_rules.specs.Files.{AreNumbered};
 ghost use Rattle.import_rules.specs.Findings.{see_findings};
 ghost use Rattle.import_rules.specs.Flaws.{AreImportFaults, clash_flaw};
-ghost use Rattle.import_rules.specs.Items.{foreign_items};
+ghost use Rattle.import_rules.specs.Offers.{AreImported};
 ghost use Rattle.file_library.specs.Loaded.{WasLoaded};
 
-use crate::clash::find_imports;
+use crate::clash::{Imported, find_imports};
 use crate::finding::Finding;
 use crate::gather::gather;
 use crate::item::Item;
 use crate::known_file::known_files;
 use crate::lookups::Lookups;
+use crate::offers::all_offers;
+use crate::pairs::all_pairs;
 use crate::placed::placed;
 use crate::predicates::Predicates;
 use clause_text::Cause;
 use file_library::{Fault, Loaded};
 use std::alloc::{AllocError, Global};
 
-/// The import errors in order of file, offset and cause, and one import item for each name that is
-/// imported.
+/// What modules import, each list in order of names and with one item for each: what loads list
+/// and what two files export, what files export, and which modules take all exports of others.
+#[derive(Drop)]
+pub(crate) struct ImportItems<'a> {
+    pub kept: Vec<Item<'a>>,
+    pub offered: Vec<Item<'a>>,
+    pub taken: Vec<Item<'a>>,
+}
+
+/// The import errors in order of file, offset and cause, and what modules import.
 #[derive(Drop)]
 pub(crate) struct Checked<'a> {
     pub faults: Vec<Fault>,
-    pub imports: Vec<Item<'a>>,
+    pub imports: ImportItems<'a>,
 }
 
 /// All import errors of the loaded files, and what their modules import. `predicates` are those
@@ -39,20 +49,30 @@ pub(crate) fn check_imports<'a>(
     requires loaded { WasLoaded (see_loaded loaded.now) }
     requires numbered { AreNumbered (see_loaded loaded.now).files predicates.now }
     ensures faults { IfOk result (λ checked. AreImportFaults (see_loaded loaded.now) checked.faults.items) }
-    ensures imports { IfOk result (λ checked. AreFirsts (foreign_items (see_loaded loaded.now).files) (map see_item checked.imports.items)) }
+    ensures imports { IfOk result (λ checked. AreImported (see_loaded loaded.now).files (map see_item checked.imports.kept.items)
+        (map see_item checked.imports.offered.items) (map see_item checked.imports.taken.items)) }
 {
-    let lookups = Lookups {
+    let mut lookups = Lookups {
         known: known_files(alloc, &loaded.files)?,
         absent: &loaded.absent,
         predicates,
+        shared: Vec::new(alloc),
     };
+    let offers = all_offers(alloc, &lookups)?;
+    let Imported { firsts, clashes } = find_imports(alloc, offers)?;
+    lookups.shared = clashes;
     let found = gather(alloc, &lookups)?;
     let imported = find_imports(alloc, found.items)?;
+    let pairs = all_pairs(alloc, &lookups)?;
+    let taken = find_imports(alloc, pairs)?;
     let flaws = with_clashes(found.flaws, &imported.clashes)?;
-    Ok(Checked {
-        faults: placed(alloc, &loaded.texts, flaws)?,
-        imports: imported.firsts,
-    })
+    let faults = placed(alloc, &loaded.texts, flaws)?;
+    let imports = ImportItems {
+        kept: imported.firsts,
+        offered: firsts,
+        taken: taken.firsts,
+    };
+    Ok(Checked { faults, imports })
 }
 
 /// The errors, and after them one for each clash: a name that is imported from two modules.

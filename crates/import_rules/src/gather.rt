@@ -7,8 +7,9 @@ ghost use Rattle.import_rules.specs.Clashes.{see_item, Imports};
 ghost use Rattle.import_rules.specs.Enough.{AreEnough};
 ghost use Rattle.import_rules.specs.Findings.{see_findings};
 ghost use Rattle.import_rules.specs.Flaws.{file_flaws, load_flaws};
-ghost use Rattle.import_rules.specs.Items.{foreign_items, is_foreign, items_of_load};
-ghost use Rattle.import_rules.specs.KnownFiles.{IsKnownIn, IsReady, absent_of, files_of, see_known};
+ghost use Rattle.import_rules.specs.Items.{is_foreign};
+ghost use Rattle.import_rules.specs.KnownFiles.{IsKnownIn, IsReady, absent_of, files_of, see_known, shared_of};
+ghost use Rattle.import_rules.specs.Offers.{kept_items, kept_of_load};
 
 use crate::finding::Finding;
 use crate::flaws::{push_absent_flaws, push_export_flaws, push_module_flaws, push_use_flaws};
@@ -21,9 +22,10 @@ use prolog_tokens::Text;
 use std::alloc::{AllocError, Global};
 use std::collections::BTreeSet;
 
-/// All errors except clashes, and the import items of predicates that no file defines under the
-/// imported name. Once a file has taken all exports of another one, its later loads of that one add
-/// no items. These would change no meaning and no clash.
+/// All errors except clashes, and import items of predicates that no file defines under the imported
+/// name. Of a load that takes all exports of a file only those of shared names are items, since no
+/// other name clashes. Once a file has taken all exports of another one, its later loads of that
+/// kind add no items. These would change no meaning and no clash.
 #[derive(Drop)]
 pub(crate) struct Gathered<'a> {
     pub flaws: Vec<Finding<'a>>,
@@ -38,7 +40,7 @@ pub(crate) fn gather<'a>(
     requires { IsReady lookups.now }
     ensures flaws { IfOk result (λ found. see_findings found.flaws.items
         ≡ flat_map (file_flaws (files_of lookups.now) (absent_of lookups.now)) (files_of lookups.now)) }
-    ensures items { IfOk result (λ found. AreEnough (foreign_items (files_of lookups.now)) (map see_item found.items.items)) }
+    ensures items { IfOk result (λ found. AreEnough (kept_items (files_of lookups.now) (shared_of lookups.now)) (map see_item found.items.items)) }
 {
     let mut found = Gathered {
         flaws: Vec::new(alloc),
@@ -62,7 +64,7 @@ fn push_file<'a>(
     ensures flaws { OnOk result (see_findings found.new.flaws.items ≡ see_findings found.old.flaws.items
         ++ file_flaws (files_of lookups.now) (absent_of lookups.now) (see_known file.now)) }
     ensures items { OnOk result ((before : List Imports) → AreEnough before (map see_item found.old.items.items) → AreEnough (before
-        ++ filter (is_foreign (files_of lookups.now)) (flat_map (items_of_load (files_of lookups.now) (see_known file.now)) (see_known file.now).loads))
+        ++ filter (is_foreign (files_of lookups.now)) (flat_map (kept_of_load (files_of lookups.now) (shared_of lookups.now) (see_known file.now)) (see_known file.now).loads))
         (map see_item found.new.items.items)) }
 {
     push_module_flaws(file, &mut found.flaws)?;
@@ -70,13 +72,14 @@ fn push_file<'a>(
     let mut whole = BTreeSet::new(alloc);
     for load in &file.facts.loads {
         push_load_flaws(lookups, file.facts, load, &mut found.flaws)?;
+        if load.kind == LoadKind::UseSome {
+            push_load_items(lookups, file.facts, load, &mut found.items)?;
+            continue;
+        }
         if whole.contains(&load.file) {
             continue;
         }
         push_load_items(lookups, file.facts, load, &mut found.items)?;
-        if load.kind == LoadKind::UseSome {
-            continue;
-        }
         whole.insert(Text::new(alloc, load.file.as_str())?)?;
     }
     Ok(())
@@ -109,7 +112,7 @@ fn push_load_items<'a>(
 ) -> Result<(), AllocError>
     requires { IsReady lookups.now }
     ensures { OnOk result (map see_item items.new.items ≡ map see_item items.old.items
-        ++ filter (is_foreign (files_of lookups.now)) (items_of_load (files_of lookups.now) (see_facts user.now) (see_load load.now))) }
+        ++ filter (is_foreign (files_of lookups.now)) (kept_of_load (files_of lookups.now) (shared_of lookups.now) (see_facts user.now) (see_load load.now))) }
 {
     let Some(file) = lookups.file(&load.file) else {
         return Ok(());

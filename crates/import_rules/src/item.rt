@@ -3,7 +3,9 @@
 ghost use Rattle.std.specs.Prelude.{◌≡◌};
 ghost use Rattle.import_rules.specs.Names.{pred_cmp, is_same};
 ghost use Rattle.import_rules.specs.Clashes.{see_item};
+ghost use Rattle.import_rules.specs.Parts.{see_name};
 
+use crate::names::NameView;
 use std::cmp::Ordering;
 
 /// A predicate that a module imports from another under the same name and arity. The file and the
@@ -16,6 +18,19 @@ pub(crate) struct Item<'a> {
     pub from_module: &'a str,
     pub file: &'a str,
     pub offset: u32,
+}
+
+impl<'a> Item<'a> {
+    /// A view of the name that it gives.
+    pub(crate) fn view(&self) -> NameView<'a>
+        ensures { see_name result ≡ (see_item self.now).into }
+    {
+        NameView {
+            module: self.module,
+            name: self.name,
+            arity: self.arity,
+        }
+    }
 }
 
 /// The order of items by the name that they give: module, name and arity.

@@ -5,19 +5,25 @@ ghost use Rattle.std.specs.List.{list_any};
 ghost use Rattle.std.specs.Str.{bytes_eq};
 ghost use Rattle.import_rules.specs.Names.{pred_name};
 ghost use Rattle.import_rules.specs.Files.{file_named, is_local};
-ghost use Rattle.import_rules.specs.KnownFiles.{IsKnownIn, IsReady, absent_of, files_of, see_known};
+ghost use Rattle.import_rules.specs.KnownFiles.{IsKnownIn, IsReady, absent_of, files_of, see_known, shared_of};
+ghost use Rattle.import_rules.specs.Offers.{is_shared};
 
+use crate::item::Item;
 use crate::known_file::{KnownFile, file_at};
+use crate::names::compare;
 use crate::predicates::Predicates;
+use module_table::Indicator;
 use prolog_tokens::Text;
 
-/// The loaded files in order of name, the names of absent files, and the predicates that the files
-/// define.
+/// The loaded files in order of name, the names of absent files, the predicates that the files
+/// define, and the names that two leading files export. The latter are items for no module, in
+/// order and one for each name.
 #[derive(Drop)]
 pub(crate) struct Lookups<'a, 't> {
     pub known: Vec<KnownFile<'a>>,
     pub absent: &'a [Text],
     pub predicates: &'t Predicates<'a>,
+    pub shared: Vec<Item<'a>>,
 }
 
 impl<'a> Lookups<'a, '_> {
@@ -27,6 +33,17 @@ impl<'a> Lookups<'a, '_> {
         ensures { result ≡ is_local (files_of self.now) (pred_name module.now name.now arity) }
     {
         self.predicates.find(module, name, arity).is_some()
+    }
+
+    /// Whether the indicator has the name and arity of a shared item. It is a binary search.
+    pub(crate) fn is_shared(&self, indicator: &Indicator) -> bool
+        requires { IsReady self.now }
+        ensures { result ≡ is_shared (shared_of self.now) indicator.now }
+    {
+        let (name, arity) = (indicator.name.as_str(), indicator.arity);
+        self.shared
+            .binary_search_by(|item| compare(item.view(), "", name, arity))
+            .is_ok()
     }
 
     /// Whether a file of that name was asked for and isn't there. It is a binary search.

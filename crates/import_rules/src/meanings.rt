@@ -3,13 +3,16 @@
 ghost use Rattle.std.specs.Prelude.{◌≡◌, ◌≤◌, List, [], IfOk, AllPairs, length, map};
 ghost use Rattle.std.specs.declared.cmp.Ordering.TheVariants.{Less};
 ghost use Rattle.module_table.specs.Facts.{Facts};
-ghost use Rattle.import_rules.specs.Clashes.{see_item, AreClashes, AreFirsts, Imports};
+ghost use Rattle.import_rules.specs.Clashes.{see_item, AreClashes, Imports};
 ghost use Rattle.import_rules.specs.Files.{AreNumbered};
 ghost use Rattle.import_rules.specs.Items.{foreign_items};
+ghost use Rattle.import_rules.specs.KnownFiles.{AreRising};
 ghost use Rattle.import_rules.specs.Meanings.{AreTargets};
 ghost use Rattle.import_rules.specs.Names.{pred_cmp};
+ghost use Rattle.import_rules.specs.Offers.{AreImported, AreRisingItems};
 ghost use Rattle.import_rules.specs.Sources.{AreSources};
 
+use crate::check::ImportItems;
 use crate::item::Item;
 use crate::name_table::NameTable;
 use crate::names::PredName;
@@ -17,11 +20,19 @@ use crate::predicates::Predicates;
 use prolog_tokens::Text;
 use std::alloc::{AllocError, Global};
 
-/// Imported names, and for each the number of the predicate that it means.
+/// What modules import, for look-ups.
 #[derive(Drop)]
-pub(crate) struct Meanings {
+pub(crate) struct ImportTables {
+    /// The names that loads list, and those of loads of all exports that two files export.
     pub names: NameTable,
+    /// For each of these names the number of the predicate that it means.
     pub targets: Vec<u32>,
+    /// The names that files export, each without a module.
+    pub offered: NameTable,
+    /// For each of these names the number of a predicate that a file exports under it.
+    pub sources: Vec<u32>,
+    /// Names made of two modules of which the first takes all exports of a file of the second.
+    pub taken: NameTable,
 }
 
 /// Imported names one after another, and for each the number of the predicate that it means.
@@ -50,7 +61,7 @@ fn find_sources(
     items: &[Item<'_>],
 ) -> Result<Sources, AllocError>
     requires predicates { AllPairs (λ p q. pred_cmp p q ≡ Less) predicates.now }
-    requires items { AllPairs (λ (i j : Imports). pred_cmp i.into j.into ≡ Less) (map see_item items.now) }
+    requires items { AreRisingItems items.now }
     ensures sources { IfOk result (λ made. AreSources predicates.now (map see_item items.now) made.names.items made.targets.items) }
     ensures in_order { IfOk result (λ made. AllPairs (λ p q. pred_cmp p q ≡ Less) made.names.items) }
 {
@@ -68,18 +79,39 @@ fn find_sources(
     Ok(made)
 }
 
-/// What imported names mean, by the items of imports that don't clash: one for each name, in order.
+/// The names that the items give.
+fn names_given(alloc: Global, items: &[Item<'_>]) -> Result<Vec<PredName>, AllocError>
+    ensures { IfOk result (λ names. names.items ≡ map (λ (i : Imports). i.into) (map see_item items.now)) }
+{
+    let mut names = Vec::with_capacity(alloc, items.len())?;
+    for item in items {
+        names.push(name_given(alloc, item)?)?;
+    }
+    Ok(names)
+}
+
+/// What imported names mean, by the items of imports that don't clash.
 pub(crate) fn find_meanings(
     alloc: Global,
     predicates: &Predicates<'_>,
-    items: &[Item<'_>],
-) -> Result<Meanings, AllocError>
+    imports: &ImportItems<'_>,
+) -> Result<ImportTables, AllocError>
     requires predicates { AllPairs (λ p q. pred_cmp p q ≡ Less) predicates.now }
-    requires items { AllPairs (λ (i j : Imports). pred_cmp i.into j.into ≡ Less) (map see_item items.now) }
-    ensures { IfOk result (λ made. (files : List Facts) → AreNumbered files predicates.now → AreClashes (foreign_items files) []
-        → AreFirsts (foreign_items files) (map see_item items.now) → AreTargets files predicates.now made.names made.targets.items) }
+    requires kept { AreRisingItems imports.now.kept.items }
+    requires offered { AreRisingItems imports.now.offered.items }
+    requires taken { AreRisingItems imports.now.taken.items }
+    ensures { IfOk result (λ made. (files : List Facts) → AreRising files → AreNumbered files predicates.now → AreClashes (foreign_items files) []
+        → AreImported files (map see_item imports.now.kept.items) (map see_item imports.now.offered.items) (map see_item imports.now.taken.items)
+        → AreTargets files predicates.now made) }
 {
-    let Sources { names, targets } = find_sources(alloc, predicates, items)?;
-    let names = NameTable::make(alloc, names)?;
-    Ok(Meanings { names, targets })
+    let kept = find_sources(alloc, predicates, &imports.kept)?;
+    let offered = find_sources(alloc, predicates, &imports.offered)?;
+    let taken = names_given(alloc, &imports.taken)?;
+    Ok(ImportTables {
+        names: NameTable::make(alloc, kept.names)?,
+        targets: kept.targets,
+        offered: NameTable::make(alloc, offered.names)?,
+        sources: offered.targets,
+        taken: NameTable::make(alloc, taken)?,
+    })
 }

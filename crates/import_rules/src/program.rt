@@ -116,8 +116,8 @@ impl Program {
     }
 
     /// The number of the predicate that a name means in a module: the module's own predicate, or
-    /// else the one that the module imports. None if there is neither. It hashes the name once and
-    /// looks it up in at most two tables.
+    /// else the one that the module imports. None if there is neither. It looks the name up in one
+    /// table, and in at most three more if the module has no predicate of that name.
     pub fn find(&self, module: &str, name: &str, arity: u32) -> Option<u32>
         ensures { result ≡ found self.now module.now name.now arity }
     {

@@ -13,7 +13,7 @@ ghost use Rattle.import_rules.specs.Parts.{names_at};
 ghost use Rattle.import_rules.specs.Program.{IsProgram, IsImportStop};
 
 use crate::check::{Checked, check_imports};
-use crate::meanings::{Meanings, find_meanings};
+use crate::meanings::{ImportTables, find_meanings};
 use crate::meta_places::meta_places;
 use crate::number::number;
 use crate::own_names::OwnNames;
@@ -44,11 +44,11 @@ fn meanings<'a>(
     alloc: Global,
     loaded: &'a Loaded,
     predicates: &Predicates<'a>,
-) -> Result<Meanings, ImportStop>
+) -> Result<ImportTables, ImportStop>
     requires loaded { WasLoaded (see_loaded loaded.now) }
     requires numbered { AreNumbered (see_loaded loaded.now).files predicates.now }
     requires few { length predicates.now ≤ MOST_PREDICATES }
-    ensures targets { IfOk result (λ made. AreTargets (see_loaded loaded.now).files predicates.now made.names made.targets.items) }
+    ensures targets { IfOk result (λ made. AreTargets (see_loaded loaded.now).files predicates.now made) }
     ensures faultless { IfOk result (λ made. AreFlaws (see_loaded loaded.now).files (see_loaded loaded.now).absent []) }
     ensures refused { IfErr result (IsImportStop (see_loaded loaded.now)) }
 {
@@ -79,8 +79,8 @@ pub fn resolve_all(alloc: Global, loaded: Loaded) -> Result<Program, ImportStop>
     };
     let meta_places = meta_places(alloc, &loaded.files, &predicates)?;
     let own_names = OwnNames::make(alloc, &loaded.files, &places)?;
-    let Meanings { names, targets } = match meanings(alloc, &loaded, &predicates) {
-        Ok(found) => found,
+    let imports = match meanings(alloc, &loaded, &predicates) {
+        Ok(imports) => imports,
         Err(stop) => return Err(stop),
     };
     let tables = ProgramTables {
@@ -88,8 +88,7 @@ pub fn resolve_all(alloc: Global, loaded: Loaded) -> Result<Program, ImportStop>
         places,
         chains,
         own_names,
-        imported: names,
-        targets,
+        imports,
         meta_places,
     };
     Ok(Program::of(tables))

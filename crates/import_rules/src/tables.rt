@@ -12,7 +12,8 @@ ghost use Rattle.import_rules.specs.Numbers.{lists_of, places_for, parts_in};
 ghost use Rattle.import_rules.specs.OwnNames.{AreOwn};
 ghost use Rattle.import_rules.specs.Parts.{names_at};
 
-use crate::name_table::{NameTable, name_hash};
+use crate::meanings::ImportTables;
+use crate::name_table::name_hash;
 use crate::names::NameView;
 use crate::own_names::OwnNames;
 use crate::places::Places;
@@ -29,10 +30,8 @@ pub(crate) struct ProgramTables {
     pub(crate) chains: Chains,
     /// The predicates by the numbers of their names in their files.
     pub(crate) own_names: OwnNames,
-    /// The names that modules import.
-    pub(crate) imported: NameTable,
-    /// For each imported name the number of the predicate that it means.
-    pub(crate) targets: Vec<u32>,
+    /// What modules import.
+    pub(crate) imports: ImportTables,
     /// For each predicate the position of its first declaration of goal arguments. That is the
     /// index of a file, and one more than the index in its `metas`. The latter is 0 if the
     /// predicate has none. The list is empty if no predicate has one.
@@ -43,7 +42,7 @@ pub(crate) struct ProgramTables {
     pub ghost chained: { AreChained (names_at loaded.files.items places.items) chains } by { Prim.hlevel props },
     pub ghost own_kept: { AreOwn loaded.files.items (names_at loaded.files.items places.items) own_names } by { Prim.hlevel props },
     pub ghost faultless: { ∥ AreFlaws (see_loaded loaded).files (see_loaded loaded).absent [] ∥₁ },
-    pub ghost meant: { AreTargets (see_loaded loaded).files (names_at loaded.files.items places.items) imported targets.items } by { Prim.hlevel props },
+    pub ghost meant: { AreTargets (see_loaded loaded).files (names_at loaded.files.items places.items) imports } by { Prim.hlevel props },
     pub ghost placed: { lists_of places.items ≡ map (places_for (parts_in (see_loaded loaded).files)) (names_at loaded.files.items places.items) },
     pub ghost told: { AreDeclared (metas_in (see_loaded loaded).files) (names_at loaded.files.items places.items) meta_places.items } by { Prim.hlevel props },
 }
@@ -143,8 +142,8 @@ impl ProgramTables {
     }
 
     /// The number of the predicate that a name means in a module: the module's own predicate, or
-    /// else the one that the module imports. None if there is neither. It hashes the name once and
-    /// looks it up in at most two tables.
+    /// else the one that the module imports. None if there is neither. It looks the name up in one
+    /// table, and in at most three more if the module has no predicate of that name.
     pub(crate) fn find(&self, module: &str, name: &str, arity: u32) -> Option<u32>
         ensures { result ≡ found (see_program self.now) module.now name.now arity }
     {
@@ -160,10 +159,7 @@ impl ProgramTables {
         if let Some(node) = predicates.find_hashed(module, name, arity, hash) {
             return Some(node);
         }
-        let Some(at) = self.imported.find(module, name, arity, hash) else {
-            return None;
-        };
-        Some(self.targets[at])
+        self.find_imported(module, name, arity, hash)
     }
 
     /// The number of the predicate that is recorded for the name of that number in the file. None

@@ -5,8 +5,9 @@ ghost use Rattle.module_table.specs.Facts.{see_facts};
 ghost use Rattle.module_table.specs.Said.{see_load};
 ghost use Rattle.import_rules.specs.Clashes.{see_item};
 ghost use Rattle.import_rules.specs.Files.{has_export};
-ghost use Rattle.import_rules.specs.Items.{is_foreign, item, given, taken};
-ghost use Rattle.import_rules.specs.KnownFiles.{IsKnownIn, IsReady, files_of, see_known};
+ghost use Rattle.import_rules.specs.Items.{is_foreign, item};
+ghost use Rattle.import_rules.specs.KnownFiles.{IsKnownIn, IsReady, files_of, see_known, shared_of};
+ghost use Rattle.import_rules.specs.Offers.{is_shared, kept_given};
 
 use crate::item::Item;
 use crate::known_file::KnownFile;
@@ -14,8 +15,9 @@ use crate::lookups::Lookups;
 use module_table::{FileFacts, Indicator, Load, LoadKind};
 use std::alloc::AllocError;
 
-/// Adds an item for each export of the file that the load imports, except for local predicates.
-/// Nothing is added if the file doesn't lead, or is of the user's own module.
+/// Adds an item for each export of the file that the load lists, or whose name is shared if the load
+/// takes all, except for local predicates. Nothing is added if the file doesn't lead, or is of the
+/// user's own module.
 pub(crate) fn push_given<'a>(
     lookups: &Lookups<'a, '_>,
     user: &'a FileFacts,
@@ -26,7 +28,7 @@ pub(crate) fn push_given<'a>(
     requires ready { IsReady lookups.now }
     requires known { IsKnownIn (files_of lookups.now) file.now }
     ensures { OnOk result (map see_item items.new.items ≡ map see_item items.old.items
-        ++ filter (is_foreign (files_of lookups.now)) (given (files_of lookups.now) (see_facts user.now) (see_load load.now) (see_known file.now))) }
+        ++ filter (is_foreign (files_of lookups.now)) (kept_given (files_of lookups.now) (shared_of lookups.now) (see_facts user.now) (see_load load.now) (see_known file.now))) }
 {
     if !file.leads {
         return Ok(());
@@ -64,7 +66,7 @@ fn push_listed<'a>(
     Ok(())
 }
 
-/// Adds an item for each export of the file.
+/// Adds an item for each export of the file whose name is shared.
 fn push_exports<'a>(
     lookups: &Lookups<'a, '_>,
     user: &'a FileFacts,
@@ -74,9 +76,13 @@ fn push_exports<'a>(
 ) -> Result<(), AllocError>
     requires ready { IsReady lookups.now }
     ensures { OnOk result (map see_item items.new.items ≡ map see_item items.old.items
-        ++ filter (is_foreign (files_of lookups.now)) (map (item (see_facts user.now) (see_facts file.now) load.now.from) (see_facts file.now).exports)) }
+        ++ filter (is_foreign (files_of lookups.now)) (map (item (see_facts user.now) (see_facts file.now) load.now.from)
+        (filter (is_shared (shared_of lookups.now)) (see_facts file.now).exports))) }
 {
     for export in &file.exports {
+        if !lookups.is_shared(export) {
+            continue;
+        }
         let item = make_item(user, file, export, load.from);
         push_item(lookups, item, items)?;
     }

@@ -1,4 +1,3 @@
-use Rattle.std.proofs.Common.{arith}
 use Rattle.import_rules.proofs.Ordered.{put_in_order}
 use Rattle.import_rules.proofs.SourceLemmas.{leave_out, put_next}
 use Rattle.import_rules.proofs.meanings.find_sources.Goals as goal

@@ -70,7 +70,7 @@ invariant_of-tables c =
     let predicates = names_at loaded.files.items places.items in
     let files = (see_loaded loaded).files in
     let numbers = c.in_ok-places.ensures in
-    let found = c.in-Ok.found in
+    let imports = c.in-Ok.imports in
     let made : names_at c.deref.result.now c.deref-2.result.now ≡ predicates = λ i. names_at (c.deref.ensures.value i) (c.deref-2.ensures.value i) in
     let same : names_at c.deref-3.result.now c.deref-4.result.now ≡ predicates = λ i. names_at (c.deref-3.ensures.value i) (c.deref-4.ensures.value i) in
     let owned : names_at c.deref-6.result.now c.deref-7.result.now ≡ predicates = λ i. names_at (c.deref-6.ensures.value i) (c.deref-7.ensures.value i) in
@@ -84,7 +84,7 @@ invariant_of-tables c =
           (subst (λ (fs : List FileFacts). AreOwn fs (names_at c.deref-6.result.now c.deref-7.result.now) c.in_ok-own_names.own_names) c.deref-6.ensures.value
           c.in_ok-own_names.ensures);
       faultless = ∣ c.in-Ok.ensures.faultless ∣₁;
-      meant = subst (λ ps. AreTargets files ps found.names found.targets.items) same c.in-Ok.ensures.targets;
+      meant = subst (λ ps. AreTargets files ps imports) same c.in-Ok.ensures.targets;
       placed = numbers.placed;
       told =
           subst (λ (ps : List PredName). AreDeclared (metas_in files) ps c.in_ok-meta_places.meta_places.items) same
