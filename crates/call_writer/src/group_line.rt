@@ -68,12 +68,7 @@ fn push_group_head(text: &mut String, least: u32, level: Level) -> Result<(), Al
 }
 
 /// Adds the line of the group with these members, of which `least` is the least.
-fn push_line(
-    text: &mut String,
-    least: u32,
-    members: &[u32],
-    level: Level,
-) -> Result<(), AllocError>
+fn push_line(text: &mut String, least: u32, members: &[u32], level: Level) -> Result<(), AllocError>
     ensures { OnOk result (string_bytes text.new ≡ string_bytes text.old ++ group_line least members.now level) }
 {
     push_group_head(text, least, level)?;

@@ -1,4 +1,4 @@
-use Rattle.std.proofs.Common.{◌++◌, codes}
+use Rattle.std.proofs.Common.{codes}
 use Rattle.std.specs.String.{string_bytes}
 use Rattle.call_writer.specs.Lines.{group_head, listed}
 use Rattle.call_writer.proofs.Appended.{four}

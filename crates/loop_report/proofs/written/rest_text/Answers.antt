@@ -1,4 +1,4 @@
-use Rattle.std.proofs.Common.{ℕ, List, [], subst, sym, ap, ◌∙◌}
+use Rattle.std.proofs.Common.{ℕ, List, [], subst, sym, ap}
 use Rattle.std.specs.String.{string_bytes}
 use Rattle.graph_law.specs.Graph.{lists_of}
 use Rattle.loop_report.specs.Texts.{HasRest}
