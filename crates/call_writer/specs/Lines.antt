@@ -103,7 +103,8 @@ listed (n ∷ ns) = decimal n ++ flat_map after_comma ns
 -- `{"is":"group","id":0,"height":1,"recursive":true`
 abbrev pub group_head : ℕ → Level → List ℕ
 group_head least level =
-    codes "{\"is\":\"group\",\"id\":" ++ (decimal least ++ (codes ",\"height\":" ++ (decimal level.height ++ (codes ",\"recursive\":" ++ truth level.recursive))))
+    codes "{\"is\":\"group\",\"id\":"
+    ++ (decimal least ++ (codes ",\"height\":" ++ (decimal level.height ++ (codes ",\"recursive\":" ++ truth level.recursive))))
 
 -- `{"is":"group","id":0,"height":1,"recursive":true,"members":[0,1]}`
 abbrev pub group_line : ℕ → List ℕ → Level → List ℕ

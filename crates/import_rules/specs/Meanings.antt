@@ -25,7 +25,8 @@ pub record AreTargets (files : List Facts) (predicates : List PredName) (tables 
   pub sources : length tables.sources.items ≡ length tables.offered
   pub in_order : AllPairs (λ p q. pred_cmp p q ≡ Less) tables.offered
   pub below : (n : ℕ) → n < length tables.offered → slice_index tables.sources.items n < length predicates
-  pub named : (n : ℕ) (p : PredName) → n < length tables.names → found_in files predicates (slice_index_or tables.names n p) ≡ Some (slice_index tables.targets.items n)
+  pub named : (n : ℕ) (p : PredName) → n < length tables.names
+      → found_in files predicates (slice_index_or tables.names n p) ≡ Some (slice_index tables.targets.items n)
   pub taken : (n : ℕ) (p q : PredName) → list_any (is_same p) predicates ≡ false → slice_get tables.offered n ≡ Some (pred_name [] p.name p.arity)
       → slice_get predicates (slice_index tables.sources.items n) ≡ Some q → Contains tables.taken (pred_name p.module q.module 0)
       → found_in files predicates p ≡ Some (slice_index tables.sources.items n)

@@ -64,7 +64,8 @@ fn push_file<'a>(
     ensures flaws { OnOk result (see_findings found.new.flaws.items ≡ see_findings found.old.flaws.items
         ++ file_flaws (files_of lookups.now) (absent_of lookups.now) (see_known file.now)) }
     ensures items { OnOk result ((before : List Imports) → AreEnough before (map see_item found.old.items.items) → AreEnough (before
-        ++ filter (is_foreign (files_of lookups.now)) (flat_map (kept_of_load (files_of lookups.now) (shared_of lookups.now) (see_known file.now)) (see_known file.now).loads))
+        ++ filter (is_foreign (files_of lookups.now))
+        (flat_map (kept_of_load (files_of lookups.now) (shared_of lookups.now) (see_known file.now)) (see_known file.now).loads))
         (map see_item found.new.items.items)) }
 {
     push_module_flaws(file, &mut found.flaws)?;

@@ -1,4 +1,4 @@
-//! What files offer to modules: the exports of those that stand for their modules.
+//! What files offer to modules: the exports of those that lead, the first of their modules.
 
 ghost use Rattle.std.specs.Prelude.{◌≡◌, ◌++◌, IfOk, OnOk, map};
 ghost use Rattle.module_table.specs.Facts.{see_facts};

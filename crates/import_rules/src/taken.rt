@@ -28,7 +28,8 @@ pub(crate) fn push_given<'a>(
     requires ready { IsReady lookups.now }
     requires known { IsKnownIn (files_of lookups.now) file.now }
     ensures { OnOk result (map see_item items.new.items ≡ map see_item items.old.items
-        ++ filter (is_foreign (files_of lookups.now)) (kept_given (files_of lookups.now) (shared_of lookups.now) (see_facts user.now) (see_load load.now) (see_known file.now))) }
+        ++ filter (is_foreign (files_of lookups.now))
+        (kept_given (files_of lookups.now) (shared_of lookups.now) (see_facts user.now) (see_load load.now) (see_known file.now))) }
 {
     if !file.leads {
         return Ok(());
