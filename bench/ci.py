@@ -52,7 +52,7 @@ def watch(top, seen, stopped):
             below |= more
         for number in below - {top}:
             if number in found:
-                what = (seen.get(number) or (None,))[0] or label(number)
+                what = label(number) or (seen.get(number) or (None,))[0]  # anew each time: a process is called otherwise before it is loaded
                 seen[number] = what, max(found[number][1], (seen.get(number) or (None, 0))[1])
 
 
