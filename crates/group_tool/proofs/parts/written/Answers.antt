@@ -1,4 +1,4 @@
-use Rattle.std.proofs.Common.{length, arith}
+use Rattle.std.proofs.Common.{rules, length, arith}
 use Rattle.group_words.specs.Settings.{see_options}
 use Rattle.group_tool.proofs.GroupLemmas.{grouped_reportable}
 use Rattle.group_tool.proofs.parts.written.Goals as goal
@@ -11,7 +11,7 @@ first_line-requires g c = (
 )
 
 pub order_report_pieces-requires : goal.order_report_pieces-requires
-order_report_pieces-requires g c κs within = grouped_reportable (see_options c.args.options.now) c.args.program.now c.args.grouped.now c.requires
+order_report_pieces-requires g c = (search rules, grouped_reportable (see_options c.args.options.now) c.args.program.now c.args.grouped.now c.requires)
 
 pub report_pieces-requires : goal.report_pieces-requires
-report_pieces-requires g c κs within = grouped_reportable (see_options c.args.options.now) c.args.program.now c.args.grouped.now c.requires
+report_pieces-requires g c = (search rules, grouped_reportable (see_options c.args.options.now) c.args.program.now c.args.grouped.now c.requires)
