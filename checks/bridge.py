@@ -367,7 +367,7 @@ def lines_of(words, path):
     for said in map(json.loads, out.splitlines()):
         if said["is"] == "predicate":
             names[said["id"]] = f"{said['module']}:{said['name']}/{said['arity']}"
-        elif os.path.basename(said["file"]) == path.name:
+        elif said["is"] in ("clause", "call") and os.path.basename(said["file"]) == path.name:
             goal = (said["module"], said["name"], said["arity"]) if said["is"] == "call" else ()
             lines.add((names[said.get("caller", said.get("predicate"))], goal, said["line"], said["column"]))
     return lines
