@@ -1,8 +1,9 @@
 -- Where clauses side by side end: at the end of the tokens, or at a part that is refused.
-use Rattle.std.proofs.Common.{◌≡◌, ◌≢◌, ℕ, ◌≤◌, ◌<◌, List, [], ◌∷◌, ◌++◌, Ok, Err, length, drop, All, slice_range, subst, sym, ap, ◌∙◌, refl, inr, arith, append_assoc}
+use Rattle.std.proofs.Common.{◌≡◌, ◌≢◌, ℕ, ◌≤◌, ◌<◌, ◌⊎◌, List, [], ◌∷◌, ◌++◌, Ok, Err, length, drop, All, slice_range, subst, sym, ap, ◌∙◌, refl, inr, arith, append_assoc}
 use Rattle.std.proofs.lemmas.List.{append-nil, map-append, nil_from_length}
 use Rattle.std.proofs.lemmas.List.Elements.{All-nil, All-cons}
 use Rattle.prolog_tokens.specs.declared.token.Token.{Token}
+use Rattle.prolog_tokens.specs.Rows.{EndsClause}
 use Rattle.prolog_ops.specs.Table.{Ops}
 use Rattle.prolog_terms.specs.Tree.{Tree}
 use Rattle.prolog_terms.specs.Words.{table_of}
@@ -16,15 +17,25 @@ use Rattle.clause_text.specs.declared.piece.PieceEnd.TheVariants.{Whole, AtOpera
 use Rattle.clause_text.specs.Items.{items_of, items_on}
 use Rattle.clause_text.specs.Clauses.{AreClauses, IsPartFault, FaultStandsBehind, HasClauseFault, EndsFirst, clause_tree, clause_trees}
 use Rattle.clause_text.specs.Pieces.{LeadTo, IsBehindClause, IsStretch, AreStretches, EndIs, IsPiece, ArePieces, AreAdded, IsFaultAhead}
-use Rattle.clause_text.proofs.ClauseSplits.{back, part_of, part_first, nothing_behind}
+use Rattle.clause_text.proofs.ClauseSplits.{back_with, part_of, part_first, nothing_behind}
 use Rattle.clause_text.proofs.Leads.{lead_joined}
 
--- up to the end of the tokens they are the clauses
-pub lead_are : (table : Ops) (text : List ℕ) (ts : List Token) (from : ℕ) (trees : List Tree) (left : Ops) (to : ℕ) → LeadTo table text ts from trees left to → length ts ≤ to
-    → AreClauses table text (drop from ts) trees
-lead_are table text ts from [] left to (tables, places) all = subst (λ place. drop place ts ≡ []) (sym places) (nothing_behind ts to all)
-lead_are table text ts from (tree ∷ trees) left to (next, set, stops, does, lead) all =
-    (part_of ts from next, drop next ts, set, back ts from next stops, does, lead_are set text ts next trees left to lead all)
+-- up to the end of a row they are the clauses before those of the tokens after it
+pub lead_are : (table : Ops) (text : List ℕ) (ts rest : List Token) (from : ℕ) (trees more : List Tree) (left : Ops) (to : ℕ) → LeadTo table text ts from trees left to → length ts ≤ to
+    → AreClauses left text rest more → AreClauses table text (drop from ts ++ rest) (trees ++ more)
+lead_are table text ts rest from [] more left to (tables, places) all are =
+    subst (λ us. AreClauses table text (us ++ rest) more) (sym (nothing_behind ts from (omega (arith, places, all)))) (subst (λ T. AreClauses T text rest more) (sym tables) are)
+lead_are table text ts rest from (tree ∷ trees) more left to (next, set, stops, does, lead) all are =
+    (part_of ts from next, drop next ts ++ rest, set, back_with ts rest from next stops, does, lead_are set text ts rest next trees more left to lead all are)
+
+-- and a fault of those is one of all
+pub lead_fault : (table : Ops) (text : List ℕ) (ts rest : List Token) (from : ℕ) (trees more : List Tree) (left : Ops) (to : ℕ) (fault : TextFault) → LeadTo table text ts from trees left to
+    → length ts ≤ to → FaultStandsBehind left text rest more fault → FaultStandsBehind table text (drop from ts ++ rest) (trees ++ more) fault
+lead_fault table text ts rest from [] more left to fault (tables, places) all stands =
+    subst (λ us. FaultStandsBehind table text (us ++ rest) more fault) (sym (nothing_behind ts from (omega (arith, places, all))))
+    (subst (λ T. FaultStandsBehind T text rest more fault) (sym tables) stands)
+lead_fault table text ts rest from (tree ∷ trees) more left to fault (next, set, stops, does, lead) all stands =
+    (part_of ts from next, drop next ts ++ rest, set, back_with ts rest from next stops, does, lead_fault set text ts rest next trees more left to fault lead all stands)
 
 -- they stay within the tokens
 pub lead_within : (table : Ops) (text : List ℕ) (ts : List Token) (from : ℕ) (trees : List Tree) (left : Ops) (to : ℕ) → LeadTo table text ts from trees left to → from ≤ length ts
@@ -41,20 +52,26 @@ lead_up table text ts from (tree ∷ trees) left to (next, set, stops, does, lea
 pub trees_joined : (names : List (List ℕ)) (clauses more : List Clause) → clause_trees names (clauses ++ more) ≡ clause_trees names clauses ++ clause_trees names more
 trees_joined names clauses more = map-append (clause_tree names) clauses more
 
--- behind them stands the fault of a part
-stands_behind : (table : Ops) (text : List ℕ) (ts : List Token) (from : ℕ) (trees : List Tree) (left : Ops) (at next : ℕ) (fault : TextFault) → LeadTo table text ts from trees left at
-    → EndsFirst ts at next → IsPartFault left text (slice_range ts at next) fault → FaultStandsBehind table text (drop from ts) trees fault
-stands_behind table text ts from [] left at next fault (tables, places) ends wrong =
-    subst (λ place. FaultStandsBehind table text (drop place ts) [] fault) (sym places)
-    (part_of ts at next, drop next ts, back ts at next ends, part_first ts at next ends, subst (λ T. IsPartFault T text (slice_range ts at next) fault) (sym tables) wrong)
-stands_behind table text ts from (tree ∷ trees) left at next fault (mid, set, stops, does, lead) ends wrong =
-    (part_of ts from mid, drop mid ts, set, back ts from mid stops, does, stands_behind set text ts mid trees left at next fault lead ends wrong)
+-- after them stands the fault of a part, whatever stands after the row
+pub stands_behind : (table : Ops) (text : List ℕ) (ts rest : List Token) (from : ℕ) (trees : List Tree) (left : Ops) (at next : ℕ) (fault : TextFault) → LeadTo table text ts from trees left at
+    → EndsFirst ts at next → EndsClause ts ⊎ (rest ≡ []) → IsPartFault left text (slice_range ts at next) fault → FaultStandsBehind table text (drop from ts ++ rest) trees fault
+stands_behind table text ts rest from [] left at next fault (tables, places) ends last wrong =
+    subst (λ place. FaultStandsBehind table text (drop place ts ++ rest) [] fault) (sym places) (
+      part_of ts at next,
+      drop next ts ++ rest,
+      back_with ts rest at next ends,
+      part_first ts at next rest ends last,
+      subst (λ T. IsPartFault T text (slice_range ts at next) fault) (sym tables) wrong,
+    )
+stands_behind table text ts rest from (tree ∷ trees) left at next fault (mid, set, stops, does, lead) ends last wrong =
+    (part_of ts from mid, drop mid ts ++ rest, set, back_with ts rest from mid stops, does, stands_behind set text ts rest mid trees left at next fault lead ends last wrong)
 
--- from the start of the tokens on, a fault ahead is theirs
-pub fault_from_start : (table : Ops) (text : List ℕ) (ts : List Token) (fault : TextFault) → IsFaultAhead table text ts 0 fault → HasClauseFault table text ts fault
-fault_from_start table text ts fault ahead = record {
+-- from the start of a row on, a fault ahead is that of the row and all that stands after it
+pub fault_from_start : (table : Ops) (text : List ℕ) (ts rest : List Token) (fault : TextFault) → EndsClause ts ⊎ (rest ≡ []) → IsFaultAhead table text ts 0 fault
+    → HasClauseFault table text (ts ++ rest) fault
+fault_from_start table text ts rest fault last ahead = record {
   before = ahead.before;
-  stands = stands_behind table text ts 0 ahead.before ahead.left ahead.at ahead.next fault ahead.lead ahead.part ahead.is;
+  stands = stands_behind table text ts rest 0 ahead.before ahead.left ahead.at ahead.next fault ahead.lead ahead.part last ahead.is;
 }
 
 -- a fault ahead of where clauses lead to is ahead of where they begin
@@ -84,11 +101,11 @@ added_on table text ts from before after mid at more left to added lead = record
   lead = lead_joined table mid left text ts from at to added.more more added.lead lead;
 }
 
--- what is added to clauses that lead to a place leads on from there
-pub added_lead : (table : Ops) (text : List ℕ) (ts : List Token) (start : ℕ) (before after : List Tree) (mid : Ops) (from : ℕ) (left : Ops) (to : ℕ) → LeadTo table text ts start before mid from
-    → AreAdded mid text ts from before after left to → LeadTo table text ts start after left to
-added_lead table text ts start before after mid from left to lead added =
-    subst (λ trees. LeadTo table text ts start trees left to) (sym added.all) (lead_joined table mid left text ts start from to before added.more lead added.lead)
+-- what is added from where other clauses were added up to is added behind these
+pub added_joined : (table : Ops) (text : List ℕ) (ts : List Token) (from : ℕ) (before mid after : List Tree) (then : Ops) (at : ℕ) (left : Ops) (to : ℕ)
+    → AreAdded table text ts from before mid then at → AreAdded then text ts at mid after left to → AreAdded table text ts from before after left to
+added_joined table text ts from before mid after then at left to one two =
+    subst (λ trees. AreAdded table text ts from before trees left to) (sym two.all) (added_on table text ts from before mid then at two.more left to one two.lead)
 
 -- of pieces up to a place those up to another are kept, where a clause ends if any are, and the others are left
 pub record IsKept (names : List (List ℕ)) (table : Ops) (text : List ℕ) (ts : List Token) (from : ℕ) (before : List Tree) (rest : List Piece) (after : List Tree) (to end : ℕ) : Type 0 where

@@ -4,6 +4,7 @@ pub mod EachOn
 pub mod ClauseSplits
 pub mod Leads
 pub mod LeadEnds
+pub mod RowClauses
 pub mod HasItems
 pub mod PieceLemmas
 pub mod OneReading

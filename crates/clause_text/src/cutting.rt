@@ -4,9 +4,9 @@ ghost use Rattle.std.specs.Prelude.{◌≡◌, ◌≢◌, ◌≤◌, length, All
 ghost use Rattle.prolog_tokens.specs.declared.limits.TheConstants.{MOST_BYTES};
 ghost use Rattle.prolog_tokens.specs.Cut.{IsCut, HasFault};
 ghost use Rattle.prolog_tokens.specs.Places.{IsOffset, fault_offset};
-ghost use Rattle.prolog_tokens.specs.Rows.{IsSpan, IsRow};
+ghost use Rattle.prolog_tokens.specs.Rows.{IsSpan, IsRow, EachEndsClause, tokens_of};
 
-use prolog_tokens::{Span, Token, TokenFault, TokenRow, join_rows, spans, tokens, tokens_in};
+use prolog_tokens::{Span, Token, TokenFault, TokenRow, after_end, clause_rows, spans, tokens_in};
 use rayon::current_num_threads;
 use rayon::prelude::*;
 use std::alloc::{AllocError, Global};
@@ -18,7 +18,17 @@ const LONG: usize = 1_048_576;
 /// How few spans are worth a thread of their own.
 const FEWEST: usize = 1;
 
-/// The tokens of each of the spans of a text, lexed in parallel.
+/// The tokens of the span after its first End.
+fn row_of(alloc: Global, text: &str, span: &Span) -> Result<TokenRow, AllocError>
+    requires small { length text.now ≤ MOST_BYTES }
+    requires span { IsSpan text.now span.now }
+    ensures { IfOk result (IsRow text.now) }
+{
+    let clauses = after_end(text, span);
+    tokens_in(alloc, text, &clauses)
+}
+
+/// The tokens of each of the spans of a text after its first End, lexed in parallel.
 fn rows_of<R: Threads + Sync>(
     rt: &R,
     alloc: Global,
@@ -36,30 +46,32 @@ fn rows_of<R: Threads + Sync>(
             |span: &Span| -> Result<TokenRow, AllocError>
                 requires { (length text.now ≤ MOST_BYTES) × IsSpan text.now span.now }
                 ensures { IfOk result (IsRow text.entry.now) }
-            { tokens_in(alloc, text, span) },
+            { row_of(alloc, text, span) },
         )
         .collect::<Result<Vec<TokenRow>, AllocError>>(rt, alloc)?
 }
 
-/// The tokens of a text of at most 8,388,608 bytes, or its first error, like `tokens`. The number
-/// of threads doesn't change them.
+/// The tokens of a text of at most 8,388,608 bytes in rows, or its first error, like `tokens`. No
+/// clause goes on from one row to the next. The number of threads changes neither the tokens nor
+/// the error.
 pub fn cut_text<R: Threads + Sync>(
     rt: &R,
     alloc: Global,
     text: &str,
-) -> Result<Vec<Token>, TokenFault>
+) -> Result<Vec<Vec<Token>>, TokenFault>
     requires small { length text.now ≤ MOST_BYTES }
-    ensures ok { IfOk result (λ found. IsCut text.now found.items) }
+    ensures ok { IfOk result (λ rows. IsCut text.now (tokens_of rows.items)) }
+    ensures ends { IfOk result (λ rows. EachEndsClause rows.items) }
     ensures fault { IfErr result (λ fault. fault ≢ TokenFault.NoMemory → HasFault text.now fault) }
     ensures place { IfErr result (λ fault. IfSome (fault_offset fault) (λ at. IsOffset text.now at)) }
 {
     if text.len() < LONG {
-        return tokens(alloc, text);
+        return clause_rows(alloc, text, Vec::new(alloc));
     }
     if current_num_threads(rt) == 1 {
-        return tokens(alloc, text);
+        return clause_rows(alloc, text, Vec::new(alloc));
     }
     let spans = spans(alloc, text)?;
     let rows = rows_of(rt, alloc, text, &spans)?;
-    join_rows(alloc, text, rows)
+    clause_rows(alloc, text, rows)
 }

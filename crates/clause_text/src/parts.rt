@@ -1,9 +1,11 @@
-ghost use Rattle.std.specs.Prelude.{◌≡◌, ◌≢◌, ◌≤◌, ◌<◌, ℕ, List, length, IfOk, IfErr};
+ghost use Rattle.std.specs.Prelude.{◌≡◌, ◌≢◌, ◌≤◌, ◌<◌, ℕ, List, length, All, IfOk, IfErr, OnOk};
 ghost use Rattle.prolog_tokens.specs.declared.limits.TheConstants.{MOST_BYTES};
 ghost use Rattle.prolog_tokens.specs.declared.token.Token.{Token as TokenOf};
 ghost use Rattle.prolog_tokens.specs.Cut.{IsCut};
-ghost use Rattle.prolog_names.specs.Numbers.{AreNumbered};
+ghost use Rattle.prolog_tokens.specs.Rows.{EachEndsClause, tokens_of};
+ghost use Rattle.prolog_names.specs.Numbers.{AreNumbered, IsNumberedRow, token_rows};
 ghost use Rattle.prolog_ops.specs.Table.{ops_of};
+ghost use Rattle.prolog_terms.specs.Clause.{ArePart};
 ghost use Rattle.clause_text.specs.Clauses.{AreClauses, HasClauseFault, clause_trees, opening_ops, text_trees};
 ghost use Rattle.clause_text.specs.Pieces.{IsBehindClause, ArePieces, AreAdded, IsFaultAhead};
 
@@ -11,7 +13,7 @@ use crate::fault::TextFault;
 use crate::items::apply_items;
 use crate::piece::{Piece, PieceEnd, read_each, stretches_from};
 use crate::text_clauses::{Clause, TextClauses};
-use prolog_names::{Names, Numbered};
+use prolog_names::{Names, Numbered, NumberedRow, NumberedRows};
 use prolog_ops::OpTable;
 use prolog_tokens::{Kind, Token};
 use std::alloc::Global;
@@ -85,54 +87,85 @@ fn count_ends(tokens: &[Token]) -> usize {
         .count()
 }
 
-/// The clauses of the tokens, each up to its End, or the error of the first that can't be read. A
-/// clause is read with the operators that those before it leave in the table.
-fn read_parts<R: Threads + Sync>(
+/// How many clauses need capacity.
+fn count_clauses(rows: &[NumberedRow]) -> usize {
+    let mut count: usize = 0;
+    for row in rows {
+        count = count.saturating_add(count_ends(&row.tokens));
+    }
+    count
+}
+
+/// Adds the clauses of a row of tokens, each up to its End, or fails with the error of the first
+/// that can't be read. A clause is read with the operators that those before it leave in the table.
+/// Returns how many stretches may be read in parallel next, which are `ahead` at first.
+fn read_row<R: Threads + Sync>(
     rt: &R,
     alloc: Global,
     table: &mut OpTable,
     text: &str,
     tokens: &[Token],
     numbered: &Numbered,
-) -> Result<Vec<Clause>, TextFault>
+    mut ahead: usize,
+    clauses: &mut Vec<Clause>,
+) -> Result<usize, TextFault>
     requires small { length text.now ≤ MOST_BYTES }
-    requires cut { IsCut text.now tokens.now }
+    requires part { ArePart text.now tokens.now }
     requires numbered { AreNumbered text.now numbered.now.names tokens.now numbered.now.numbers.items }
-    ensures ok { IfOk result (λ clauses. AreClauses (ops_of table.old) text.now tokens.now (clause_trees numbered.now.names clauses.items)) }
-    ensures fault { IfErr result (λ fault. fault ≢ TextFault.NoMemory → HasClauseFault (ops_of table.old) text.now tokens.now fault) }
+    ensures ok { OnOk result (AreAdded (ops_of table.old) text.now tokens.now 0 (clause_trees numbered.now.names clauses.old.items)
+        (clause_trees numbered.now.names clauses.new.items) (ops_of table.new) (length tokens.now)) }
+    ensures fault { IfErr result (λ fault. fault ≢ TextFault.NoMemory → IsFaultAhead (ops_of table.old) text.now tokens.now 0 fault) }
 {
-    let mut clauses = Vec::with_capacity(alloc, count_ends(tokens))?;
     let mut from = 0;
     let mut until = 0;
-    let mut ahead = 1;
     while from < tokens.len() {
         let stretches = stretches_from(alloc, tokens, from, until, ahead)?;
         let pieces = read_each(rt, alloc, table, text, tokens, numbered, &stretches)?;
-        let kept = keep(alloc, &numbered.names, table, from, pieces, &mut clauses)?;
+        let kept = keep(alloc, &numbered.names, table, from, pieces, clauses)?;
         from = kept.to;
         until = kept.until;
         ahead = kept.ahead;
     }
-    Ok(clauses)
+    Ok(ahead)
 }
 
 /// The clauses of the tokens of a text in their order, with the names in them. The operators at its
-/// beginning are the opening ones.
+/// beginning are the opening ones. A row of tokens is freed when its clauses are read.
 pub fn read_clauses<R: Threads + Sync>(
     rt: &R,
     alloc: Global,
     text: &str,
-    tokens: &[Token],
-    numbered: Numbered,
+    numbered: NumberedRows,
 ) -> Result<TextClauses, TextFault>
     requires small { length text.now ≤ MOST_BYTES }
-    requires cut { IsCut text.now tokens.now }
-    requires numbered { AreNumbered text.now numbered.names tokens.now numbered.numbers.items }
-    ensures ok { IfOk result (λ clauses. AreClauses opening_ops text.now tokens.now (text_trees clauses)) }
-    ensures fault { IfErr result (λ fault. fault ≢ TextFault.NoMemory → HasClauseFault opening_ops text.now tokens.now fault) }
+    requires cut { IsCut text.now (tokens_of (token_rows numbered.rows.items)) }
+    requires ends { EachEndsClause (token_rows numbered.rows.items) }
+    requires numbered { All (IsNumberedRow text.now numbered.names) numbered.rows.items }
+    ensures ok { IfOk result (λ clauses. AreClauses opening_ops text.now (tokens_of (token_rows numbered.rows.items)) (text_trees clauses)) }
+    ensures fault { IfErr result (λ fault. fault ≢ TextFault.NoMemory
+        → HasClauseFault opening_ops text.now (tokens_of (token_rows numbered.rows.items)) fault) }
 {
+    let NumberedRows {
+        names: mut names,
+        rows,
+    } = numbered;
     let mut table = OpTable::opening(alloc)?;
-    let clauses = read_parts(rt, alloc, &mut table, text, tokens, &numbered)?;
-    let names = numbered.names;
+    let mut clauses = Vec::with_capacity(alloc, count_clauses(&rows))?;
+    let mut ahead = 1;
+    for row in rows {
+        let NumberedRow { tokens, numbers } = row;
+        let numbered = Numbered { names, numbers };
+        ahead = read_row(
+            rt,
+            alloc,
+            &mut table,
+            text,
+            &tokens,
+            &numbered,
+            ahead,
+            &mut clauses,
+        )?;
+        names = numbered.names;
+    }
     Ok(TextClauses { names, clauses })
 }

@@ -4,7 +4,6 @@ ghost use Rattle.std.specs.Prelude.{◌≡◌, ◌≢◌, ◌≤◌, ◌<◌, �
 ghost use Rattle.std.specs.Arc.{arc_value};
 ghost use Rattle.prolog_tokens.specs.declared.limits.TheConstants.{MOST_BYTES};
 ghost use Rattle.prolog_tokens.specs.declared.token.Token.{Token as TokenOf};
-ghost use Rattle.prolog_tokens.specs.Cut.{IsCut};
 ghost use Rattle.prolog_names.specs.Numbers.{AreNumbered};
 ghost use Rattle.prolog_ops.specs.Table.{Ops, ops_of};
 ghost use Rattle.prolog_terms.specs.declared.node.Node.{Node as NodeOf};
@@ -31,7 +30,7 @@ use std::thread::Threads;
 const SIZE: usize = 4096;
 
 /// How few stretches are worth a thread of their own.
-const FEWEST: usize = 4;
+const FEWEST: usize = 2;
 
 /// Nodes stay where they were read if they take at least three quarters of the capacity there.
 const LEAST_QUARTERS: usize = 3;
@@ -186,7 +185,7 @@ fn read_on(
     mut nodes: NodeList,
 ) -> ReadStretch
     requires small { length text.now ≤ MOST_BYTES }
-    requires cut { IsCut text.now tokens.now }
+    requires part { ArePart text.now tokens.now }
     requires numbered { AreNumbered text.now numbered.now.names tokens.now numbered.now.numbers.items }
     requires stretch { IsStretch tokens.now stretch.now }
     ensures { IsRead numbered.now.names (ops_of table.now) text.now tokens.now stretch.now.from stretch.now.to result }
@@ -289,7 +288,7 @@ fn read_stretch(
     stretch: &Stretch,
 ) -> Result<Piece, AllocError>
     requires small { length text.now ≤ MOST_BYTES }
-    requires cut { IsCut text.now tokens.now }
+    requires part { ArePart text.now tokens.now }
     requires numbered { AreNumbered text.now numbered.now.names tokens.now numbered.now.numbers.items }
     requires stretch { IsStretch tokens.now stretch.now }
     ensures { IfOk result (IsPiece numbered.now.names (ops_of table.now) text.now tokens.now stretch.now.from stretch.now.to) }
@@ -322,7 +321,7 @@ fn piece_of(
     stretch: &Stretch,
 ) -> Piece
     requires small { length text.now ≤ MOST_BYTES }
-    requires cut { IsCut text.now tokens.now }
+    requires part { ArePart text.now tokens.now }
     requires numbered { AreNumbered text.now numbered.now.names tokens.now numbered.now.numbers.items }
     requires stretch { IsStretch tokens.now stretch.now }
     ensures { IsPiece numbered.now.names (ops_of table.now) text.now tokens.now stretch.now.from stretch.now.to result }
@@ -345,7 +344,7 @@ pub fn read_each<R: Threads + Sync>(
     stretches: &[Stretch],
 ) -> Result<Vec<Piece>, AllocError>
     requires small { length text.now ≤ MOST_BYTES }
-    requires cut { IsCut text.now tokens.now }
+    requires part { ArePart text.now tokens.now }
     requires numbered { AreNumbered text.now numbered.now.names tokens.now numbered.now.numbers.items }
     requires stretches { All (IsStretch tokens.now) stretches.now }
     ensures { IfOk result (λ pieces. (from to : ℕ) → AreStretches tokens.now from stretches.now to
@@ -356,7 +355,7 @@ pub fn read_each<R: Threads + Sync>(
         .with_min_len(FEWEST)
         .map(
             |stretch: &Stretch| -> Piece
-                requires { (length text.now ≤ MOST_BYTES) × IsCut text.now tokens.now
+                requires { (length text.now ≤ MOST_BYTES) × ArePart text.now tokens.now
                     × AreNumbered text.now numbered.now.names tokens.now numbered.now.numbers.items × IsStretch tokens.now stretch.now }
                 ensures { IsPiece numbered.entry.now.names (ops_of table.entry.now) text.entry.now tokens.entry.now
                     stretch.entry.now.from stretch.entry.now.to result }

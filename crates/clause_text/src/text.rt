@@ -10,7 +10,7 @@ use crate::cutting::cut_text;
 use crate::fault::TextFault;
 use crate::parts::read_clauses;
 use crate::text_clauses::TextClauses;
-use prolog_names::number_names;
+use prolog_names::number_rows;
 use std::alloc::Global;
 use std::thread::Threads;
 
@@ -39,7 +39,7 @@ pub fn read_text<R: Threads + Sync>(
         Ok(text) => text,
         Err(error) => return Err(TextFault::At(Cause::NotUtf8, error.valid_up_to() as u32)),
     };
-    let tokens = cut_text(rt, alloc, text)?;
-    let numbered = number_names(alloc, text, &tokens)?;
-    read_clauses(rt, alloc, text, &tokens, numbered)
+    let rows = cut_text(rt, alloc, text)?;
+    let numbered = number_rows(alloc, text, rows)?;
+    read_clauses(rt, alloc, text, numbered)
 }

@@ -5,6 +5,7 @@ pub mod Chains
 pub mod NumberedParts
 pub mod GrownTable
 pub mod PlainNames
+pub mod RowNumbers
 pub mod OneNumber
 pub mod KnownTable
 pub mod Buckets

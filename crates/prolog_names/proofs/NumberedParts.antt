@@ -1,6 +1,6 @@
 -- Numbers of names: of a part of the tokens, and in a table with more names.
 use Rattle.std.proofs.Common.{◌≡◌, ℕ, ◌+◌, ◌-◌, ◌<◌, ◌≤◌, inl, inr, List, [], ◌∷◌, ◌++◌, length, take, drop, get_or, Some, true, false, refl, sym, ap, subst, ◌∙◌, arith, length-append}
-use Rattle.std.specs.Prelude.{slice_range}
+use Rattle.std.specs.Prelude.{All, slice_get, slice_range}
 use Rattle.std.proofs.lemmas.Bool.{cases_lt}
 use Rattle.std.proofs.lemmas.List.{get_or-take, get_or-drop, length-take-le, length-drop, get_or_append_left, get_or_push, length_push}
 use Rattle.std.proofs.lemmas.Option.{slice_get_within, slice_get-get_or, get_or_from_slice_get}
@@ -105,3 +105,10 @@ pub unnamed_kind : (kind : Kind) → (kind ≡ Name → ⊥) → (kind ≡ Quote
 unnamed_kind Name other also = absurd (other refl)
 unnamed_kind Quoted other also = absurd (also refl)
 unnamed_kind _ other also = refl
+
+-- what holds of each token holds of those of a part
+pub part_holds : (P : Token → Type 0) (ts : List Token) (from to : ℕ) → to ≤ length ts → ((k : ℕ) (t : Token) → slice_get ts k ≡ Some t → P t)
+    → All P (slice_range ts from to)
+part_holds P ts from to within each k d below =
+    let inside : k < to - from = subst (λ n. k < n) (part_length ts from to within) below in
+    subst P (sym (part_at ts from to k d inside)) (each (from + k) (get_or ts (from + k) d) (slice_get-get_or ts (from + k) d (omega (arith, inside, within))))

@@ -1,9 +1,11 @@
 -- The numbers of the names of a text's tokens.
-use Rattle.std.specs.Prelude.{◌≡◌, ℕ, ◌<◌, List, length, Some, Bool, true, false, slice_get, slice_index_or}
+use Rattle.std.specs.Prelude.{◌≡◌, ℕ, ◌<◌, List, length, Some, Bool, true, false, Vec, map, slice_get, slice_index_or}
+use Rattle.std.specs.declared.alloc.Global.{Global}
 use Rattle.prolog_tokens.specs.declared.token.Kind.{Kind}
 use Rattle.prolog_tokens.specs.declared.token.Kind.TheVariants.{Name, Quoted}
 use Rattle.prolog_tokens.specs.declared.token.Token.{Token}
 use Rattle.prolog_tokens.specs.Values.{IsNameText}
+use Rattle.prolog_names.specs.declared.numbers.NumberedRow.{NumberedRow}
 use Rattle.prolog_names.specs.Names.{name_at}
 
 -- tokens of the kind have a name
@@ -23,3 +25,11 @@ pub record IsNumberOf (text : List ℕ) (names : List (List ℕ)) (token : Token
 pub record AreNumbered (text : List ℕ) (names : List (List ℕ)) (tokens : List Token) (numbers : List ℕ) : Type 0 where
   pub as_many : length numbers ≡ length tokens
   pub each : (k : ℕ) (token : Token) → slice_get tokens k ≡ Some token → IsNumberOf text names token (slice_index_or numbers k 0)
+
+-- each token of the row has its number
+abbrev pub IsNumberedRow : List ℕ → List (List ℕ) → NumberedRow → Type 0
+IsNumberedRow text names row = AreNumbered text names row.tokens.items row.numbers.items
+
+-- the rows of tokens, without the numbers
+abbrev pub token_rows : List NumberedRow → List (Vec Token Global)
+token_rows rows = map (λ row. row.tokens) rows

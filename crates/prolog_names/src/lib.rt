@@ -16,5 +16,5 @@ mod table;
 
 pub use laws::{known_law, names_law, numbered_part, opening_law};
 pub use names::{BAR, COMMA, CURLY, EMPTY, KNOWN_COUNT, MINUS, Names, OPENING_COUNT, SQUARE, USER};
-pub use numbers::{Numbered, number_names};
+pub use numbers::{Numbered, NumberedRow, NumberedRows, number_names, number_rows};
 pub use table::text_hash;

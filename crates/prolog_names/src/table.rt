@@ -1,6 +1,6 @@
 //! A hash table of names with chains: a name is found by one look-up, which allocates nothing.
 
-ghost use Rattle.std.specs.Prelude.{◌≡◌, ◌<◌, ◌+◌, ◌-◌, ◌^◌, ◌++◌, [], ◌∷◌, ℕ, List, false, length, map, fold, IfOk, OnOk, MatchOption};
+ghost use Rattle.std.specs.Prelude.{◌≡◌, ◌<◌, ◌+◌, ◌-◌, ◌^◌, ◌++◌, [], ◌∷◌, ℕ, List, true, false, length, map, fold, IfOk, OnOk, MatchOption};
 ghost use Rattle.std.specs.Int.{IsPowerOfTwo};
 ghost use Rattle.std.specs.List.{list_any};
 ghost use Rattle.std.specs.Str.{bytes_eq};
@@ -29,6 +29,17 @@ struct Entry {
     hash: u32,
     next: u32,
 }
+
+/// Where a name may be in a table: one more than the last index of its bucket, with the hash of the
+/// name; or 0 if the name there has another hash. The table may have grown since.
+#[derive(Clone, Copy)]
+pub(crate) struct Guess {
+    head: u32,
+    hash: u32,
+}
+
+/// No guess.
+pub(crate) const NO_GUESS: Guess = Guess { head: 0, hash: 0 };
 
 /// Names with their indices, each once. A name is found by the hash of its bytes. Names of other
 /// hashes in its chain are skipped without reading their texts.
@@ -291,6 +302,55 @@ impl NameTable {
             return Ok(place);
         }
         self.add(name, hash)
+    }
+
+    /// Where the name may be: the last place of its bucket. Any result is right, so there is no
+    /// contract.
+    #[inline(always)]
+    pub(crate) fn guess(&self, name: &str) -> Guess {
+        let hash = text_hash(name);
+        let bucket = hash as usize & (self.heads.len() - 1).wrapping_sub(1);
+        match self.heads.get(bucket) {
+            Some(head) => Guess { head: *head, hash },
+            None => NO_GUESS,
+        }
+    }
+
+    /// The guess, or none if the name there has another hash. Any result is right, so there is no
+    /// contract.
+    #[inline(always)]
+    pub(crate) fn looked_up(&self, guess: Guess) -> Guess {
+        match self.entries.get(guess.head.wrapping_sub(1) as usize) {
+            Some(entry) if entry.hash == guess.hash => guess,
+            _ => NO_GUESS,
+        }
+    }
+
+    /// The index of the name, which is first looked for where it may be. A name that isn't there yet
+    /// is appended.
+    #[inline(always)]
+    pub(crate) fn place_near(&mut self, name: &str, guess: Guess) -> Result<u32, AllocError>
+        requires room { length self.old < 4294967295 }
+        requires few { bytes_of self.old + length name.now < 2 ^ 32 }
+        ensures names { OnOk result (self.new ≡ with_name self.old name.now) }
+        ensures place { IfOk result (λ place. (place < length self.new) × (name_at self.new place ≡ name.now)) }
+    {
+        let place = guess.head.wrapping_sub(1);
+        if self.has_at(place, name) {
+            return Ok(place);
+        }
+        self.place_of(name)
+    }
+
+    /// Whether the name is the one at the index.
+    #[inline(always)]
+    fn has_at(&self, place: u32, name: &str) -> bool
+        ensures { result ≡ true → (place < length self.now) × (name_at self.now place ≡ name.now) }
+    {
+        if place as usize >= self.len() {
+            return false;
+        }
+        self.is(place as usize, name)
     }
 
     /// Appends each of the names that isn't there yet, in their order.

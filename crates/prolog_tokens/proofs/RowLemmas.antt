@@ -1,6 +1,8 @@
 -- Rows of tokens that go on, are joined, and become the cut of a text.
-use Rattle.std.proofs.Common.{◌≡◌, ◌≢◌, ℕ, ◌<◌, ◌⊎◌, ◌↔◌, List, All, Option, Some, None, [], ◌∷◌, ◌++◌, length, get_or, true, nat_lt, Result, Ok, Err, IsTrue, ap, sym, ◌∙◌, subst, refl, rules, arith}
+use Rattle.std.proofs.Common.{◌≡◌, ◌≢◌, ℕ, ◌<◌, ◌⊎◌, ◌↔◌, List, All, Option, Some, None, [], ◌∷◌, ◌++◌, length, get_or, true, nat_lt, Result, Ok, Err, IsTrue, Vec, Global, inl, inr, ap, sym, ◌∙◌, subst, refl, rules, arith, append_assoc}
 use Rattle.std.specs.Prelude.{IfErr, IfSome, IsErrAnd, IsUtf8}
+use Rattle.std.proofs.lemmas.List.{append-nil}
+use Rattle.std.proofs.lemmas.List.Elements.{All-head, All-tail}
 use Rattle.prolog_tokens.specs.declared.token.Token.{Token}
 use Rattle.prolog_tokens.specs.declared.token.TokenFault.{TokenFault}
 use Rattle.prolog_tokens.specs.declared.token.TokenFault.TheVariants.{BadChar, OpenQuote, OpenComment, BadEscape, NoMemory}
@@ -9,7 +11,7 @@ use Rattle.prolog_tokens.specs.Places.{IsOffset, fault_offset}
 use Rattle.prolog_tokens.specs.Layout.{IsLayout}
 use Rattle.prolog_tokens.specs.Cut.{IsNext, StandBetween, IsCut, IsWrongNext, HasFault}
 use Rattle.prolog_tokens.specs.declared.rows.Span.{Span}
-use Rattle.prolog_tokens.specs.Rows.{IsBegin, StandSideBySide, StandsFrom, GoesOn, StandsNext}
+use Rattle.prolog_tokens.specs.Rows.{IsBegin, StandSideBySide, StandsFrom, GoesOn, StandsNext, EndsClause, EachEndsClause, tokens_of}
 use Rattle.prolog_tokens.proofs.Families.{token_here}
 use Rattle.prolog_tokens.proofs.OneToken.{token_within}
 use Rattle.prolog_tokens.proofs.Boundaries.{token_boundary, wrong_offset}
@@ -61,17 +63,23 @@ pub goes_on_one : (text : List ℕ) (one two : TokenRow) (t : Token) (all : List
 goes_on_one text one two t all on next is a stand =
     subst (λ ts. StandBetween text a ts t.end) (sym is) (stand_more text a two.end two.tokens.items t (on a stand) next)
 
+pub tokens_fault : (text : List ℕ) (ts : List Token) (last : ℕ) (fault : TokenFault) → StandBetween text 0 ts last → IsWrongNext text last fault → HasFault text fault
+tokens_fault text ts last fault stand next = record { tokens = ts; last = last; stand = stand; next = next }
+
 pub row_fault : (text : List ℕ) (row : TokenRow) (fault : TokenFault) → StandsFrom text 0 row → IsWrongNext text row.end fault → HasFault text fault
 row_fault text row fault stand next = record { tokens = row.tokens.items; last = row.end; stand = stand; next = next }
 
 -- behind which no token stands up to the end of the text
-pub row_cut : (text : List ℕ) (row : TokenRow) (next : Option Token) → StandsFrom text 0 row → StandsNext text row.end (length text) next → IsCut text row.tokens.items
-row_cut text row next stand stands = record { last = row.end; stand = stand; layout = layout_of next stands }
+pub tokens_cut : (text : List ℕ) (ts : List Token) (last : ℕ) (next : Option Token) → StandBetween text 0 ts last → StandsNext text last (length text) next → IsCut text ts
+tokens_cut text ts last next stand stands = record { last = last; stand = stand; layout = layout_of next stands }
   where
-    layout_of : (found : Option Token) → StandsNext text row.end (length text) found → IsLayout text row.end (length text)
+    layout_of : (found : Option Token) → StandsNext text last (length text) found → IsLayout text last (length text)
     layout_of None layout = layout
     layout_of (Some t) (is, behind) =
         absurd (let here : t.start < length text = token_here text t.start t.end t.kind is.spelled.spells in omega (arith, here, behind))
+
+pub row_cut : (text : List ℕ) (row : TokenRow) (next : Option Token) → StandsFrom text 0 row → StandsNext text row.end (length text) next → IsCut text row.tokens.items
+row_cut text row next stand stands = tokens_cut text row.tokens.items row.end next stand stands
 
 -- whole characters stand before where a fault is told
 pub fault_placed : (text : List ℕ) (fault : TokenFault) → IsUtf8 text → (fault ≢ NoMemory → HasFault text fault) → IfSome (fault_offset fault) (λ at. IsOffset text at)
@@ -96,3 +104,18 @@ starts_row text from (t ∷ ts) none = cc
 
 pub starts_before : (to : ℕ) (ts : List Token) → ts ≡ [] → All (λ t. t.start < to) ts
 starts_before to ts none = subst (All (λ t. t.start < to)) (sym none) (search rules)
+
+-- the row and the tokens before it, from the start of the text on
+pub stand_with : (text : List ℕ) (ts us : List Token) (e : ℕ) → ((place : ℕ) × StandBetween text 0 ts place × StandBetween text place us e) → StandBetween text 0 (ts ++ us) e
+stand_with text ts us e (place, before, stand) = stand_joined text 0 place e ts us before stand
+
+-- the tokens of one row more
+pub rows_more : (rows : List (Vec Token Global)) (row : Vec Token Global) → tokens_of (rows ++ row ∷ []) ≡ tokens_of rows ++ row.items
+rows_more [] row = append-nil row.items
+rows_more (one ∷ rows) row = ap (λ ts. one.items ++ ts) (rows_more rows row) ∙ sym (append_assoc one.items (tokens_of rows) row.items)
+
+-- the last row needn't end a clause
+pub ends_with : (rows : List (Vec Token Global)) (row : Vec Token Global) → All (λ r. EndsClause r.items) rows → EachEndsClause (rows ++ row ∷ [])
+ends_with [] row all = (inr refl, tt)
+ends_with (one ∷ rows) row all =
+    (inl (All-head (λ (r : Vec Token Global). EndsClause r.items) one rows all), ends_with rows row (All-tail (λ (r : Vec Token Global). EndsClause r.items) one rows all))

@@ -1,6 +1,9 @@
 -- Rows of tokens that begin at several places of a text.
-use Rattle.std.specs.Prelude.{◌≡◌, ◌≢◌, ℕ, ◌+◌, ◌<◌, ◌≤◌, ◌⊎◌, List, [], ◌∷◌, Option, MatchOption, All, length, slice_index}
+use Rattle.std.specs.Prelude.{◌≡◌, ◌≢◌, ℕ, ◌+◌, ◌<◌, ◌≤◌, ◌⊎◌, ⊤, List, [], ◌∷◌, ◌++◌, Option, Some, MatchOption, All, length, slice_get, slice_index, Vec}
+use Rattle.std.specs.declared.alloc.Global.{Global}
+use Rattle.std.specs.List.{flat_map}
 use Rattle.prolog_tokens.specs.declared.chars.Class.TheVariants.{Inner}
+use Rattle.prolog_tokens.specs.declared.token.Kind.TheVariants.{End}
 use Rattle.prolog_tokens.specs.declared.token.Token.{Token}
 use Rattle.prolog_tokens.specs.declared.token.TokenFault.{TokenFault}
 use Rattle.prolog_tokens.specs.declared.rows.Span.{Span}
@@ -54,3 +57,26 @@ pub record IsRowOf (text : List ℕ) (span : Span) (row : TokenRow) : Type 0 whe
   pub stands : StandsFrom text span.from row
   pub before : All (λ t. t.start < span.to) row.tokens.items
   pub over : IsOver text row span.to
+
+-- the other span begins after the first End of the tokens from where the span begins, and ends where it does
+pub record BeginsAfterEnd (text : List ℕ) (span other : Span) : Type 0 where
+  pub before : List Token
+  pub last : Token
+  pub stand : StandBetween text span.from (before ++ last ∷ []) other.from
+  pub none : All (λ t. t.kind ≢ End) before
+  pub ends : last.kind ≡ End
+  pub start : last.start < span.to
+  pub to : other.to ≡ span.to
+
+-- the last of the tokens is an End, if there are any
+abbrev pub EndsClause : List Token → Type 0
+EndsClause ts = (k : ℕ) (t : Token) → slice_get ts k ≡ Some t → k + 1 ≡ length ts → t.kind ≡ End
+
+-- no clause goes on from one row to the next
+abbrev pub EachEndsClause : List (Vec Token Global) → Type 0
+EachEndsClause [] = ⊤
+EachEndsClause (row ∷ rows) = (EndsClause row.items ⊎ (rows ≡ [])) × EachEndsClause rows
+
+-- the tokens of the rows, one row after another
+abbrev pub tokens_of : List (Vec Token Global) → List Token
+tokens_of rows = flat_map (λ row. row.items) rows

@@ -7,7 +7,7 @@ ghost use Rattle.prolog_tokens.specs.Places.{IsOffset, fault_offset};
 ghost use Rattle.prolog_tokens.specs.declared.chars.Class.TheVariants.{Inner};
 
 use crate::layout::layout_end;
-use crate::rows::join_rows;
+use crate::rows::{TOKEN_BYTES, TokenRow, go_on};
 use crate::spelling::spell;
 use crate::token::{Token, TokenFault};
 use std::alloc::Global;
@@ -54,5 +54,10 @@ pub fn tokens(alloc: Global, text: &str) -> Result<Vec<Token>, TokenFault>
     ensures no_cut { IfErr result (λ fault. fault ≢ TokenFault.NoMemory → (others : List Token) → IsCut text.now others → ⊥) }
     ensures place { IfErr result (λ fault. IfSome (fault_offset fault) (λ at. IsOffset text.now at)) }
 {
-    join_rows(alloc, text, Vec::new(alloc))
+    let mut row = TokenRow {
+        tokens: Vec::with_capacity(alloc, text.len() / TOKEN_BYTES)?,
+        end: 0,
+    };
+    go_on(text, &mut row, text.len())?;
+    Ok(row.tokens)
 }

@@ -31,7 +31,7 @@ pub use cut::tokens;
 pub use laws::{cut_fewer, cut_tokens, fault_is_no_cut, one_cut, one_fault};
 pub use limits::MOST_BYTES;
 pub use places::{place_of, places_of};
-pub use rows::{Span, TokenRow, join_rows, spans, tokens_in};
+pub use rows::{Span, TokenRow, after_end, clause_rows, spans, tokens_in};
 pub use text::Text;
 pub use token::{Kind, Place, Token, TokenFault};
 pub use values::{integer_value, name_slice, name_text};

@@ -1,21 +1,22 @@
 //! Lexing in parts: each span of a text is cut as if a token began at its start, and the rows of
-//! tokens are joined to the tokens of the text.
+//! tokens become those of the text.
 
-ghost use Rattle.std.specs.Prelude.{◌≡◌, ◌≢◌, ◌+◌, ◌<◌, ◌≤◌, ◌⊎◌, ℕ, List, [], length, slice_index, All, IfOk, IfErr, IfSome, OnOk};
+ghost use Rattle.std.specs.Prelude.{◌≡◌, ◌≢◌, ◌+◌, ◌<◌, ◌≤◌, ◌⊎◌, ℕ, List, [], length, slice_index, All, IfOk, IfErr, IfSome, true};
 ghost use Rattle.prolog_tokens.specs.declared.rows.TheConstants.{SPAN_BYTES};
 ghost use Rattle.prolog_tokens.specs.declared.limits.TheConstants.{MOST_BYTES};
 ghost use Rattle.prolog_tokens.specs.Cut.{IsCut, IsWrongNext, HasFault};
 ghost use Rattle.prolog_tokens.specs.Places.{IsOffset, fault_offset};
-ghost use Rattle.prolog_tokens.specs.Rows.{IsBegin, IsSpan, BeginsWithNewline, HasBytes, StandSideBySide, StandsFrom, IsRow, IsRowOf, GoesOn, StandsNext};
+ghost use Rattle.prolog_tokens.specs.Rows.{IsBegin, IsSpan, BeginsWithNewline, HasBytes, StandSideBySide, StandsFrom, IsRow, IsRowOf, GoesOn};
+ghost use Rattle.prolog_tokens.specs.Rows.{StandsNext, BeginsAfterEnd, EndsClause, EachEndsClause, tokens_of};
 
 use crate::cut::next_token;
 use crate::layout::newline_at;
-use crate::token::{Token, TokenFault};
+use crate::token::{Kind, Token, TokenFault};
 use std::alloc::{AllocError, Global};
 
 /// How many bytes a token of a dense text takes, with the layout before it. Capacity for more
 /// tokens than a text has costs nothing while it isn't touched.
-const TOKEN_BYTES: usize = 3;
+pub(crate) const TOKEN_BYTES: usize = 3;
 
 /// How many bytes a span has at least, except the last one of a text. A row that begins within a
 /// comment may search the rest of the text for a closing quote in vain, so there are few spans.
@@ -68,7 +69,7 @@ pub fn spans(alloc: Global, text: &str) -> Result<Vec<Span>, AllocError>
 
 /// Extends the row by the next tokens that start before `to`. Returns the token after them, or None
 /// at the end of the text.
-fn go_on(text: &str, row: &mut TokenRow, to: usize) -> Result<Option<Token>, TokenFault>
+pub(crate) fn go_on(text: &str, row: &mut TokenRow, to: usize) -> Result<Option<Token>, TokenFault>
     requires small { length text.now ≤ MOST_BYTES }
     requires begins { IsBegin text.now row.old.end }
     ensures row { GoesOn text.now row.old row.new }
@@ -108,57 +109,106 @@ pub fn tokens_in(alloc: Global, text: &str, span: &Span) -> Result<TokenRow, All
     }
 }
 
-/// Appends the tokens of a row to those of another, with the tokens between. If the first of them
-/// doesn't occur there, it was no token, and none of them is appended.
-fn join(text: &str, row: &mut TokenRow, mut next: TokenRow) -> Result<(), TokenFault>
+/// The part of the span after its first End, cut as if a token began at its start. It is the whole
+/// span if no End is found there. A row that begins after an End needn't be joined to another.
+pub fn after_end(text: &str, span: &Span) -> Span
+    requires small { length text.now ≤ MOST_BYTES }
+    requires span { IsSpan text.now span.now }
+    ensures span { IsSpan text.now result }
+    ensures end { (result ≡ span.now) ⊎ BeginsAfterEnd text.now span.now result }
+{
+    let mut at = span.from;
+    while let Ok(Some(token)) = next_token(text, at) {
+        if token.start as usize >= span.to {
+            break;
+        }
+        at = token.end as usize;
+        if token.kind == Kind::End {
+            let to = span.to;
+            return Span { from: at, to };
+        }
+    }
+    *span
+}
+
+/// Extends the row up to the first token of the next row. Returns whether that token occurs there:
+/// then all tokens of the next row do. If not, it was no token.
+fn meets(text: &str, row: &mut TokenRow, next: &TokenRow) -> Result<bool, TokenFault>
     requires small { length text.now ≤ MOST_BYTES }
     requires begins { IsBegin text.now row.old.end }
-    requires next { IsRow text.now next }
-    ensures row { OnOk result (GoesOn text.now row.old row.new) }
-    ensures begins { OnOk result (IsBegin text.now row.new.end) }
-    ensures fault { IfErr result (λ fault. fault ≢ TokenFault.NoMemory → StandsFrom text.now 0 row.old → HasFault text.now fault) }
+    requires next { IsRow text.now next.now }
+    ensures row { GoesOn text.now row.old row.new }
+    ensures begins { IsBegin text.now row.new.end }
+    ensures next { IfOk result (λ meets. meets ≡ true → StandsFrom text.now row.new.end next.now) }
+    ensures fault { IfErr result (λ fault. fault ≢ TokenFault.NoMemory → IsWrongNext text.now row.new.end fault) }
 {
     let Some(first) = next.tokens.first() else {
-        return Ok(());
+        return Ok(false);
     };
     let start = first.start;
     let after_layout = first.after_layout;
     let Some(token) = go_on(text, row, start as usize)? else {
-        return Ok(());
+        return Ok(false);
     };
     if token.start != start {
-        return Ok(());
+        return Ok(false);
     }
     if token.after_layout != after_layout {
-        return Ok(());
+        return Ok(false);
     }
-    row.tokens.append(&mut next.tokens)?;
-    row.end = next.end;
-    Ok(())
+    Ok(true)
 }
 
-/// The tokens of a text of at most 8,388,608 bytes, or its first error, like `tokens`.
+/// Whether the last of the tokens is an End, if there are any.
+fn ends_clause(tokens: &[Token]) -> bool
+    ensures { result ≡ true → EndsClause tokens.now }
+{
+    let Some(last) = tokens.last() else {
+        return true;
+    };
+    last.kind == Kind::End
+}
+
+/// The tokens of a text of at most 8,388,608 bytes in rows, or its first error, like `tokens`. Each
+/// row except the last one ends with an End, or is empty.
 ///
-/// It reuses the tokens of rows that were cut from the text: those of a row are tokens of the text
-/// if its first one is.
-pub fn join_rows(alloc: Global, text: &str, rows: Vec<TokenRow>) -> Result<Vec<Token>, TokenFault>
+/// It takes over rows that were cut from the text: the tokens of a row are tokens of the text if
+/// its first one is. A row stays as it is if an End is before it, and is appended to the tokens
+/// before it otherwise.
+pub fn clause_rows(
+    alloc: Global,
+    text: &str,
+    rows: Vec<TokenRow>,
+) -> Result<Vec<Vec<Token>>, TokenFault>
     requires small { length text.now ≤ MOST_BYTES }
     requires rows { All (IsRow text.now) rows.items }
-    ensures ok { IfOk result (λ found. IsCut text.now found.items) }
-    ensures only { IfOk result (λ found. (others : List Token) → IsCut text.now others → others ≡ found.items) }
+    ensures ok { IfOk result (λ found. IsCut text.now (tokens_of found.items)) }
+    ensures only { IfOk result (λ found. (others : List Token) → IsCut text.now others → others ≡ tokens_of found.items) }
     ensures no_fault { IfOk result (λ _. (fault : TokenFault) → HasFault text.now fault → ⊥) }
+    ensures ends { IfOk result (λ found. EachEndsClause found.items) }
     ensures fault { IfErr result (λ fault. fault ≢ TokenFault.NoMemory → HasFault text.now fault) }
     ensures only_fault { IfErr result (λ fault. fault ≢ TokenFault.NoMemory → (other : TokenFault) → HasFault text.now other → other ≡ fault) }
     ensures no_cut { IfErr result (λ fault. fault ≢ TokenFault.NoMemory → (others : List Token) → IsCut text.now others → ⊥) }
     ensures place { IfErr result (λ fault. IfSome (fault_offset fault) (λ at. IsOffset text.now at)) }
 {
+    let mut done = Vec::with_capacity(alloc, rows.len())?;
     let mut row = TokenRow {
         tokens: Vec::with_capacity(alloc, text.len() / TOKEN_BYTES)?,
         end: 0,
     };
-    for next in rows {
-        join(text, &mut row, next)?;
+    for mut next in rows {
+        if !meets(text, &mut row, &next)? {
+            continue;
+        }
+        if ends_clause(&row.tokens) {
+            done.push(row.tokens)?;
+            row = next;
+        } else {
+            row.tokens.append(&mut next.tokens)?;
+            row.end = next.end;
+        }
     }
     go_on(text, &mut row, text.len())?;
-    Ok(row.tokens)
+    done.push(row.tokens)?;
+    Ok(done)
 }

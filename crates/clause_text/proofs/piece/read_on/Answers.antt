@@ -11,7 +11,7 @@ use Rattle.clause_text.proofs.piece.read_on.Goals as goal
 
 pub read_part-requires-clause-part : goal.read_part-requires-clause-part
 read_part-requires-clause-part c =
-    slice_part c.args.text.now c.args.tokens.now c.loop-at.at c.part_end-next.result c.requires.cut c.part_end-next.ensures.some
+    slice_part c.args.text.now c.args.tokens.now c.loop-at.at c.part_end-next.result c.requires.part c.part_end-next.ensures.some
 
 pub read_part-requires-clause-clause : goal.read_part-requires-clause-clause
 read_part-requires-clause-clause c = part_one c.args.tokens.now c.loop-at.at c.part_end-next.result c.part_end-next.ensures

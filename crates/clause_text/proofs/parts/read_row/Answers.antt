@@ -1,23 +1,27 @@
 -- The clauses that are kept lead on, up to the end of the tokens or to a part that is refused.
-use Rattle.std.proofs.Common.{ap, sym, ◌∙◌, subst, refl, arith, All}
+use Rattle.std.proofs.Common.{◌≡◌, ◌≤◌, [], sym, ◌∙◌, subst, refl, arith, length, All}
+use Rattle.std.proofs.lemmas.List.{append-nil}
 use Rattle.prolog_ops.specs.Table.{ops_of}
-use Rattle.clause_text.specs.Clauses.{HasClauseFault, clause_trees}
-use Rattle.clause_text.specs.Pieces.{LeadTo, IsStretch, AreStretches}
+use Rattle.clause_text.specs.Clauses.{clause_trees}
+use Rattle.clause_text.specs.Pieces.{AreAdded, IsFaultAhead, IsStretch, AreStretches}
 use Rattle.clause_text.proofs.Outcomes.{on_err}
-use Rattle.clause_text.proofs.LeadEnds.{lead_are, added_lead, fault_from_start, fault_joined, stretches_are}
-use Rattle.clause_text.proofs.parts.read_parts.Goals as goal
+use Rattle.clause_text.proofs.LeadEnds.{lead_within, added_joined, fault_joined, stretches_are}
+use Rattle.clause_text.proofs.parts.read_row.Goals as goal
 
 pub loop-from-init : goal.loop-from-init
 loop-from-init g c = (
-  subst (λ clauses. LeadTo (ops_of c.args.table.now) c.args.text.now c.args.tokens.now 0 clauses (ops_of c.args.table.now) 0) (ap (clause_trees c.args.numbered.now.names) (sym c.in_ok-clauses.ensures.items))
-      (refl, refl),
+  record { more = []; all = sym (append-nil (clause_trees c.args.numbered.now.names c.args.clauses.now.items)); lead = (refl, refl) },
   λ some. (let never : ⊥ = omega (arith, some) in absurd never),
 )
 
 pub returns-clause-ok : goal.returns-clause-ok
 returns-clause-ok g c =
-    lead_are (ops_of c.args.table.now) c.args.text.now c.args.tokens.now 0 (clause_trees c.args.numbered.now.names c.loop-from.clauses.items) (ops_of c.loop-from.table) c.loop-from.from
-    c.loop-from.invariant.0 c.loop-from-test.false
+    let added = c.loop-from.invariant.0 in
+    let within : c.loop-from.from ≤ length c.args.tokens.now =
+    lead_within (ops_of c.args.table.now) c.args.text.now c.args.tokens.now 0 added.more (ops_of c.loop-from.table) c.loop-from.from added.lead (omega arith) in
+    let place : c.loop-from.from ≡ length c.args.tokens.now = omega (arith, within, c.loop-from-test.false) in
+    subst (AreAdded (ops_of c.args.table.now) c.args.text.now c.args.tokens.now 0 (clause_trees c.args.numbered.now.names c.args.clauses.now.items)
+    (clause_trees c.args.numbered.now.names c.loop-from.clauses.items) (ops_of c.loop-from.table)) place added
 
 pub read_each-requires-clause-stretches : goal.read_each-requires-clause-stretches
 read_each-requires-clause-stretches g c = λ lifetimes outlives.
@@ -30,11 +34,10 @@ returns-in_err-kept-clause-fault g c =
     let are = subst (λ stretches. AreStretches c.args.tokens.now c.loop-from.from stretches to) (sym c.deref.ensures.value) c.in_ok-stretches.ensures.2 in
     on_err c.from_residual-in_err-kept.result _ _ c.from_residual-in_err-kept.ensures.1
     (λ fault same some.
-    subst (λ f. HasClauseFault (ops_of c.args.table.now) c.args.text.now c.args.tokens.now f) (sym same)
-    (fault_from_start (ops_of c.args.table.now) c.args.text.now c.args.tokens.now c.in_err-kept.field-0.0
-    (fault_joined (ops_of c.args.table.now) c.args.text.now c.args.tokens.now 0 (clause_trees c.args.numbered.now.names c.loop-from.clauses.items) (ops_of c.loop-from.table) c.loop-from.from c.in_err-kept.field-0.0
-    c.loop-from.invariant.0
-    (c.in_err-kept.ensures.fault (λ none. some (same ∙ none)) c.args.text.now c.args.tokens.now to (c.in_ok-pieces.ensures c.loop-from.from to are)))))
+    subst (λ f. IsFaultAhead (ops_of c.args.table.now) c.args.text.now c.args.tokens.now 0 f) (sym same)
+    (fault_joined (ops_of c.args.table.now) c.args.text.now c.args.tokens.now 0 c.loop-from.invariant.0.more (ops_of c.loop-from.table) c.loop-from.from c.in_err-kept.field-0.0
+    c.loop-from.invariant.0.lead
+    (c.in_err-kept.ensures.fault (λ none. some (same ∙ none)) c.args.text.now c.args.tokens.now to (c.in_ok-pieces.ensures c.loop-from.from to are))))
 
 pub loop-from-smaller : goal.loop-from-smaller
 loop-from-smaller g c =
@@ -51,7 +54,8 @@ loop-from-preserved g c =
     let to = c.in_ok-stretches.ensures.0 in
     let are = subst (λ stretches. AreStretches c.args.tokens.now c.loop-from.from stretches to) (sym c.deref.ensures.value) c.in_ok-stretches.ensures.2 in
     let pieces = c.in_ok-pieces.ensures c.loop-from.from to are in (
-      added_lead (ops_of c.args.table.now) c.args.text.now c.args.tokens.now 0 (clause_trees c.args.numbered.now.names c.loop-from.clauses.items) (clause_trees c.args.numbered.now.names c.keep.new.clauses.items) (ops_of c.loop-from.table)
+      added_joined (ops_of c.args.table.now) c.args.text.now c.args.tokens.now 0 (clause_trees c.args.numbered.now.names c.args.clauses.now.items)
+          (clause_trees c.args.numbered.now.names c.loop-from.clauses.items) (clause_trees c.args.numbered.now.names c.keep.new.clauses.items) (ops_of c.loop-from.table)
           c.loop-from.from (ops_of c.keep.new.table) c.in_ok-kept.kept.to c.loop-from.invariant.0
           (c.in_ok-kept.ensures.kept c.args.text.now c.args.tokens.now to pieces),
       λ some. c.in_ok-kept.ensures.until c.args.text.now c.args.tokens.now to pieces c.in_ok-stretches.ensures.1,
