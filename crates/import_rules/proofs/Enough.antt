@@ -17,8 +17,8 @@ use Rattle.module_table.specs.Kinds.{first_of}
 use Rattle.module_table.specs.Said.{Loads}
 use Rattle.import_rules.specs.declared.names.PredName.{PredName}
 use Rattle.import_rules.specs.Clashes.{Imports, items_for, first_other, clash, AreClashes, AreFirsts}
-use Rattle.import_rules.specs.Enough.{AreEnough, IsTakenWhole}
-use Rattle.import_rules.specs.Files.{file_named, has_export, is_local}
+use Rattle.import_rules.specs.Enough.{AreEnough, AreGathered, IsDouble}
+use Rattle.import_rules.specs.Files.{file_named, has_export, is_first, is_local}
 use Rattle.import_rules.specs.Items.{gives, is_foreign, item, taken}
 use Rattle.import_rules.specs.Names.{is_same}
 use Rattle.import_rules.specs.Offers.{is_shared, kept, kept_given, kept_of_load}
@@ -75,10 +75,6 @@ enough_more all some more enough = record {
   where
     split : (p : PredName) (is : List Imports) → items_for p (is ++ more) ≡ items_for p is ++ items_for p more
     split p is = filter-append (λ (i : Imports). is_same p i.into) is more
-
--- an item that gives a predicate from a module that one of the others gives it from
-abbrev IsDouble : List Imports → Imports → Type 0
-IsDouble all i = (j : Imports) × Contains all j × (j.into ≡ i.into) × (j.from_module ≡ i.from_module)
 
 -- doubles change neither the first nor the first one from another module
 
@@ -239,92 +235,109 @@ whole_keeps shared user file load UseSome e whole has = absurd (whole refl)
 whole_keeps shared user file load UseAll e whole has = map_has (item user file load.from) (filter (is_shared shared) file.exports) e has
 whole_keeps shared user file load Ensure e whole has = map_has (item user file load.from) (filter (is_shared shared) file.exports) e has
 
-load_doubles : (files : List Facts) (shared : List Imports) (user : Facts) (one other : Loads) → one.file ≡ other.file → one.kind ≢ UseSome → other.kind ≢ UseSome → (i : Imports)
-    → Contains (kept_of_load files shared user other) i → (j : Imports) × Contains (kept_of_load files shared user one) j × (j.into ≡ i.into) × (j.from_module ≡ i.from_module)
-load_doubles files shared user one other same whole also i has =
-    let found = at (file_named files other.file) refl has in (
+load_doubles : (files : List Facts) (shared : List Imports) (user new : Facts) (one other : Loads) → user.module_ ≡ new.module_ → one.file ≡ other.file → one.kind ≢ UseSome → other.kind ≢ UseSome
+    → (i : Imports) → Contains (kept_of_load files shared new other) i → IsDouble (kept_of_load files shared user one) i
+load_doubles files shared user new one other home same whole also i has =
+    let found = at (file_named files other.file) has in (
       found.0,
       subst (λ name. Contains (elim (file_named files name) [ Some file ↦ kept_given files shared user one file | None ↦ [] ]) found.0) (sym same) found.1,
       found.2,
       found.3,
     )
   where
-    in_file : (file : Facts) (b : Bool) → Contains (if b then kept shared user file other other.kind else []) i
-        → (j : Imports) × Contains (if b then kept shared user file one one.kind else []) j × (j.into ≡ i.into) × (j.from_module ≡ i.from_module)
+    in_file : (file : Facts) (b : Bool) → Contains (if b then kept shared new file other other.kind else []) i → IsDouble (if b then kept shared user file one one.kind else []) i
     in_file file false h = absurd (nothing_in i h)
     in_file file true h =
-        let from = whole_from shared user file other other.kind i also h in (
+        let from = whole_from shared new file other other.kind i also h in (
           item user file one.from from.0,
           whole_keeps shared user file one one.kind from.0 whole from.1,
-          ap (λ (k : Imports). k.into) from.2,
+          ap (λ own. record { «module» = own; name = from.0.name; arity = from.0.arity }) home ∙ ap (λ (k : Imports). k.into) from.2,
           ap (λ (k : Imports). k.from_module) from.2,
         )
 
-    at : (named : Option Facts) → file_named files other.file ≡ named → Contains (elim named [ Some file ↦ kept_given files shared user other file | None ↦ [] ]) i
-        → (j : Imports) × Contains (elim named [ Some file ↦ kept_given files shared user one file | None ↦ [] ]) j × (j.into ≡ i.into) × (j.from_module ≡ i.from_module)
-    at None is h = absurd (nothing_in i h)
-    at (Some file) is h = in_file file (gives files user file) h
+    at : (named : Option Facts) → Contains (elim named [ Some file ↦ kept_given files shared new other file | None ↦ [] ]) i
+        → IsDouble (elim named [ Some file ↦ kept_given files shared user one file | None ↦ [] ]) i
+    at None h = absurd (nothing_in i h)
+    at (Some file) h =
+        subst (λ own. IsDouble (if file.is_module && (is_first files file && not (bytes_eq file.module_ own)) then kept shared user file one one.kind else []) i) (sym home)
+        (in_file file (gives files new file) h)
 
--- so a load of a whole file that one of the loads before took whole is left out
-pub load_left_out : (files : List Facts) (shared : List Imports) (user : Facts) (loads : List Loads) (load : Loads) (before : List Imports) → IsTakenWhole loads load.file
-    → load.kind ≢ UseSome → (i : Imports) → Contains (filter (is_foreign files) (kept_of_load files shared user load)) i
-    → IsDouble (before ++ filter (is_foreign files) (flat_map (kept_of_load files shared user) loads)) i
-load_left_out files shared user loads load before whole also i has =
-    let double = load_doubles files shared user whole.0 load whole.2 whole.3 also i (kept_there (is_foreign files) (kept_of_load files shared user load) i has) in
-    let foreign : is_foreign files double.0 ≡ true =
-    ap (λ p. not (is_local files p)) double.2 ∙ kept_passes (is_foreign files) (kept_of_load files shared user load) i has in (
-      double.0,
-      Contains-append_right before (filter (is_foreign files) (flat_map (kept_of_load files shared user) loads)) double.0
-          (kept_in (is_foreign files) (flat_map (kept_of_load files shared user) loads) double.0 (flat_map_has (kept_of_load files shared user) loads whole.0 double.0 whole.1 double.1) foreign),
-      double.2,
-      double.3,
-    )
+-- what users of one module give
+
+module _ (files : List Facts) (shared : List Imports) (own : List ℕ) where
+  abbrev all_of : Facts → Loads → List Imports
+  all_of user load = filter (is_foreign files) (kept_of_load files shared user load)
+
+  wider : (all more : List Imports) (i : Imports) → IsDouble all i → IsDouble (all ++ more) i
+  wider all more i double = (double.0, Contains-append_left all more double.0 double.1, double.2, double.3)
+
+  pub gathered_none : (has : List ℕ → Bool) → ((name : List ℕ) → has name ≡ false) → AreGathered files shared own [] [] has
+  gathered_none has none = record {
+    enough = enough_none;
+    whole = λ user load i home there. let both : true ≡ false = sym there ∙ none load.file in cc;
+  }
+
+  -- more items
+  pub gathered_more : (all some more : List Imports) (has : List ℕ → Bool) → AreGathered files shared own all some has → AreGathered files shared own (all ++ more) (some ++ more) has
+  gathered_more all some more has are = record {
+    enough = enough_more all some more are.enough;
+    whole = λ user load i home there kind given. wider all more i (are.whole user load i home there kind given);
+  }
+
+  -- a load of a whole file that was taken whole before is left out
+  pub gathered_skip : (user : Facts) (load : Loads) (all some : List Imports) (has : List ℕ → Bool) → user.module_ ≡ own → has load.file ≡ true → load.kind ≢ UseSome
+      → AreGathered files shared own all some has → AreGathered files shared own (all ++ filter (is_foreign files) (kept_of_load files shared user load)) some has
+  gathered_skip user load all some has home there kind are = record {
+    enough = enough_without all some (all_of user load) are.enough (λ i given. are.whole user load i home there kind given);
+    whole = λ other one i at named whole given. wider all (all_of user load) i (are.whole other one i at named whole given);
+  }
+
+  -- a load of a whole file is taken
+  pub gathered_take : (user : Facts) (load : Loads) (all some : List Imports) (has now : List ℕ → Bool) → user.module_ ≡ own → load.kind ≢ UseSome
+      → ((name : List ℕ) → now name ≡ cond (is_eq (slice_cmp nat_cmp load.file name)) true (has name)) → AreGathered files shared own all some has
+      → AreGathered files shared own (all ++ filter (is_foreign files) (kept_of_load files shared user load)) (some ++ filter (is_foreign files) (kept_of_load files shared user load)) now
+  gathered_take user load all some has now home kind is are = record {
+    enough = enough_more all some (all_of user load) are.enough;
+    whole = λ other one i at named whole given.
+        elim (cases_Bool (is_eq (slice_cmp nat_cmp load.file one.file))) [
+          | inl tie ↦
+              let same : load.file ≡ one.file = (bytes_eq-Decides load.file one.file).0 (texts_ties load.file one.file ∙ tie) in
+              let double = load_doubles files shared user other load one (home ∙ sym at) same kind whole i (kept_there (is_foreign files) (kept_of_load files shared other one) i given) in
+              let foreign : is_foreign files double.0 ≡ true =
+              ap (λ p. not (is_local files p)) double.2 ∙ kept_passes (is_foreign files) (kept_of_load files shared other one) i given in (
+                double.0,
+                Contains-append_right all (all_of user load) double.0 (kept_in (is_foreign files) (kept_of_load files shared user load) double.0 double.1 foreign),
+                double.2,
+                double.3,
+              )
+          | inr apart ↦ wider all (all_of user load) i (are.whole other one i at (sym (is one.file ∙ ap (λ b. cond b true (has one.file)) apart) ∙ named) whole given)
+        ];
+  }
 
 -- the loads up to the next one
+pub grown : (files : List Facts) (shared : List Imports) (user : Facts) (loads : List Loads) (i : ℕ) (load : Loads) (before : List Imports) → i < length loads → load ≡ get_or loads i load
+    → (before ++ filter (is_foreign files) (flat_map (kept_of_load files shared user) (take i loads))) ++ filter (is_foreign files) (kept_of_load files shared user load)
+    ≡ before ++ filter (is_foreign files) (flat_map (kept_of_load files shared user) (take (i + 1) loads))
+grown files shared user loads i load before within here =
+    append_assoc before (filter (is_foreign files) (flat_map (kept_of_load files shared user) (take i loads))) (filter (is_foreign files) (kept_of_load files shared user load))
+    ∙ ap (λ ys. before ++ ys) (sym (kept_next (is_foreign files) (kept_of_load files shared user) loads i load within here))
 
-next_loads : (loads : List Loads) (i : ℕ) (load : Loads) → i < length loads → load ≡ get_or loads i load → take (i + 1) loads ≡ take i loads ++ load ∷ []
-next_loads loads i load within here = take_more loads i load within ∙ ap (λ l. take i loads ++ l ∷ []) (sym here)
+-- a load of a whole file lists nothing
+pub unlisted : (files : List Facts) (user : Facts) (load : Loads) → load.kind ≢ UseSome → kept_of_load files [] user load ≡ []
+unlisted files user load whole = at (file_named files load.file)
+  where
+    none_shared : (es : List Indicator) → filter (is_shared []) es ≡ []
+    none_shared es = filter_none (is_shared []) es (all_by (λ e. is_shared [] e ≡ false) es (λ e has. refl))
 
-pub whole_kept : (loads : List Loads) (i : ℕ) (load : Loads) (own : List ℕ) → i < length loads → load ≡ get_or loads i load → IsTakenWhole (take i loads) own
-    → IsTakenWhole (take (i + 1) loads) own
-whole_kept loads i load own within here whole =
-    subst (λ ls. IsTakenWhole ls own) (sym (next_loads loads i load within here))
-    (whole.0, Contains-append_left (take i loads) (load ∷ []) whole.0 whole.1, whole.2, whole.3)
+    of_kind : (file : Facts) (kind : LoadKind) → kind ≢ UseSome → kept [] user file load kind ≡ []
+    of_kind file UseSome apart = absurd (apart refl)
+    of_kind file UseAll apart = ap (map (item user file load.from)) (none_shared file.exports)
+    of_kind file Ensure apart = ap (map (item user file load.from)) (none_shared file.exports)
 
-pub whole_more : (loads : List Loads) (i : ℕ) (load : Loads) (own : List ℕ) (new old : Bool) → i < length loads → load ≡ get_or loads i load → load.kind ≢ UseSome
-    → (old ≡ true → IsTakenWhole (take i loads) own) → new ≡ cond (is_eq (slice_cmp nat_cmp load.file own)) true old → new ≡ true → IsTakenWhole (take (i + 1) loads) own
-whole_more loads i load own new old within here whole before is there =
-    elim (cases_Bool (is_eq (slice_cmp nat_cmp load.file own))) [
-      | inl tie ↦
-          subst (λ ls. IsTakenWhole ls own) (sym (next_loads loads i load within here)) (
-            load,
-            Contains-append_right (take i loads) (load ∷ []) load (in_first load []),
-            (bytes_eq-Decides load.file own).0 (texts_ties load.file own ∙ tie),
-            whole,
-          )
-      | inr apart ↦ whole_kept loads i load own within here (before (sym (is ∙ ap (λ b. cond b true old) apart) ∙ there))
-    ]
+    in_file : (file : Facts) (b : Bool) → ◌≡◌ {A = List Imports} (if b then kept [] user file load load.kind else []) []
+    in_file file true = of_kind file load.kind whole
+    in_file file false = refl
 
--- what the loads up to the next one give
-module _ (files : List Facts) (shared : List Imports) (user : Facts) (loads : List Loads) (i : ℕ) (load : Loads) (within : i < length loads) (here : load ≡ get_or loads i load)
-    (before some : List Imports) where
-  abbrev so_far : ℕ → List Imports
-  so_far k = before ++ filter (is_foreign files) (flat_map (kept_of_load files shared user) (take k loads))
-
-  abbrev more : List Imports
-  more = filter (is_foreign files) (kept_of_load files shared user load)
-
-  grown : so_far i ++ more ≡ so_far (i + 1)
-  grown =
-      append_assoc before (filter (is_foreign files) (flat_map (kept_of_load files shared user) (take i loads))) more
-      ∙ ap (λ ys. before ++ ys) (sym (kept_next (is_foreign files) (kept_of_load files shared user) loads i load within here))
-
-  pub enough_step : (new : List Imports) → AreEnough (before ++ filter (is_foreign files) (flat_map (kept_of_load files shared user) (take i loads))) some
-      → new ≡ some ++ filter (is_foreign files) (kept_of_load files shared user load)
-      → AreEnough (before ++ filter (is_foreign files) (flat_map (kept_of_load files shared user) (take (i + 1) loads))) new
-  enough_step new enough is = subst (λ all. AreEnough all new) grown (subst (AreEnough (so_far i ++ more)) (sym is) (enough_more (so_far i) some more enough))
-
-  pub enough_skip : AreEnough (before ++ filter (is_foreign files) (flat_map (kept_of_load files shared user) (take i loads))) some → IsTakenWhole (take i loads) load.file → load.kind ≢ UseSome
-      → AreEnough (before ++ filter (is_foreign files) (flat_map (kept_of_load files shared user) (take (i + 1) loads))) some
-  enough_skip enough whole also =
-      subst (λ all. AreEnough all some) grown (enough_without (so_far i) some more enough (load_left_out files shared user (take i loads) load before whole also))
+    at : (r : Option Facts) → ◌≡◌ {A = List Imports} (elim r [ Some file ↦ kept_given files [] user load file | None ↦ [] ]) []
+    at (Some file) = in_file file (gives files user file)
+    at None = refl

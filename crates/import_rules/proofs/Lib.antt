@@ -18,6 +18,9 @@ pub mod Ordered
 pub mod Targets
 pub mod Offered
 pub mod Kept
+pub mod ModuleClashes
+pub mod Marks
+pub mod Exporters
 pub mod TargetsFound
 pub mod CheckedImports
 pub mod Faultless

@@ -26,7 +26,7 @@ module _ {X K : Type 0} (cmp : K → K → Ordering) (o : IsTotalOrder cmp) (key
   abbrev pub same : X → X → Bool
   same x y = is_eq (cmp (key x) (key y))
 
-  equal_from : (r : Ordering) → is_eq r ≡ true → r ≡ Equal
+  pub equal_from : (r : Ordering) → is_eq r ≡ true → r ≡ Equal
   equal_from Less is = cc
   equal_from Equal is = refl
   equal_from Greater is = cc
@@ -160,6 +160,19 @@ module _ {X K : Type 0} (cmp : K → K → Ordering) (o : IsTotalOrder cmp) (key
       (subst (λ y. comes_before cmp key (get_or (xs ++ ys) ((length xs + k) + 1) d) y ≡ false) (get_or-append-add xs ys k d)
       (up (length xs + k) d (omega arith) inside))
 
+  -- all of a run have the key of its first
+  module _ (head : X) (tail rest : List X) (chunk : IsChunkByPrefix same ((head ∷ tail) ++ rest) (length (head ∷ tail))) where
+    own_at : (k : ℕ) (d : X) → k < length (head ∷ tail) → same head (get_or ((head ∷ tail) ++ rest) k d) ≡ true
+    own_at zero d within = same_itself head
+    own_at (suc k) d within =
+        let next : k + 1 ≡ suc k = omega arith in
+        let lower : k < length (head ∷ tail) = omega (arith, within) in
+        same_trans head (get_or ((head ∷ tail) ++ rest) k d) (get_or ((head ∷ tail) ++ rest) (suc k) d) (own_at k d lower)
+        (subst (λ n. same (get_or ((head ∷ tail) ++ rest) k d) (get_or ((head ∷ tail) ++ rest) n d) ≡ true) next (chunk.0 k d (omega (arith, within))))
+
+    pub own_run : All (λ y. same head y ≡ true) (head ∷ tail)
+    own_run k d within = subst (λ y. same head y ≡ true) (get_or_append_left (head ∷ tail) rest d k within) (own_at k d within)
+
   -- the next run, as long as it can be
   pub cut_more : (whole : List X) (runs : List (List X)) (run rest : List X) → IsSortedBy (comes_before cmp key) whole
       → IsCut whole runs (run ++ rest) → 0 < length run → IsChunkByPrefix same (run ++ rest) (length run)
@@ -168,7 +181,7 @@ module _ {X K : Type 0} (cmp : K → K → Ordering) (o : IsTotalOrder cmp) (key
   cut_more whole runs [] rest sorted cut some chunk = let no : ⊥ = omega (arith, some) in absurd no
   cut_more whole runs (head ∷ tail) rest sorted cut some chunk = record {
     done = cut.done ++ (head ∷ tail);
-    are = add_run cut.done runs cut.are head (head ∷ tail) below own refl;
+    are = add_run cut.done runs cut.are head (head ∷ tail) below (own_run head tail rest chunk) refl;
     is = cut.is ∙ sym (append_assoc cut.done (head ∷ tail) rest);
     above = All-push (λ h. All (λ y. cmp (key h) (key y) ≡ Less) rest) cut.are.heads head
         (All-weaker (λ h. All (λ y. cmp (key h) (key y) ≡ Less) ((head ∷ tail) ++ rest)) (λ h. All (λ y. cmp (key h) (key y) ≡ Less) rest)
@@ -181,17 +194,6 @@ module _ {X K : Type 0} (cmp : K → K → Ordering) (o : IsTotalOrder cmp) (key
       below =
           All-weaker (λ h. All (λ y. cmp (key h) (key y) ≡ Less) ((head ∷ tail) ++ rest)) (λ h. cmp (key h) (key head) ≡ Less)
           (λ h all. All-contains (λ y. cmp (key h) (key y) ≡ Less) ((head ∷ tail) ++ rest) head all (in_first head (tail ++ rest))) cut.are.heads cut.above
-
-      own_at : (k : ℕ) (d : X) → k < length (head ∷ tail) → same head (get_or ((head ∷ tail) ++ rest) k d) ≡ true
-      own_at zero d within = same_itself head
-      own_at (suc k) d within =
-          let next : k + 1 ≡ suc k = omega arith in
-          let lower : k < length (head ∷ tail) = omega (arith, within) in
-          same_trans head (get_or ((head ∷ tail) ++ rest) k d) (get_or ((head ∷ tail) ++ rest) (suc k) d) (own_at k d lower)
-          (subst (λ n. same (get_or ((head ∷ tail) ++ rest) k d) (get_or ((head ∷ tail) ++ rest) n d) ≡ true) next (chunk.0 k d (omega (arith, within))))
-
-      own : All (λ y. same head y ≡ true) (head ∷ tail)
-      own k d within = subst (λ y. same head y ≡ true) (get_or_append_left (head ∷ tail) rest d k within) (own_at k d within)
 
       up : IsSortedBy (comes_before cmp key) ((head ∷ tail) ++ rest)
       up = sorted_rest cut.done ((head ∷ tail) ++ rest) (subst (IsSortedBy (comes_before cmp key)) cut.is sorted)
@@ -208,7 +210,7 @@ module _ {X K : Type 0} (cmp : K → K → Ordering) (o : IsTotalOrder cmp) (key
           let step : comes_before cmp key first last ≡ false =
           subst (λ m. comes_before cmp key (get_or all m d) last ≡ false) one (up (n - 1) d (omega arith) (omega (arith, within, long, some))) in
           let less : cmp (key head) (key first) ≡ Less =
-          o.congr (key head) (key last) (key first) (equal_from (cmp (key head) (key last)) (own_at (n - 1) d (omega (arith, some))))
+          o.congr (key head) (key last) (key first) (equal_from (cmp (key head) (key last)) (own_at head tail rest chunk (n - 1) d (omega (arith, some))))
           ∙ less_neighbour last first step apart in
           let far : comes_before cmp key (get_or all (n + i) d) first ≡ false =
           sorted_far (comes_before cmp key) (ranks_by o key) all up n (n + i) d (omega arith) (omega (arith, within, long)) in

@@ -1,6 +1,7 @@
 -- What a program is seen as, by its fields.
-use Rattle.std.proofs.Common.{◌≡◌, ℕ, ◌+◌, ◌<◌, ◌≤◌, List, [], Some, None, true, false, Contains, length, get_or, refl, sym, ap, subst, ◌∙◌, arith}
-use Rattle.std.specs.Prelude.{slice_get}
+use Rattle.std.proofs.lemmas.List.Elements.{All-contains}
+use Rattle.std.proofs.Common.{◌≡◌, All, Option, ℕ, ◌+◌, ◌<◌, ◌≤◌, List, [], Some, None, true, false, Contains, length, get_or, refl, sym, ap, subst, ◌∙◌, arith}
+use Rattle.std.specs.Prelude.{slice_get, MatchOption}
 use Rattle.std.specs.List.{list_any}
 use Rattle.std.proofs.lemmas.List.{length-map, get_or-map}
 use Rattle.std.proofs.lemmas.Option.{slice_get-get_or, slice_get_within, get_or_from_slice_get}
@@ -10,9 +11,14 @@ use Rattle.prolog_terms.proofs.ViewLemmas.{some_once}
 use Rattle.module_table.specs.declared.file_facts.FileFacts.{FileFacts}
 use Rattle.file_library.specs.SortedOut.{see_loaded}
 use Rattle.import_rules.specs.declared.names.PredName.{PredName}
+use Rattle.import_rules.specs.declared.shared_names.Exporter.{Exporter}
 use Rattle.import_rules.specs.declared.places.Places.{Places}
 use Rattle.import_rules.specs.declared.tables.ProgramTables.{ProgramTables}
 use Rattle.import_rules.specs.Names.{is_same, pred_name}
+use Rattle.import_rules.specs.Meanings.{IsNotOffered, IsShared}
+use Rattle.import_rules.specs.SharedNames.{exporters_at}
+use Rattle.import_rules.specs.TakenModules.{IsTaken, marked_at, module_name}
+use Rattle.import_rules.proofs.Marks.{no_index, one_index}
 use Rattle.import_rules.specs.Find.{found_in, first_source, number_of, or_found}
 use Rattle.import_rules.specs.Numbers.{places_for, parts_in, see_places}
 use Rattle.import_rules.specs.OwnNames.{kept_at, own_name}
@@ -37,49 +43,62 @@ pub count_is : (p : ProgramTables) → length p.places.items ≡ length (see_pro
 unfolding see_program
 count_is p = sym (length-map p.places.items (name_of_places p.loaded.files.items))
 
-unfound : (p : ProgramTables) (owner name : List ℕ) (arity : ℕ) → list_any (is_same (pred_name owner name arity)) (see_program p).predicates ≡ false
-    → list_any (is_same (pred_name owner name arity)) p.imports.names ≡ false
-    → ((n : ℕ) (q : PredName) → slice_get p.imports.offered n ≡ Some (pred_name [] name arity)
-    → slice_get (see_program p).predicates (get_or p.imports.sources.items n 0) ≡ Some q → Contains p.imports.taken (pred_name owner q.module 0) → ⊥)
-    → found (see_program p) owner name arity ≡ None
-unfolding found see_program
-unfound p owner name arity other none not_taken = p.meant.unnamed (pred_name owner name arity) other none not_taken
-
--- the name is neither kept nor offered
-pub not_offered : (p : ProgramTables) (owner name : List ℕ) (arity : ℕ) → list_any (is_same (pred_name owner name arity)) (see_program p).predicates ≡ false
-    → list_any (is_same (pred_name owner name arity)) p.imports.names ≡ false → list_any (is_same (pred_name [] name arity)) p.imports.offered ≡ false
-    → found (see_program p) owner name arity ≡ None
-not_offered p owner name arity other none apart =
-    unfound p owner name arity other none
-    (λ n q here is has.
-    let bare = pred_name [] name arity in
-    let passes : list_any (is_same bare) p.imports.offered ≡ true = any_there (is_same bare) p.imports.offered bare (stands_in p.imports.offered n bare here) (same_itself bare) in
-    let both : true ≡ false = sym passes ∙ apart in
-    cc)
+-- the first of the names that files offer isn't there
+pub not_offered : (p : ProgramTables) (wanted : PredName) → list_any (is_same (pred_name [] wanted.name wanted.arity)) p.imports.offered ≡ false
+    → IsNotOffered (see_program p).predicates p.imports wanted
+not_offered p wanted apart n q here is has = no_index p.imports.offered (pred_name [] wanted.name wanted.arity) n apart here
 
 -- it is offered by a module that isn't taken
-pub not_taken : (p : ProgramTables) (owner name : List ℕ) (arity at : ℕ) (q : PredName) → list_any (is_same (pred_name owner name arity)) (see_program p).predicates ≡ false
-    → list_any (is_same (pred_name owner name arity)) p.imports.names ≡ false → slice_get p.imports.offered at ≡ Some (pred_name [] name arity)
-    → slice_get (see_program p).predicates (get_or p.imports.sources.items at 0) ≡ Some q → list_any (is_same (pred_name owner q.module 0)) p.imports.taken ≡ false
-    → found (see_program p) owner name arity ≡ None
-not_taken p owner name arity at q other none here is apart =
-    unfound p owner name arity other none
-    (λ n r there so has.
-    let bare = pred_name [] name arity in
-    let one : n ≡ at = some_once (sym (number_at p.imports.offered bare n p.meant.in_order there) ∙ number_at p.imports.offered bare at p.meant.in_order here) in
+pub not_taken : (p : ProgramTables) (wanted : PredName) (at : ℕ) (q : PredName) → slice_get p.imports.offered at ≡ Some (pred_name [] wanted.name wanted.arity)
+    → slice_get (see_program p).predicates (get_or p.imports.sources.items at 0) ≡ Some q → (IsTaken p.imports.taken wanted.module q.module → ⊥)
+    → IsNotOffered (see_program p).predicates p.imports wanted
+not_taken p wanted at q here is apart n r there so has =
+    let one : n ≡ at = one_index p.imports.offered (pred_name [] wanted.name wanted.arity) n at p.meant.in_order there here in
     let same : r ≡ q = some_once (sym so ∙ ap (λ k. slice_get (see_program p).predicates (get_or p.imports.sources.items k 0)) one ∙ is) in
-    let pair = pred_name owner q.module 0 in
-    let passes : list_any (is_same pair) p.imports.taken ≡ true =
-    any_there (is_same pair) p.imports.taken pair (subst (λ (s : PredName). Contains p.imports.taken (pred_name owner s.module 0)) same has) (same_itself pair) in
-    let both : true ≡ false = sym passes ∙ apart in
-    cc)
+    apart (subst (λ (s : PredName). IsTaken p.imports.taken wanted.module s.module) same has)
 
 -- it is offered by a module that is taken
 pub taken_at : (p : ProgramTables) (owner name : List ℕ) (arity at : ℕ) (q : PredName) → list_any (is_same (pred_name owner name arity)) (see_program p).predicates ≡ false
     → slice_get p.imports.offered at ≡ Some (pred_name [] name arity) → slice_get (see_program p).predicates (get_or p.imports.sources.items at 0) ≡ Some q
-    → Contains p.imports.taken (pred_name owner q.module 0) → found (see_program p) owner name arity ≡ Some (get_or p.imports.sources.items at 0)
+    → IsTaken p.imports.taken owner q.module → found (see_program p) owner name arity ≡ Some (get_or p.imports.sources.items at 0)
 unfolding found see_program
 taken_at p owner name arity at q other here is has = p.meant.taken at (pred_name owner name arity) q other here is has
+
+-- one of those who export it is a module that is taken
+pub shared_at : (p : ProgramTables) (owner name : List ℕ) (arity : ℕ) (exporter : Exporter) → list_any (is_same (pred_name owner name arity)) (see_program p).predicates ≡ false
+    → IsShared p.imports (pred_name owner name arity) exporter → found (see_program p) owner name arity ≡ Some exporter.source
+unfolding found see_program
+shared_at p owner name arity exporter other is = p.meant.shared (pred_name owner name arity) exporter other is
+
+-- none of them is
+pub unfound : (p : ProgramTables) (owner name : List ℕ) (arity : ℕ) → list_any (is_same (pred_name owner name arity)) (see_program p).predicates ≡ false
+    → list_any (is_same (pred_name owner name arity)) p.imports.names ≡ false → IsNotOffered (see_program p).predicates p.imports (pred_name owner name arity)
+    → ((exporter : Exporter) → IsShared p.imports (pred_name owner name arity) exporter → ⊥) → found (see_program p) owner name arity ≡ None
+unfolding found see_program
+unfound p owner name arity other none first not_shared = p.meant.unnamed (pred_name owner name arity) other none first not_shared
+
+-- what the walk over those who export a name answers is what is found
+pub walked : (p : ProgramTables) (owner name : List ℕ) (arity at user : ℕ) (r : Option ℕ) → list_any (is_same (pred_name owner name arity)) (see_program p).predicates ≡ false
+    → list_any (is_same (pred_name owner name arity)) p.imports.names ≡ false → IsNotOffered (see_program p).predicates p.imports (pred_name owner name arity)
+    → slice_get p.imports.shared.names at ≡ Some (pred_name [] name arity) → slice_get p.imports.taken.modules user ≡ Some (module_name owner)
+    → MatchOption r (All (λ (e : Exporter). marked_at p.imports.taken.rows.items user e.from ≡ false) (exporters_at p.imports.shared.exporters.items at))
+    (λ source. (e : Exporter) × Contains (exporters_at p.imports.shared.exporters.items at) e × (e.source ≡ source) × (marked_at p.imports.taken.rows.items user e.from ≡ true))
+    → r ≡ found (see_program p) owner name arity
+walked p owner name arity at user None other none first named is_user apart =
+    sym
+    (unfound p owner name arity other none first
+    (λ e is.
+    let place : is.at ≡ at = one_index p.imports.shared.names (pred_name [] name arity) is.at at p.meant.shared_in_order is.named named in
+    let own : is.user ≡ user = one_index p.imports.taken.modules (module_name owner) is.user user p.meant.modules_in_order is.is_user is_user in
+    let there : Contains (exporters_at p.imports.shared.exporters.items at) e = subst (λ n. Contains (exporters_at p.imports.shared.exporters.items n) e) place is.there in
+    let both : true ≡ false =
+    sym is.is_taken ∙ (λ j. marked_at p.imports.taken.rows.items (own j) e.from)
+    ∙ All-contains (λ (k : Exporter). marked_at p.imports.taken.rows.items user k.from ≡ false) (exporters_at p.imports.shared.exporters.items at) e apart there in
+    cc))
+walked p owner name arity at user (Some source) other none first named is_user (e, there, is, taken) =
+    sym
+    (shared_at p owner name arity e other (record { at = at; user = user; named = named; there = there; is_user = is_user; is_taken = taken })
+    ∙ ap (λ n. Some n) is)
 
 pub source_below : (p : ProgramTables) (at : ℕ) → at < length p.imports.offered → get_or p.imports.sources.items at 0 < length (see_program p).predicates
 unfolding see_program

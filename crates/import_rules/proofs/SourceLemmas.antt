@@ -75,7 +75,7 @@ put_behind predicates items names targets i number is are = record {
 }
 
 -- the items so far, and the next one
-next_item : (items : List Item) (n : ℕ) (d : Item) → n < length items
+pub next_item : (items : List Item) (n : ℕ) (d : Item) → n < length items
     → map see_item (take n items) ++ see_item (get_or items n d) ∷ [] ≡ map see_item (take (n + 1) items)
 next_item items n d within =
     sym (ap (map see_item) (take_more items n d within) ∙ map-append see_item (take n items) (get_or items n d ∷ []))

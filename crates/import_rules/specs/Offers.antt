@@ -61,11 +61,3 @@ all_pairs files = flat_map (λ (user : Facts). flat_map (pairs_of_load files use
 -- the names of the items rise
 abbrev pub AreRisingItems : List Item → Type 0
 AreRisingItems items = AllPairs (λ (i j : Imports). pred_cmp i.into j.into ≡ Less) (map see_item items)
-
--- what modules import, in three parts: items that are kept, what files offer, and which modules take all of it
-pub record AreImported (files : List Facts) (some offered paired : List Imports) : Type 0 where
-  pub shared : List Imports
-  pub are_shared : AreClashes (offers files) shared
-  pub are_kept : AreFirsts (kept_items files shared) some
-  pub are_offered : AreFirsts (offers files) offered
-  pub are_paired : AreFirsts (all_pairs files) paired

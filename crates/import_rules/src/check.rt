@@ -6,7 +6,7 @@ ghost use Rattle.import_rules.specs.Clashes.{see_item};
 ghost use Rattle.import_rules.specs.Files.{AreNumbered};
 ghost use Rattle.import_rules.specs.Findings.{see_findings};
 ghost use Rattle.import_rules.specs.Flaws.{AreImportFaults, clash_flaw};
-ghost use Rattle.import_rules.specs.Offers.{AreImported};
+ghost use Rattle.import_rules.specs.Imported.{AreImported};
 ghost use Rattle.file_library.specs.Loaded.{WasLoaded};
 
 use crate::clash::{Imported, find_imports};
@@ -15,21 +15,24 @@ use crate::gather::gather;
 use crate::item::Item;
 use crate::known_file::known_files;
 use crate::lookups::Lookups;
+use crate::module_clashes::all_clashes;
 use crate::offers::all_offers;
-use crate::pairs::all_pairs;
 use crate::placed::placed;
 use crate::predicates::Predicates;
+use crate::shared_names::SharedNames;
+use crate::taken_modules::TakenModules;
 use clause_text::Cause;
 use file_library::{Fault, Loaded};
 use std::alloc::{AllocError, Global};
 
-/// What modules import, each list in order of names and with one item for each: what loads list
-/// and what two files export, what files export, and which modules take all exports of others.
+/// What modules import: what loads list and what files export, each in order of names and with one
+/// item for each; what two files export; and which modules take all exports of which others.
 #[derive(Drop)]
 pub(crate) struct ImportItems<'a> {
     pub kept: Vec<Item<'a>>,
     pub offered: Vec<Item<'a>>,
-    pub taken: Vec<Item<'a>>,
+    pub shared: SharedNames,
+    pub taken: TakenModules,
 }
 
 /// The import errors in order of file, offset and cause, and what modules import.
@@ -49,8 +52,7 @@ pub(crate) fn check_imports<'a>(
     requires loaded { WasLoaded (see_loaded loaded.now) }
     requires numbered { AreNumbered (see_loaded loaded.now).files predicates.now }
     ensures faults { IfOk result (λ checked. AreImportFaults (see_loaded loaded.now) checked.faults.items) }
-    ensures imports { IfOk result (λ checked. AreImported (see_loaded loaded.now).files (map see_item checked.imports.kept.items)
-        (map see_item checked.imports.offered.items) (map see_item checked.imports.taken.items)) }
+    ensures imports { IfOk result (λ checked. AreImported (see_loaded loaded.now).files predicates.now checked.imports) }
 {
     let mut lookups = Lookups {
         known: known_files(alloc, &loaded.files)?,
@@ -60,17 +62,19 @@ pub(crate) fn check_imports<'a>(
     };
     let offers = all_offers(alloc, &lookups)?;
     let Imported { firsts, clashes } = find_imports(alloc, offers)?;
-    lookups.shared = clashes;
     let found = gather(alloc, &lookups)?;
-    let imported = find_imports(alloc, found.items)?;
-    let pairs = all_pairs(alloc, &lookups)?;
-    let taken = find_imports(alloc, pairs)?;
-    let flaws = with_clashes(found.flaws, &imported.clashes)?;
+    let listed = find_imports(alloc, found.items)?;
+    lookups.shared = clashes;
+    let clashing = all_clashes(alloc, &lookups)?;
+    let taken = TakenModules::make(alloc, &lookups)?;
+    let shared = SharedNames::make(alloc, &lookups, &taken)?;
+    let flaws = with_clashes(found.flaws, &clashing)?;
     let faults = placed(alloc, &loaded.texts, flaws)?;
     let imports = ImportItems {
-        kept: imported.firsts,
+        kept: listed.firsts,
         offered: firsts,
-        taken: taken.firsts,
+        shared,
+        taken,
     };
     Ok(Checked { faults, imports })
 }

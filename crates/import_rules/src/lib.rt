@@ -23,6 +23,7 @@ mod clash;
 mod finding;
 mod flaws;
 mod gather;
+mod home;
 mod imported;
 mod item;
 mod known_file;
@@ -30,6 +31,7 @@ mod laws;
 mod lookups;
 mod meanings;
 mod meta_places;
+mod module_clashes;
 mod name_table;
 mod names;
 mod number;
@@ -43,11 +45,14 @@ mod places;
 mod predicates;
 mod program;
 mod resolve;
+mod shared_names;
 mod spots;
 mod stop;
 mod tables;
 mod taken;
+mod taken_modules;
 
+pub use home::Home;
 pub use laws::{
     found_means, one_list_of_faults, one_meaning, one_numbering, one_program, places_told,
 };

@@ -9,7 +9,8 @@ ghost use Rattle.import_rules.specs.Items.{foreign_items};
 ghost use Rattle.import_rules.specs.KnownFiles.{AreRising};
 ghost use Rattle.import_rules.specs.Meanings.{AreTargets};
 ghost use Rattle.import_rules.specs.Names.{pred_cmp};
-ghost use Rattle.import_rules.specs.Offers.{AreImported, AreRisingItems};
+ghost use Rattle.import_rules.specs.Imported.{AreImported};
+ghost use Rattle.import_rules.specs.Offers.{AreRisingItems};
 ghost use Rattle.import_rules.specs.Sources.{AreSources};
 
 use crate::check::ImportItems;
@@ -17,13 +18,15 @@ use crate::item::Item;
 use crate::name_table::NameTable;
 use crate::names::PredName;
 use crate::predicates::Predicates;
+use crate::shared_names::SharedNames;
+use crate::taken_modules::TakenModules;
 use prolog_tokens::Text;
 use std::alloc::{AllocError, Global};
 
 /// What modules import, for look-ups.
 #[derive(Drop)]
 pub(crate) struct ImportTables {
-    /// The names that loads list, and those of loads of all exports that two files export.
+    /// The names that loads list.
     pub names: NameTable,
     /// For each of these names the number of the predicate that it means.
     pub targets: Vec<u32>,
@@ -31,8 +34,10 @@ pub(crate) struct ImportTables {
     pub offered: NameTable,
     /// For each of these names the number of a predicate that a file exports under it.
     pub sources: Vec<u32>,
-    /// Names made of two modules of which the first takes all exports of a file of the second.
-    pub taken: NameTable,
+    /// The names that two files export, with all who export them.
+    pub shared: SharedNames,
+    /// Which modules take all exports of which others.
+    pub taken: TakenModules,
 }
 
 /// Imported names one after another, and for each the number of the predicate that it means.
@@ -80,7 +85,7 @@ fn find_sources(
 }
 
 /// The names that the items give.
-fn names_given(alloc: Global, items: &[Item<'_>]) -> Result<Vec<PredName>, AllocError>
+pub(crate) fn names_given(alloc: Global, items: &[Item<'_>]) -> Result<Vec<PredName>, AllocError>
     ensures { IfOk result (λ names. names.items ≡ map (λ (i : Imports). i.into) (map see_item items.now)) }
 {
     let mut names = Vec::with_capacity(alloc, items.len())?;
@@ -94,24 +99,22 @@ fn names_given(alloc: Global, items: &[Item<'_>]) -> Result<Vec<PredName>, Alloc
 pub(crate) fn find_meanings(
     alloc: Global,
     predicates: &Predicates<'_>,
-    imports: &ImportItems<'_>,
+    imports: ImportItems<'_>,
 ) -> Result<ImportTables, AllocError>
     requires predicates { AllPairs (λ p q. pred_cmp p q ≡ Less) predicates.now }
-    requires kept { AreRisingItems imports.now.kept.items }
-    requires offered { AreRisingItems imports.now.offered.items }
-    requires taken { AreRisingItems imports.now.taken.items }
+    requires kept { AreRisingItems imports.kept.items }
+    requires offered { AreRisingItems imports.offered.items }
     ensures { IfOk result (λ made. (files : List Facts) → AreRising files → AreNumbered files predicates.now → AreClashes (foreign_items files) []
-        → AreImported files (map see_item imports.now.kept.items) (map see_item imports.now.offered.items) (map see_item imports.now.taken.items)
-        → AreTargets files predicates.now made) }
+        → AreImported files predicates.now imports.entry → AreTargets files predicates.now made) }
 {
     let kept = find_sources(alloc, predicates, &imports.kept)?;
     let offered = find_sources(alloc, predicates, &imports.offered)?;
-    let taken = names_given(alloc, &imports.taken)?;
     Ok(ImportTables {
         names: NameTable::make(alloc, kept.names)?,
         targets: kept.targets,
         offered: NameTable::make(alloc, offered.names)?,
         sources: offered.targets,
-        taken: NameTable::make(alloc, taken)?,
+        shared: imports.shared,
+        taken: imports.taken,
     })
 }

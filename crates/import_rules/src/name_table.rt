@@ -50,7 +50,7 @@ impl Model for NameTable {
 
 /// The hash of a name, from those of its module and of its own name. The latter is added last, so
 /// names of one module whose own hashes are adjacent have adjacent hashes.
-fn joint_hash(owner: u32, name: u32, arity: u32) -> u32
+pub(crate) fn joint_hash(owner: u32, name: u32, arity: u32) -> u32
     ensures { result ≡ joint_hash owner name arity }
 {
     owner

@@ -126,6 +126,16 @@ impl OwnNames {
         Ok(OwnNames { lists })
     }
 
+    /// What is recorded of the names of the file of that index, by their numbers.
+    pub(crate) fn list(&self, file: u32) -> &[OwnName]
+        ensures { (number : ℕ) → kept_in result.now number ≡ kept_at self.now.lists.items file number }
+    {
+        match self.lists.get(file as usize) {
+            Some(list) => list,
+            None => &[],
+        }
+    }
+
     /// What is recorded of the name of that number in the file of that index.
     pub(crate) fn get(&self, file: u32, number: u32) -> OwnName
         ensures { result ≡ kept_at self.now.lists.items file number }

@@ -4,9 +4,11 @@ ghost use Rattle.std.specs.Prelude.{◌≡◌, ◌++◌, ◌≤◌, [], All, IfO
 ghost use Rattle.std.specs.Bool.{OnTrue};
 ghost use Rattle.module_table.specs.Facts.{Facts, see_facts};
 ghost use Rattle.import_rules.specs.Names.{is_same, pred_cmp, pred_name};
+ghost use Rattle.import_rules.specs.NameTable.{name_hash};
 ghost use Rattle.import_rules.specs.Parts.{name_of_part, parts_to, see_name, see_part};
 ghost use Rattle.import_rules.specs.Numbers.{parts_in};
 
+use crate::name_table::joint_hash;
 use crate::names::NameView;
 use module_table::FileFacts;
 use std::alloc::{AllocError, Global};
@@ -46,6 +48,23 @@ pub(crate) fn part_name<'a>(files: &'a [FileFacts], part: &Part) -> NameView<'a>
         name: file.names.text(defined.name),
         arity: defined.arity,
     }
+}
+
+/// The hash of that name.
+pub(crate) fn part_hash(files: &[FileFacts], part: &Part) -> u32
+    ensures { result ≡ name_hash (name_of_part files.now part.now) }
+{
+    let Some(file) = files.get(part.file as usize) else {
+        return 0;
+    };
+    let Some(defined) = file.defined.get(part.part as usize) else {
+        return 0;
+    };
+    joint_hash(
+        file.names.hash(defined.module),
+        file.names.hash(defined.name),
+        defined.arity,
+    )
 }
 
 /// Whether both predicates are in one file and have one module, by its number in the names of the

@@ -2,11 +2,12 @@
 
 ghost use Rattle.std.specs.Prelude.{◌≡◌, IfOk};
 ghost use Rattle.import_rules.specs.Names.{is_same, pred_name};
+ghost use Rattle.import_rules.specs.NameTable.{name_hash};
 ghost use Rattle.import_rules.specs.Numbers.{see_places};
 ghost use Rattle.import_rules.specs.Parts.{name_of_places, places_of_parts, see_name};
 
 use crate::names::NameView;
-use crate::part::{Part, no_name, part_name};
+use crate::part::{Part, no_name, part_hash, part_name};
 use module_table::FileFacts;
 use std::alloc::{AllocError, Global};
 
@@ -37,6 +38,23 @@ impl Places {
             return no_name();
         };
         part_name(
+            files,
+            &Part {
+                file: first.0,
+                part: first.1,
+            },
+        )
+    }
+
+    /// The hash of the name of the predicate, made of the hashes that the names of its file keep. No
+    /// text is read.
+    pub(crate) fn hash(&self, files: &[FileFacts]) -> u32
+        ensures { result ≡ name_hash (name_of_places files.now self.now) }
+    {
+        let Some(first) = self.as_slice().first() else {
+            return 0;
+        };
+        part_hash(
             files,
             &Part {
                 file: first.0,

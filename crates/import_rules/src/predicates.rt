@@ -63,8 +63,7 @@ fn hashes_of(
 {
     let mut hashes = Vec::with_capacity(alloc, predicates.len())?;
     for places in predicates {
-        let own = places.name(files);
-        hashes.push(name_hash(own.module, own.name, own.arity))?;
+        hashes.push(places.hash(files))?;
     }
     Ok(hashes)
 }

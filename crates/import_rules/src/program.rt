@@ -7,9 +7,10 @@ ghost use Rattle.file_library.specs.Spots.{AreSpots, IsSpotPlace};
 ghost use Rattle.import_rules.specs.Program.{see_program};
 
 use crate::names::{NameView, PredName};
+use crate::own_names::OwnName;
 use crate::tables::ProgramTables;
 use file_library::Loaded;
-use module_table::GoalArg;
+use module_table::{FileFacts, GoalArg};
 use prolog_tokens::Place;
 use std::alloc::{AllocError, Global};
 use std::marker::Model;
@@ -39,6 +40,8 @@ impl Model for Program {
 }
 
 impl Program {
+    ghost use Rattle.module_table.specs.Facts.{see_facts};
+    ghost use Rattle.import_rules.specs.Homes.{AreFound};
     ghost use Rattle.import_rules.specs.Parts.{see_name};
     ghost use Rattle.import_rules.specs.Program.{places_in, meta_in, meta_meant, found, IsKnown};
 
@@ -138,6 +141,16 @@ impl Program {
         ensures { result ≡ found self.now module.now name.now arity }
     {
         self.tables.find_numbered(file, number, module, name, arity)
+    }
+
+    /// The file at that index, and what is recorded of its names by their numbers: the predicates of
+    /// the file's module that it defines.
+    pub(crate) fn own_file(&self, file: u32) -> (&FileFacts, &[OwnName])
+        requires { file < length self.now.loaded.files }
+        ensures facts { slice_get self.now.loaded.files file ≡ Some (see_facts result.0.now) }
+        ensures kept { AreFound self.now result.0.now result.1.now }
+    {
+        self.tables.own_file(file)
     }
 
     /// The number of the predicate that has exactly this name, or None if no file defines it. A

@@ -56,7 +56,7 @@ fn meanings<'a>(
     if faults.len() > 0 {
         return Err(ImportStop::Faults(faults));
     }
-    Ok(find_meanings(alloc, predicates, &imports)?)
+    Ok(find_meanings(alloc, predicates, imports)?)
 }
 
 /// The program of what one call of `load_all` loaded, or why there is none. If there are more than

@@ -11,8 +11,7 @@ loop-places-preserved c =
     let n = c.loop-places.places-index in
     let item = c.places-item.result in
     let own = name_of_places files (get_or all n item) in
-    let hash : c.name_hash.result ≡ name_hash own =
-    c.name_hash.ensures ∙ ap name_hash c.name-own.ensures ∙ ap (λ p. name_hash (name_of_places files p)) c.places-item.is in
+    let hash : c.hash.result ≡ name_hash own = c.hash.ensures ∙ ap (λ p. name_hash (name_of_places files p)) c.places-item.is in
     c.in_ok-push.ensures.items
     ∙ (λ i. c.loop-places.invariant i ++ hash i ∷ [])
     ∙ sym

@@ -25,6 +25,3 @@ find_meanings-requires-clause-kept c = c.in_ok-faults.ensures.imports.are_kept.i
 
 pub find_meanings-requires-clause-offered : goal.find_meanings-requires-clause-offered
 find_meanings-requires-clause-offered c = c.in_ok-faults.ensures.imports.are_offered.in_order
-
-pub find_meanings-requires-clause-taken : goal.find_meanings-requires-clause-taken
-find_meanings-requires-clause-taken c = c.in_ok-faults.ensures.imports.are_paired.in_order
