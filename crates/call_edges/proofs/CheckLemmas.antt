@@ -27,7 +27,6 @@ use Rattle.import_rules.specs.Files.{pair_cmp, name_in, defined_in, all_defined,
 use Rattle.import_rules.specs.Numbers.{places_for, parts_in}
 use Rattle.import_rules.specs.Program.{Seen, places_in, places_at, IsKnown}
 use Rattle.import_rules.proofs.PartsSoFar.{element_at}
-use Rattle.call_edges.specs.declared.kept_calls.PieceCalls.{PieceCalls}
 use Rattle.call_edges.specs.declared.piece.OpenedPiece.{OpenedPiece}
 use Rattle.call_edges.specs.declared.piece.Piece.{Piece}
 use Rattle.module_table.specs.declared.goal_arg.GoalArg.TheVariants.{Goal}

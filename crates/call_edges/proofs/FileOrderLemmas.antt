@@ -1,5 +1,5 @@
 -- Predicates and the places at which they start.
-use Rattle.std.proofs.Common.{◌≡◌, ◌≤◌, ◌<◌, ◌++◌, ℕ, List, [], ◌∷◌, All, Some, None, Vec, Global, Result, Ok, Err, IfOk, length, get_or, map, slice_get, ap, sym, ◌∙◌, subst, refl, arith}
+use Rattle.std.proofs.Common.{◌≡◌, ◌<◌, ◌++◌, ℕ, List, [], ◌∷◌, All, Some, None, Vec, Global, Result, Ok, Err, IfOk, length, get_or, map, slice_get, ap, sym, ◌∙◌, subst, refl, arith}
 use Rattle.std.specs.Prelude.{Contains, MatchResult}
 use Rattle.std.specs.List.{AllZip, flat_map}
 use Rattle.std.specs.List.Sorted.{IsNonDecreasingBy, IsPermutation}

@@ -1,7 +1,6 @@
 -- The calls of predicates that are kept are those of their clauses.
-use Rattle.std.proofs.Common.{◌≡◌, ◌↔◌, inl, inr, ℕ, ◌+◌, ◌-◌, ◌*◌, ◌/◌, ◌%◌, ◌<◌, ◌≤◌, Bool, true, false, List, [], ◌∷◌, ◌++◌, Some, length, take, drop, get_or, map, ap, sym, ◌∙◌, subst, refl, arith}
+use Rattle.std.proofs.Common.{◌≡◌, ◌↔◌, inl, inr, ℕ, ◌+◌, ◌-◌, ◌*◌, ◌/◌, ◌%◌, ◌<◌, Bool, true, false, List, [], ◌∷◌, ◌++◌, Some, length, take, drop, get_or, ap, sym, ◌∙◌, subst, refl, arith}
 use Rattle.std.specs.Prelude.{Contains, slice_range}
-use Rattle.std.specs.List.{filter_map}
 use Rattle.std.proofs.lemmas.Bool.{cases_lt}
 use Rattle.std.proofs.lemmas.List.{drop-append-le, take-append-le, length-append, length-drop, map-append, take_all, get_or_append_left, get_or_push, get_or_read, length_push}
 use Rattle.std.proofs.lemmas.Option.{slice_get_read}
@@ -12,7 +11,6 @@ use Rattle.call_edges.specs.declared.kept_calls.PieceCalls.{PieceCalls}
 use Rattle.call_edges.specs.declared.placed_calls.PlacedCall.{PlacedCall}
 use Rattle.call_edges.specs.Goals.{Met, call, Adds}
 use Rattle.call_edges.specs.ProgramRows.{rows_of}
-use Rattle.call_edges.specs.Calls.{IsAmong}
 use Rattle.call_edges.specs.Bodies.{Body, bodies_in, IsMetInBody}
 use Rattle.call_edges.specs.CallPlaces.{CallAt, IsCalledIn, IsCallOf}
 use Rattle.call_edges.specs.KeptCalls.{body_calls, calls_in, same_call, has_call, AreCallsBetween, AreCallsIn, AreKept}

@@ -9,10 +9,14 @@ mod MeantLemmas
 mod AddedLemmas
 pub mod ListedMets
 pub mod WalkLemmas
+pub mod FreeNames
+pub mod PlainCalls
+pub mod ControlSides
 pub mod KeptMeanings
 pub mod PieceLemmas
 pub mod PlaceLemmas
 pub mod BodyLemmas
+pub mod HomeLemmas
 pub mod SuccessorLemmas
 pub mod CallLemmas
 pub mod BodyMets

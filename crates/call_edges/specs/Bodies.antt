@@ -1,11 +1,12 @@
 -- The bodies of a program, as lists.
-use Rattle.std.specs.Prelude.{ℕ, ◌+◌, ◌*◌, ◌≤◌, List, [], Option, Some, None, map, slice_get, option_map}
+use Rattle.std.specs.Prelude.{ℕ, ◌≡◌, ◌+◌, ◌*◌, ◌≤◌, List, [], Option, Some, None, map, slice_get, option_map}
 use Rattle.std.specs.List.{flat_map, filter_map, enumerate_from}
 use Rattle.prolog_terms.specs.Tree.{Tree}
 use Rattle.prolog_terms.specs.Terms.{tree_of}
 use Rattle.prolog_terms.specs.Weight.{weight}
 use Rattle.module_table.specs.Defined.{Predicate}
 use Rattle.module_table.specs.Facts.{Facts}
+use Rattle.import_rules.specs.declared.home.Home.{Home}
 use Rattle.import_rules.specs.Program.{Seen, places_in}
 use Rattle.module_table.specs.declared.goal_arg.GoalArg.TheVariants.{Goal}
 use Rattle.call_edges.specs.declared.body.Body.{Body as BodyKept}
@@ -20,6 +21,22 @@ pub record Body : Type 0 where
 
 abbrev pub see_body : BodyKept → Body
 see_body b = record { file = b.file; at = place b.owner.now b.role (tree_of b.term) }
+
+-- the names and the module are those of a file of the program
+pub record IsHomeOf (seen : Seen) (owner : List ℕ) (names : List (List ℕ)) (home : Home) : Type 0 where
+  pub program : home.program.now ≡ seen
+  pub module_ : home.facts.now.module ≡ owner
+  pub names_ : home.facts.now.names ≡ names
+
+-- the body stands in that module, with these names, and is kept with that file
+pub record IsBodyOf (home : Home) (owner : List ℕ) (names : List (List ℕ)) (b : BodyKept) : Type 0 where
+  pub home_ : b.home ≡ home
+  pub owner_ : b.owner.now ≡ owner
+  pub names_ : b.term.names.now ≡ names
+
+-- the body is kept with its file in the program
+abbrev pub IsAtHome : Seen → BodyKept → Type 0
+IsAtHome seen b = IsHomeOf seen b.owner.now b.term.names.now b.home
 
 abbrev pub body_in : ℕ → Place → Body
 body_in file at = record { file = file; at = at }

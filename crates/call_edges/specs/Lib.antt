@@ -2,6 +2,7 @@ pub mod Goals
 pub mod ProgramRows
 pub mod Seen
 pub mod Meant
+pub mod PlainCalls
 pub mod Listed
 pub mod Calls
 pub mod Bodies

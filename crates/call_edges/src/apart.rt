@@ -18,7 +18,7 @@ use module_table::GoalArg;
 use prolog_terms::{Parts, Term, TermKind, atom_name, inside, start_of};
 
 /// How many arguments are added to those that are written.
-fn added(role: GoalArg) -> u32
+pub fn added(role: GoalArg) -> u32
     ensures { result ≡ added role }
 {
     match role {
@@ -132,7 +132,12 @@ fn qualified<'a>(owner: &'a str, role: GoalArg, args: &Parts<'a>) -> Taken<'a>
 
 /// What a name means in a module, and what that predicate declares. The name is looked up only if a
 /// predicate declares something.
-fn meaning_of<'a>(program: &'a Program, owner: &'a str, name: &'a str, arity: u32) -> Meaning<'a>
+pub fn meaning_of<'a>(
+    program: &'a Program,
+    owner: &'a str,
+    name: &'a str,
+    arity: u32,
+) -> Meaning<'a>
     ensures meant { IsMeaning (found program.now owner.now name.now arity) result.meant }
     ensures declared { result.declared.now ≡ meta_meant program.now owner.now name.now arity }
 {

@@ -1,23 +1,25 @@
 //! The bodies of a program: those of clauses, and the goals of directives.
 
-ghost use Rattle.std.specs.Prelude.{◌≡◌, ◌<◌, ◌++◌, map, length, option_map, IfOk, OnOk};
+ghost use Rattle.std.specs.Prelude.{◌≡◌, ◌<◌, ◌++◌, All, map, length, option_map, IfOk, IfSome, OnOk};
 ghost use Rattle.prolog_terms.specs.Terms.{tree_of};
 ghost use Rattle.clause_text.specs.Clauses.{clause_trees};
 ghost use Rattle.module_table.specs.Facts.{goal_trees, see_facts};
+ghost use Rattle.import_rules.specs.Program.{Seen};
 ghost use Rattle.call_edges.specs.Calls.{body_of};
-ghost use Rattle.call_edges.specs.Bodies.{see_body, body_in, clause_bodies, bodies_in, goal_body, goals_of_file, goals_in};
+ghost use Rattle.call_edges.specs.Bodies.{IsAtHome, IsBodyOf, IsHomeOf, see_body, body_in, clause_bodies, bodies_in, goal_body, goals_of_file, goals_in};
 
 use clause_text::Clause;
-use import_rules::Program;
+use import_rules::{Home, Program};
 use module_table::{DirectiveGoals, FileFacts, GoalArg};
 use prolog_names::Names;
 use prolog_terms::{Term, binary};
 use std::alloc::{AllocError, Global};
 
-/// A body in a module: the index of its file among the files, the module, the role of the term, and
-/// the term.
+/// A body in a module: its file, the index of that among the files, the module, the role of the
+/// term, and the term.
 #[derive(Clone, Copy)]
 pub struct Body<'a> {
+    pub home: Home<'a>,
     pub file: u32,
     pub owner: &'a str,
     pub role: GoalArg,
@@ -26,12 +28,14 @@ pub struct Body<'a> {
 
 /// The body of a clause: of a rule a goal, and of a grammar rule a grammar body
 /// (ISO/IEC 13211-1, 7.4.3).
-fn body_of<'a>(file: u32, owner: &'a str, clause: &Term<'a>) -> Option<Body<'a>>
-    ensures { option_map see_body result ≡ option_map (body_in file) (body_of owner.now (tree_of clause.now)) }
+fn body_of<'a>(home: Home<'a>, file: u32, owner: &'a str, clause: &Term<'a>) -> Option<Body<'a>>
+    ensures body { option_map see_body result ≡ option_map (body_in file) (body_of owner.now (tree_of clause.now)) }
+    ensures home { IfSome result (IsBodyOf home.entry owner.now clause.now.names.now) }
 {
     let pair = binary(clause)?;
     if pair.name == ":-" {
         return Some(Body {
+            home,
             file,
             owner,
             role: GoalArg::Goal(0),
@@ -40,6 +44,7 @@ fn body_of<'a>(file: u32, owner: &'a str, clause: &Term<'a>) -> Option<Body<'a>>
     }
     if pair.name == "-->" {
         return Some(Body {
+            home,
             file,
             owner,
             role: GoalArg::Grammar,
@@ -51,16 +56,20 @@ fn body_of<'a>(file: u32, owner: &'a str, clause: &Term<'a>) -> Option<Body<'a>>
 
 /// Adds the bodies of clauses of a module, whose names are numbers in `names`.
 fn push_bodies<'a>(
+    home: Home<'a>,
     file: u32,
     owner: &'a str,
     names: &'a Names,
     clauses: &'a [Clause],
     bodies: &mut Vec<Body<'a>>,
 ) -> Result<(), AllocError>
-    ensures { OnOk result (map see_body bodies.new.items ≡ map see_body bodies.old.items ++ clause_bodies file owner.now (clause_trees names.now clauses.now)) }
+    ensures bodies { OnOk result (map see_body bodies.new.items
+        ≡ map see_body bodies.old.items ++ clause_bodies file owner.now (clause_trees names.now clauses.now)) }
+    ensures home { OnOk result ((seen : Seen) → IsHomeOf seen owner.now names.now home.entry
+        → All (IsAtHome seen) bodies.old.items → All (IsAtHome seen) bodies.new.items) }
 {
     for clause in clauses {
-        let Some(body) = body_of(file, owner, &clause.term(names)) else {
+        let Some(body) = body_of(home, file, owner, &clause.term(names)) else {
             continue;
         };
         bodies.push(body)?;
@@ -75,13 +84,15 @@ pub fn push_bodies_of<'a>(
     bodies: &mut Vec<Body<'a>>,
 ) -> Result<(), AllocError>
     requires { node < length program.now.predicates }
-    ensures { OnOk result (map see_body bodies.new.items ≡ map see_body bodies.old.items ++ bodies_in program.now node) }
+    ensures bodies { OnOk result (map see_body bodies.new.items ≡ map see_body bodies.old.items ++ bodies_in program.now node) }
+    ensures home { OnOk result (All (IsAtHome program.now) bodies.old.items → All (IsAtHome program.now) bodies.new.items) }
 {
-    let files = &program.loaded().files;
     for place in program.places_of(node) {
-        let file = &files[place.0 as usize];
+        let home = Home::of(program, place.0);
+        let file = home.facts;
         let predicate = &file.defined[place.1 as usize];
         push_bodies(
+            home,
             place.0,
             file.module.as_str(),
             &file.names,
@@ -108,6 +119,7 @@ pub fn bodies_of<'a>(
 
 /// Adds the goals of a directive of a file.
 fn push_goals_in<'a>(
+    home: Home<'a>,
     place: u32,
     file: &'a FileFacts,
     goals: &'a DirectiveGoals,
@@ -118,6 +130,7 @@ fn push_goals_in<'a>(
 {
     for end in &goals.ends {
         bodies.push(Body {
+            home,
             file: place,
             owner: file.module.as_str(),
             role: GoalArg::Goal(0),
@@ -133,6 +146,7 @@ fn push_goals_in<'a>(
 
 /// Adds the goals of the directives of a file.
 fn push_goals<'a>(
+    home: Home<'a>,
     place: u32,
     file: &'a FileFacts,
     bodies: &mut Vec<Body<'a>>,
@@ -140,7 +154,7 @@ fn push_goals<'a>(
     ensures { OnOk result (map see_body bodies.new.items ≡ map see_body bodies.old.items ++ goals_of_file (place, see_facts file.now)) }
 {
     for goals in &file.goals {
-        push_goals_in(place, file, goals, bodies)?;
+        push_goals_in(home, place, file, goals, bodies)?;
     }
     Ok(())
 }
@@ -151,8 +165,9 @@ pub fn goals_of<'a>(alloc: Global, program: &'a Program) -> Result<Vec<Body<'a>>
 {
     program.is_known();
     let mut bodies = Vec::new(alloc);
-    for (place, file) in program.loaded().files.iter().enumerate() {
-        push_goals(place as u32, file, &mut bodies)?;
+    for (at, file) in program.loaded().files.iter().enumerate() {
+        let place = at as u32;
+        push_goals(Home::of(program, place), place, file, &mut bodies)?;
     }
     Ok(bodies)
 }

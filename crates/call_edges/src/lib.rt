@@ -26,6 +26,7 @@
 
 mod apart;
 mod body;
+mod by_number;
 mod calls;
 mod check;
 mod faults;
@@ -46,6 +47,7 @@ mod role;
 mod roots;
 mod table;
 mod unresolved;
+mod walk_home;
 mod walking;
 
 pub use calls::Calls;

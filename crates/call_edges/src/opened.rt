@@ -4,7 +4,7 @@ ghost use Rattle.std.specs.Prelude.{◌≡◌, ◌<◌, ◌↔◌, true, All, Co
 ghost use Rattle.call_edges.specs.ProgramRows.{rows_of};
 ghost use Rattle.call_edges.specs.Goals.{Adds};
 ghost use Rattle.call_edges.specs.Calls.{GoesTo, IsAmong};
-ghost use Rattle.call_edges.specs.Bodies.{see_body, bodies_in, IsLight, IsMetInBody};
+ghost use Rattle.call_edges.specs.Bodies.{see_body, bodies_in, IsAtHome, IsLight, IsMetInBody};
 ghost use Rattle.call_edges.specs.FaultPlaces.{IsFaultIn};
 ghost use Rattle.call_edges.specs.CallLists.{IsOpened};
 ghost use Rattle.call_edges.specs.CallPlaces.{CallAt, IsCalledIn, IsCallOf};
@@ -14,7 +14,7 @@ use crate::body::{Body, push_bodies_of};
 use crate::faults::push_places;
 use crate::found::{Found, Opening, push_found};
 use crate::role::Met;
-use crate::walking::walk;
+use crate::walk_home::walk_home;
 use import_rules::Program;
 use std::alloc::{AllocError, Global};
 
@@ -46,7 +46,8 @@ fn found_in<'a>(
     found: &mut Found<'a>,
     faults: &mut Vec<(u32, u32)>,
 ) -> Result<(), AllocError>
-    requires { All IsLight (map see_body bodies.now) }
+    requires light { All IsLight (map see_body bodies.now) }
+    requires home { All (IsAtHome program.now) bodies.now }
     ensures callees { OnOk result (Adds
         (GoesTo program.now (IsAmong (IsMetInBody (rows_of program.now)) (map see_body bodies.now)))
         found.old.callees.items found.new.callees.items) }
@@ -56,7 +57,7 @@ fn found_in<'a>(
 {
     for body in bodies {
         met.clear();
-        walk(alloc, program, &body.term, body.owner, body.role, met)?;
+        walk_home(alloc, &body.home, &body.term, body.role, met)?;
         push_found(program, opening, body.file, met, found)?;
         push_places(body.file, met, faults)?;
     }

@@ -12,6 +12,7 @@ ghost use Rattle.call_edges.specs.Seen.{see_met, see_mets, see_standing};
 ghost use Rattle.import_rules.specs.Program.{Seen};
 
 use crate::apart::take_apart;
+use crate::by_number::plain_call;
 use crate::role::{Meant, Met, Row, Standing};
 use crate::table::is_one_of;
 use import_rules::Program;
@@ -128,7 +129,7 @@ fn name_number(term: &Term) -> u32 {
     }
 }
 
-fn push_met<'a>(met: &mut Vec<Met<'a>>, one: Option<Met<'a>>) -> Result<(), AllocError>
+pub fn push_met<'a>(met: &mut Vec<Met<'a>>, one: Option<Met<'a>>) -> Result<(), AllocError>
     ensures mets { OnOk result (see_mets met.new.items ≡ see_mets met.old.items ++ option_to_list (option_map see_met one.entry)) }
     ensures kept { OnOk result (met.new.items ≡ met.old.items ++ option_to_list one.entry) }
 {
@@ -158,6 +159,9 @@ pub fn walk<'a>(
         (see_mets met.old.items) (see_mets met.new.items)) }
     ensures meant { OnOk result (AreMeant program.now met.old.items → AreMeant program.now met.new.items) }
 {
+    if let Some(call) = plain_call(program, term, owner, role) {
+        return push_met(met, Some(call));
+    }
     match term.kind() {
         TermKind::Var => Ok(()),
         TermKind::Const { kind, .. } => push_met(met, constant_met(role, kind, term.span().from)),

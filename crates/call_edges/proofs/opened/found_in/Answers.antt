@@ -1,5 +1,8 @@
-use Rattle.std.proofs.Common.{◌≡◌, map, get_or, ap, sym, ◌∙◌, subst, arith}
+use Rattle.std.proofs.Common.{◌≡◌, ℕ, List, map, get_or, ap, sym, ◌∙◌, subst, arith}
 use Rattle.std.proofs.lemmas.List.{length-map, get_or-map}
+use Rattle.prolog_terms.specs.Terms.{tree_of}
+use Rattle.import_rules.specs.Program.{Seen}
+use Rattle.call_edges.specs.Goals.{place, AddsMet}
 use Rattle.call_edges.specs.ProgramRows.{rows_of}
 use Rattle.call_edges.specs.Meant.{AreMeant}
 use Rattle.call_edges.specs.Seen.{see_mets}
@@ -10,25 +13,35 @@ use Rattle.call_edges.specs.CallPlaces.{CallAt, IsCalledIn as IsPlacedIn}
 use Rattle.call_edges.specs.PlacedSeen.{see_calls}
 use Rattle.call_edges.proofs.AddsLemmas.{adds_as}
 use Rattle.call_edges.proofs.AmongLemmas.{among_more, among_all, among_map}
+use Rattle.call_edges.proofs.HomeLemmas.{home_at}
 use Rattle.call_edges.proofs.KeptMeanings.{none_meant}
 use Rattle.call_edges.proofs.CallLemmas.{IsCalledIn, body_goes, bodies_go}
 use Rattle.call_edges.proofs.FaultLemmas.{IsSeenFault, body_faults, seen_faults}
 use Rattle.call_edges.proofs.PlacedCallLemmas.{body_called}
 use Rattle.call_edges.proofs.opened.found_in.Goals as goal
 
-pub walk-requires : goal.walk-requires
-walk-requires c =
+pub walk_home-requires-clause-small : goal.walk_home-requires-clause-small
+walk_home-requires-clause-small c =
     let bodies = c.args.bodies.now in
     let k = c.loop-body.body-index in
     let body = c.body-item.result in
     let within = c.loop-body-test.true in
     let read : get_or (map see_body bodies) k (see_body body) ≡ see_body body = get_or-map see_body bodies k body (see_body body) within ∙ ap see_body (sym c.body-item.is) in
-    subst IsLight read (c.requires k (see_body body) (omega (arith, within, length-map bodies see_body)))
+    subst IsLight read (c.requires.light k (see_body body) (omega (arith, within, length-map bodies see_body)))
+
+pub walk_home-requires-clause-names : goal.walk_home-requires-clause-names
+walk_home-requires-clause-names c =
+    let at_home = home_at c.args.program.now c.args.bodies.now c.loop-body.body-index c.body-item.result c.requires.home c.loop-body-test.true c.body-item.is in
+    sym at_home.names_
 
 pub push_found-requires : goal.push_found-requires
 push_found-requires c =
     let seen = c.args.program.now in
-    subst (AreMeant seen) (sym c.deref.ensures.value) (c.in_ok-walk.ensures.meant (none_meant seen c.clear.new.self.items c.clear.ensures.items))
+    let body = c.body-item.result in
+    let at_home = home_at seen c.args.bodies.now c.loop-body.body-index body c.requires.home c.loop-body-test.true c.body-item.is in
+    let P : Seen → Type 0 = λ s. AreMeant s c.walk_home.new.met.items in
+    subst (AreMeant seen) (sym c.deref.ensures.value)
+    (subst P at_home.program (c.in_ok-walk_home.ensures.meant (none_meant body.home.program.now c.clear.new.self.items c.clear.ensures.items)))
 
 pub loop-body-preserved : goal.loop-body-preserved
 loop-body-preserved c =
@@ -36,8 +49,12 @@ loop-body-preserved c =
     let bodies = c.args.bodies.now in
     let k = c.loop-body.body-index in
     let body = c.body-item.result in
-    let met = c.walk.new.met.items in
+    let met = c.walk_home.new.met.items in
     let empty = ap see_mets c.clear.ensures.items in
+    let at_home = home_at seen bodies k body c.requires.home c.loop-body-test.true c.body-item.is in
+    let P : Seen → List ℕ → Type 0 = λ s owner. AddsMet (rows_of s) (place owner body.role (tree_of body.term)) (see_mets c.clear.new.self.items) (see_mets met) in
+    let walked : P seen body.owner.now =
+    subst (λ s. P s body.owner.now) at_home.program (subst (P body.home.program.now) at_home.module_ c.in_ok-walk_home.ensures.met) in
     let callees = c.loop-body.found.callees.items in
     let calls = see_calls c.loop-body.found.calls.items in
     let faults = c.loop-body.faults.items in
@@ -49,13 +66,13 @@ loop-body-preserved c =
     let Placed : BodyKept → CallAt → Type 0 = λ one. IsPlacedIn seen c.args.opening.node (see_body one) in record {
       callees =
           among_more (IsCalledIn seen) bodies k body c.args.found.now.callees.items callees called c.loop-body-test.true c.body-item.is so_far.callees
-          (body_goes seen (see_body body) met (see_mets c.clear.new.self.items) callees called empty c.in_ok-walk.ensures.met added.callees);
+          (body_goes seen (see_body body) met (see_mets c.clear.new.self.items) callees called empty walked added.callees);
       calls = λ keep.
           among_more Placed bodies k body (see_calls c.args.found.now.calls.items) calls kept c.loop-body-test.true c.body-item.is (so_far.calls keep)
-          (body_called seen c.args.opening.node (see_body body) met (see_mets c.clear.new.self.items) calls kept empty c.in_ok-walk.ensures.met (added.calls keep));
+          (body_called seen c.args.opening.node (see_body body) met (see_mets c.clear.new.self.items) calls kept empty walked (added.calls keep));
       faults =
           among_more (IsSeenFault (rows_of c.args.program.now)) bodies k body c.args.faults.now.items faults placed c.loop-body-test.true c.body-item.is so_far.faults
-          (body_faults (rows_of c.args.program.now) (see_body body) met (see_mets c.clear.new.self.items) faults placed empty c.in_ok-walk.ensures.met
+          (body_faults (rows_of c.args.program.now) (see_body body) met (see_mets c.clear.new.self.items) faults placed empty walked
           (rw c.deref-in-loop-body.ensures.value at c.in_ok-push_places.ensures));
     }
 

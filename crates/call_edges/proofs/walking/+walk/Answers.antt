@@ -35,8 +35,8 @@ walk-requires t c =
     let apart : here ≡ taken T span.from owner role v.name.now (trees_in args) =
     c.take_apart-taken.ensures.taken ∙ ap (λ (s : Span). taken T s.from owner role v.name.now (trees_in args)) c.span-in-Compound.ensures in
     let within = rows_within c.args.program.now c.is_known.ensures in
-    let own = tree_of c.in-Some.only in
-    let one = sym c.in-Some.ensures.tree in
+    let own = tree_of c.in-Some-only.only in
+    let one = sym c.in-Some-only.ensures.tree in
     let falls =
     part_falls T within owner role tree v.name.now args v.form span here 0 own c.role_of-first.result v.ensures.tree apart (ap (λ ts. slice_get (trees_in ts) 0) (only_seen args own one))
     c.role_of-first.ensures (omega (arith, c.requires)) in (omega (arith, falls.0), falls.1)
@@ -134,6 +134,17 @@ loop-at-preserved t c =
       meant = λ all. c.in_ok-walk-in-Compound-2.ensures.meant (c.loop-at.invariant.meant all);
     }
 
+pub returns-in-Some-clause-met : goal.returns-in-Some-clause-met
+returns-in-Some-clause-met t c =
+    let P = AddsMet (rows_of c.args.program.now) (place c.args.owner.now c.args.role (tree_of c.args.term.now)) (see_mets c.args.met.now.items) in
+    on_ok c.push_met.result c.push_met.ensures.mets (λ adds. subst P (sym adds) (c.in-Some.ensures.met (see_mets c.args.met.now.items)))
+
+pub returns-in-Some-clause-meant : goal.returns-in-Some-clause-meant
+returns-in-Some-clause-meant t c =
+    let seen = c.args.program.now in
+    on_ok c.push_met.result c.push_met.ensures.kept (λ more.
+    meant_more seen c.args.met.now.items c.push_met.new.met.items (Some c.in-Some.call) more c.in-Some.ensures.meant)
+
 pub returns-then-is_silent-clause-met : goal.returns-then-is_silent-clause-met
 returns-then-is_silent-clause-met t c =
     let T = rows_of c.args.program.now in
@@ -152,8 +163,8 @@ returns-then-is_silent-clause-met t c =
     (first_rowless T here (trees_in args) (length (trees_in args)) old mid (c.is_silent.ensures c.if-is_silent.true)
     (first_none T here (trees_in args) old mid c.in_ok-push_met-in-Compound.ensures.mets))
 
-pub returns-in-Some-clause-met : goal.returns-in-Some-clause-met
-returns-in-Some-clause-met t c =
+pub returns-in-Some-only-clause-met : goal.returns-in-Some-only-clause-met
+returns-in-Some-only-clause-met t c =
     let T = rows_of c.args.program.now in
     let v = c.in-Compound in
     let owner = c.args.owner.now in
@@ -164,8 +175,8 @@ returns-in-Some-clause-met t c =
     let here = see_taken c.take_apart-taken.result in
     let apart : here ≡ taken T span.from owner role v.name.now (trees_in args) =
     c.take_apart-taken.ensures.taken ∙ ap (λ (s : Span). taken T s.from owner role v.name.now (trees_in args)) c.span-in-Compound.ensures in
-    let own = tree_of c.in-Some.only in
-    let one = sym c.in-Some.ensures.tree in
+    let own = tree_of c.in-Some-only.only in
+    let one = sym c.in-Some-only.ensures.tree in
     let old = see_mets c.args.met.now.items in
     let mid = see_mets c.push_met-in-Compound.new.met.items in
     let new = see_mets c.walk.new.met.items in
@@ -240,8 +251,8 @@ returns-in-Const-clause-met t c =
     let span = span_of tree in
     let old = see_mets c.args.met.now.items in
     let v = c.in-Const in
-    let new = see_mets c.push_met.new.met.items in
-    on_ok c.push_met.result c.push_met.ensures.mets (λ adds.
+    let new = see_mets c.push_met-in-Const.new.met.items in
+    on_ok c.push_met-in-Const.result c.push_met-in-Const.ensures.mets (λ adds.
     constant_walked T owner role tree old new v.kind v.minus v.value span v.ensures.tree
     (adds ∙ (ap (λ o. old ++ option_to_list o) c.constant_met.ensures.met ∙ ap (λ (s : Span). old ++ option_to_list (constant_met role v.kind s.from)) c.span.ensures)))
 
@@ -309,8 +320,8 @@ returns-in-Paren-clause-met t c =
 pub returns-in-Const-clause-meant : goal.returns-in-Const-clause-meant
 returns-in-Const-clause-meant t c =
     let seen = c.args.program.now in
-    on_ok c.push_met.result c.push_met.ensures.kept (λ more.
-    meant_more seen c.args.met.now.items c.push_met.new.met.items c.constant_met.result more (c.constant_met.ensures.meant seen))
+    on_ok c.push_met-in-Const.result c.push_met-in-Const.ensures.kept (λ more.
+    meant_more seen c.args.met.now.items c.push_met-in-Const.new.met.items c.constant_met.result more (c.constant_met.ensures.meant seen))
 
 pub returns-in-Atom-clause-meant : goal.returns-in-Atom-clause-meant
 returns-in-Atom-clause-meant t c =
@@ -323,8 +334,8 @@ returns-then-is_silent-clause-meant t c =
     meant_more c.args.program.now c.args.met.now.items c.push_met-in-Compound.new.met.items c.take_apart-taken.result.met
     c.in_ok-push_met-in-Compound.ensures.kept c.take_apart-taken.ensures.meant
 
-pub returns-in-Some-clause-meant : goal.returns-in-Some-clause-meant
-returns-in-Some-clause-meant t c =
+pub returns-in-Some-only-clause-meant : goal.returns-in-Some-only-clause-meant
+returns-in-Some-only-clause-meant t c =
     let first =
     meant_more c.args.program.now c.args.met.now.items c.push_met-in-Compound.new.met.items c.take_apart-taken.result.met
     c.in_ok-push_met-in-Compound.ensures.kept c.take_apart-taken.ensures.meant in
