@@ -1,15 +1,16 @@
 -- What the loops of one search after another keep.
-use Rattle.std.proofs.Common.{◌≡◌, inl, inr, ℕ, ◌<◌, ◌≤◌, ◌+◌, ◌-◌, ◌*◌, Bool, true, false, not, List, [], length, get_or, set, replicate, Some, None, refl, ap, ◌∙◌, sym, subst, arith, get_or-set_same, get_or-set_other}
+use Rattle.std.proofs.Common.{◌≡◌, ◌⊎◌, inl, inr, ℕ, ◌<◌, ◌≤◌, ◌+◌, ◌-◌, ◌*◌, Bool, true, false, not, List, [], length, get_or, set, replicate, Some, refl, ap, ◌∙◌, sym, subst, arith, get_or-set_same, get_or-set_other}
 use Rattle.std.proofs.lemmas.Bool.{cases_lt, cases_eq, cases_Bool}
 use Rattle.std.proofs.lemmas.List.{get_or_past, get_or_default, get_or-replicate, length-replicate}
 use Rattle.std.proofs.lemmas.List.Elements.{All-from_get_or}
 use Rattle.std.proofs.lemmas.Option.{slice_get_within, get_or_from_slice_get}
-use Rattle.std.specs.Prelude.{All, IsTrue, count_by}
+use Rattle.std.specs.Prelude.{All, Contains, IsTrue, count_by}
 use Rattle.graph_law.specs.Classes.{HasMember}
+use Rattle.search_stack.specs.ArrayFields.{ArrayValue}
 use Rattle.search_stack.specs.Stack.{Stack, IsShaped, size, height, top, node, succs, begun, position, low}
 use Rattle.search_stack.specs.Search.{SearchValue, IsOn, IsLastBegun, IsDone, IsRipe, empty_stack, next_successor, pushed, one_more_begun, lowered, retreated}
 use Rattle.search_stack.specs.GoodSearch.{IsGood}
-use Rattle.search_stack.specs.PlainSearch.{IsUnderWay, IsSeen, top_succs, top_begun}
+use Rattle.search_stack.specs.PlainSearch.{IsUnderWay, IsSeen, IsSettledBy, top_succs, top_begun}
 use Rattle.search_stack.proofs.Changes.{Pushes, Begins, Lowers, Retreats}
 use Rattle.search_stack.proofs.Shapes.{no_entries, empty_size}
 use Rattle.search_stack.proofs.Steps.{pushes, begins, lowers, retreats}
@@ -22,28 +23,26 @@ pub record KeepsTop (s t : Stack) : Type 0 where
   pub succs_are : top_succs t ≡ top_succs s
 
 -- edges of the top have begun, and were settled
-pub record IsBeginning (seen : List Bool) (old now : SearchValue) : Type 0 where
+pub record IsBeginning (old now : ArrayValue) : Type 0 where
   pub some : 0 < size now.stack
-  pub wants_nothing : now.wanted ≡ None
+  pub seen_is : now.seen ≡ old.seen
   pub size_is : size now.stack ≡ size old.stack
   pub height_is : height now.stack ≡ height old.stack
-  pub within : All (λ v. v < length seen) (top_succs now.stack)
-  pub under_way : (lists : List (List ℕ)) (roots : List ℕ) (groups : List (List ℕ)) → IsUnderWay lists roots seen groups false old.stack
-      → IsUnderWay lists roots seen groups false now.stack
+  pub within : All (λ v. v < length now.seen) (top_succs now.stack)
+  pub under_way : (lists : List (List ℕ)) (roots : List ℕ) (groups : List (List ℕ)) → IsUnderWay lists roots old.seen groups false old.stack
+      → IsUnderWay lists roots now.seen groups false now.stack
 
 -- the search runs
-pub record IsRunning (lists : List (List ℕ)) (marks seen : List Bool) (before groups : List (List ℕ)) (old now : SearchValue) : Type 0 where
-  pub wants_nothing : now.wanted ≡ None
-  pub some_way : (roots : List ℕ) × IsUnderWay lists roots seen groups false now.stack
-  pub stays : (v : ℕ) → IsSeen marks v → IsSeen seen v
-  pub every_way : (roots : List ℕ) → IsUnderWay lists roots marks before false old.stack → IsUnderWay lists roots seen groups false now.stack
+pub record IsRunning (lists before groups : List (List ℕ)) (old now : ArrayValue) : Type 0 where
+  pub some_way : (roots : List ℕ) × IsUnderWay lists roots now.seen groups false now.stack
+  pub stays : (v : ℕ) → IsSeen old.seen v → IsSeen now.seen v
+  pub every_way : (roots : List ℕ) → IsUnderWay lists roots old.seen before false old.stack → IsUnderWay lists roots now.seen groups false now.stack
 
 -- the first roots are seen, and no search runs
-pub record IsThrough (lists : List (List ℕ)) (roots : List ℕ) (count : ℕ) (seen : List Bool) (groups : List (List ℕ)) (now : SearchValue) : Type 0 where
-  pub wants_nothing : now.wanted ≡ None
+pub record IsThrough (lists : List (List ℕ)) (roots : List ℕ) (count : ℕ) (groups : List (List ℕ)) (now : ArrayValue) : Type 0 where
   pub ended : size now.stack ≡ 0
-  pub under_way : IsUnderWay lists roots seen groups false now.stack
-  pub through : (k : ℕ) → k < count → IsSeen seen (get_or roots k 0)
+  pub under_way : IsUnderWay lists roots now.seen groups false now.stack
+  pub through : (k : ℕ) → k < count → IsSeen now.seen (get_or roots k 0)
 
 -- the next successor is one of the top's
 pub next_is : (s : Stack) (v : ℕ) → next_successor s ≡ Some v → (top_begun s < length (top_succs s)) × (get_or (top_succs s) (top_begun s) v ≡ v)
@@ -231,28 +230,66 @@ through_more seen roots count before here k lt =
     ]
 
 -- at the end every root is in a group
-pub all_complete : {lists : List (List ℕ)} {roots : List ℕ} {count : ℕ} {seen : List Bool} {groups : List (List ℕ)} {now : SearchValue}
-    → IsThrough lists roots count seen groups now → length roots ≤ count → All (HasMember groups) roots
-all_complete {lists} {roots} {count} {seen} {groups} {now} through le =
+pub all_complete : {lists : List (List ℕ)} {roots : List ℕ} {count : ℕ} {groups : List (List ℕ)} {now : ArrayValue}
+    → IsThrough lists roots count groups now → length roots ≤ count → All (HasMember groups) roots
+all_complete {lists} {roots} {count} {groups} {now} through le =
     All-from_get_or (HasMember groups) roots 0
     (λ k lt.
     elim (through.under_way.only (get_or roots k 0) (through.through k (omega (arith, lt, le)))) as (λ _. HasMember groups (get_or roots k 0))
     [ inl on ↦ absurd (omega (arith, on.within, through.ended)) | inr member ↦ member ])
 
 -- before the first root
-pub IsThrough-start : (lists : List (List ℕ)) (roots : List ℕ) (count : ℕ) (seen : List Bool) (groups : List (List ℕ)) (now : SearchValue)
-    → count ≡ length lists → seen ≡ replicate count false → groups ≡ [] → now.stack ≡ empty_stack → now.wanted ≡ None
-    → IsThrough lists roots 0 seen groups now
-IsThrough-start lists roots count seen groups now counted marks none stack_is wants_nothing =
-    let P : List (List ℕ) → Type 0 = λ gs. IsUnderWay lists roots seen gs false now.stack in
-    let Q : Stack → Type 0 = λ s. IsUnderWay lists roots seen [] false s in
-    record {
-      wants_nothing = wants_nothing;
-      ended = ap size stack_is ∙ empty_size;
-      under_way =
-          subst P (sym none)
-          (subst Q (sym stack_is)
-          (way_start lists roots seen (ap length marks ∙ length-replicate count false ∙ counted)
-          (λ v. ap (λ all. get_or all v false) marks ∙ unmarked count v)));
+pub IsThrough-start : (lists : List (List ℕ)) (roots : List ℕ) (count : ℕ) (groups : List (List ℕ)) (now : ArrayValue)
+    → count ≡ length lists → groups ≡ [] → now ≡ record { stack = empty_stack; seen = replicate count false }
+    → IsThrough lists roots 0 groups now
+IsThrough-start lists roots count groups now counted none made =
+    let start : ArrayValue = record { stack = empty_stack; seen = replicate count false } in
+    let P : List (List ℕ) → Type 0 = λ gs. IsThrough lists roots 0 gs now in
+    let Q : ArrayValue → Type 0 = λ value. IsThrough lists roots 0 [] value in
+    subst P (sym none)
+    (subst Q (sym made)
+    (record {
+      ended = empty_size;
+      under_way = way_start lists roots start.seen (length-replicate count false ∙ counted) (unmarked count);
       through = λ k lt. absurd (omega (arith, lt));
+    }))
+
+-- what `begin` leaves where it gives a node
+pub record BegunBy (old now : ArrayValue) : Type 0 where
+  pub keeps : KeepsTop old.stack now.stack
+  pub one_more : top_begun now.stack ≡ top_begun old.stack + 1
+  pub seen_is : now.seen ≡ old.seen
+  pub some_left : top_begun old.stack < length (top_succs old.stack)
+
+pub begun_by : (old now : ArrayValue) (v : ℕ) → next_successor old.stack ≡ Some v
+    → now ≡ record old { stack = one_more_begun old.stack (position old.stack (top old.stack)) } → BegunBy old now
+begun_by old now v next new =
+    let s : Stack = old.stack in
+    let step : Begins s (one_more_begun s (position s (top s))) (position s (top s)) = begins_top s v next in
+    let is : now.stack ≡ one_more_begun s (position s (top s)) = ap (λ (value : ArrayValue). value.stack) new in
+    let P : Stack → Type 0 = λ t. KeepsTop s t in
+    let Q : Stack → Type 0 = λ t. top_begun t ≡ top_begun s + 1 in
+    record {
+      keeps = subst P (sym is) (keeps_begins step);
+      one_more = subst Q (sym is) (more_begun step);
+      seen_is = ap (λ (value : ArrayValue). value.seen) new;
+      some_left = (next_is s v next).0;
     }
+
+-- `back` settles the edge, wherever it leads
+pub settled_by : {s t : Stack} {v : ℕ} → IsLastBegun s v → IsSettledBy s v t → Settles s t
+settled_by {s} {t} {v} last settled =
+    let P : Stack → Type 0 = λ u. Settles s u in
+    subst P (sym settled.is) (settles_lowers (lowers s settled.place last.some))
+
+-- what the next edge leads to is a node
+pub next_within : (seen : List Bool) (s : Stack) (v : ℕ) → All (λ u. u < length seen) (top_succs s) → next_successor s ≡ Some v → v < length seen
+next_within seen s v within is =
+    let next = next_is s v is in
+    omega (arith, next.1, within (top_begun s) v next.0)
+
+-- a seen node is on the stack or finished
+pub seen_cases : {lists : List (List ℕ)} {roots : List ℕ} {seen : List Bool} {groups : List (List ℕ)} {opened : Bool} {s : Stack}
+    (way : IsUnderWay lists roots seen groups opened s) (v : ℕ) → IsSeen seen v → IsOn s v ⊎ Contains way.finished v
+seen_cases {lists} {roots} {seen} {groups} {opened} {s} way v is =
+    elim (way.only v is) as (λ _. IsOn s v ⊎ Contains way.finished v) [ inl on ↦ inl on | inr member ↦ inr (way.are_finished v member) ]

@@ -1,7 +1,7 @@
 -- What the fields of a search say of its stack, and what its calls write into them.
 use Rattle.std.proofs.Common.{◌≡◌, inl, inr, ℕ, zero, suc, ◌<◌, ◌≤◌, ◌+◌, ◌-◌, min, Bool, false, if◌then◌else◌, nat_eq, nat_lt, List, [], ◌∷◌, ◌++◌, length, get_or, take, drop, set, map, slice_get, position, Option, None, Some, refl, ap, ◌∙◌, sym, arith, eqb-true, ne_eqb, true≢false}
-use Rattle.std.proofs.lemmas.Bool.{cases_eq, cases_lt, cases_order, eq-eqb, lt-ltb, cond-true}
-use Rattle.std.proofs.lemmas.List.{length-map, get_or-map, get_or-take, get_or_default, take-map, map_push}
+use Rattle.std.proofs.lemmas.Bool.{cases_lt, cases_order, eq-eqb, lt-ltb, cond-true}
+use Rattle.std.proofs.lemmas.List.{length-map, get_or-map, get_or_default, take-map, map_push}
 use Rattle.std.proofs.lemmas.List.Sums.{fails_before_first}
 use Rattle.std.proofs.lemmas.List.Quantifiers.{position-Some}
 use Rattle.std.proofs.lemmas.Map.Keys.{apart_from_distinct}
@@ -12,13 +12,12 @@ use Rattle.indexmap.specs.IndexMap.{insert_entry, set_value_at}
 use Rattle.search_stack.specs.declared.frame.Frame.{Frame}
 use Rattle.search_stack.specs.declared.search.Opened.{Opened}
 use Rattle.search_stack.specs.Fields.{entry_of, stack_of}
-use Rattle.search_stack.specs.Stack.{Entry, Stack, IsShaped, size, height, top, node, succs, begun, target, low}
+use Rattle.search_stack.specs.Stack.{Entry, Stack, IsShaped, size, height, top, node, succs, begun, target}
 use Rattle.search_stack.specs.Stack.{position as position_on}
 use Rattle.search_stack.specs.Search.{IsOn, IsDistinct, IsDone, IsLastBegun, pushed, next_successor, one_more_begun, lowered, retreated, below_frame, nodes_from}
 use Rattle.search_stack.proofs.Changes.{Begins}
-use Rattle.search_stack.proofs.Frames.{position_within}
-use Rattle.search_stack.proofs.Shapes.{no_entries}
-use Rattle.search_stack.proofs.Steps.{position_of, low_of, begins}
+use Rattle.search_stack.proofs.FrameSteps.{Tops, has_frames, lowered_with, retreated_with, tops_sliced, tops_with}
+use Rattle.search_stack.proofs.Steps.{begins}
 
 pub size_is : (es : List (ℕ × Opened)) (fs : List Frame) → size (stack_of es fs) ≡ length es
 unfolding size
@@ -29,11 +28,7 @@ unfolding height
 height_is es fs = refl
 
 pub some_frames : (es : List (ℕ × Opened)) (fs : List Frame) → IsShaped (stack_of es fs) → 0 < size (stack_of es fs) → 0 < length fs
-some_frames es fs shaped some =
-    elim (cases_eq (length fs) 0) as (λ _. 0 < length fs) [
-      | inl none ↦ absurd (omega (arith, some, no_entries shaped (height_is es fs ∙ none)))
-      | inr ne ↦ omega (arith, ne)
-    ]
+some_frames es fs shaped some = has_frames (map entry_of es) fs shaped some
 
 -- what is read of entry i
 entry_read : (es : List (ℕ × Opened)) (i : ℕ) (e : ℕ × Opened) (d : Entry) → slice_get es i ≡ Some e → get_or (map entry_of es) i d ≡ entry_of e
@@ -64,26 +59,9 @@ value_read es fs i o at =
       begun_is = ap (λ e. e.begun) read ∙ ap (λ (o : Opened). o.begun) is;
     }
 
--- what is read of the top frame
-pub record Tops (s : Stack) (frame : Frame) : Type 0 where
-  pub some : 0 < height s
-  pub position_is : position_on s (top s) ≡ frame.position
-  pub low_is : low s (top s) ≡ frame.low
-  pub within : frame.position < size s
-
 pub tops_read : (es : List (ℕ × Opened)) (fs : List Frame) (frame d : Frame) → IsShaped (stack_of es fs) → 0 < length fs
     → frame ≡ get_or fs (length fs - 1) d → Tops (stack_of es fs) frame
-tops_read es fs frame d shaped some read =
-    let tall : height (stack_of es fs) ≡ length fs = height_is es fs in
-    let is : get_or fs (top (stack_of es fs)) d ≡ frame = ap (λ h. get_or fs (h - 1) d) tall ∙ sym read in
-    let lt : top (stack_of es fs) < height (stack_of es fs) = omega (arith, some, tall) in
-    let at : position_on (stack_of es fs) (top (stack_of es fs)) ≡ frame.position = position_of (stack_of es fs) (top (stack_of es fs)) frame d lt is in
-    record {
-      some = omega (arith, some, tall);
-      position_is = at;
-      low_is = low_of (stack_of es fs) (top (stack_of es fs)) frame d lt is;
-      within = omega (arith, at, position_within shaped (top (stack_of es fs)) lt);
-    }
+tops_read es fs frame d shaped some read = tops_with (map entry_of es) fs (length fs - 1) frame d shaped some refl read
 
 -- what is read of the entry of the top frame
 pub record TopHolds (s : Stack) (frame : Frame) (o : Opened) : Type 0 where
@@ -235,37 +213,14 @@ begun_is es fs i o holds =
 pub lowered_is : (es : List (ℕ × Opened)) (fs : List Frame) (k place least : ℕ) (frame : Frame) → Tops (stack_of es fs) frame
     → k ≡ length fs - 1 → least ≡ min frame.low place
     → stack_of es (set fs k (record { position = frame.position; low = least })) ≡ lowered (stack_of es fs) place
-unfolding lowered
-lowered_is es fs k place least frame tops last lesser =
-    let at : k ≡ top (stack_of es fs) = last ∙ ap (λ h. h - 1) (sym (height_is es fs)) in
-    let position_at : frame.position ≡ position_on (stack_of es fs) (top (stack_of es fs)) = sym tops.position_is in
-    let low_at : least ≡ min (low (stack_of es fs) (top (stack_of es fs))) place = lesser ∙ ap (λ b. min b place) (sym tops.low_is) in
-    (λ j. record { entries = map entry_of es; frames = set fs (at j) (record { position = position_at j; low = low_at j }) })
+lowered_is es fs k place least frame tops last lesser = lowered_with (map entry_of es) fs k place least frame tops last lesser
 
 -- the last frame is gone, and the one below is written over
 pub retreated_is : (es : List (ℕ × Opened)) (fs : List Frame) (k least : ℕ) (joined frame d e : Frame) → 2 ≤ length fs → k ≡ length fs - 1
     → joined ≡ get_or fs k d → frame ≡ get_or (take k fs) (k - 1) e → least ≡ min frame.low joined.low
     → stack_of es (set (take k fs) (k - 1) (record { position = frame.position; low = least })) ≡ retreated (stack_of es fs)
-unfolding retreated
 retreated_is es fs k least joined frame d e two last read_top read_below lesser =
-    let s : Stack = stack_of es fs in
-    let tall : height s ≡ length fs = height_is es fs in
-    let at : k ≡ top s = last ∙ ap (λ h. h - 1) (sym tall) in
-    let second : k - 1 < k = omega (arith, last, two) in
-    let below : get_or fs (k - 1) e ≡ frame = sym (get_or-take k fs (k - 1) e second) ∙ sym read_below in
-    let below_at : position_on s (k - 1) ≡ frame.position =
-    position_of s (k - 1) frame e (omega (arith, last, two, tall)) below in
-    let below_low : low s (k - 1) ≡ frame.low = low_of s (k - 1) frame e (omega (arith, last, two, tall)) below in
-    let top_low : low s k ≡ joined.low = low_of s k joined d (omega (arith, last, two, tall)) (sym read_top) in
-    let position_at : frame.position ≡ position_on s (top s - 1) = sym below_at ∙ ap (λ b. position_on s (b - 1)) at in
-    let low_at : least ≡ min (low s (top s - 1)) (low s (top s)) =
-    lesser ∙ ap (λ b. min b joined.low) (sym below_low) ∙ ap (λ b. min (low s (k - 1)) b) (sym top_low)
-    ∙ ap (λ b. min (low s (b - 1)) (low s b)) at in
-    (λ j.
-    record {
-      entries = map entry_of es;
-      frames = set (take (at j) fs) (at j - 1) (record { position = position_at j; low = low_at j });
-    })
+    retreated_with (map entry_of es) fs k least joined frame d e two last read_top read_below lesser
 
 -- what is left of the lists
 pub taken_is : (es : List (ℕ × Opened)) (fs : List Frame) (k : ℕ) (frame : Frame) → Tops (stack_of es fs) frame → k ≡ length fs - 1
@@ -309,13 +264,12 @@ last_begun {s} {t} v some new is =
 -- the top frame, where it is read at a number that is the last place
 pub tops_at : (es : List (ℕ × Opened)) (fs : List Frame) (k : ℕ) (frame d : Frame) → IsShaped (stack_of es fs) → 0 < length fs
     → k ≡ length fs - 1 → frame ≡ get_or fs k d → Tops (stack_of es fs) frame
-tops_at es fs k frame d shaped some last read = tops_read es fs frame d shaped some (read ∙ ap (λ j. get_or fs j d) last)
+tops_at es fs k frame d shaped some last read = tops_with (map entry_of es) fs k frame d shaped some last read
 
 -- and where it is read from a slice
 pub tops_of_slice : (es : List (ℕ × Opened)) (fs now : List Frame) (frame d : Frame) → IsShaped (stack_of es fs) → 0 < length fs
     → now ≡ fs → frame ≡ get_or now (length now - 1) d → Tops (stack_of es fs) frame
-tops_of_slice es fs now frame d shaped some is read =
-    tops_read es fs frame d shaped some (read ∙ ap (λ xs. get_or xs (length xs - 1) d) is)
+tops_of_slice es fs now frame d shaped some is read = tops_sliced (map entry_of es) fs now frame d shaped some is read
 
 -- the entry of the top frame has begun one more
 pub top_begun_is : (es : List (ℕ × Opened)) (fs : List Frame) (frame : Frame) (o : Opened) → Tops (stack_of es fs) frame

@@ -9,7 +9,8 @@ use Rattle.search_stack.specs.Fields.{IsSearch, stack_of}
 use Rattle.search_stack.specs.Search.{IsLastBegun, IsOn, lowered, one_more_begun, pushed, retreated, below_frame}
 use Rattle.search_stack.specs.Stack.{Stack, IsShaped, begun, height, position, size, succs, top}
 use Rattle.search_stack.proofs.Changes.{Begins}
-use Rattle.search_stack.proofs.FieldLaws.{Holds, TopHolds, Tops, height_is, lowered_is, more_to_begin, not_all, pushed_is, retreated_is, same_some, some_frames, taken_is, top_begins, top_begun_is, top_holds, tops_at, tops_of_slice, value_read}
+use Rattle.search_stack.proofs.FieldLaws.{Holds, TopHolds, height_is, lowered_is, more_to_begin, not_all, pushed_is, retreated_is, same_some, some_frames, taken_is, top_begins, top_begun_is, top_holds, tops_at, tops_of_slice, value_read}
+use Rattle.search_stack.proofs.FrameSteps.{Tops}
 use Rattle.search_stack.proofs.Shapes.{no_frames, shaped_begin}
 
 -- the stack of the fields

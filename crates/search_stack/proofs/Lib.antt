@@ -11,6 +11,7 @@ pub mod Taken
 pub mod Steps
 pub mod Joined
 pub mod Scan
+pub mod FrameSteps
 pub mod FieldLaws
 pub mod FieldSteps
 pub mod Moves
@@ -18,4 +19,7 @@ pub mod Transfers
 pub mod UnderWay
 pub mod Released
 pub mod Driving
+pub mod ArrayPlaces
+pub mod ArrayLaws
+pub mod ArraySteps
 pub mod Examples

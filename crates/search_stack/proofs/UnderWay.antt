@@ -57,11 +57,6 @@ module _ {lists : List (List ℕ)} {roots : List ℕ} {seen : List Bool} {groups
     reached = way.reached;
   }
 
-  -- a seen node that isn't on the stack is finished
-  pub seen_is_finished : (v : ℕ) → IsSeen seen v → (IsOn s v → ⊥) → Contains way.finished v
-  seen_is_finished v is off =
-      elim (way.only v is) as (λ _. Contains way.finished v) [ inl on ↦ absurd (off on) | inr member ↦ way.are_finished v member ]
-
   -- a node that isn't seen isn't on the stack
   pub unseen_is_off : (v : ℕ) → get_or seen v false ≡ false → IsOn s v → ⊥
   unseen_is_off v no_mark on = true≢false (sym (way.on_seen v on) ∙ no_mark)

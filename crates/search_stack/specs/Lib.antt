@@ -1,3 +1,4 @@
+pub mod ArrayFields
 pub mod Fields
 pub mod FrameCuts
 pub mod GoodSearch

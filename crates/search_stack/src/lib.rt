@@ -5,8 +5,9 @@
 //! overflows the machine's stack. Each call states exactly how it changes the stack. It keeps the
 //! search well-formed for every graph, roots and finished nodes for which it was (`IsGood`).
 //!
-//! `groups_plain` runs one such search for each root that wasn't reached before. It returns the
-//! SCCs that the roots reach in reverse topological order, members ascending.
+//! `groups_plain` runs such a search for each root that wasn't reached before. It returns the SCCs
+//! that the roots reach in reverse topological order, members ascending. It isn't cut and waits for
+//! nothing, so it is kept in arrays (`ArraySearch`), which contracts see as the same stack.
 //!
 //! A search that can't continue may be suspended, with the node that it waits for. If two searches
 //! wait for each other, `cut` and `append` move the upper part of one on top of the other.
@@ -14,6 +15,7 @@
 //! A search holds no graph. Its caller hands it each node with its successors.
 #![tactic(auto)]
 
+mod array_search;
 mod cut;
 mod frame;
 mod node_hasher;

@@ -6,11 +6,10 @@ ghost use Rattle.graph_law.specs.Classes.{HasMember};
 ghost use Rattle.graph_law.specs.LegalOrder.{IsComplete, IsLegalOrder};
 ghost use Rattle.search_stack.specs.Stack.{size, height};
 ghost use Rattle.search_stack.specs.GoodSearch.{IsGood};
-ghost use Rattle.search_stack.specs.Search.{IsOn, IsLastBegun, IsDone, pushed};
+ghost use Rattle.search_stack.specs.Search.{IsLastBegun, IsDone, pushed};
 ghost use Rattle.search_stack.specs.PlainSearch.{IsUnderWay, IsSeen, top_succs};
 
-use crate::opening::Opening;
-use crate::search::Search;
+use crate::array_search::ArraySearch;
 use graph_law::Opener;
 use std::alloc::{AllocError, Global};
 
@@ -32,63 +31,62 @@ pub fn groups_plain<O: Opener>(
         → IsReached (Calls (O.lists opener.now)) roots.now v) }
 {
     let count = opener.count();
-    let mut search = Search::with_room(alloc, count)?;
-    let mut seen = vec![in alloc; false; count as usize]?;
+    let mut search = ArraySearch::make(alloc, count)?;
+    let mut list = Vec::new(alloc);
     let mut groups = Vec::with_capacity(alloc, count as usize)?;
     for &root in roots {
-        if seen[root as usize] {
+        if search.has_met(root) {
             continue;
         }
-        open_node(alloc, opener, root, &mut search, &mut seen)?;
-        run_out(alloc, opener, &mut search, &mut seen, &mut groups)?;
+        open_node(opener, root, &mut search, &mut list)?;
+        run_out(alloc, opener, &mut search, &mut list, &mut groups)?;
     }
     Ok(groups)
 }
 
-/// Runs the search until its stack is empty.
+/// Runs the search until its stack is empty. `list` is a buffer for the successors of one node at a
+/// time.
 fn run_out<O: Opener>(
     alloc: Global,
     opener: &O,
-    search: &mut Search,
-    seen: &mut Vec<bool>,
+    search: &mut ArraySearch,
+    list: &mut Vec<u32>,
     groups: &mut Vec<Vec<u32>>,
 ) -> Result<(), AllocError>
     requires closed { IsClosed (O.lists opener.now) }
-    requires wants_nothing { search.old.wanted ≡ None }
     requires under_way { (roots : List ℕ)
-        × IsUnderWay (O.lists opener.now) roots seen.old.items (lists_of groups.old.items) false search.old.stack }
-    ensures ended { OnOk result ((size search.new.stack ≡ 0) × (search.new.wanted ≡ None)) }
-    ensures seen { OnOk result ((v : ℕ) → IsSeen seen.old.items v → IsSeen seen.new.items v) }
+        × IsUnderWay (O.lists opener.now) roots search.old.seen (lists_of groups.old.items) false search.old.stack }
+    ensures ended { OnOk result (size search.new.stack ≡ 0) }
+    ensures seen { OnOk result ((v : ℕ) → IsSeen search.old.seen v → IsSeen search.new.seen v) }
     ensures under_way { OnOk result ((roots : List ℕ)
-        → IsUnderWay (O.lists opener.now) roots seen.old.items (lists_of groups.old.items) false search.old.stack
-        → IsUnderWay (O.lists opener.now) roots seen.new.items (lists_of groups.new.items) false search.new.stack) }
+        → IsUnderWay (O.lists opener.now) roots search.old.seen (lists_of groups.old.items) false search.old.stack
+        → IsUnderWay (O.lists opener.now) roots search.new.seen (lists_of groups.new.items) false search.new.stack) }
 {
     'steps: while !search.is_empty() {
-        match next_unseen(search, seen) {
-            Some(node) => open_node(alloc, opener, node, search, seen)?,
-            None => finish_top(search, groups)?,
+        match next_unmet(search) {
+            Some(node) => open_node(opener, node, search, list)?,
+            None => finish_top(alloc, search, groups)?,
         }
     }
     Ok(())
 }
 
-/// Begins edges of the top node until one leads to an unseen node. None if all have begun.
-fn next_unseen(search: &mut Search, seen: &[bool]) -> Option<u32>
+/// Begins edges of the top node until one leads to a node that wasn't met. None if all have begun.
+fn next_unmet(search: &mut ArraySearch) -> Option<u32>
     requires some { 0 < size search.old.stack }
-    requires wants_nothing { search.old.wanted ≡ None }
-    requires within { All (λ node. node < length seen.now) (top_succs search.old.stack) }
-    ensures wants_nothing { search.new.wanted ≡ None }
+    requires within { All (λ node. node < length search.old.seen) (top_succs search.old.stack) }
+    ensures seen { search.new.seen ≡ search.old.seen }
     ensures size { size search.new.stack ≡ size search.old.stack }
     ensures height { height search.new.stack ≡ height search.old.stack }
-    ensures unseen { IfSome result (λ node. (node < length seen.now) × (slice_index_or seen.now node false ≡ false)) }
+    ensures unmet { IfSome result (λ node. (node < length search.new.seen) × (slice_index_or search.new.seen node false ≡ false)) }
     ensures last { IfSome result (IsLastBegun search.new.stack) }
     ensures done { IfNone result (IsDone search.new.stack) }
     ensures under_way { (lists : List (List ℕ)) (roots : List ℕ) (groups : List (List ℕ))
-        → IsUnderWay lists roots seen.now groups false search.old.stack
-        → IsUnderWay lists roots seen.now groups (is_some result) search.new.stack }
+        → IsUnderWay lists roots search.old.seen groups false search.old.stack
+        → IsUnderWay lists roots search.new.seen groups (is_some result) search.new.stack }
 {
     'edges: while let Some(node) = search.begin() {
-        if !seen[node as usize] {
+        if !search.has_met(node) {
             return Some(node);
         }
         search.back(node);
@@ -96,40 +94,37 @@ fn next_unseen(search: &mut Search, seen: &[bool]) -> Option<u32>
     None
 }
 
-/// Expands a node that isn't seen, pushes it and marks it.
+/// Expands a node that wasn't met, and pushes it.
 fn open_node<O: Opener>(
-    alloc: Global,
     opener: &O,
     node: u32,
-    search: &mut Search,
-    seen: &mut Vec<bool>,
+    search: &mut ArraySearch,
+    list: &mut Vec<u32>,
 ) -> Result<(), AllocError>
     requires below { node < length (O.lists opener.now) }
-    requires counted { length seen.old.items ≡ length (O.lists opener.now) }
-    requires wants_nothing { search.old.wanted ≡ None }
-    requires fresh { IsOn search.old.stack node → ⊥ }
+    requires counted { length search.old.seen ≡ length (O.lists opener.now) }
+    requires unmet { slice_index_or search.old.seen node false ≡ false }
     requires led { (size search.old.stack ≡ 0) ⊎ IsLastBegun search.old.stack node }
-    ensures wants_nothing { OnOk result (search.new.wanted ≡ None) }
     ensures pushed { OnOk result (search.new.stack ≡ pushed search.old.stack node (slice_index_or (O.lists opener.now) node [])) }
-    ensures marked { OnOk result (seen.new.items ≡ slice_set seen.old.items node true) }
+    ensures met { OnOk result (search.new.seen ≡ slice_set search.old.seen node true) }
     ensures good { OnOk result ((roots done : List ℕ) → IsGood (O.lists opener.now) roots done true search.old.stack
         → (size search.old.stack ≡ 0 → IsReached (Calls (O.lists opener.now)) roots node)
         → IsGood (O.lists opener.now) roots done false search.new.stack) }
 {
-    let mut succs = Vec::new(alloc);
-    opener.expand(node, &mut succs)?;
-    search.reserve(1)?;
-    search.push(Opening { node, succs });
-    seen[node as usize] = true;
-    Ok(())
+    list.clear();
+    opener.expand(node, list)?;
+    search.push(node, list)
 }
 
 /// Removes the top segment as a group if it is complete (ripe), and otherwise joins it to the one
 /// below.
-fn finish_top(search: &mut Search, groups: &mut Vec<Vec<u32>>) -> Result<(), AllocError>
-    requires done { IsDone search.old.stack }
-    requires wants_nothing { search.old.wanted ≡ None }
-    ensures wants_nothing { OnOk result (search.new.wanted ≡ None) }
+fn finish_top(
+    alloc: Global,
+    search: &mut ArraySearch,
+    groups: &mut Vec<Vec<u32>>,
+) -> Result<(), AllocError>
+    requires { IsDone search.old.stack }
+    ensures seen { OnOk result (search.new.seen ≡ search.old.seen) }
     ensures height { OnOk result (height search.new.stack + 1 ≡ height search.old.stack) }
     ensures under_way { OnOk result ((lists : List (List ℕ)) (roots : List ℕ) (seen : List Bool)
         → IsUnderWay lists roots seen (lists_of groups.old.items) false search.old.stack
@@ -139,7 +134,7 @@ fn finish_top(search: &mut Search, groups: &mut Vec<Vec<u32>>) -> Result<(), All
         search.retreat();
         return Ok(());
     }
-    let mut group = search.take_ripe()?;
+    let mut group = search.take_ripe(alloc)?;
     group.sort_unstable();
     groups.push(group)?;
     Ok(())

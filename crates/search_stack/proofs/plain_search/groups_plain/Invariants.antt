@@ -3,4 +3,4 @@ use Rattle.search_stack.proofs.Driving.{IsThrough}
 use Rattle.search_stack.proofs.plain_search.groups_plain.Given as goal
 
 abbrev pub invariant-loop-root : goal.invariant-loop-root
-invariant-loop-root g l = IsThrough (g.O.Opener.lists l.opener) l.roots l.root-index l.seen.items (lists_of l.groups.items) l.search
+invariant-loop-root g l = IsThrough (g.O.Opener.lists l.opener) l.roots l.root-index (lists_of l.groups.items) l.search

@@ -7,8 +7,7 @@ use Rattle.search_stack.proofs.plain_search.run_out.Given as goal
 
 abbrev pub invariant-steps : goal.invariant-steps
 invariant-steps g l =
-    IsRunning (g.O.Opener.lists l.opener) l.initial.seen.items l.seen.items (lists_of l.initial.groups.items) (lists_of l.groups.items)
-    l.initial.search l.search
+    IsRunning (g.O.Opener.lists l.opener) (lists_of l.initial.groups.items) (lists_of l.groups.items) l.initial.search l.search
 
 abbrev pub decreases-steps : goal.decreases-steps
-decreases-steps g l = 2 * count_by not l.seen.items + height l.search.stack
+decreases-steps g l = 2 * count_by not l.search.seen + height l.search.stack
