@@ -1,4 +1,5 @@
 pub mod Examples
+pub mod EdgeLemmas
 pub mod ToldLemmas
 pub mod TextLemmas
 pub mod WordLemmas

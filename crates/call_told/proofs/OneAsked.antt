@@ -1,27 +1,29 @@
 -- Words ask for one thing at most.
-use Rattle.std.proofs.Common.{◌≡◌, ℕ, List, [], length, get_or, ap, refl, sym, ◌∙◌, arith}
+use Rattle.std.proofs.Common.{◌≡◌, ℕ, zero, suc, ◌+◌, List, ap, refl, sym, ◌∙◌}
 use Rattle.group_words.proofs.OneSettings.{one_settings}
-use Rattle.call_told.specs.Wanted.{Asked, AreAsked, form_words, other_words}
+use Rattle.call_told.specs.Wanted.{Asked, AreAsked, FormWords, form_words, other_words}
 use Rattle.call_told.specs.declared.words.Form.{Form}
-use Rattle.call_told.specs.declared.words.Form.TheVariants.{Lines, Undefined, Dot}
+use Rattle.call_told.specs.declared.words.Form.TheVariants.{Lines, Undefined, Dot, Condensed}
 
-abbrev first_length : List (List ℕ) → ℕ
-first_length words = length (get_or words 0 [])
+-- the form that is named so often by each word
+form_by : ℕ → Form
+form_by zero = Lines
+form_by (suc zero) = Dot
+form_by (suc (suc zero)) = Undefined
+form_by (suc (suc (suc n))) = Condensed
+
+abbrev form_at : FormWords → Form
+form_at words = form_by (words.dot + (words.undefined + (words.undefined + (words.condensed + words.condensed))))
+
+form_back : (form : Form) → form_at (form_words form) ≡ form
+unfolding form_by
+form_back Lines = refl
+form_back Undefined = refl
+form_back Dot = refl
+form_back Condensed = refl
 
 one_form : (a b : Form) → form_words a ≡ form_words b → a ≡ b
-one_form Lines Lines same = refl
-one_form Lines Undefined same = absurd (omega (arith, ap length same))
-one_form Lines Dot same = absurd (omega (arith, ap length same))
-one_form Undefined Lines same = absurd (omega (arith, ap length same))
-one_form Undefined Undefined same = refl
-one_form Undefined Dot same =
-    let both : 11 ≡ 5 = ap first_length same in
-    absurd (omega (arith, both))
-one_form Dot Lines same = absurd (omega (arith, ap length same))
-one_form Dot Undefined same =
-    let both : 5 ≡ 11 = ap first_length same in
-    absurd (omega (arith, both))
-one_form Dot Dot same = refl
+one_form a b same = sym (form_back a) ∙ (ap form_at same ∙ form_back b)
 
 pub one_asked : (words : List (List ℕ)) (a b : Asked) → AreAsked words a → AreAsked words b → a ≡ b
 one_asked words a b x y =

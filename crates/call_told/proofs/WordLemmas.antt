@@ -1,12 +1,10 @@
 -- The words of the command line, one more at a time.
-use Rattle.std.proofs.Common.{◌≡◌, ℕ, ◌+◌, ◌<◌, ◌≤◌, Bool, true, false, not, cond, List, [], ◌∷◌, ◌++◌, length, take, drop, filter, get_or, inl, inr, ap, sym, subst, ◌∙◌, append-nil, append_assoc, arith}
+use Rattle.std.proofs.Common.{◌≡◌, ℕ, ◌+◌, ◌<◌, ◌≤◌, Bool, true, false, not, cond, List, [], ◌∷◌, ◌++◌, length, take, filter, get_or, inl, inr, ap, sym, subst, ◌∙◌, append-nil, append_assoc, arith}
 use Rattle.std.proofs.lemmas.Bool.{cases_lt}
-use Rattle.std.proofs.lemmas.List.{get_or_default, take-append-drop, take_more}
-use Rattle.std.proofs.lemmas.List.Elements.{filter-append, filter_more}
+use Rattle.std.proofs.lemmas.List.{get_or_default, take_more}
+use Rattle.std.proofs.lemmas.List.Elements.{filter_more}
 use Rattle.std.proofs.lemmas.List.Sums.{position_or_len_is}
-use Rattle.call_told.specs.declared.words.Form.{Form}
-use Rattle.call_told.specs.declared.words.Form.TheVariants.{Lines, Undefined, Dot}
-use Rattle.call_told.specs.Wanted.{form_words, front_count, is_end, is_form, is_other}
+use Rattle.call_told.specs.Wanted.{front_count, is_end, is_form, is_other}
 
 -- the first `--`
 pub front_at : (words : List (List ℕ)) (i : ℕ) → i ≤ length words → ((k : ℕ) → k < i → is_end (get_or words k []) ≡ false) → (i < length words → is_end (get_or words i []) ≡ true)
@@ -22,43 +20,6 @@ ends_more words i before here k less = elim (cases_lt k i) [
   | inl lt ↦ before k lt
   | inr over ↦ let same : k ≡ i = omega (arith, less, over) in subst (λ n. is_end (get_or words n []) ≡ false) (sym same) here
 ]
-
-form_step : (words : List (List ℕ)) (i : ℕ) (word : List ℕ) → i < length words → word ≡ get_or words i word
-    → filter is_form (take (i + 1) words) ≡ filter is_form (take i words) ++ cond (is_form word) (word ∷ []) []
-form_step words i word less is =
-    filter_more is_form words i word less ∙ ap (λ w. filter is_form (take i words) ++ cond (is_form w) (w ∷ []) []) (sym is)
-
--- a word that names no form
-pub form_skip : (words : List (List ℕ)) (i : ℕ) (word : List ℕ) (named : List (List ℕ)) → i < length words → word ≡ get_or words i word → is_form word ≡ false
-    → filter is_form (take i words) ≡ named → filter is_form (take (i + 1) words) ≡ named
-form_skip words i word named less is none before =
-    form_step words i word less is ∙ (ap (λ b. filter is_form (take i words) ++ cond b (word ∷ []) []) none ∙ (append-nil (filter is_form (take i words)) ∙ before))
-
--- the first that does
-pub form_first : (words : List (List ℕ)) (i : ℕ) (word : List ℕ) (form : Form) → i < length words → word ≡ get_or words i word → is_form word ≡ true
-    → form_words form ≡ word ∷ [] → filter is_form (take i words) ≡ [] → filter is_form (take (i + 1) words) ≡ form_words form
-form_first words i word form less is named names before =
-    form_step words i word less is
-    ∙ (ap (λ b. filter is_form (take i words) ++ cond b (word ∷ []) []) named ∙ (ap (λ fs. fs ++ word ∷ []) before ∙ sym names))
-
-few : (form : Form) → length (form_words form) ≤ 1
-few Lines = omega arith
-few Undefined = omega arith
-few Dot = omega arith
-
--- and one more
-pub form_twice : (words : List (List ℕ)) (i : ℕ) (word first : List ℕ) → i < length words → word ≡ get_or words i word → is_form word ≡ true
-    → filter is_form (take i words) ≡ first ∷ [] → (form : Form) → filter is_form words ≡ form_words form → ⊥
-form_twice words i word first less is named before form same =
-    let more = filter is_form (drop (i + 1) words) in
-    let step : filter is_form (take (i + 1) words) ≡ first ∷ word ∷ [] =
-    form_step words i word less is
-    ∙ (ap (λ b. filter is_form (take i words) ++ cond b (word ∷ []) []) named ∙ ap (λ fs. fs ++ word ∷ []) before) in
-    let whole : filter is_form words ≡ first ∷ word ∷ more =
-    ap (filter is_form) (sym (take-append-drop (i + 1) words))
-    ∙ (filter-append is_form (take (i + 1) words) (drop (i + 1) words) ∙ ap (λ fs. fs ++ more) step) in
-    let long = ap length (sym same ∙ whole) in
-    omega (arith, long, few form)
 
 other_step : (words : List (List ℕ)) (i : ℕ) (word : List ℕ) → i < length words → word ≡ get_or words i word
     → filter is_other (take (i + 1) words) ≡ filter is_other (take i words) ++ cond (not (is_form word)) (word ∷ []) []

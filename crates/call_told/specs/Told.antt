@@ -14,14 +14,15 @@ use Rattle.call_table.specs.Reached.{AreNodes}
 use Rattle.loop_report.specs.Reportable.{AreLeveled}
 use Rattle.call_table.specs.Table.{IsTable}
 use Rattle.call_table.specs.declared.table.CallTable.{CallTable}
-use Rattle.call_writer.specs.Dot.{cluster, edge_line, node_line_of}
+use Rattle.call_writer.specs.Dot.{edge_line, group_nodes, node_line_of}
 use Rattle.call_writer.specs.Lines.{call_line_if, clause_line, group_line_at, predicate_line_of}
+use Rattle.call_told.specs.Condensed.{TellsCondensed}
 use Rattle.call_told.specs.Wanted.{Asked}
 use Rattle.call_told.specs.declared.told.Told.{Told}
 use Rattle.call_told.specs.declared.node_texts.NodeLines.{NodeLines}
 use Rattle.call_told.specs.declared.node_texts.NodeLines.TheVariants.{Predicates, Groups}
 use Rattle.call_told.specs.declared.words.Form.{Form}
-use Rattle.call_told.specs.declared.words.Form.TheVariants.{Lines, Undefined, Dot}
+use Rattle.call_told.specs.declared.words.Form.TheVariants.{Lines, Undefined, Dot, Condensed}
 
 -- predicates below the count, groups of such predicates with a level each, and which group each predicate is in
 pub record AreTold (count : ℕ) (nodes : List ℕ) (groups : List (List ℕ)) (levels : List Level) (places : List ℕ) : Type 0 where
@@ -77,11 +78,18 @@ call_lines undefined seen table =
 abbrev pub ungrouped_line : Seen → List ℕ → ℕ → List ℕ
 ungrouped_line seen places p = if slice_index places p == 0 then node_line_of seen.predicates p else []
 
--- the graph: the groups as clusters, the predicates that are in none, and what calls what
-abbrev pub dot_graph : Seen → List (List ℕ) → List ℕ → List ℕ → List ℕ
-dot_graph seen groups places nodes =
+-- the nodes of the groups, of the recursive ones in clusters
+abbrev pub drawn_group : Seen → List ℕ × Level → List ℕ
+drawn_group seen group = group_nodes seen.predicates group.0 group.1
+
+abbrev pub grouped_nodes : Seen → List (List ℕ) → List Level → List ℕ
+grouped_nodes seen groups levels = flat_map (drawn_group seen) (zip groups levels)
+
+-- the graph: the groups, the predicates that are in none, and what calls what
+abbrev pub dot_graph : Seen → List (List ℕ) → List Level → List ℕ → List ℕ → List ℕ
+dot_graph seen groups levels places nodes =
     codes "digraph calls {\n"
-    ++ (flat_map (cluster seen.predicates) groups
+    ++ (grouped_nodes seen groups levels
     ++ (flat_map (ungrouped_line seen places) nodes
     ++ (flat_map (λ p. flat_map (edge_line p) (slice_index_or (successor_lists seen) p [])) nodes ++ codes "}\n")))
 
@@ -91,12 +99,13 @@ pub record TellsTable (seen : Seen) (groups : List (List ℕ)) (nodes : List ℕ
   pub is_table : IsTable seen nodes groups table
   pub is : bytes ≡ text table
 
--- the lines of predicates, groups, clauses and calls; those of undefined calls alone; or the graph
+-- the lines of predicates, groups, clauses and calls; those of undefined calls alone; the graph; or the condensed one
 abbrev pub TellsForm : Form → Seen → List (List ℕ) → List Level → List ℕ → List ℕ → List ℕ → Type 0
 TellsForm Lines seen groups levels places nodes bytes =
     TellsTable seen groups nodes (λ table. told_lines seen groups levels places nodes ++ (clause_lines seen table ++ call_lines false seen table)) bytes
 TellsForm Undefined seen groups levels places nodes bytes = TellsTable seen groups nodes (call_lines true seen) bytes
-TellsForm Dot seen groups levels places nodes bytes = bytes ≡ dot_graph seen groups places nodes
+TellsForm Dot seen groups levels places nodes bytes = bytes ≡ dot_graph seen groups levels places nodes
+TellsForm Condensed seen groups levels places nodes bytes = TellsCondensed seen groups places nodes bytes
 
 -- the bytes tell of the program what is asked for, where reach begins at these roots
 pub record TellsFrom (asked : Asked) (seen : Seen) (roots bytes : List ℕ) : Type 0 where

@@ -7,11 +7,13 @@
 //! ```text
 //! --undefined f.pl    the calls of names that mean no predicate, as JSON
 //! --undefined --dot   Usage
+//! --condensed         Usage, without --dot
 //! ```
 //!
 //! It reads no file.
 #![tactic(auto)]
 
+mod condensed;
 mod node_texts;
 mod stretches;
 mod text;

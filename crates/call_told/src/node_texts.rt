@@ -21,8 +21,11 @@ const FEWEST: usize = 1;
 /// No list is as long, so one thread makes all texts.
 const BY_ONE: usize = usize::MAX;
 
-/// The initial capacity of a text in bytes: few lines are longer than 144.
-const ROOM: usize = 294_912;
+/// The initial capacity of a text in bytes for each line of a predicate. Few are longer.
+const PREDICATE_ROOM: usize = 144;
+
+/// The same for each line of a group.
+const GROUP_ROOM: usize = 96;
 
 /// Which lines are written of the predicates: their own, or those of the groups of which they are
 /// the least members.
@@ -71,6 +74,16 @@ fn push_nodes(
     Ok(())
 }
 
+/// The initial capacity of a text of so many lines. Memory is touched that isn't used if it is too
+/// large, since the system maps large pages.
+fn room_of(lines: NodeLines, count: usize) -> usize {
+    let count = count.min(SIZE);
+    match lines {
+        NodeLines::Predicates => count * PREDICATE_ROOM,
+        NodeLines::Groups => count * GROUP_ROOM,
+    }
+}
+
 /// The lines of these predicates.
 fn node_text(
     alloc: Global,
@@ -83,7 +96,7 @@ fn node_text(
     ensures { IfOk result (λ text. string_bytes text
         ≡ node_lines lines told.now.program.now (lists_of told.now.groups.items) told.now.levels.items told.now.places.items nodes.now) }
 {
-    let mut text = String::with_capacity(alloc, ROOM)?;
+    let mut text = String::with_capacity(alloc, room_of(lines, nodes.len()))?;
     push_nodes(&mut text, told, lines, nodes)?;
     Ok(text)
 }

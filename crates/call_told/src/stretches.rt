@@ -24,8 +24,11 @@ const FEWEST: usize = 1;
 /// No list is as long, so one thread writes all stretches.
 const BY_ONE: usize = usize::MAX;
 
-/// The initial capacity of a stretch in bytes: few lines are longer than 160.
-const ROOM: usize = 327_680;
+/// The initial capacity of a text in bytes for each line of a call. Few are longer.
+const CALL_ROOM: usize = 160;
+
+/// The same for each line of a clause.
+const CLAUSE_ROOM: usize = 104;
 
 /// Adjacent rows of a table, each with its line and column.
 #[derive(Clone, Copy)]
@@ -81,7 +84,8 @@ fn call_text(
 ) -> Result<String, AllocError>
     ensures { IfOk result (λ text. string_bytes text ≡ call_stretch undefined program.now stretch.now) }
 {
-    let mut text = String::with_capacity(alloc, ROOM)?;
+    let room = stretch.rows.len().min(SIZE) * CALL_ROOM;
+    let mut text = String::with_capacity(alloc, room)?;
     push_call_lines(
         alloc,
         &mut text,
@@ -101,7 +105,8 @@ fn clause_text(
 ) -> Result<String, AllocError>
     ensures { IfOk result (λ text. string_bytes text ≡ clause_stretch program.now stretch.now) }
 {
-    let mut text = String::with_capacity(alloc, ROOM)?;
+    let room = stretch.rows.len().min(SIZE) * CLAUSE_ROOM;
+    let mut text = String::with_capacity(alloc, room)?;
     push_clause_lines(alloc, &mut text, program, stretch.rows, stretch.places)?;
     Ok(text)
 }

@@ -5,20 +5,22 @@ ghost use Rattle.std.specs.List.{flat_map};
 ghost use Rattle.std.specs.String.{string_bytes};
 ghost use Rattle.call_edges.specs.Successors.{successor_lists};
 ghost use Rattle.call_table.specs.Table.{IsTable};
-ghost use Rattle.call_writer.specs.Dot.{cluster, edge_line};
-ghost use Rattle.call_told.specs.Told.{IsTold, TellsForm, TellsFrom, dot_graph, joined, told_lines, ungrouped_line};
+ghost use Rattle.call_writer.specs.Dot.{edge_line, group_nodes};
+ghost use Rattle.call_told.specs.Told.{IsTold, TellsForm, TellsFrom, dot_graph, grouped_nodes, joined, told_lines, ungrouped_line};
 ghost use Rattle.call_told.specs.Wanted.{see_wanted};
-ghost use Rattle.call_told.specs.declared.words.Form.TheVariants.{Lines, Undefined};
+ghost use Rattle.call_told.specs.declared.words.Form.TheVariants.{Lines, Undefined, Condensed};
 ghost use Rattle.graph_law.specs.Classes.{group_at};
 ghost use Rattle.graph_law.specs.Graph.{lists_of};
+ghost use Rattle.group_release.specs.Level.{level_at};
 
+use crate::condensed::condensed_text;
 use crate::node_texts::node_texts;
 use crate::stretches::{call_texts, clause_texts};
 use crate::told::{Told, make_told};
 use crate::words::{Form, Wanted};
 use call_edges::{CallLists, PlacedCallLists};
 use call_table::{CallTable, call_table};
-use call_writer::{push_cluster, push_edges, push_node};
+use call_writer::{push_edges, push_group_nodes, push_node};
 use graph_law::Opener;
 use import_rules::Program;
 use std::alloc::{AllocError, Global};
@@ -132,21 +134,21 @@ fn undefined_texts<R: Threads + Sync>(
     Ok(texts)
 }
 
-/// Adds the cluster of the group at the index.
+/// Adds the group at the index.
 fn push_group(text: &mut String, told: &Told<'_>, place: usize) -> Result<(), AllocError>
     requires told { IsTold told.now }
     requires within { place < length told.now.groups.items }
     ensures { OnOk result (string_bytes text.new ≡ string_bytes text.old
-        ++ cluster told.now.program.now.predicates (group_at (lists_of told.now.groups.items) place)) }
+        ++ group_nodes told.now.program.now.predicates (group_at (lists_of told.now.groups.items) place) (level_at told.now.levels.items place)) }
 {
-    push_cluster(text, told.program, &told.groups[place])
+    push_group_nodes(text, told.program, &told.groups[place], told.levels[place])
 }
 
-/// Adds the clusters of the groups.
-fn push_clusters(text: &mut String, told: &Told<'_>) -> Result<(), AllocError>
+/// Adds the groups.
+fn push_groups(text: &mut String, told: &Told<'_>) -> Result<(), AllocError>
     requires { IsTold told.now }
     ensures { OnOk result (string_bytes text.new ≡ string_bytes text.old
-        ++ flat_map (cluster told.now.program.now.predicates) (lists_of told.now.groups.items)) }
+        ++ grouped_nodes told.now.program.now (lists_of told.now.groups.items) told.now.levels.items) }
 {
     for place in 0..told.groups.len() {
         push_group(text, told, place)?;
@@ -216,15 +218,17 @@ fn push_all_callees(
     Ok(())
 }
 
-/// The graph: a cluster for each group, the predicates that are in none, and the edges.
+/// The graph: the groups, of which the recursive ones are clusters, the predicates that are in none,
+/// and the edges.
 fn dot_graph(alloc: Global, told: &Told<'_>, calls: &CallLists<'_>) -> Result<String, AllocError>
     requires told { IsTold told.now }
     requires calls { calls.now ≡ told.now.program.now }
     ensures { IfOk result (λ text. string_bytes text
-        ≡ dot_graph told.now.program.now (lists_of told.now.groups.items) told.now.places.items told.now.nodes.items) }
+        ≡ dot_graph told.now.program.now (lists_of told.now.groups.items) told.now.levels.items told.now.places.items
+        told.now.nodes.items) }
 {
     let mut text = String::from_str(alloc, "digraph calls {\n")?;
-    push_clusters(&mut text, told)?;
+    push_groups(&mut text, told)?;
     push_all_ungrouped(&mut text, told)?;
     push_all_callees(alloc, &mut text, told, calls)?;
     text.push_str("}\n")?;
@@ -240,9 +244,27 @@ fn dot_texts(
     requires told { IsTold told.now }
     requires calls { calls.now ≡ told.now.program.now }
     ensures { IfOk result (λ texts. joined texts.items
-        ≡ dot_graph told.now.program.now (lists_of told.now.groups.items) told.now.places.items told.now.nodes.items) }
+        ≡ dot_graph told.now.program.now (lists_of told.now.groups.items) told.now.levels.items told.now.places.items
+        told.now.nodes.items) }
 {
     let text = dot_graph(alloc, told, calls)?;
+    let mut texts = Vec::new(alloc);
+    texts.push(text)?;
+    Ok(texts)
+}
+
+/// The condensed graph, in one text.
+fn condensed_texts(
+    alloc: Global,
+    told: &Told<'_>,
+    calls: &CallLists<'_>,
+) -> Result<Vec<String>, AllocError>
+    requires told { IsTold told.now }
+    requires calls { calls.now ≡ told.now.program.now }
+    ensures { IfOk result (λ texts. TellsForm Condensed told.now.program.now (lists_of told.now.groups.items) told.now.levels.items
+        told.now.places.items told.now.nodes.items (joined texts.items)) }
+{
+    let text = condensed_text(alloc, told, calls)?;
     let mut texts = Vec::new(alloc);
     texts.push(text)?;
     Ok(texts)
@@ -265,6 +287,7 @@ fn texts_of<R: Threads + Sync>(
         Form::Lines => lines_texts(rt, alloc, told, calls),
         Form::Undefined => undefined_texts(rt, alloc, told, calls),
         Form::Dot => dot_texts(alloc, told, calls.lists()),
+        Form::Condensed => condensed_texts(alloc, told, calls.lists()),
     }
 }
 

@@ -1,9 +1,9 @@
 //! The command-line arguments of `calls`.
 
-ghost use Rattle.std.specs.Prelude.{◌≡◌, ◌≤◌, ◌||◌, ◌++◌, ◌∷◌, [], false, true, codes, filter, length, nat_eq, IfOk, IfErr, MatchOption, OnOk};
+ghost use Rattle.std.specs.Prelude.{◌≡◌, ◌≤◌, ◌||◌, ◌++◌, codes, count_by, filter, length, nat_eq, IfOk, IfErr, MatchOption, OnOk};
 ghost use Rattle.std.specs.List.{list_all, starts_with};
-ghost use Rattle.call_told.specs.Wanted.{Asked, AreAsked, IsNothingAsked, form_words, front_count, front_words};
-ghost use Rattle.call_told.specs.Wanted.{is_end, is_form, is_known, is_other, is_shared, other_words, see_wanted};
+ghost use Rattle.call_told.specs.Wanted.{Asked, AreAsked, FormWords, IsNothingAsked, count_forms, form_words, front_count, front_words};
+ghost use Rattle.call_told.specs.Wanted.{is_condensed, is_dot, is_end, is_form, is_known, is_other, is_shared, is_undefined, other_words, see_wanted};
 ghost use Rattle.call_told.specs.declared.words.Form.{Form as FormHere};
 
 use group_words::{Options, WordFault, parse_words};
@@ -19,6 +19,8 @@ pub enum Form {
     Undefined,
     /// The graph of the predicates.
     Dot,
+    /// The graph of the groups, and of predicates that are in none.
+    Condensed,
 }
 
 /// What the arguments ask for: a form, and of the options of `groups` the roots, whether predicates
@@ -36,25 +38,35 @@ fn is_end(word: &Text) -> bool
     word.as_str() == "--"
 }
 
-/// Whether the argument names a form.
+fn is_undefined(word: &Text) -> bool
+    ensures { result ≡ is_undefined word.now }
+{
+    word.as_str() == "--undefined"
+}
+
+fn is_dot(word: &Text) -> bool
+    ensures { result ≡ is_dot word.now }
+{
+    word.as_str() == "--dot"
+}
+
+fn is_condensed(word: &Text) -> bool
+    ensures { result ≡ is_condensed word.now }
+{
+    word.as_str() == "--condensed"
+}
+
+/// Whether the argument is one that names a form.
 fn is_form(word: &Text) -> bool
     ensures { result ≡ is_form word.now }
 {
-    let word = word.as_str();
-    word == "--undefined" || word == "--dot"
-}
-
-/// The form that the argument names, if it names one.
-fn form_of(word: &Text) -> Option<Form>
-    ensures { MatchOption result (is_form word.now ≡ false) (λ form. (is_form word.now ≡ true) × (form_words form ≡ word.now ∷ [])) }
-{
-    if word.as_str() == "--undefined" {
-        return Some(Form::Undefined);
+    if is_undefined(word) {
+        return true;
     }
-    if word.as_str() == "--dot" {
-        return Some(Form::Dot);
+    if is_dot(word) {
+        return true;
     }
-    None
+    is_condensed(word)
 }
 
 /// Whether the argument begins with `--`.
@@ -116,22 +128,46 @@ fn are_known(words: &[Text]) -> bool
     words.iter().all(|word| is_known(word))
 }
 
+fn undefined_count(words: &[Text]) -> usize
+    ensures { result ≡ count_by is_undefined words.now }
+{
+    words.iter().filter(|word| is_undefined(word)).count()
+}
+
+fn dot_count(words: &[Text]) -> usize
+    ensures { result ≡ count_by is_dot words.now }
+{
+    words.iter().filter(|word| is_dot(word)).count()
+}
+
+fn condensed_count(words: &[Text]) -> usize
+    ensures { result ≡ count_by is_condensed words.now }
+{
+    words.iter().filter(|word| is_condensed(word)).count()
+}
+
+/// The form that is named by each of the options so often, if one is.
+fn form_of(undefined: usize, dot: usize, condensed: usize) -> Option<Form>
+    ensures { let named : FormWords = record { undefined = undefined; dot = dot; condensed = condensed } in
+        MatchOption result ((form : FormHere) → named ≡ form_words form → ⊥) (λ form. named ≡ form_words form) }
+{
+    match (undefined, dot, condensed) {
+        (0, 0, 0) => Some(Form::Lines),
+        (1, 0, 0) => Some(Form::Undefined),
+        (0, 1, 0) => Some(Form::Dot),
+        (0, 1, 1) => Some(Form::Condensed),
+        _ => None,
+    }
+}
+
 /// The form that the arguments name, if they name at most one.
 fn named_form(words: &[Text]) -> Option<Form>
-    ensures { MatchOption result ((form : FormHere) → filter is_form words.now ≡ form_words form → ⊥) (λ form. filter is_form words.now ≡ form_words form) }
+    ensures { MatchOption result ((form : FormHere) → count_forms words.now ≡ form_words form → ⊥) (λ form. count_forms words.now ≡ form_words form) }
 {
-    let mut found = Form::Lines;
-    for word in words {
-        let Some(form) = form_of(word) else {
-            continue;
-        };
-        match found {
-            Form::Lines => found = form,
-            Form::Undefined => return None,
-            Form::Dot => return None,
-        }
-    }
-    Some(found)
+    let undefined = undefined_count(words);
+    let dot = dot_count(words);
+    let condensed = condensed_count(words);
+    form_of(undefined, dot, condensed)
 }
 
 /// Adds the arguments that name no form.
@@ -176,8 +212,8 @@ fn other_words(alloc: Global, words: &[Text]) -> Result<Vec<Text>, AllocError>
 }
 
 /// What the arguments ask for, or `Usage` if they aren't valid. Valid are at most one of
-/// `--undefined` and `--dot`, once, and `--roots LIST`, `--unreached` and the files as in `groups`,
-/// and nothing else.
+/// `--undefined` and `--dot`, once, `--condensed` once if `--dot` is there too, and `--roots LIST`,
+/// `--unreached` and the files as in `groups`, and nothing else.
 pub fn read_wanted(alloc: Global, words: &[Text]) -> Result<Wanted, WordFault>
     ensures ok { IfOk result (λ wanted. AreAsked words.now (see_wanted wanted)) }
     ensures only { IfOk result (λ wanted. (asked : Asked) → AreAsked words.now asked → asked ≡ see_wanted wanted) }

@@ -3,11 +3,12 @@
 ghost use Rattle.std.specs.Prelude.{◌≡◌, ◌<◌, ◌++◌, [], All, OnOk, length};
 ghost use Rattle.std.specs.List.{flat_map};
 ghost use Rattle.std.specs.String.{string_bytes};
-ghost use Rattle.call_writer.specs.Dot.{cluster, cluster_head, dot_char, dot_text, edge_line, label, node_line_of};
+ghost use Rattle.call_writer.specs.Dot.{cluster, cluster_head, dot_char, dot_text, edge_line, group_nodes, label, node_line_of};
 ghost use Rattle.graph_law.specs.Classes.{least_member};
 ghost use Rattle.import_rules.specs.Parts.{see_name};
 
 use crate::json::push_number;
+use group_release::Level;
 use import_rules::{NameView, Program};
 use std::alloc::AllocError;
 
@@ -39,7 +40,7 @@ fn push_dot_text(text: &mut String, name: &str) -> Result<(), AllocError>
 }
 
 /// Adds `MODULE:NAME/ARITY`.
-fn push_label(text: &mut String, name: NameView<'_>) -> Result<(), AllocError>
+pub(crate) fn push_label(text: &mut String, name: NameView<'_>) -> Result<(), AllocError>
     ensures { OnOk result (string_bytes text.new ≡ string_bytes text.old ++ label (see_name name.entry)) }
 {
     push_dot_text(text, name.module)?;
@@ -91,7 +92,7 @@ fn push_cluster_head(text: &mut String, least: u32) -> Result<(), AllocError>
 }
 
 /// Adds a group as a cluster of its members, which is named by the least of them.
-pub fn push_cluster(text: &mut String, program: &Program, members: &[u32]) -> Result<(), AllocError>
+fn push_cluster(text: &mut String, program: &Program, members: &[u32]) -> Result<(), AllocError>
     requires inhabited { 0 < length members.now }
     requires below { All (λ node. node < length program.now.predicates) members.now }
     ensures { OnOk result (string_bytes text.new ≡ string_bytes text.old ++ cluster program.now.predicates members.now) }
@@ -99,6 +100,24 @@ pub fn push_cluster(text: &mut String, program: &Program, members: &[u32]) -> Re
     push_cluster_head(text, least_of(members))?;
     push_nodes(text, program, members)?;
     text.push_str("}\n")
+}
+
+/// Adds a group: a recursive one as a cluster of its members, which is named by the least of them,
+/// any other as the node of its one member.
+pub fn push_group_nodes(
+    text: &mut String,
+    program: &Program,
+    members: &[u32],
+    level: Level,
+) -> Result<(), AllocError>
+    requires inhabited { 0 < length members.now }
+    requires below { All (λ node. node < length program.now.predicates) members.now }
+    ensures { OnOk result (string_bytes text.new ≡ string_bytes text.old ++ group_nodes program.now.predicates members.now level) }
+{
+    if level.recursive {
+        return push_cluster(text, program, members);
+    }
+    push_nodes(text, program, members)
 }
 
 /// Adds the edge from one node to another.

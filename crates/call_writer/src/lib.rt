@@ -11,13 +11,15 @@
 //! The layers below decide which calls there are.
 #![tactic(auto)]
 
+mod condensed;
 mod dot;
 mod group_line;
 mod json;
 mod last;
 mod lines;
 
-pub use dot::{push_cluster, push_edges, push_node};
+pub use condensed::{push_condensed_edge, push_condensed_node};
+pub use dot::{push_edges, push_group_nodes, push_node};
 pub use group_line::push_group_line;
 pub use json::push_json_string;
 pub use lines::{push_call_lines, push_clause_lines, push_predicate_line};

@@ -13,7 +13,7 @@ pub record TellsProgram (asked : Asked) (seen : Seen) (bytes : List ℕ) : Type 
   pub tells : TellsFrom asked seen roots bytes
 
 abbrev pub usage_line : List ℕ
-usage_line = codes "usage: calls [--roots LIST] [--unreached] [--undefined | --dot] FILE...\n"
+usage_line = codes "usage: calls [--roots LIST] [--unreached] [--undefined | --dot [--condensed]] FILE...\n"
 
 -- the program: what its words ask for, and what it tells of the files; it makes none
 abbrev pub calls_tool : Tool Asked

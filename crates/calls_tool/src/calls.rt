@@ -18,7 +18,7 @@ impl Tool for Calls {
     }
 
     fn usage_line() -> &'static str {
-        "usage: calls [--roots LIST] [--unreached] [--undefined | --dot] FILE...\n"
+        "usage: calls [--roots LIST] [--unreached] [--undefined | --dot [--condensed]] FILE...\n"
     }
 
     fn memory_line() -> &'static str {

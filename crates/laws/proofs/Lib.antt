@@ -41,6 +41,7 @@ mod FaultLists
 mod RootLists
 -- schedule
 pub mod Choices
+pub mod CondensedEdges
 pub mod Heights
 pub mod SearchCuts
 pub mod Carrying

@@ -1,6 +1,8 @@
--- What is told of a program is one list of bytes, where it isn't the graph.
+-- What is told of a program is one list of bytes, where it isn't the graph of all predicates.
 use Rattle.std.proofs.Common.{◌≡◌, ◌≢◌, ◌++◌, ℕ, Bool, true, false, List, [], Some, None, codes, flat_map, length, slice_get, zip, refl, sym}
 use Rattle.std.proofs.Common.{ap, ◌∙◌, subst}
+use Rattle.std.specs.Prelude.{if◌then◌else◌}
+use Rattle.std.specs.Fmt.{decimal}
 use Rattle.graph_law.specs.Graph.{Calls}
 use Rattle.group_release.specs.declared.level.Level.{Level}
 use Rattle.import_rules.specs.declared.names.PredName.{PredName}
@@ -12,10 +14,13 @@ use Rattle.call_table.specs.Table.{IsTable}
 use Rattle.call_table.specs.declared.table.CallTable.{CallTable}
 use Rattle.call_told.specs.declared.node_texts.NodeLines.TheVariants.{Predicates, Groups}
 use Rattle.call_told.specs.declared.words.Form.{Form}
-use Rattle.call_told.specs.declared.words.Form.TheVariants.{Lines, Undefined, Dot}
+use Rattle.call_told.specs.declared.words.Form.TheVariants.{Lines, Undefined, Dot, Condensed}
+use Rattle.call_told.specs.Condensed.{TellsCondensed, edge_lines, node_lines_of}
+use Rattle.call_told.specs.declared.condensed.Edge.{Edge}
 use Rattle.call_told.specs.Told.{TellsForm, TellsFrom, call_lines, clause_lines, node_line, told_lines}
 use Rattle.call_told.specs.Wanted.{Asked}
 use Rattle.call_writer.specs.Lines.{call_line_if, clause_line, predicate_head}
+use Rattle.laws.proofs.CondensedEdges.{same_edges}
 use Rattle.laws.proofs.OneTable.{one_call_places, one_calls, one_clause_places, one_clauses}
 use Rattle.laws.proofs.SameGroups.{each_same, same_nodes}
 
@@ -57,6 +62,22 @@ module _ (seen : Seen) (roots : List ℕ) where
           let grouped : node_line Groups seen groups levels places ≡ node_line Groups seen others marks other_places = λ i p. (same p).line p i in
           λ i. flat_map (own i) nodes ++ flat_map (grouped i) nodes
 
+      same_condensed : (bytes other : List ℕ) → TellsCondensed seen groups places nodes bytes → TellsCondensed seen others other_places nodes other
+          → bytes ≡ other
+      same_condensed bytes other is also =
+          let same = each_same leveled marked (length seen.predicates) places other_places placed placed_too in
+          let drawn : node_lines_of seen groups places nodes ≡ node_lines_of seen others other_places nodes =
+          λ i. flat_map (λ p. (same p).drawn seen.predicates p i) nodes in
+          let edges : is.edges ≡ also.edges =
+          same_edges (successor_lists seen) groups others places other_places nodes (λ p. (same p).node p) is.edges also.edges is.are also.are in
+          let named : edge_lines places also.edges ≡ edge_lines other_places also.edges =
+          λ i. flat_map
+          (λ (edge : Edge).
+          ((if (same edge.from).none i then codes "n" else codes "g") ++ decimal edge.from)
+          ++ (codes " -> " ++ (((if (same edge.to).none i then codes "n" else codes "g") ++ decimal edge.to) ++ codes ";\n"))) also.edges in
+          let lines : edge_lines places is.edges ≡ edge_lines other_places also.edges = ap (edge_lines places) edges ∙ named in
+          is.is ∙ ((λ i. codes "digraph calls {\n" ++ (drawn i ++ (lines i ++ codes "}\n"))) ∙ sym also.is)
+
       same_form : (form : Form) → form ≢ Dot → (bytes other : List ℕ) → TellsForm form seen groups levels places nodes bytes
           → TellsForm form seen others marks other_places nodes other → bytes ≡ other
       same_form Lines lines bytes other is also =
@@ -66,6 +87,7 @@ module _ (seen : Seen) (roots : List ℕ) where
       same_form Undefined lines bytes other is also =
           is.is ∙ (same_call_lines seen nodes groups others is.table also.table is.is_table also.is_table true ∙ sym also.is)
       same_form Dot lines bytes other is also = absurd (lines refl)
+      same_form Condensed lines bytes other is also = same_condensed bytes other is also
 
   pub one_told : (asked : Asked) → asked.form ≢ Dot → (bytes other : List ℕ) → TellsFrom asked seen roots bytes → TellsFrom asked seen roots other
       → bytes ≡ other

@@ -1,4 +1,4 @@
--- One text is told of a program by `calls`, where no graph is asked for.
+-- One text is told of a program by `calls`, where no graph of all predicates is asked for.
 use Rattle.std.proofs.Common.{◌≡◌, ◌≢◌, subst}
 use Rattle.call_told.specs.declared.words.Form.TheVariants.{Dot}
 use Rattle.call_told.specs.Told.{TellsFrom}

@@ -23,12 +23,12 @@ use Rattle.laws.proofs.Mets.{given_has}
 use Rattle.laws.proofs.Orders.{HasOnce, has_once}
 
 -- two comparisons in turn
-both_equal : (o p : Ordering) → ordering_then o p ≡ Equal → (o ≡ Equal) × (p ≡ Equal)
+pub both_equal : (o p : Ordering) → ordering_then o p ≡ Equal → (o ≡ Equal) × (p ≡ Equal)
 both_equal Less p same = let no : ⊥ = cc in absurd no
 both_equal Equal p same = (refl, same)
 both_equal Greater p same = let no : ⊥ = cc in absurd no
 
-same_number : (a b : ℕ) → nat_cmp a b ≡ Equal → a ≡ b
+pub same_number : (a b : ℕ) → nat_cmp a b ≡ Equal → a ≡ b
 same_number a b tie = ranked a b Equal (sym tie)
 
 -- clauses

@@ -17,9 +17,11 @@ use Rattle.call_table.specs.Table.{IsTable}
 use Rattle.call_table.specs.declared.table.CallTable.{CallTable}
 use Rattle.call_table.proofs.ReachedLemmas.{roots_listed}
 use Rattle.call_told.specs.declared.words.Form.{Form}
-use Rattle.call_told.specs.declared.words.Form.TheVariants.{Lines, Undefined, Dot}
+use Rattle.call_told.specs.declared.words.Form.TheVariants.{Lines, Undefined, Dot, Condensed}
+use Rattle.call_told.specs.Condensed.{condensed_graph}
 use Rattle.call_told.specs.Told.{TellsForm, TellsFrom, call_lines, clause_lines, dot_graph, told_lines, told_nodes}
 use Rattle.call_told.specs.Wanted.{Asked}
+use Rattle.laws.proofs.CondensedEdges.{has_edges}
 
 -- what there is for each graph, as the laws say it
 pub record GroupLaws : Type 0 where
@@ -41,7 +43,10 @@ form_told Lines seen groups levels places nodes table = (
   record { table = table.0; is_table = table.1; is = refl },
 )
 form_told Undefined seen groups levels places nodes table = (call_lines true seen table.0, record { table = table.0; is_table = table.1; is = refl })
-form_told Dot seen groups levels places nodes table = (dot_graph seen groups places nodes, refl)
+form_told Dot seen groups levels places nodes table = (dot_graph seen groups levels places nodes, refl)
+form_told Condensed seen groups levels places nodes table =
+    let edges = has_edges (successor_lists seen) groups places nodes in
+    (condensed_graph seen groups places nodes edges.0, record { edges = edges.0; are = edges.1; is = refl })
 
 -- no more predicates are told than there are
 told_few : (count : ℕ) (places : List ℕ) (all : Bool) → length (told_nodes count places all) ≤ count

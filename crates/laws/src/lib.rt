@@ -22,7 +22,7 @@
 //! - `answer`: arguments over a map of files have a right answer, which is all of this together;
 //! - `told`: the arguments of `calls` ask for one thing or for nothing. Predicates of a program
 //!   have a table of their calls. Arguments of `calls` over a map of files have a right answer too,
-//!   and only one if they ask for no graph.
+//!   and only one if they ask for no graph that isn't condensed.
 #![tactic(auto)]
 
 mod answer;

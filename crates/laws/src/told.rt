@@ -68,7 +68,8 @@ pub fn some_told_answer()
     told_exists();
 }
 
-/// Arguments of `calls` over files have at most one answer, if they ask for no graph.
+/// Arguments of `calls` over files have at most one answer, if they ask for no graph that isn't
+/// condensed.
 pub fn one_told_answer()
     ensures { (words : List (List ℕ)) (files : Files) (answer other : End) → ((asked : Asked) → AreAsked words asked → asked.form ≢ Dot)
         → IsAnswer calls_tool (AreAsked words) files answer → IsAnswer calls_tool (AreAsked words) files other → answer ≡ other }

@@ -1,8 +1,8 @@
-use Rattle.std.proofs.Common.{ap, sym, subst, ◌∙◌, filter}
+use Rattle.std.proofs.Common.{ap, sym, subst, ◌∙◌}
 use Rattle.std.specs.List.{list_all}
 use Rattle.std.proofs.lemmas.Bool.{false≢true}
 use Rattle.group_words.specs.Settings.{AreLawful, see_options}
-use Rattle.call_told.specs.Wanted.{is_form, is_known}
+use Rattle.call_told.specs.Wanted.{count_forms, is_known}
 use Rattle.call_told.proofs.OneAsked.{one_asked}
 use Rattle.call_told.proofs.words.read_wanted.Goals as goal
 
@@ -12,11 +12,11 @@ returns-then-not-are_known-clause-usage c is asked lawful =
 
 pub returns-in_default-clause-usage : goal.returns-in_default-clause-usage
 returns-in_default-clause-usage c is asked lawful =
-    (rw c.in_default.is at c.named_form.ensures) asked.form (ap (filter is_form) c.front_of-front.ensures ∙ lawful.one_form)
+    (rw c.in_default.is at c.named_form.ensures) asked.form (ap count_forms c.front_of-front.ensures ∙ lawful.one_form)
 
 pub returns-in-Ok-clause-ok : goal.returns-in-Ok-clause-ok
 returns-in-Ok-clause-ok c = record {
-  one_form = ap (filter is_form) (sym c.front_of-front.ensures) ∙ (rw c.in-Some.is at c.named_form.ensures);
+  one_form = ap count_forms (sym c.front_of-front.ensures) ∙ (rw c.in-Some.is at c.named_form.ensures);
   known = ap (list_all is_known) (sym c.front_of-front.ensures) ∙ (sym c.are_known.ensures ∙ c.if-not-are_known.false);
   lawful = subst (λ words. AreLawful words (see_options c.in-Ok.options)) (c.deref.ensures.value ∙ c.in_ok-others.ensures) c.in-Ok.ensures.ok;
 }
