@@ -1,11 +1,11 @@
 //! Roots, and names that are called and mean no predicate.
 
+use crate::programs::library_of;
 use call_edges::{GoalStop, check_goals, roots_of, unresolved_of};
-use file_library::{Fault, MemoryLibrary, load_all};
+use file_library::{Fault, load_all};
 use import_rules::{ImportStop, NameView, Program, resolve_all};
 use prolog_tokens::Text;
 use std::alloc::{AllocError, Global};
-use std::collections::BTreeMap;
 use std::process::Abort;
 use std::test::Fail;
 use std::thread::Threads;
@@ -13,8 +13,6 @@ use std::thread::Threads;
 /// The texts of the files `a.pl`, `b.pl` and so on, of which the first is a root, and the output
 /// for their program.
 type Row = (&'static [&'static [u8]], &'static str);
-
-const NAMES: [&str; 3] = ["a.pl", "b.pl", "c.pl"];
 
 /// A module with facts, a rule of facts, and a goal within goals; and calls of other modules, of a
 /// variable one, and of predicates that take goals.
@@ -224,15 +222,6 @@ fn told_checked<R: Threads + Sync>(
         Err(GoalStop::Faults(faults)) => told_faults(alloc, &faults),
         Err(GoalStop::NoMemory) => String::from_str(alloc, "no memory"),
     }
-}
-
-/// A library of these texts.
-fn library_of(alloc: Global, texts: &[&[u8]]) -> Result<MemoryLibrary, AllocError> {
-    let mut files = BTreeMap::new(alloc);
-    for (name, text) in NAMES.iter().zip(texts) {
-        files.insert(Text::new(alloc, name)?, text.to_vec(alloc)?)?;
-    }
-    MemoryLibrary::new(alloc, files, Vec::new(alloc))
 }
 
 /// The output for the files with these texts.

@@ -13,10 +13,11 @@ use Rattle.module_table.specs.contracts.file_facts.DirectiveGoals as of_goals
 use Rattle.module_table.specs.contracts.file_facts.FileFacts as of_facts
 use Rattle.file_library.specs.contracts.loaded.Loaded as of_loaded
 use Rattle.import_rules.proofs.name_table.NameTable.TheSendSync as names
-use Rattle.import_rules.proofs.own_names.OwnNames.TheSendSync as own_names
 use Rattle.import_rules.proofs.places.Places.TheSendSync as places
-use Rattle.import_rules.proofs.predicates.Chains.TheSendSync as chains
+use Rattle.import_rules.specs.contracts.meanings.ImportTables as of_imports
 use Rattle.import_rules.specs.contracts.program.Program as of_program
+use Rattle.import_rules.specs.contracts.shared_names.SharedNames as of_exporters
+use Rattle.import_rules.specs.contracts.taken_modules.TakenModules as of_taken
 
 clause_shared : IsSync of_clause.the_field.row
 clause_shared = search (sendable, crosses, nodes.the_send, nodes.the_sync) depth 20
@@ -36,8 +37,23 @@ facts_shared =
 loaded_shared : IsSync of_loaded.the_field.row
 loaded_shared = let facts = facts_shared in search (sendable, crosses, text.the_sync) depth 20 fits 3000
 
+exporters_shared : IsSync of_exporters.the_field.row
+exporters_shared = search (sendable, crosses, names.the_sync) depth 20
+
+taken_shared : IsSync of_taken.the_field.row
+taken_shared = search (sendable, crosses, names.the_sync) depth 20
+
+imports_shared : IsSync of_imports.the_field.row
+imports_shared =
+    let exporters = exporters_shared in
+    let taken = taken_shared in
+    search (sendable, crosses, names.the_sync) depth 20
+
 program_field : IsSync of_program.the_field.row
-program_field = let loaded = loaded_shared in search (sendable, crosses, names.the_sync, own_names.the_sync, places.the_sync, chains.the_sync) depth 20 fits 3000
+program_field =
+    let loaded = loaded_shared in
+    let imports = imports_shared in
+    search (sendable, crosses, places.the_sync) depth 20 fits 3000
 
 pub program_shared : IsSync of_program.the_row
 program_shared = let program = program_field in search sendable depth 20
