@@ -1,0 +1,5 @@
+#compdef prolog-components
+# Completion of zsh for prolog-components(1): options that aren't given yet, and files.
+_arguments -S \
+    '--order[groups in the order in which they were found]' \
+    '1:text of edges:_files'

@@ -1,0 +1,5 @@
+mod NameLists
+mod LeadOrder
+pub mod Examples
+mod KeyLists
+mod Ranking

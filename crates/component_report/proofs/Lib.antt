@@ -1,0 +1,7 @@
+pub mod Examples
+mod LineOrder
+mod OneHead
+mod OneLine
+mod OneReport
+mod Printable
+mod Ranges

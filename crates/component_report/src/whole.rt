@@ -1,0 +1,71 @@
+//! The whole report.
+
+ghost use Rattle.std.specs.Prelude.{◌≡◌, ◌<◌, ◌^◌, All, IfOk, length};
+ghost use Rattle.graph_law.specs.Graph.{lists_of};
+ghost use Rattle.byte_names.specs.Names.{names_of};
+ghost use Rattle.component_report.specs.Report.{IsReport, order_report, report_in};
+ghost use Rattle.component_report.specs.Reportable.{ArePrintable, AreReportable};
+
+use crate::head::push_head;
+use crate::line_order::{order_given, sorted_order};
+use crate::lines::push_groups;
+use group_release::Level;
+use std::alloc::{AllocError, Global};
+
+/// The initial capacity of a text in bytes for each of its lines.
+const LINE_BYTES: usize = 32;
+
+/// The report on groups of nodes, whose numbers are the indices of their names: the head line, and a
+/// line for each group in order of height and least member.
+///
+/// The groups are in reverse topological order of some graph of the nodes, and `levels` are their
+/// levels. Fails only if memory runs out.
+pub fn report(
+    alloc: Global,
+    names: &[&[u8]],
+    groups: &[Vec<u32>],
+    levels: &[Level],
+) -> Result<Vec<u8>, AllocError>
+    requires few { length names.now < 2 ^ 32 }
+    requires groups { AreReportable (length names.now) (lists_of groups.now) levels.now }
+    ensures { IfOk result (λ bytes. IsReport (names_of names.now) (lists_of groups.now) levels.now bytes.items) }
+{
+    let order = sorted_order(alloc, groups, levels)?;
+    let bytes = written(alloc, names, groups, levels, &order)?;
+    Ok(bytes)
+}
+
+/// The same report with the lines of the groups in the order given.
+pub fn order_report(
+    alloc: Global,
+    names: &[&[u8]],
+    groups: &[Vec<u32>],
+    levels: &[Level],
+) -> Result<Vec<u8>, AllocError>
+    requires few { length names.now < 2 ^ 32 }
+    requires groups { AreReportable (length names.now) (lists_of groups.now) levels.now }
+    ensures { IfOk result (λ bytes. bytes.items ≡ order_report (names_of names.now) (lists_of groups.now) levels.now) }
+{
+    let order = order_given(alloc, groups.len() as u32)?;
+    let bytes = written(alloc, names, groups, levels, &order)?;
+    Ok(bytes)
+}
+
+/// The report with the lines of the groups in this order.
+fn written(
+    alloc: Global,
+    names: &[&[u8]],
+    groups: &[Vec<u32>],
+    levels: &[Level],
+    order: &[u32],
+) -> Result<Vec<u8>, AllocError>
+    requires few { length names.now < 2 ^ 32 }
+    requires printable { ArePrintable (length names.now) (lists_of groups.now) levels.now }
+    requires places { All (λ place. place < length groups.now) order.now }
+    ensures { IfOk result (λ bytes. bytes.items ≡ report_in (names_of names.now) (lists_of groups.now) levels.now order.now) }
+{
+    let mut text = Vec::with_capacity(alloc, order.len().saturating_mul(LINE_BYTES))?;
+    push_head(&mut text, groups, levels)?;
+    push_groups(&mut text, names, groups, levels, order)?;
+    Ok(text)
+}

@@ -1,0 +1,71 @@
+use component_answer::{Answer, answer_text};
+use edge_text::{Fault, MOST_BYTES, first_fault};
+use std::test::Fail;
+
+/// The bytes of a report.
+fn report_in(answer: Answer) -> Option<Vec<u8>> {
+    match answer {
+        Answer::Report(bytes) => Some(bytes),
+        _ => None,
+    }
+}
+
+#[test]
+fn lines_are_in_order_of_heights_and_names(rt: HostRuntime) -> Result<(), Fail> {
+    let alloc = rt.alloc();
+    let text = b"main parse run\nparse term\r\n# a comment\n\tterm parse parse\nrun";
+    let bytes = report_in(answer_text(alloc, text, false)?).ok_or("no report")?;
+    assert_eq!(rt;
+        bytes.as_slice(),
+        b"nodes 4 groups 3 recursive 1 levels 2\n0 recursive parse term\n0 plain run\n1 plain main\n".as_slice()
+    );
+    Ok(())
+}
+
+#[test]
+fn groups_come_as_they_are_found(rt: HostRuntime) -> Result<(), Fail> {
+    let alloc = rt.alloc();
+    let bytes = report_in(answer_text(alloc, b"c b\nb b\na", true)?).ok_or("no report")?;
+    assert_eq!(rt;
+        bytes.as_slice(),
+        b"nodes 3 groups 3 recursive 1 levels 2\n0 plain a\n0 recursive b\n1 plain c\n".as_slice()
+    );
+    Ok(())
+}
+
+#[test]
+fn an_empty_text_has_no_nodes(rt: HostRuntime) -> Result<(), Fail> {
+    let alloc = rt.alloc();
+    let bytes = report_in(answer_text(alloc, b"", false)?).ok_or("no report")?;
+    assert_eq!(rt;
+        bytes.as_slice(),
+        b"nodes 0 groups 0 recursive 0 levels 0\n".as_slice()
+    );
+    Ok(())
+}
+
+#[test]
+fn a_name_may_have_any_bytes(rt: HostRuntime) -> Result<(), Fail> {
+    let alloc = rt.alloc();
+    let bytes = report_in(answer_text(alloc, b"\xff\x00 \xff", false)?).ok_or("no report")?;
+    assert_eq!(rt;
+        bytes.as_slice(),
+        b"nodes 2 groups 2 recursive 0 levels 2\n0 plain \xff\n1 plain \xff\x00\n".as_slice()
+    );
+    Ok(())
+}
+
+#[test]
+fn a_name_that_is_too_long_has_a_place(rt: HostRuntime) -> Result<(), Fail> {
+    let alloc = rt.alloc();
+    let mut text = b"a b\n c ".to_vec(alloc)?;
+    let long = vec![in alloc; b'n'; 65_537]?;
+    text.extend_from_slice(&long)?;
+    assert!(rt; text.len() <= MOST_BYTES);
+    let found = first_fault(&text);
+    assert!(rt; matches!(found, Some(Fault { line: 2, column: 4 })));
+    text.truncate(65_543);
+    assert!(rt; text.len() <= MOST_BYTES);
+    assert!(rt; first_fault(&text).is_none());
+    Ok(())
+}

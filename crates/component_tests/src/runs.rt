@@ -1,0 +1,135 @@
+//! Whole runs over a text in memory.
+
+use component_tool::{MemorySource, run_components};
+use prolog_tokens::Text;
+use std::alloc::{AllocError, Global};
+use std::process::Abort;
+use std::test::Fail;
+use tool_run::MemorySink;
+
+/// Arguments, the name of the one text and its bytes; and what is expected: the status and the
+/// bytes on both sinks.
+type Run = (
+    &'static [&'static str],
+    &'static str,
+    &'static str,
+    u8,
+    &'static str,
+    &'static str,
+);
+
+const USAGE: &str = "usage: components [--order] [FILE]\n";
+
+static RUNS: [Run; 10] = [
+    (
+        &[],
+        "-",
+        "p q\nq p\n",
+        0,
+        "nodes 2 groups 1 recursive 1 levels 1\n0 recursive p q\n",
+        "",
+    ),
+    (
+        &["f"],
+        "f",
+        "c b\nb b\na",
+        0,
+        "nodes 3 groups 3 recursive 1 levels 2\n0 plain a\n0 recursive b\n1 plain c\n",
+        "",
+    ),
+    (
+        &["--order", "-"],
+        "-",
+        "a b\nb c\nd\n",
+        0,
+        "nodes 4 groups 4 recursive 0 levels 3\n0 plain c\n1 plain b\n2 plain a\n0 plain d\n",
+        "",
+    ),
+    (
+        &["--order"],
+        "-",
+        "",
+        0,
+        "nodes 0 groups 0 recursive 0 levels 0\n",
+        "",
+    ),
+    (&["f"], "-", "", 4, "", "components: cannot read f\n"),
+    (&[], "f", "", 4, "", "components: cannot read -\n"),
+    (&["f", "g"], "f", "", 2, "", USAGE),
+    (&["f", "--order"], "f", "", 2, "", USAGE),
+    (&["--loops"], "-", "", 2, "", USAGE),
+    (&[""], "-", "", 2, "", USAGE),
+];
+
+/// The bytes that the sink has taken as text, or no text.
+fn shown(sink: &MemorySink) -> &str {
+    match str::from_utf8(sink.taken()) {
+        Ok(text) => text,
+        Err(_) => "no text",
+    }
+}
+
+/// The arguments of a command line.
+fn words_of(alloc: Global, words: &[&str]) -> Result<Vec<Text>, AllocError> {
+    let mut found = Vec::new(alloc);
+    for word in words {
+        found.push(Text::new(alloc, word)?)?;
+    }
+    Ok(found)
+}
+
+/// Runs over the text with sinks that take so many bytes, and compares the status and what both
+/// sinks have taken.
+fn expect_run<R: Abort>(
+    rt: &R,
+    alloc: Global,
+    words: &[&str],
+    text: (&str, Vec<u8>),
+    rooms: (u32, u32),
+    wanted: (u8, &str, &str),
+) -> Result<(), Fail> {
+    let words = words_of(alloc, words)?;
+    let mut source = MemorySource::new(alloc, Text::new(alloc, text.0)?, text.1);
+    let mut out = MemorySink::failing_after(alloc, rooms.0)?;
+    let mut err = MemorySink::failing_after(alloc, rooms.1)?;
+    let status = run_components(alloc, &words, &mut source, &mut out, &mut err);
+    assert_eq!(rt; (status, shown(&out), shown(&err)), wanted);
+    Ok(())
+}
+
+#[test]
+fn runs_write_what_is_right(rt: HostRuntime) -> Result<(), Fail> {
+    let alloc = rt.alloc();
+    for (words, name, text, status, on_out, on_err) in &RUNS {
+        let bytes = text.as_bytes().to_vec(alloc)?;
+        let wanted = (*status, *on_out, *on_err);
+        expect_run(&rt, alloc, words, (*name, bytes), (4000, 4000), wanted)?;
+    }
+    Ok(())
+}
+
+#[test]
+fn a_name_that_is_too_long_is_told_with_its_place(rt: HostRuntime) -> Result<(), Fail> {
+    let alloc = rt.alloc();
+    let mut bytes = b"a b\n c ".to_vec(alloc)?;
+    let long = vec![in alloc; b'n'; 65_537]?;
+    bytes.extend_from_slice(&long)?;
+    let wanted = (3, "", "-:2:4: name is longer than 65536 bytes\n");
+    expect_run(&rt, alloc, &["-"], ("-", bytes), (4000, 4000), wanted)
+}
+
+#[test]
+fn a_sink_that_fails_ends_the_run(rt: HostRuntime) -> Result<(), Fail> {
+    let alloc = rt.alloc();
+    let text = b"p q\n".to_vec(alloc)?;
+    expect_run(&rt, alloc, &[], ("-", text), (9, 9), (5, "nodes 2 g", ""))?;
+    let text = b"p q\n".to_vec(alloc)?;
+    expect_run(
+        &rt,
+        alloc,
+        &["f"],
+        ("-", text),
+        (9, 9),
+        (5, "", "component"),
+    )
+}

@@ -1,0 +1,7 @@
+pub mod Source
+pub mod MemorySource
+pub mod Settings
+pub mod Lines
+pub mod End
+pub mod Run
+pub mod Keeps

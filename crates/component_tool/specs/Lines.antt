@@ -1,0 +1,27 @@
+-- The lines that say why there is no report.
+use Rattle.std.specs.Prelude.{ℕ, List, ◌++◌, codes}
+use Rattle.std.specs.Fmt.{decimal}
+use Rattle.edge_text.specs.declared.fault.Fault.{Fault}
+
+abbrev pub program_name : List ℕ
+program_name = codes "components"
+
+abbrev pub usage_line : List ℕ
+usage_line = codes "usage: components [--order] [FILE]\n"
+
+abbrev pub large_line : List ℕ → List ℕ
+large_line file = codes "components: " ++ (file ++ codes " is larger than 1073741824 bytes\n")
+
+-- `:LINE:COLUMN`
+abbrev pub place_text : Fault → List ℕ
+place_text fault = codes ":" ++ (decimal fault.line ++ (codes ":" ++ decimal fault.column))
+
+-- a file and a place in it, and what is wrong there
+abbrev pub fault_line : List ℕ → Fault → List ℕ
+fault_line file fault = file ++ (place_text fault ++ codes ": name is longer than 65536 bytes\n")
+
+abbrev pub edges_line : List ℕ
+edges_line = codes "components: more than 33554432 edges\n"
+
+abbrev pub nodes_line : List ℕ
+nodes_line = codes "components: more than 8388608 nodes\n"

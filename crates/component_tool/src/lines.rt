@@ -1,0 +1,59 @@
+//! The lines that report why there is no report on a text.
+
+ghost use Rattle.std.specs.Prelude.{◌≡◌, ◌++◌, IfOk, OnOk};
+ghost use Rattle.std.specs.Fmt.{decimal};
+ghost use Rattle.std.specs.String.{string_bytes};
+ghost use Rattle.component_tool.specs.Lines.{fault_line, large_line, place_text};
+
+use edge_text::Fault;
+use prolog_tokens::Text;
+use std::alloc::{AllocError, Global};
+
+/// The name that lines begin with.
+pub const PROGRAM: &str = "components";
+/// The line that lists the arguments.
+pub const USAGE: &str = "usage: components [--order] [FILE]\n";
+/// The line that reports that memory ran out.
+pub const MEMORY: &str = "components: out of memory\n";
+/// The line that reports too many edges.
+pub const EDGES: &str = "components: more than 33554432 edges\n";
+/// The line that reports too many nodes.
+pub const NODES: &str = "components: more than 8388608 nodes\n";
+
+/// Adds the number in decimal digits.
+fn push_number(alloc: Global, text: &mut String, number: u32) -> Result<(), AllocError>
+    ensures { OnOk result (string_bytes text.new ≡ string_bytes text.old ++ decimal number) }
+{
+    let digits = number.to_string(alloc)?;
+    text.push_str(&digits)
+}
+
+/// Adds `:LINE:COLUMN`.
+fn push_place(alloc: Global, text: &mut String, fault: Fault) -> Result<(), AllocError>
+    ensures { OnOk result (string_bytes text.new ≡ string_bytes text.old ++ place_text fault) }
+{
+    text.push_str(":")?;
+    push_number(alloc, text, fault.line)?;
+    text.push_str(":")?;
+    push_number(alloc, text, fault.column)
+}
+
+/// The line that reports a name that is too long: `FILE:LINE:COLUMN: ` and what is wrong there.
+pub fn fault_line(alloc: Global, file: &Text, fault: Fault) -> Result<String, AllocError>
+    ensures { IfOk result (λ text. string_bytes text ≡ fault_line file.now fault) }
+{
+    let mut text = String::from_str(alloc, file.as_str())?;
+    push_place(alloc, &mut text, fault)?;
+    text.push_str(": name is longer than 65536 bytes\n")?;
+    Ok(text)
+}
+
+/// The line that reports a text that is too large.
+pub fn large_line(alloc: Global, file: &Text) -> Result<String, AllocError>
+    ensures { IfOk result (λ text. string_bytes text ≡ large_line file.now) }
+{
+    let mut text = String::from_str(alloc, "components: ")?;
+    text.push_str(file.as_str())?;
+    text.push_str(" is larger than 1073741824 bytes\n")?;
+    Ok(text)
+}

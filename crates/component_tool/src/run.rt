@@ -1,0 +1,62 @@
+//! The run of the program.
+
+ghost use Rattle.component_tool.specs.Keeps.{RunKeeps};
+ghost use Rattle.component_tool.specs.Run.{IsRun};
+ghost use Rattle.component_tool.specs.Settings.{AreLawful};
+ghost use Rattle.tool_run.specs.Keeps.{LeavesOther};
+ghost use Rattle.std.specs.Prelude.{ℕ, List};
+
+use crate::ending::put_end;
+use crate::lines::{MEMORY, USAGE};
+use crate::settings::{Settings, parse_words};
+use crate::source::Source;
+use crate::telling::tell;
+use prolog_tokens::Text;
+use std::alloc::Global;
+use tool_run::{Sink, say_with};
+
+/// Writes the report that the settings ask for to `out`, or to `err` why there is none.
+fn run_settings<S: Source, O: Sink, E: Sink>(
+    alloc: Global,
+    settings: &Settings,
+    source: &mut S,
+    out: &mut O,
+    err: &mut E,
+) -> u8
+    ensures run { (words : List (List ℕ)) → AreLawful words settings.now
+        → IsRun words (S.seen source.old, S.seen source.new) (O.seen out.old, O.seen out.new) (E.seen err.old, E.seen err.new) result }
+    ensures left { LeavesOther (out.old, out.new) (err.old, err.new) result }
+{
+    let told = tell(alloc, settings, source);
+    put_end(alloc, &settings.file, told, out, err)
+}
+
+/// Runs `components` with the arguments over the source. It writes the report to `out`, or to `err`
+/// why there is none. Returns the exit status:
+///
+/// - 0: the report is written;
+/// - 2: the arguments aren't valid;
+/// - 3: a name in the text is too long;
+/// - 4: the text can't be read;
+/// - 5: a sink failed;
+/// - 6: a limit was passed;
+/// - 7: memory ran out.
+pub fn run_components<S: Source, O: Sink, E: Sink>(
+    alloc: Global,
+    words: &[Text],
+    source: &mut S,
+    out: &mut O,
+    err: &mut E,
+) -> u8
+    // The output is right, and each status has its meaning.
+    ensures run { RunKeeps words.now (S.seen source.old, S.seen source.new)
+        (O.seen out.old, O.seen out.new) (E.seen err.old, E.seen err.new) result }
+    // The other sink is unchanged.
+    ensures left { LeavesOther (out.old, out.new) (err.old, err.new) result }
+{
+    match parse_words(alloc, words) {
+        Ok(Some(settings)) => run_settings(alloc, &settings, source, out, err),
+        Ok(None) => say_with(err, USAGE.as_bytes(), 2),
+        Err(_) => say_with(err, MEMORY.as_bytes(), 7),
+    }
+}

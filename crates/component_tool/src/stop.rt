@@ -1,0 +1,30 @@
+//! Why there is no report.
+
+ghost use Rattle.std.specs.Prelude.{◌≡◌};
+
+use edge_text::Fault;
+use std::alloc::AllocError;
+
+/// Why a text has no report.
+#[derive(Clone, Copy, Drop)]
+pub enum Stop {
+    /// It can't be read.
+    Unread,
+    /// It has more than 1,073,741,824 bytes.
+    TooLarge,
+    /// A name in it is too long.
+    Fault(Fault),
+    TooManyEdges,
+    TooManyNodes,
+    NoMemory,
+}
+
+impl From<AllocError> for Stop {
+    ghost use Rattle.component_tool.specs.declared.stop.Stop.TheVariants.{NoMemory};
+
+    ghost from_gives = { λ _ stop. stop ≡ NoMemory };
+
+    fn from(_error: AllocError) -> Stop {
+        Stop::NoMemory
+    }
+}

@@ -1,0 +1,8 @@
+use Rattle.std.proofs.Common.{◌≡◌, ℕ, ◌<◌, ◌≤◌, false}
+use Rattle.std.specs.Prelude.{slice_index}
+use Rattle.edge_text.specs.Lines.{is_separator}
+use Rattle.edge_text.proofs.words.word_end.Given as goal
+
+-- no separator so far
+abbrev pub invariant-loop-at : goal.invariant-loop-at
+invariant-loop-at l = (k : ℕ) → l.fn.from ≤ k → k < l.at → is_separator (slice_index l.line k) ≡ false
