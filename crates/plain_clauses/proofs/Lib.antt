@@ -1,0 +1,17 @@
+pub mod Examples
+pub mod FreeNames
+pub mod PlainForms
+pub mod WrittenForms
+pub mod PlainWeights
+pub mod PlainOffsets
+pub mod PlainSaid
+pub mod WholeFacts
+pub mod WholeTexts
+pub mod PlainNames
+pub mod PlainImports
+pub mod PlainKnown
+pub mod PlainMets
+pub mod FormMets
+pub mod PlainProgram
+pub mod SameLists
+pub mod Refuted

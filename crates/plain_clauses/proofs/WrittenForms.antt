@@ -1,0 +1,176 @@
+-- A plain form that is written as a term is the plain form of that term.
+use Rattle.std.proofs.Common.{◌≡◌, inl, inr, ℕ, zero, suc, Bool, true, false, ◌&&◌, List, [], ◌∷◌, ◌++◌, Option, Some, None, if◌then◌else◌, codes, refl, sym, ap, ◌∙◌, subst}
+use Rattle.std.specs.Str.{bytes_eq}
+use Rattle.prolog_terms.specs.Tree.{Tree, Trees, variable, constant, atom, compound, listed, tailed, curly, paren, none, more, count}
+use Rattle.prolog_terms.specs.Views.{sides_of, name_and_arity, start_of}
+use Rattle.plain_clauses.specs.Plain.{is_one_of, control_names, is_free, is_plain_name, all_silent, PlainGoal, called, whole, PlainClause, compound_goal, body_goals, clause_named, clause_by, plain_clause}
+use Rattle.plain_clauses.specs.Plain.{variables, named_tree, goal_tree, goals_from, body_tree, written, plain}
+use Rattle.plain_clauses.proofs.FreeNames.{if_true, if_false, both_true, plain_free, not_rule, not_negation, no_control}
+use Rattle.plain_clauses.proofs.PlainForms.{rule_or_fact}
+
+-- terms with variables for arguments
+
+pub count_variables : (n : ℕ) → count (variables n) ≡ n
+count_variables zero = refl
+count_variables (suc n) = ap (λ k. suc k) (count_variables n)
+
+pub silent_variables : (n : ℕ) → all_silent (variables n) ≡ true
+silent_variables zero = refl
+silent_variables (suc n) = silent_variables n
+
+named_back : (at : ℕ) (name : List ℕ) (arity : ℕ) → name_and_arity (named_tree at name arity) ≡ Some (record { name = name; arity = arity })
+named_back at name zero = refl
+named_back at name (suc n) = ap (λ k. Some (record { name = name; arity = suc k })) (count_variables n)
+
+named_start : (at : ℕ) (name : List ℕ) (arity : ℕ) → start_of (named_tree at name arity) ≡ at
+named_start at name zero = refl
+named_start at name (suc n) = refl
+
+named_no_rule : (at : ℕ) (name : List ℕ) (arity : ℕ) → is_free name ≡ true → sides_of (codes ":-") (named_tree at name arity) ≡ None
+named_no_rule at name zero free = refl
+named_no_rule at name (suc zero) free = refl
+named_no_rule at name (suc (suc zero)) free = if_false (bytes_eq name (codes ":-")) _ _ (not_rule name free).1
+named_no_rule at name (suc (suc (suc n))) free = refl
+
+-- goals that are read again as themselves
+
+abbrev pub IsNormal : PlainGoal → Type 0
+IsNormal goal = body_goals (goal_tree goal) ≡ goal ∷ []
+
+abbrev pub AreNormal : List PlainGoal → Type 0
+AreNormal [] = Unit {0}
+AreNormal (goal ∷ goals) = IsNormal goal × AreNormal goals
+
+normal_append : (xs ys : List PlainGoal) → AreNormal xs → AreNormal ys → AreNormal (xs ++ ys)
+normal_append [] ys first second = second
+normal_append (x ∷ xs) ys first second = (first.0, normal_append xs ys first.1 second)
+
+abbrev call_goal : ℕ → List ℕ → ℕ → PlainGoal
+call_goal at name arity = called (record { at = at; name = name; arity = arity })
+
+-- a compound with a free name, of which the arguments are variables
+module _ (at : ℕ) (name : List ℕ) where
+  compound_back : (n : ℕ) (tree : Tree) → is_plain_name name n ≡ true → compound_goal at name (variables n) tree ≡ call_goal at name n
+  compound_back n tree is =
+      if_true (is_plain_name name (count (variables n)) && all_silent (variables n)) _ _
+      ((λ i. is_plain_name name (count_variables n i) && silent_variables n i) ∙ (λ i. is i && true))
+      ∙ ap (λ k. call_goal at name k) (count_variables n)
+
+  call_back : (n : ℕ) → is_plain_name name n ≡ true → body_goals (named_tree at name n) ≡ call_goal at name n ∷ []
+  call_back zero is = refl
+  call_back (suc zero) is =
+      if_false (bytes_eq name (codes "\\+")) _ _ (not_negation name (plain_free name 1 is)).1 ∙ ap (λ goal. goal ∷ []) (compound_back 1 (named_tree at name 1) is)
+  call_back (suc (suc zero)) is =
+      if_false (is_one_of control_names name) _ _ (no_control name (plain_free name 2 is)) ∙ ap (λ goal. goal ∷ []) (compound_back 2 (named_tree at name 2) is)
+  call_back (suc (suc (suc n))) is = ap (λ goal. goal ∷ []) (compound_back (suc (suc (suc n))) (named_tree at name (suc (suc (suc n)))) is)
+
+compound_normal : (at : ℕ) (name : List ℕ) (args : Trees) (tree : Tree) → body_goals tree ≡ compound_goal at name args tree ∷ []
+    → IsNormal (compound_goal at name args tree)
+compound_normal at name args tree is = by_test (is_plain_name name (count args) && all_silent args) refl
+  where
+    chosen : Bool → PlainGoal
+    chosen test = if test then call_goal at name (count args) else whole tree
+
+    by_test : (test : Bool) → is_plain_name name (count args) && all_silent args ≡ test → IsNormal (compound_goal at name args tree)
+    by_test true test_is =
+        subst IsNormal (sym (if_true (is_plain_name name (count args) && all_silent args) _ _ test_is))
+        (call_back at name (count args) (both_true (is_plain_name name (count args)) (all_silent args) test_is).0)
+    by_test false test_is =
+        let goal_is = if_false (is_plain_name name (count args) && all_silent args) (call_goal at name (count args)) (whole tree) test_is in
+        subst IsNormal (sym goal_is) (is ∙ ap (λ goal. goal ∷ []) goal_is)
+
+pub goals_normal : (tree : Tree) → AreNormal (body_goals tree)
+goals_normal (variable span) = tt
+goals_normal (constant kind minus value span) = (refl, tt)
+goals_normal (atom name span) = (refl, tt)
+goals_normal (compound name none form span) = (compound_normal span.from name none (compound name none form span) refl, tt)
+goals_normal (compound name (more inner none) form span) = by_test (bytes_eq name (codes "\\+")) refl (goals_normal inner)
+  where
+    tree : Tree
+    tree = compound name (more inner none) form span
+
+    by_test : (test : Bool) → bytes_eq name (codes "\\+") ≡ test → AreNormal (body_goals inner) → AreNormal (body_goals (compound name (more inner none) form span))
+    by_test true is normal = subst AreNormal (sym (if_true (bytes_eq name (codes "\\+")) _ _ is)) normal
+    by_test false is normal =
+        let goals_are = if_false (bytes_eq name (codes "\\+")) (body_goals inner)
+        (compound_goal span.from name (more inner none) (compound name (more inner none) form span) ∷ []) is in
+        subst AreNormal (sym goals_are) (compound_normal span.from name (more inner none) (compound name (more inner none) form span) goals_are, tt)
+goals_normal (compound name (more left (more right none)) form span) =
+    by_test (is_one_of control_names name) refl (goals_normal left) (goals_normal right)
+  where
+    by_test : (test : Bool) → is_one_of control_names name ≡ test → AreNormal (body_goals left) → AreNormal (body_goals right)
+        → AreNormal (body_goals (compound name (more left (more right none)) form span))
+    by_test true is first second =
+        subst AreNormal (sym (if_true (is_one_of control_names name) _ _ is)) (normal_append (body_goals left) (body_goals right) first second)
+    by_test false is first second =
+        let args = more left (more right none) in
+        let goals_are = if_false (is_one_of control_names name) (body_goals left ++ body_goals right)
+        (compound_goal span.from name args (compound name args form span) ∷ []) is in
+        subst AreNormal (sym goals_are) (compound_normal span.from name args (compound name args form span) goals_are, tt)
+goals_normal (compound name (more one (more two (more three args))) form span) =
+    (compound_normal span.from name (more one (more two (more three args))) (compound name (more one (more two (more three args))) form span) refl, tt)
+goals_normal (listed items span) = tt
+goals_normal (tailed items tail span) = tt
+goals_normal (curly inner span) = tt
+goals_normal (paren inner span) = goals_normal inner
+
+-- joined by commas they are read again
+
+from_back : (goal : PlainGoal) (goals : List PlainGoal) → AreNormal (goal ∷ goals) → body_goals (goals_from goal goals) ≡ goal ∷ goals
+from_back goal [] normal = normal.0
+from_back goal (next ∷ goals) normal = λ i. normal.0 i ++ from_back next goals normal.1 i
+
+pub body_back : (goals : List PlainGoal) → AreNormal goals → body_goals (body_tree goals) ≡ goals
+body_back [] normal = refl
+body_back (goal ∷ goals) normal = from_back goal goals normal
+
+-- clauses
+
+module _ (at : ℕ) (name : List ℕ) (arity : ℕ) (plain_name : is_plain_name name arity ≡ true) where
+  abbrev made : Option (List PlainGoal) → PlainClause
+  made body = record { at = at; name = name; arity = arity; body = body }
+
+  named_made : (body : Option (List PlainGoal)) → clause_named at body (Some (record { name = name; arity = arity })) ≡ Some (made body)
+  named_made body = if_true (is_plain_name name arity) _ _ plain_name
+
+  rule_back : (goals : List PlainGoal) → body_goals (body_tree goals) ≡ goals → plain_clause (written (made (Some goals))) ≡ Some (made (Some goals))
+  rule_back goals back = (λ i. clause_named at (Some (back i)) (named_back 0 name arity i)) ∙ named_made (Some goals)
+
+  fact_back : plain_clause (written (made None)) ≡ Some (made None)
+  fact_back =
+      ap (clause_by (named_tree at name arity)) (named_no_rule at name arity (plain_free name arity plain_name))
+      ∙ (λ i. clause_named (named_start at name arity i) None (named_back at name arity i)) ∙ named_made None
+
+pub written_back : (tree : Tree) (clause : PlainClause) → plain_clause tree ≡ Some clause → plain_clause (written clause) ≡ Some clause
+written_back tree clause is =
+    elim (rule_or_fact tree clause is) [
+      | inl rule ↦
+          let n = rule.named.named in
+          subst (λ (c : PlainClause). plain_clause (written c) ≡ Some c) rule.named.clause_is
+          (rule_back (start_of tree) n.name n.arity rule.named.plain (body_goals rule.sides.1) (body_back (body_goals rule.sides.1) (goals_normal rule.sides.1)))
+      | inr fact ↦
+          let n = fact.named.named in
+          subst (λ (c : PlainClause). plain_clause (written c) ≡ Some c) fact.named.clause_is (fact_back (start_of tree) n.name n.arity fact.named.plain)
+    ]
+
+-- whatever two terms of one plain form share is the same of a tree and its plain tree
+pub same_by_form : {A : Type 0} (what : Tree → A) (made : PlainClause → A) → ((tree : Tree) (clause : PlainClause) → plain_clause tree ≡ Some clause → what tree ≡ made clause)
+    → (tree : Tree) → what (plain tree) ≡ what tree
+same_by_form {A} what made says tree = by_form (plain_clause tree) refl
+  where
+    by_form : (o : Option PlainClause) → plain_clause tree ≡ o → what (elim o [ Some clause ↦ written clause | None ↦ tree ]) ≡ what tree
+    by_form (Some clause) is = says (written clause) clause (written_back tree clause is) ∙ sym (says tree clause is)
+    by_form None is = refl
+
+-- a plain tree is its own plain tree
+pub form_same : (tree : Tree) → plain_clause (plain tree) ≡ plain_clause tree
+form_same tree = same_by_form plain_clause (λ clause. Some clause) (λ t clause is. is) tree
+
+pub plain_once : (tree : Tree) → plain (plain tree) ≡ plain tree
+plain_once tree = by_form (plain_clause tree) refl
+  where
+    by_form : (o : Option PlainClause) → plain_clause tree ≡ o
+        → plain (elim o [ Some clause ↦ written clause | None ↦ tree ]) ≡ elim o [ Some clause ↦ written clause | None ↦ tree ]
+    by_form (Some clause) is =
+        ap (λ (form : Option PlainClause). elim form [ Some one ↦ written one | None ↦ written clause ]) (written_back tree clause is)
+    by_form None is = ap (λ (form : Option PlainClause). elim form [ Some one ↦ written one | None ↦ tree ]) is

@@ -1,0 +1,4 @@
+pub mod Plain
+pub mod PlainFacts
+pub mod FormMets
+pub mod PlainProgram
