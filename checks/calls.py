@@ -3,7 +3,8 @@
 
 The examples and two hundred random programs are told, with names of any characters, over one file and over modules. Of each, the predicates,
 groups and heights are those of the report of `groups`, the clauses and the calls of a random program are those that it was made of, each at its
-place, and the graph has a node for each predicate and an edge for each pair of a caller and a callee. Names with each code point are told
+place, and the graph has a node for each predicate and an edge for each pair of a caller and a callee. Its clusters are the recursive groups. The
+condensed graph has a node for each group and an edge for each pair of groups between which a call leads. Names with each code point are told
 and read back. The cases of checks/rows/calls/ are held against answers that are written by hand. Needs `calls` and `groups`; where `dot` isn't installed it says so, and reads no graph back. Ends with status 1 at the first difference.
 
 --xref N takes each Nth `.pl` file of the Prolog packages that are installed, and sets the pairs of a caller and a callee inside its module beside
@@ -89,18 +90,49 @@ def beside_groups(words, folder, predicates, told_groups):
             sys.exit(f"{words}: {line!r} beside {height} {recursive} {members}")
 
 
+def read_graph(text):
+    """The names of the nodes, of the edges and of the clusters of a graph, as Graphviz reads it."""
+    canon = subprocess.run(["dot", "-Tcanon"], input=text.encode(), stdout=subprocess.PIPE, check=True).stdout.decode()
+    nodes = set(re.findall(r"^\s*([gn]\d+)\s*\[", canon, re.M))
+    edges = set(re.findall(r"^\s*([gn]\d+) -> ([gn]\d+)", canon, re.M))
+    return nodes, edges, set(re.findall(r"^\s*subgraph cluster_(\d+) ", canon, re.M))
+
+
+def dot_label(line):
+    text = f"{line['module']}:{line['name']}/{line['arity']}"
+    return text.replace("\\", "\\\\").replace('"', '\\"').replace("\n", "\\n")
+
+
 def beside_graph(words, folder, predicates, calls):
-    """The graph has the nodes and the edges of the lines."""
+    """The graph has the nodes and the edges of the lines, and a cluster for each recursive group."""
     text = output([CALLS, "--dot", *words], folder)
     if not HAS_DOT:
         return
-    canon = subprocess.run(["dot", "-Tcanon"], input=text.encode(), stdout=subprocess.PIPE, check=True).stdout.decode()
-    nodes = set(re.findall(r"^\s*n(\d+)\s*\[", canon, re.M))
-    edges = set(re.findall(r"^\s*n(\d+) -> n(\d+)", canon, re.M))
-    if nodes != {str(line["id"]) for line in predicates}:
+    nodes, edges, clusters = read_graph(text)
+    if nodes != {f"n{line['id']}" for line in predicates}:
         sys.exit(f"{words}: the graph has other nodes")
-    if edges != {(str(line["caller"]), str(line["callee"])) for line in calls if line["callee"] is not None}:
+    if edges != {(f"n{line['caller']}", f"n{line['callee']}") for line in calls if line["callee"] is not None}:
         sys.exit(f"{words}: the graph has other edges")
+    if clusters != {str(line["group"]) for line in predicates if line["recursive"]}:
+        sys.exit(f"{words}: the graph has other clusters")
+
+
+def beside_condensed(words, folder, predicates, calls):
+    """The condensed graph is that of the lines, line by line."""
+    text = output([CALLS, "--dot", "--condensed", *words], folder)
+    nodes = {line["id"]: line["id"] if line["group"] is None else line["group"] for line in predicates}
+    names = {line["id"]: f"{'n' if line['group'] is None else 'g'}{nodes[line['id']]}" for line in predicates}
+    labels = collections.defaultdict(list)
+    for line in predicates:
+        labels[nodes[line["id"]]].append(dot_label(line))
+    pairs = {(line["caller"], line["callee"]) for line in calls if line["callee"] is not None}
+    edges = {(nodes[one], nodes[other]) for one, other in pairs if nodes[one] != nodes[other]}
+    lines = [f'  {names[node]} [label="' + "\\n".join(labels[node]) + '"];' for node in sorted(labels)]
+    lines += [f"{names[one]} -> {names[other]};" for one, other in sorted(edges)]
+    if text != "".join(f"{line}\n" for line in ["digraph calls {", *lines, "}"]):
+        sys.exit(f"{words}: another condensed graph")
+    if HAS_DOT and read_graph(text)[:2] != (set(names[node] for node in labels), {(names[one], names[other]) for one, other in edges}):
+        sys.exit(f"{words}: Graphviz reads another condensed graph")
 
 
 def one_random(number, folder):
@@ -122,6 +154,12 @@ def one_random(number, folder):
         sys.exit(f"random program {number}: other undefined names")
     beside_groups(["f.pl"], folder, predicates, told_groups)
     beside_graph(["--unreached", "f.pl"], folder, predicates, goals)
+    beside_condensed(["--unreached", "f.pl"], folder, predicates, goals)
+    if "p" in names.values():
+        words = ["--roots", "p/0", "--unreached", "f.pl"]
+        predicates, _, _, goals = told(words, folder)
+        beside_graph(words, folder, predicates, goals)
+        beside_condensed(words, folder, predicates, goals)
 
 
 def all_code_points(folder):
@@ -204,6 +242,7 @@ def main():
             predicates, told_groups, _, goals = told([path.name], path.parent)
             beside_groups([path.name], path.parent, predicates, told_groups)
             beside_graph([path.name], path.parent, predicates, goals)
+            beside_condensed([path.name], path.parent, predicates, goals)
     if not HAS_DOT:
         print("dot isn't installed: no graph is read back")
     print(f"{by_hand} runs by hand, 200 random programs, each code point and {len(examples)} examples are read back")

@@ -5,8 +5,8 @@
 - docs/definitions.md: each definition is in the module that its entry names, and its cases are tests, or titles of rows;
 - each link of a document leads to a file, each path in `code` to one too, and docs/architecture.md names each crate;
 - each block ```console whose first line begins with `$ ` is run: after each command come the lines that it prints, on standard output and standard error.
-  A command goes on in lines that begin with `> `. It runs in a folder where the repository's files are links, and where the blocks ```prolog FILE of the
-  document are files. If a command needs a program that isn't installed, it is passed over with a line.
+  A command goes on in lines that begin with `> `. It runs in a folder where the repository's files are links, and where the blocks ```prolog FILE,
+  ```text FILE and ```makefile FILE of the document are files. If a command needs a program that isn't installed, it is passed over with a line.
 
 With names of documents only their blocks are run. Prints what is amiss, and ends with status 1 then."""
 
@@ -28,7 +28,7 @@ DOCUMENTS = [ROOT / "README.md", ROOT / "CONTRIBUTING.md", ROOT / "CHANGES.md", 
 # Titles of rows and names of tests are here, beside the crates.
 ROW_FILES = [*(ROOT / "checks" / "rows").glob("**/*.txt"), *ROOT.glob("crates/*/src/*.rt"), *ROOT.glob("crates/*/stdin")]
 # What a command needs, by what it says.
-NEEDS = {"jq": r"\bjq\b|(?:undefined|modules|around|check)\.sh", "dot": r"\bdot -|(?:graph|modules|around)\.sh", "swipl": r"\bswipl\b|-swi\b|library-goals"}
+NEEDS = {"jq": r"\bjq\b|(?:undefined|modules|around|check)\.sh", "dot": r"\bdot -|(?:graph|modules|around)\.(?:sh|svg)|groups-page (?!--help)", "make": r"edges/make\.sh", "swipl": r"\bswipl\b|-swi\b|library-goals"}
 MOST_SECONDS = 60
 
 
@@ -128,7 +128,7 @@ def run_blocks(path):
         for it in ROOT.iterdir():
             (pathlib.Path(room) / it.name).symlink_to(it)
         for kind, title, lines in parts:
-            if kind == "prolog" and title:
+            if kind in ("prolog", "text", "makefile") and title:
                 (pathlib.Path(room) / title).write_text("".join(f"{line}\n" for line in lines))
         for kind, _, lines in parts:
             if kind != "console" or not lines or not lines[0].startswith("$ "):

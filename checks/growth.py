@@ -121,6 +121,17 @@ def loaded_by_each_other(loads):
     return {"f.pl": "".join(uses) + "p.\n"} | {f"m{at}.pl": text(at) for at in range(count)}
 
 
+def exported_twice(loads):
+    """Modules of which each two neighbours export the same 20 names, and that load every second other one, with so many loads."""
+    count = math.isqrt(loads) // 2 * 2
+
+    def text(at):
+        names = [f"p{at // 2}_{it}" for it in range(20)]
+        uses = "".join(f":- use_module(m{it}).\n" for it in range(at % 2, count, 2) if it != at)
+        return exporting(f"m{at}", names, uses + "".join(f"{name}.\n" for name in names))
+    return {"f.pl": "".join(f":- use_module(m{at},[]).\n" for at in range(count)) + "p.\n"} | {f"m{at}.pl": text(at) for at in range(count)}
+
+
 def complete(calls):
     """Predicates of which each calls all, with so many calls."""
     count = math.isqrt(calls)
@@ -170,6 +181,7 @@ MENDED = {
     "imports_of_one_hash": (imported_names, 2_500, []),
     "equal_loads": (equal_loads, 4_000, []),
     "loaded_by_each_other": (loaded_by_each_other, 10_000, []),
+    "exported_twice_loaded_by_each_other": (exported_twice, 10_000, []),
     "operators_taken_away": (lambda n: grown([f"o{at}" for at in range(n)]), 10_000, []),
 }
 NESTED = {
@@ -245,6 +257,7 @@ KINDS = MENDED | {f"deep_{name}": (nested(form), 50, []) for name, form in NESTE
     "ring_effects": (ring, 40_000, ["--effects"]),
     "ring_searches": (ring, 40_000, ["--searches", "64", "--seed", "5"]),
     "ring_dot": (ring, 40_000, ["calls", "--dot"]),
+    "chain_condensed": (chain, 40_000, ["calls", "--dot", "--condensed"]),
     "chain_effects": (chain, 40_000, ["--effects"]),
     "chain_searches": (chain, 40_000, ["--searches", "64", "--seed", "5"]),
     "chain_stream": (chain, 40_000, ["--order", "--stream", "--jobs", "4"]),

@@ -1,13 +1,14 @@
 #!/usr/bin/env python3
 """Runs `groups` and `calls` on hostile input: each must answer at once, with a valid status and lines.
 
-- each prefix of an example, cut at every byte: status 0 or 3, and at 3 one line or more;
+- each prefix of an example and of a small program, cut at every byte: status 0 or 3, and at 3 one line or more;
 - files of random bytes, of quotes, of opening brackets, of `:- ` again and again, and one long line,
   each of a MiB, and one file that is a byte too large;
 - a run over three files in which the Nth allocation fails, for each N in turn, with one search, with
   three that take turns, with workers, and for each form that `calls` writes: status 7 with nothing on
   standard output and its line on standard error, or with no line if the arguments weren't read yet, or
-  the answer of a run in which none fails. This needs a C compiler, `cc`.
+  the answer of a run in which none fails. The same with workers over three modules of which two import
+  each other. This needs a C compiler, `cc`.
 
 Ends with status 1 if an answer is wrong. The whole takes about two minutes; with --quick each seventh
 prefix and each seventh allocation is tried.
@@ -22,6 +23,7 @@ import tempfile
 import time
 
 import program
+import rows
 
 ROOT = pathlib.Path(__file__).resolve().parent.parent
 EXAMPLES = ROOT / "examples"
@@ -29,6 +31,10 @@ EXAMPLE = EXAMPLES / "module.pl"
 SIZE = 1_048_576
 TOO_LARGE = 8_388_609
 MOST_SECONDS = 20.0
+
+# Cases of checks/rows/imports.txt: a small program, and modules of which two import each other.
+FAMILY = "reports_programs 6"
+RING = "reports_programs 1"
 
 # Options of the runs in which allocations are refused.
 GROUPS_WORDS = (
@@ -38,11 +44,16 @@ GROUPS_WORDS = (
     ["--jobs", "3", "--order", "--stream"],
     ["--effects", "--loops", "--path", "calculator:value/2,scanner:digits/3"],
 )
-CALLS_WORDS = ([], ["--unreached", "--undefined"], ["--dot"])
+CALLS_WORDS = ([], ["--unreached", "--undefined"], ["--dot"], ["--dot", "--condensed"])
 
 # The program, and whether but a part is tried.
 chosen = []
 wrong = []
+
+
+def files_of(title):
+    """The files of a case by its title."""
+    return next(files for it, files, _ in rows.cases(rows.ROWS / "imports.txt") if it == title)
 
 
 def some(numbers):
@@ -71,9 +82,9 @@ def check(folder, name, data):
 
 
 def prefixes(folder):
-    text = EXAMPLE.read_bytes()
-    seen = [check(folder, f"prefix of {size} bytes", text[:size])[0] for size in some(range(len(text) + 1))]
-    print(f"{len(seen)} prefixes: {seen.count(0)} reports, {seen.count(3)} refused")
+    for text in (EXAMPLE.read_bytes(), files_of(FAMILY)["family.pl"]):
+        seen = [check(folder, f"prefix of {size} bytes", text[:size])[0] for size in some(range(len(text) + 1))]
+        print(f"{len(seen)} prefixes: {seen.count(0)} reports, {seen.count(3)} refused")
 
 
 def patterns():
@@ -110,18 +121,20 @@ def hostile_files(folder):
 
 
 def shim_of(folder):
-    """The library that refuses an allocation, made in the folder, beside the examples that the runs read."""
+    """The library that refuses an allocation, made in the folder, beside the files that the runs read."""
     shim = folder / "failing_malloc.so"
     source = ROOT / "checks" / "failing_malloc.c"
     subprocess.run(["cc", "-O1", "-shared", "-fPIC", "-o", shim, source, "-ldl"], check=True)
     for name in ("calculator.pl", "scanner.pl", "module.pl"):
         (folder / name).write_bytes((EXAMPLES / name).read_bytes())
+    for name, data in files_of(RING).items():
+        (folder / name).write_bytes(data)
     return shim
 
 
-def memory(folder, shim, name, tool, *options):
+def memory(folder, shim, name, tool, *options, files=("calculator.pl", "module.pl")):
     """Refuses each allocation of a run with these options in turn, alone and with all after it, by a library that is loaded before the program."""
-    count, words = folder / "count", [tool, *options, "calculator.pl", "module.pl"]
+    count, words = folder / "count", [tool, *options, *files]
 
     def answer(number, **more):
         env = {"LD_PRELOAD": str(shim), "FAIL_AT": str(number), "COUNT_TO": str(count), **more}
@@ -165,6 +178,7 @@ def main():
         shim = shim_of(folder)
         for words in GROUPS_WORDS:
             memory(folder, shim, "groups", chosen[0], *words)
+        memory(folder, shim, "groups", chosen[0], "--jobs", "2", files=("a.pl",))
         calls = program.calls()
         if calls is None:
             wrong.append("there is no program calls: ./prove builds it")

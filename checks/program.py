@@ -27,6 +27,12 @@ def calls():
     return next((it for it in places if it.is_file()), None)
 
 
+def components():
+    """The program `components` that was built here, or the kept one; None where there is neither."""
+    places = (ROOT / "crates" / "components" / "out" / "components", ROOT / "release" / "components")
+    return next((it for it in places if it.is_file()), None)
+
+
 def usage(name="groups"):
     """The usage line of a program: the first lines of its help page, as one."""
     page = (ROOT / "docs" / "help" / f"{name}.txt").read_text()

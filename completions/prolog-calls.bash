@@ -1,7 +1,7 @@
 # Completion of bash for prolog-calls(1): options that aren't given yet, and Prolog files.
 _prolog_calls() {
     local word=${COMP_WORDS[COMP_CWORD]} last=${COMP_WORDS[COMP_CWORD - 1]} it
-    local options=(--roots --unreached --undefined --dot)
+    local options=(--roots --unreached --undefined --dot --condensed)
     COMPREPLY=()
     case $last in --roots | =) return ;; esac
     [[ $word != = ]] || return 0

@@ -4,7 +4,8 @@ for command in prolog-calls prolog-calls-swi
     for option in 'roots -x:entry points, as m:p/2,q/0' \
             'unreached:also what no entry point reaches' \
             'undefined:only calls of undefined predicates' \
-            'dot:a graph for Graphviz in place of JSON'
+            'dot:a graph for Graphviz in place of JSON' \
+            'condensed:with --dot a node for each component'
         set -l parts (string split -m 1 : -- $option)
         set -l name (string split ' ' -- $parts[1])
         complete -c $command -n "not __fish_seen_argument -l $name[1]" -l $name[1] $name[2] -d $parts[2]
