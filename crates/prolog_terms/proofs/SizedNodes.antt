@@ -75,6 +75,14 @@ module _ (nodes : List Node) (node : Node) (some : 1 ≤ node.size) (small : nod
   pub sized_push : IsSized nodes → IsSized (nodes ++ node ∷ [])
   sized_push sized = record { within = within_at sized; leads = leads_at sized }
 
+-- parts before others are followed by these
+pub parts_then : (n : ℕ) (trees : List Tree) (behind : Trees) → trees_in (parts_of n trees behind) ≡ trees_in (parts_of n trees none) ++ trees_in behind
+parts_then zero trees behind = refl
+parts_then (suc n) trees behind =
+    parts_then n (before_last trees) (more (last_of trees) behind)
+    ∙ (sym (append_assoc (trees_in (parts_of n (before_last trees) none)) (last_of trees ∷ []) (trees_in behind))
+    ∙ ap (λ ts. ts ++ trees_in behind) (sym (parts_then n (before_last trees) (more (last_of trees) none))))
+
 -- the parts are as many as are counted
 pub count_parts : (n : ℕ) (trees : List Tree) (behind : Trees) → count (parts_of n trees behind) ≡ n + count behind
 count_parts zero trees behind = omega arith

@@ -1,4 +1,4 @@
-ghost use Rattle.std.specs.Prelude.{◌≡◌, All, IfOk, IfSome, map, option_map, take};
+ghost use Rattle.std.specs.Prelude.{◌≡◌, ◌++◌, ◌∷◌, [], All, IfOk, IfSome, MatchOption, map, option_map, take};
 ghost use Rattle.prolog_terms.specs.declared.term.Span.{Span as SpanOf};
 ghost use Rattle.prolog_terms.specs.Forest.{forest, node_tree};
 ghost use Rattle.prolog_terms.specs.Tree.{count, span_of};
@@ -241,6 +241,25 @@ impl<'a> Parts<'a> {
             nodes: self.nodes,
             end,
         }
+    }
+
+    /// The terms before the last one, and that one.
+    #[inline(always)]
+    pub fn split_last(&self) -> Option<(Parts<'a>, Term<'a>)>
+        ensures trees { MatchOption result (trees_in (trees_of self.now) ≡ []) (λ pair.
+            trees_in (trees_of self.now) ≡ trees_in (trees_of pair.0) ++ tree_of pair.1 ∷ []) }
+        ensures within { IfSome result (λ pair. IsPartsOf self.now.names.now self.now.nodes.now pair.0 × IsOf self.now.names.now self.now.nodes.now pair.1) }
+    {
+        if self.count == 0 {
+            return None;
+        }
+        let others = Parts {
+            names: self.names,
+            nodes: self.nodes,
+            end: self.nodes.before(self.end),
+            count: self.count - 1,
+        };
+        Some((others, self.part(self.end)))
     }
 
     /// The term, if it is the only one.

@@ -1,4 +1,4 @@
-use Rattle.std.proofs.Common.{◌≡◌, ◌+◌, ◌-◌, ◌∷◌, ◌++◌, [], List, ℕ, Some, suc, ap, slice_get, sym, ◌∙◌, arith, take}
+use Rattle.std.proofs.Common.{◌≡◌, ◌+◌, ◌-◌, Some, suc, ap, slice_get, sym, ◌∙◌, arith, take}
 use Rattle.prolog_terms.specs.Forest.{before_last, forest, without}
 use Rattle.prolog_terms.proofs.SizedNodes.{forest_push, take_node}
 use Rattle.prolog_terms.proofs.node_list.NodeList.+before_parts.Goals as goal
