@@ -45,9 +45,9 @@ module _ (nodes : List Node) (node : Node) (some : 1 ≤ node.size) (small : nod
   last_place : (at : ℕ) (n : Node) → slice_get (nodes ++ node ∷ []) at ≡ Some n → length nodes ≤ at → length nodes ≡ at
   last_place at n is ge = omega (arith, ge, slice_get_within (nodes ++ node ∷ []) at n is, length_push nodes node)
 
-  within_at : IsSized nodes → (at : ℕ) (n : Node) → slice_get (nodes ++ node ∷ []) at ≡ Some n → n.size ≤ at + 1
-  within_at sized at n is = elim (cases_lt at (length nodes)) [
-    | inl lt ↦ sized.within at n (earlier at n is lt)
+  within_at : IsSized nodes → (at : ℕ) (n : Node) → slice_get (nodes ++ node ∷ []) at ≡ Some n → n.size < MANY → n.size ≤ at + 1
+  within_at sized at n is few = elim (cases_lt at (length nodes)) [
+    | inl lt ↦ sized.within at n (earlier at n is lt) few
     | inr ge ↦
         let same = last_place at n is ge in
         omega (arith, small, same, ap (λ (x : Node). x.size) (this at n is same))

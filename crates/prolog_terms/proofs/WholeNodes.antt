@@ -61,7 +61,7 @@ parts_before zero trees before behind enough = refl
 parts_before (suc n) [] before behind enough = let never : ⊥ = omega (arith, enough) in absurd never
 parts_before (suc n) (tree ∷ trees) before behind enough = parts_before n trees before (more tree behind) (omega (arith, enough))
 
-last_before : (trees before : List Tree) → 1 ≤ length trees → last_of (trees ++ before) ≡ last_of trees
+pub last_before : (trees before : List Tree) → 1 ≤ length trees → last_of (trees ++ before) ≡ last_of trees
 last_before [] before some = let never : ⊥ = omega (arith, some) in absurd never
 last_before (tree ∷ trees) before some = refl
 
@@ -81,7 +81,7 @@ node_before names (shape.Tailed count) span trees before enough = tailed_before 
 node_before names shape.Curly span trees before enough = ap (λ inner. curly inner span) (last_before trees before enough)
 node_before names shape.Paren span trees before enough = ap (λ inner. paren inner span) (last_before trees before enough)
 
-length_without : (n : ℕ) (trees : List Tree) → length (without n trees) ≡ length trees - n
+pub length_without : (n : ℕ) (trees : List Tree) → length (without n trees) ≡ length trees - n
 length_without zero trees = omega arith
 length_without (suc n) [] = length_without n [] ∙ omega arith
 length_without (suc n) (tree ∷ trees) = length_without n trees ∙ omega arith
@@ -90,7 +90,7 @@ length_without (suc n) (tree ∷ trees) = length_without n trees ∙ omega arith
 
 pub no_terms : AreTerms [] 0
 no_terms = record {
-  sized = record { within = λ at node is. absurd (none_there at node is); leads = λ at node is. absurd (none_there at node is) };
+  sized = record { within = λ at node is few. absurd (none_there at node is); leads = λ at node is. absurd (none_there at node is) };
   whole = record { leaves = λ names before end. ap (fold (step names) before) (none_taken end) ∙ sym (ap (λ nodes. forest names nodes ++ before) (none_taken end)) };
   count = λ names. refl;
 }
@@ -136,7 +136,7 @@ module _ (nodes : List Node) (node : Node) (enough : (names : List (List ℕ)) �
 
 -- nodes behind others
 module _ (front nodes : List Node) where
-  behind_front : AreWhole nodes → (names : List (List ℕ)) (end : ℕ) → forest names (front ++ take end nodes) ≡ forest names (take end nodes) ++ forest names front
+  pub behind_front : AreWhole nodes → (names : List (List ℕ)) (end : ℕ) → forest names (front ++ take end nodes) ≡ forest names (take end nodes) ++ forest names front
   behind_front whole names end = fold-append (step names) [] front (take end nodes) ∙ whole.leaves names (forest names front) end
 
   so_many : (end : ℕ) → length front ≤ end → take end (front ++ nodes) ≡ front ++ take (end - length front) nodes
@@ -174,7 +174,7 @@ module _ (front nodes : List Node) where
       slice_get-get_or nodes (at - length front) node within
       ∙ ap (λ n. Some n) (sym (get_or-append_right front nodes at node past) ∙ get_or_from_slice_get (front ++ nodes) at node node is)
 
-  first_left : (at : ℕ) (node : Node) (names : List (List ℕ)) (trees : List Tree) → slice_get nodes at ≡ Some node
+  pub first_left : (at : ℕ) (node : Node) (names : List (List ℕ)) (trees : List Tree) → slice_get nodes at ≡ Some node
       → before_last (forest names (take (at + 1) nodes) ++ trees) ≡ before_last (forest names (take (at + 1) nodes)) ++ trees
   first_left at node names trees is =
       let last : forest names (take (at + 1) nodes) ≡ step names (forest names (take at nodes)) node =
@@ -184,10 +184,10 @@ module _ (front nodes : List Node) where
   sized_join : IsSized front → IsSized nodes → AreWhole nodes → IsSized (front ++ nodes)
   sized_join first sized whole = record { within = within; leads = leads }
     where
-      within : (at : ℕ) (node : Node) → slice_get (front ++ nodes) at ≡ Some node → node.size ≤ at + 1
-      within at node is = elim (cases_lt at (length front)) [
-        | inl lt ↦ first.within at node (earlier at node is lt)
-        | inr past ↦ omega (arith, past, sized.within (at - length front) node (later at node is past))
+      within : (at : ℕ) (node : Node) → slice_get (front ++ nodes) at ≡ Some node → node.size < MANY → node.size ≤ at + 1
+      within at node is few = elim (cases_lt at (length front)) [
+        | inl lt ↦ first.within at node (earlier at node is lt) few
+        | inr past ↦ omega (arith, past, sized.within (at - length front) node (later at node is past) few)
       ]
 
       leads : (at : ℕ) (node : Node) → slice_get (front ++ nodes) at ≡ Some node → node.size < MANY → (names : List (List ℕ))
@@ -200,7 +200,7 @@ module _ (front nodes : List Node) where
         | inr past ↦
             let k = at - length front in
             let there = later at node is past in
-            let small = sized.within k node there in
+            let small = sized.within k node there few in
             let start : at + 1 - node.size - length front ≡ k + 1 - node.size = omega (arith, past, small) in
             let end : at + 1 - length front ≡ k + 1 = omega (arith, past) in
             let trees = forest names front in

@@ -7,7 +7,7 @@ use Rattle.prolog_terms.specs.Forest.{before_last, last_of, step, forest}
 
 -- without so many nodes as the last one's size, where that counts them all, its tree is gone and what stood before it is left
 pub record IsSized (nodes : List Node) : Type 0 where
-  pub within : (at : ℕ) (node : Node) → slice_get nodes at ≡ Some node → node.size ≤ at + 1
+  pub within : (at : ℕ) (node : Node) → slice_get nodes at ≡ Some node → node.size < MANY → node.size ≤ at + 1
   pub leads : (at : ℕ) (node : Node) → slice_get nodes at ≡ Some node → node.size < MANY → (names : List (List ℕ))
       → forest names (take (at + 1 - node.size) nodes) ≡ before_last (forest names (take (at + 1) nodes))
 

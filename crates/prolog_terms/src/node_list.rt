@@ -4,8 +4,8 @@ ghost use Rattle.std.specs.Prelude.{◌≡◌, ◌≤◌, ◌<◌, ◌∷◌, �
 ghost use Rattle.prolog_terms.specs.declared.node.Node.{Node as NodeOf};
 ghost use Rattle.prolog_terms.specs.declared.node.TheConstants.{MANY};
 ghost use Rattle.prolog_terms.specs.Forest.{before_last, forest, last_of, node_tree, taken, without};
-ghost use Rattle.prolog_terms.specs.Sized.{filled};
-ghost use Rattle.prolog_terms.specs.Terms.{root_tree};
+ghost use Rattle.prolog_terms.specs.Sized.{AreTerms, filled};
+ghost use Rattle.prolog_terms.specs.Terms.{root_tree, tree_in};
 ghost use Rattle.prolog_terms.specs.Views.{inside};
 
 use crate::node::{MANY, NO_NODE, Node, Shape, taken};
@@ -77,7 +77,8 @@ impl NodeList {
 
     /// How many nodes there are.
     pub fn len(&self) -> usize
-        ensures { result ≡ length self.now }
+        ensures is { result ≡ length self.now }
+        ensures few { result < 9223372036854775808 }
     {
         self.list.len()
     }
@@ -191,6 +192,17 @@ impl NodeList {
         at
     }
 
+    /// The nodes of the last term of the first `end` nodes, if there are as many.
+    #[inline(always)]
+    fn last_nodes(&self, end: usize) -> &[Node]
+        requires some { 0 < end }
+        requires there { end ≤ length self.now }
+        ensures one { AreTerms result.now 1 }
+        ensures root { (names : List (List ℕ)) → root_tree names result.now ≡ tree_in names self.now end }
+    {
+        &self.list[self.before_these(end)..end]
+    }
+
     /// How many adjacent terms the nodes are.
     #[inline(always)]
     fn terms(&self) -> usize
@@ -245,6 +257,25 @@ impl NodeList {
         others.fill(1)?;
         self.list.extend_from_slice(&others.list)?;
         self.terms += others.terms;
+        Ok(())
+    }
+
+    /// Appends the last term of the first `end` of other nodes, with its parts, or a variable at 0
+    /// if there is none. `end` may be past the last node. The term is the last of all then, and the
+    /// earlier nodes stay unchanged, even if memory runs out. Linear in the nodes of that term, which
+    /// are copied as they are.
+    pub fn append_last(&mut self, others: &NodeList, end: usize) -> Result<(), AllocError>
+        ensures more { (more : List NodeOf) × (self.new ≡ self.old ++ more) }
+        ensures root { OnOk result ((names : List (List ℕ)) → root_tree names self.new ≡ tree_in names others.now end) }
+    {
+        let end = end.min(others.list.len());
+        if end == 0 {
+            self.list.push(NO_NODE)?;
+            self.terms += 1;
+            return Ok(());
+        }
+        self.list.extend_from_slice(others.last_nodes(end))?;
+        self.terms += 1;
         Ok(())
     }
 
