@@ -1,3 +1,4 @@
 pub mod Plain
 pub mod Words
 pub mod Views
+pub mod BodyGoals

@@ -1,5 +1,5 @@
 -- Kept clauses and goals, as they are seen.
-use Rattle.std.specs.Prelude.{◌≡◌, ℕ, ◌⊎◌, List, Option, Some, None, true, if◌then◌else◌, drop}
+use Rattle.std.specs.Prelude.{◌≡◌, ℕ, ◌⊎◌, List, Some, None, true, if◌then◌else◌, drop}
 use Rattle.prolog_names.specs.Names.{name_at}
 use Rattle.prolog_terms.specs.Tree.{Tree}
 use Rattle.prolog_terms.specs.Terms.{tree_of}

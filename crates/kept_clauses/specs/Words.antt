@@ -1,9 +1,8 @@
 -- Clauses as words of 64 bits: the head of a clause, its goals in order, and where it ends.
-use Rattle.std.specs.Prelude.{◌≡◌, ℕ, ◌/◌, ◌%◌, ◌==◌, ◌||◌, not, List, [], ◌∷◌, ◌++◌, Option, Some, None, Bool, true, if◌then◌else◌, drop, length}
+use Rattle.std.specs.Prelude.{◌≡◌, ℕ, ◌/◌, ◌%◌, nat_eq, ◌||◌, not, List, [], ◌∷◌, ◌++◌, Option, Some, None, Bool, true, if◌then◌else◌, drop, length}
 use Rattle.std.specs.List.{list_any}
 use Rattle.prolog_names.specs.Names.{name_at}
 use Rattle.prolog_terms.specs.declared.node.Node.{Node}
-use Rattle.prolog_terms.specs.declared.term.Span.{Span}
 use Rattle.prolog_terms.specs.Tree.{Tree, variable}
 use Rattle.prolog_terms.specs.Terms.{tree_in}
 use Rattle.kept_clauses.specs.declared.words.Kind.{Kind}
@@ -14,10 +13,10 @@ use Rattle.kept_clauses.specs.Plain.{PlainCall, PlainGoal, called, whole, PlainC
 -- odd words are terms; the others tell it in their second and third bit
 abbrev pub kind_of : ℕ → Kind
 kind_of word =
-    if word % 2 == 1 then kind.Term
-    else if word % 8 == 0 then Call
-    else if word % 8 == 2 then Fact
-    else if word % 8 == 4 then Rule
+    if nat_eq (word % 2) 1 then kind.Term
+    else if nat_eq (word % 8) 0 then Call
+    else if nat_eq (word % 8) 2 then Fact
+    else if nat_eq (word % 8) 4 then Rule
     else End
 
 -- what a head or a call tells: 32 bits of the number of a name, 23 of an offset and 6 of a number of arguments
@@ -32,16 +31,16 @@ number_in word = word / 8 / 64 / 8388608
 
 -- the names with a meaning of their own have these numbers in each table
 abbrev pub reserved_numbers : List ℕ
-reserved_numbers = 1 ∷ 2 ∷ 3 ∷ 4 ∷ 6 ∷ 15 ∷ 17 ∷ 19 ∷ 20 ∷ 21 ∷ 50 ∷ 63 ∷ []
+reserved_numbers = 1 ∷ 20 ∷ 2 ∷ 21 ∷ 15 ∷ 63 ∷ 50 ∷ 17 ∷ 6 ∷ 19 ∷ 3 ∷ 4 ∷ []
 
 abbrev pub is_reserved : ℕ → Bool
-is_reserved number = list_any (λ it. it == number) reserved_numbers
+is_reserved number = list_any (λ it. nat_eq it number) reserved_numbers
 
 -- the name of a head is free, and so is that of a call with arguments
 abbrev pub is_sound_as : Kind → ℕ → Bool
 is_sound_as Fact word = not (is_reserved (number_in word))
 is_sound_as Rule word = not (is_reserved (number_in word))
-is_sound_as Call word = arity_in word == 0 || not (is_reserved (number_in word))
+is_sound_as Call word = nat_eq (arity_in word) 0 || not (is_reserved (number_in word))
 is_sound_as kind.Term word = true
 is_sound_as End word = true
 

@@ -3,6 +3,7 @@ ghost use Rattle.kept_clauses.specs.Views.{see_call, see_goal, see_goals, IsSoun
 ghost use Rattle.kept_clauses.specs.Words.{call_in, end_in};
 
 use crate::kept_list::KeptList;
+use crate::reserved::reserved_law;
 use crate::words::{Kind, arity_in, kind_of, number_in, offset_in};
 use prolog_names::Names;
 use prolog_terms::Term;
@@ -58,30 +59,28 @@ pub(crate) fn call_of(word: u64) -> KeptCall
 }
 
 impl<'a> KeptGoals<'a> {
-    /// The goals after the first word.
-    fn rest(&self) -> KeptGoals<'a> {
-        KeptGoals {
-            names: self.names,
-            list: self.list,
-            at: self.at + 1,
-        }
-    }
-
     /// The first goal, and the goals after it.
     pub fn split_first(&self) -> Option<(KeptGoal<'a>, KeptGoals<'a>)>
         ensures goals { MatchOption result (see_goals self.now ≡ []) (λ pair. see_goals self.now ≡ see_goal self.now.names.now pair.0 ∷ see_goals pair.1) }
         ensures sound { IfSome result (λ pair. IsSoundGoal (see_goal self.now.names.now pair.0)) }
         ensures within { IfSome result (λ pair. pair.1.names.now ≡ self.now.names.now) }
     {
-        let word = self.list.word(self.at)?;
-        let goal = match kind_of(word) {
-            Kind::Call => KeptGoal::Call(call_of(word)),
-            Kind::Term => KeptGoal::Whole(self.list.term(self.names, word)),
-            Kind::Fact => return None,
-            Kind::Rule => return None,
-            Kind::End => return None,
+        reserved_law(self.names);
+        let Some(word) = self.list.word(self.at) else {
+            return None;
         };
-        Some((goal, self.rest()))
+        let rest = KeptGoals {
+            names: self.names,
+            list: self.list,
+            at: self.at + 1,
+        };
+        match kind_of(word) {
+            Kind::Call => Some((KeptGoal::Call(call_of(word)), rest)),
+            Kind::Term => Some((KeptGoal::Whole(self.list.term(self.names, word)), rest)),
+            Kind::Fact => None,
+            Kind::Rule => None,
+            Kind::End => None,
+        }
     }
 
     /// The byte offset at which the clause ends. Linear in its goals.
@@ -93,7 +92,7 @@ impl<'a> KeptGoals<'a> {
             match kind_of(word) {
                 Kind::Call => at += 1,
                 Kind::Term => at += 1,
-                Kind::End => return (word / 8) as u32,
+                Kind::End => return (word / 8 % 4_294_967_296) as u32,
                 Kind::Fact => return 0,
                 Kind::Rule => return 0,
             }

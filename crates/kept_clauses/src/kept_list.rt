@@ -1,13 +1,17 @@
 //! Clauses in the order in which they were taken over.
 
-ghost use Rattle.std.specs.Prelude.{◌≡◌, ◌++◌, ◌∷◌, [], ℕ, Option, List, true, IfOk, IfSome, OnOk, length, slice_get};
+ghost use Rattle.std.specs.Prelude.{◌≡◌, ◌<◌, ◌++◌, ◌∷◌, [], ℕ, List, None, Some, true, if◌then◌else◌, drop, IfOk, IfSome, OnOk, length, slice_get};
+ghost use Rattle.prolog_names.specs.Names.{name_at};
 ghost use Rattle.prolog_terms.specs.Terms.{tree_of};
-ghost use Rattle.kept_clauses.specs.Plain.{PlainCall, is_free, called, whole, plain, body_goals, silent};
-ghost use Rattle.kept_clauses.specs.Views.{clause_tree, IsSoundClause};
-ghost use Rattle.kept_clauses.specs.Words.{AddsClause, AddsGoals, is_sound, kept_tree, term_in};
+ghost use Rattle.prolog_terms.specs.Tree.{Tree};
+ghost use Rattle.kept_clauses.specs.BodyGoals.{IsFitHead, IsPlainHead};
+ghost use Rattle.kept_clauses.specs.Plain.{body_goals, clause_span, plain, whole};
+ghost use Rattle.kept_clauses.specs.Views.{clause_tree, see_form, IsSoundClause};
+ghost use Rattle.kept_clauses.specs.Words.{AddsClause, AddsGoals, clause_with, goals_in, is_sound, kept_tree, number_in, term_in};
 
 use crate::kept_clause::{KeptCall, KeptClause, KeptGoals, PlainForm, call_of};
-use crate::plain_goals::{call_in_body, conjuncts, is_silent_goal, negated, plain_head, rule_sides};
+use crate::plain_goals::{BodyGoals, PlainHead, goals_of, plain_head};
+use crate::reserved::reserved_law;
 use crate::words::{CALL, FACT, Kind, RULE, end_word, kind_of, named_word, term_word};
 use prolog_names::Names;
 use prolog_terms::{NodeList, Term, inside};
@@ -24,7 +28,7 @@ pub struct KeptList {
 }
 
 impl Model for KeptList {
-    ghost use Rattle.std.specs.Prelude.{◌≡◌, ◌×◌, ℕ, List, true};
+    ghost use Rattle.std.specs.Prelude.{◌≡◌, ℕ, List, true};
     ghost use Rattle.std.specs.List.{list_all};
     ghost use Rattle.prolog_terms.specs.declared.node.Node.{Node};
     ghost use Rattle.kept_clauses.specs.Words.{is_sound};
@@ -67,6 +71,7 @@ impl KeptList {
     /// The word at the index.
     pub(crate) fn word(&self, at: usize) -> Option<u64>
         ensures word { slice_get self.now.0 at ≡ result }
+        ensures room { IfSome result (λ word. at < 18446744073709551615) }
         ensures sound { IfSome result (λ word. is_sound word ≡ true) }
     {
         let word = self.words.get(at)?;
@@ -85,32 +90,40 @@ impl KeptList {
         }
     }
 
+    /// The plain form with this head, of a fact or of a rule whose goals begin at the index.
+    fn form<'a>(&'a self, names: &'a Names, word: u64, at: usize, is_rule: bool) -> PlainForm<'a>
+        ensures form { see_form result ≡ clause_with names.now word (drop at self.now.0)
+            (if is_rule then Some (goals_in names.now self.now.1 (drop at self.now.0)) else None) }
+        ensures name { name_at result.goals.names.now result.head.number ≡ name_at names.now (number_in word) }
+    {
+        PlainForm {
+            head: call_of(word),
+            is_rule,
+            goals: KeptGoals {
+                names,
+                list: self,
+                at,
+            },
+        }
+    }
+
     /// The clause that begins at the index, with the names of its text. Past the last clause it is a
     /// variable at 0.
     pub fn clause<'a>(&'a self, names: &'a Names, at: usize) -> KeptClause<'a>
         ensures tree { clause_tree result ≡ kept_tree names.now self.now at }
         ensures sound { IsSoundClause result }
     {
+        reserved_law(names);
         let Some(word) = self.word(at) else {
             return KeptClause::Whole(self.term(names, 0));
         };
-        let is_rule = match kind_of(word) {
-            Kind::Fact => false,
-            Kind::Rule => true,
-            Kind::Term => return KeptClause::Whole(self.term(names, word)),
-            Kind::Call => return KeptClause::Whole(self.term(names, 0)),
-            Kind::End => return KeptClause::Whole(self.term(names, 0)),
-        };
-        let goals = KeptGoals {
-            names,
-            list: self,
-            at: at + 1,
-        };
-        KeptClause::Plain(PlainForm {
-            head: call_of(word),
-            is_rule,
-            goals,
-        })
+        match kind_of(word) {
+            Kind::Fact => KeptClause::Plain(self.form(names, word, at + 1, false)),
+            Kind::Rule => KeptClause::Plain(self.form(names, word, at + 1, true)),
+            Kind::Term => KeptClause::Whole(self.term(names, word)),
+            Kind::Call => KeptClause::Whole(self.term(names, 0)),
+            Kind::End => KeptClause::Whole(self.term(names, 0)),
+        }
     }
 
     /// Adds a word.
@@ -124,31 +137,46 @@ impl KeptList {
 
     /// Adds the word of a term, and its nodes.
     fn push_term(&mut self, term: &Term) -> Result<(), AllocError>
-        ensures goal { OnOk result (AddsGoals term.now.names.now self.old self.new (whole (tree_of term.now) ∷ [])) }
+        ensures goals { OnOk result (AddsGoals term.now.names.now self.old self.new (whole (tree_of term.now) ∷ [])) }
         ensures clause { OnOk result (AddsClause term.now.names.now self.old self.new (length self.old.0) (tree_of term.now)) }
     {
         self.whole.append_last(term.nodes, term.end)?;
-        self.push_word(term_word(self.whole.len()))
+        let word = term_word(self.whole.len());
+        self.push_word(word)
     }
 
     /// Adds the goals of a body. Linear in its nodes.
     fn push_goals(&mut self, body: &Term) -> Result<(), AllocError>
         ensures { OnOk result (AddsGoals body.now.names.now self.old self.new (body_goals (tree_of body.now))) }
     {
-        if let Some((left, right)) = conjuncts(body) {
-            self.push_goals(&left)?;
-            return self.push_goals(&right);
+        match goals_of(body) {
+            BodyGoals::Nothing => Ok(()),
+            BodyGoals::Of(term) => self.push_goals(&term),
+            BodyGoals::OfBoth(left, right) => {
+                self.push_goals(&left)?;
+                self.push_goals(&right)
+            }
+            BodyGoals::Call(call) => {
+                self.push_word(named_word(CALL, call.number, call.at, call.arity))
+            }
+            BodyGoals::Whole => self.push_term(body),
         }
-        if let Some(inner) = negated(body) {
-            return self.push_goals(&inner);
-        }
-        if is_no_goal(body) {
-            return Ok(());
-        }
-        if let Some(call) = call_in_body(body) {
-            return self.push_word(named_word(CALL, call.number, call.at, call.arity));
-        }
-        self.push_term(&inside(body))
+    }
+
+    /// Adds a clause with a plain form that begins so, and ends at this byte offset.
+    fn push_plain(&mut self, head: &PlainHead, to: u32) -> Result<(), AllocError>
+        requires { IsFitHead head.now.call }
+        ensures { OnOk result ((names : List (List ℕ)) (tree : Tree) → IsPlainHead names tree head.now → (clause_span tree).to ≡ to
+            → AddsClause names self.old self.new (length self.old.0) (plain tree)) }
+    {
+        let call = head.call;
+        let Some(body) = head.body else {
+            self.push_word(named_word(FACT, call.number, call.at, call.arity))?;
+            return self.push_word(end_word(to));
+        };
+        self.push_word(named_word(RULE, call.number, call.at, call.arity))?;
+        self.push_goals(&body)?;
+        self.push_word(end_word(to))
     }
 
     /// Adds a clause, and returns the index at which it begins. Linear in its nodes.
@@ -156,16 +184,10 @@ impl KeptList {
         ensures { IfOk result (λ at. AddsClause clause.now.names.now self.old self.new at (plain (tree_of clause.now))) }
     {
         let at = self.words.len();
-        let Some((head, body)) = plain_head(clause) else {
-            self.push_term(clause)?;
-            return Ok(at);
-        };
-        let bits = if body.is_some() { RULE } else { FACT };
-        self.push_word(named_word(bits, head.number, head.at, head.arity))?;
-        if let Some(body) = body {
-            self.push_goals(&body)?;
+        match plain_head(clause) {
+            Some(head) => self.push_plain(&head, inside(clause).span().to)?,
+            None => self.push_term(clause)?,
         }
-        self.push_word(end_word(inside(clause).span().to))?;
         Ok(at)
     }
 }

@@ -1,6 +1,6 @@
 //! Words of 64 bits. `specs/Words.antt` says what they are.
 
-ghost use Rattle.std.specs.Prelude.{◌≡◌, ◌<◌, ◌≤◌};
+ghost use Rattle.std.specs.Prelude.{◌≡◌, ◌<◌, ◌≤◌, ◌/◌, ◌%◌};
 ghost use Rattle.kept_clauses.specs.declared.words.Kind.TheVariants as kind;
 ghost use Rattle.kept_clauses.specs.Words.{kind_of, arity_in, offset_in, number_in};
 
@@ -88,7 +88,7 @@ pub fn term_word(end: usize) -> u64
 /// The word of the end of a clause at a byte offset.
 pub fn end_word(to: u32) -> u64
     ensures kind { kind_of result ≡ kind.End }
-    ensures to { result / 8 ≡ to }
+    ensures to { result / 8 % 4294967296 ≡ to }
 {
     u64::from(to) * 8 + END
 }
