@@ -1,16 +1,14 @@
--- Clauses as nodes, operator items of some and what they do, where terms start, and stretches of tokens.
-use Rattle.std.proofs.Common.{◌≡◌, ℕ, ◌+◌, List, [], ◌∷◌, Some, Err, true, false, refl, inl, inr, codes, arith}
+-- Clauses as words, operator items of some and what they do, where terms start, and stretches of tokens.
+use Rattle.std.proofs.Common.{◌≡◌, ℕ, ◌+◌, ◌*◌, List, [], ◌∷◌, Some, Err, true, false, refl, inl, inr, codes, arith}
 use Rattle.std.proofs.lemmas.Str.{IsUtf8-nil}
 use Rattle.prolog_tokens.specs.declared.token.Kind.{Kind}
 use Rattle.prolog_tokens.specs.declared.token.Kind.TheVariants.{Name, End}
 use Rattle.prolog_tokens.specs.declared.token.Token.{Token}
 use Rattle.prolog_ops.specs.Table.{opening}
 use Rattle.prolog_terms.specs.declared.term.Span.{Span}
-use Rattle.prolog_terms.specs.declared.term.Form.TheVariants.{Functional, Prefix, Infix as between}
+use Rattle.prolog_terms.specs.declared.term.Form.TheVariants.{Functional, Prefix, Infix}
 use Rattle.prolog_terms.specs.declared.term.ConstKind.TheVariants.{Integer}
-use Rattle.prolog_terms.specs.declared.node.Node.{Node}
-use Rattle.prolog_terms.specs.declared.node.Shape.{Shape}
-use Rattle.prolog_terms.specs.declared.node.Shape.TheVariants as shape
+use Rattle.kept_clauses.specs.Words.{Kept}
 use Rattle.prolog_terms.specs.Tree.{Tree, variable, constant, atom, compound, listed, tailed, paren, more, none}
 use Rattle.clause_text.specs.declared.cause.Cause.TheVariants.{BadPriority, BadKind, BadName, FixedOp, InfixAndPostfix}
 use Rattle.clause_text.specs.declared.fault.TextFault.TheVariants.{At}
@@ -36,19 +34,22 @@ one_item priority kind names = record { priority = priority; kind = kind; names 
 abbrev word : List ℕ → ℕ → Tree
 word name from = atom name (at from)
 
--- `p. q(X).` as nodes, whose names are the second and the third of a list
-abbrev node : Shape → ℕ → ℕ → Node
-node shape from size = record { shape = shape; span = at from; size = size }
+-- `p. q(X) :- p.` as words, whose names are the second and the third of a list: the heads of a fact and of a rule, a call, and the ends of both
+abbrev named : ℕ → ℕ → ℕ → ℕ → ℕ
+named bits number from arity = ((number * 8388608 + from) * 64 + arity) * 8 + bits
 
-abbrev both_clauses : List Node
-both_clauses = node (shape.Atom 1) 0 1 ∷ node shape.Var 5 1 ∷ node (shape.Compound 2 1 Functional) 3 2 ∷ []
+abbrev both_clauses : Kept
+both_clauses = (named 2 1 0 0 ∷ (1 * 8 + 6) ∷ named 4 2 3 1 ∷ named 0 1 11 0 ∷ (12 * 8 + 6) ∷ [], [])
 
--- one of them up to its end, whatever points at them
-abbrev ends_at : Clause → ℕ → Clause
-ends_at any end = record { nodes = arc_with_value any.nodes both_clauses; end = end }
+-- one of them from its head on, whatever points at them
+abbrev begins_at : Clause → ℕ → Clause
+begins_at any word = record { list = arc_with_value any.list both_clauses; at = word }
 
-clauses_there : (any : Clause) → clause_trees ([] ∷ codes "p" ∷ codes "q" ∷ []) (ends_at any 1 ∷ ends_at any 3 ∷ [])
-    ≡ word (codes "p") 0 ∷ compound (codes "q") (more (variable (at 5)) none) Functional (at 3) ∷ []
+clauses_there : (any : Clause) → clause_trees ([] ∷ codes "p" ∷ codes "q" ∷ []) (begins_at any 0 ∷ begins_at any 2 ∷ [])
+    ≡ atom (codes "p") (record { from = 0; to = 1 })
+    ∷ compound (codes ":-")
+    (more (compound (codes "q") (more (variable (record { from = 0; to = 0 })) none) Functional (record { from = 0; to = 0 }))
+    (more (atom (codes "p") (record { from = 11; to = 11 })) none)) Infix (record { from = 3; to = 12 }) ∷ []
 clauses_there any = refl
 
 -- `:- op(700, xfx, eq)`, and `?-` and brackets alike
@@ -67,7 +68,7 @@ law_3 = refl
 -- `:- p, module(m, [q, (op(1, xfx, eq))|T])`: under a comma, in a list with a tail and in brackets
 law_4 : items_of (compound (codes ":-") (more (compound (codes ",") (more (word (codes "p") 3) (more (compound (codes "module") (more (word (codes "m") 13)
     (more (tailed (more (word (codes "q") 17) (more (paren (op (number 1 24) (word (codes "xfx") 27) (word (codes "eq") 32)) (at 20)) none)) (variable (at 37)) (at 16)) none)) Functional (at 6)) none))
-    between (at 3)) none) Prefix (at 0))
+    Infix (at 3)) none) Prefix (at 0))
     ≡ one_item (number 1 24) (word (codes "xfx") 27) (word (codes "eq") 32) ∷ []
 law_4 = refl
 

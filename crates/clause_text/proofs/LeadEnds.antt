@@ -15,27 +15,32 @@ use Rattle.clause_text.specs.declared.piece.Stretch.{Stretch}
 use Rattle.clause_text.specs.declared.piece.Piece.{Piece}
 use Rattle.clause_text.specs.declared.piece.PieceEnd.TheVariants.{Whole, AtOperators, Refused}
 use Rattle.clause_text.specs.Items.{items_of, items_on}
-use Rattle.clause_text.specs.Clauses.{AreClauses, IsPartFault, FaultStandsBehind, HasClauseFault, EndsFirst, clause_tree, clause_trees}
+use Rattle.kept_clauses.specs.Plain.{plain}
+use Rattle.clause_text.specs.Kept.{ArePlainClauses}
+use Rattle.clause_text.specs.Clauses.{IsPartFault, FaultStandsBehind, HasClauseFault, EndsFirst, clause_tree, clause_trees}
 use Rattle.clause_text.specs.Pieces.{LeadTo, IsBehindClause, IsStretch, AreStretches, EndIs, IsPiece, ArePieces, AreAdded, IsFaultAhead}
 use Rattle.clause_text.proofs.ClauseSplits.{back_with, part_of, part_first, nothing_behind}
 use Rattle.clause_text.proofs.Leads.{lead_joined}
 
 -- up to the end of a row they are the clauses before those of the tokens after it
 pub lead_are : (table : Ops) (text : List ℕ) (ts rest : List Token) (from : ℕ) (trees more : List Tree) (left : Ops) (to : ℕ) → LeadTo table text ts from trees left to → length ts ≤ to
-    → AreClauses left text rest more → AreClauses table text (drop from ts ++ rest) (trees ++ more)
+    → ArePlainClauses left text rest more → ArePlainClauses table text (drop from ts ++ rest) (trees ++ more)
 lead_are table text ts rest from [] more left to (tables, places) all are =
-    subst (λ us. AreClauses table text (us ++ rest) more) (sym (nothing_behind ts from (omega (arith, places, all)))) (subst (λ T. AreClauses T text rest more) (sym tables) are)
+    subst (λ us. ArePlainClauses table text (us ++ rest) more) (sym (nothing_behind ts from (omega (arith, places, all)))) (subst (λ T. ArePlainClauses T text rest more) (sym tables) are)
 lead_are table text ts rest from (tree ∷ trees) more left to (next, set, stops, does, lead) all are =
     (part_of ts from next, drop next ts ++ rest, set, back_with ts rest from next stops, does, lead_are set text ts rest next trees more left to lead all are)
 
 -- and a fault of those is one of all
 pub lead_fault : (table : Ops) (text : List ℕ) (ts rest : List Token) (from : ℕ) (trees more : List Tree) (left : Ops) (to : ℕ) (fault : TextFault) → LeadTo table text ts from trees left to
-    → length ts ≤ to → FaultStandsBehind left text rest more fault → FaultStandsBehind table text (drop from ts ++ rest) (trees ++ more) fault
-lead_fault table text ts rest from [] more left to fault (tables, places) all stands =
-    subst (λ us. FaultStandsBehind table text (us ++ rest) more fault) (sym (nothing_behind ts from (omega (arith, places, all))))
-    (subst (λ T. FaultStandsBehind T text rest more fault) (sym tables) stands)
+    → length ts ≤ to → FaultStandsBehind left text rest more fault → (before : List Tree) × FaultStandsBehind table text (drop from ts ++ rest) before fault
+lead_fault table text ts rest from [] more left to fault (tables, places) all stands = (
+  more,
+  subst (λ us. FaultStandsBehind table text (us ++ rest) more fault) (sym (nothing_behind ts from (omega (arith, places, all))))
+      (subst (λ T. FaultStandsBehind T text rest more fault) (sym tables) stands),
+)
 lead_fault table text ts rest from (tree ∷ trees) more left to fault (next, set, stops, does, lead) all stands =
-    (part_of ts from next, drop next ts ++ rest, set, back_with ts rest from next stops, does, lead_fault set text ts rest next trees more left to fault lead all stands)
+    let later = lead_fault set text ts rest next trees more left to fault lead all stands in
+    (does.tree ∷ later.0, (part_of ts from next, drop next ts ++ rest, set, back_with ts rest from next stops, does.leaves, later.1))
 
 -- they stay within the tokens
 pub lead_within : (table : Ops) (text : List ℕ) (ts : List Token) (from : ℕ) (trees : List Tree) (left : Ops) (to : ℕ) → LeadTo table text ts from trees left to → from ≤ length ts
@@ -54,25 +59,28 @@ trees_joined names clauses more = map-append (clause_tree names) clauses more
 
 -- after them stands the fault of a part, whatever stands after the row
 pub stands_behind : (table : Ops) (text : List ℕ) (ts rest : List Token) (from : ℕ) (trees : List Tree) (left : Ops) (at next : ℕ) (fault : TextFault) → LeadTo table text ts from trees left at
-    → EndsFirst ts at next → EndsClause ts ⊎ (rest ≡ []) → IsPartFault left text (slice_range ts at next) fault → FaultStandsBehind table text (drop from ts ++ rest) trees fault
-stands_behind table text ts rest from [] left at next fault (tables, places) ends last wrong =
-    subst (λ place. FaultStandsBehind table text (drop place ts ++ rest) [] fault) (sym places) (
-      part_of ts at next,
-      drop next ts ++ rest,
-      back_with ts rest at next ends,
-      part_first ts at next rest ends last,
-      subst (λ T. IsPartFault T text (slice_range ts at next) fault) (sym tables) wrong,
-    )
+    → EndsFirst ts at next → EndsClause ts ⊎ (rest ≡ []) → IsPartFault left text (slice_range ts at next) fault
+    → (before : List Tree) × FaultStandsBehind table text (drop from ts ++ rest) before fault
+stands_behind table text ts rest from [] left at next fault (tables, places) ends last wrong = (
+  [],
+  subst (λ place. FaultStandsBehind table text (drop place ts ++ rest) [] fault) (sym places) (
+    part_of ts at next,
+    drop next ts ++ rest,
+    back_with ts rest at next ends,
+    part_first ts at next rest ends last,
+    subst (λ T. IsPartFault T text (slice_range ts at next) fault) (sym tables) wrong,
+  ),
+)
 stands_behind table text ts rest from (tree ∷ trees) left at next fault (mid, set, stops, does, lead) ends last wrong =
-    (part_of ts from mid, drop mid ts ++ rest, set, back_with ts rest from mid stops, does, stands_behind set text ts rest mid trees left at next fault lead ends last wrong)
+    let later = stands_behind set text ts rest mid trees left at next fault lead ends last wrong in
+    (does.tree ∷ later.0, (part_of ts from mid, drop mid ts ++ rest, set, back_with ts rest from mid stops, does.leaves, later.1))
 
 -- from the start of a row on, a fault ahead is that of the row and all that stands after it
 pub fault_from_start : (table : Ops) (text : List ℕ) (ts rest : List Token) (fault : TextFault) → EndsClause ts ⊎ (rest ≡ []) → IsFaultAhead table text ts 0 fault
     → HasClauseFault table text (ts ++ rest) fault
-fault_from_start table text ts rest fault last ahead = record {
-  before = ahead.before;
-  stands = stands_behind table text ts rest 0 ahead.before ahead.left ahead.at ahead.next fault ahead.lead ahead.part last ahead.is;
-}
+fault_from_start table text ts rest fault last ahead =
+    let behind = stands_behind table text ts rest 0 ahead.before ahead.left ahead.at ahead.next fault ahead.lead ahead.part last ahead.is in
+    record { before = behind.0; stands = behind.1 }
 
 -- a fault ahead of where clauses lead to is ahead of where they begin
 pub fault_joined : (table : Ops) (text : List ℕ) (ts : List Token) (from : ℕ) (trees : List Tree) (left : Ops) (mid : ℕ) (fault : TextFault) → LeadTo table text ts from trees left mid
@@ -194,19 +202,20 @@ module _ (names : List (List ℕ)) (table : Ops) (from : ℕ) (all : List Piece)
       next : IsNext names table text ts from before piece rest after end
       ends : EndsFirst ts next.at place
       reads : IsClauseOf (table_of table) text (slice_range ts next.at place) (clause_tree names clause)
+      own : plain (clause_tree names clause) ≡ clause_tree names clause
 
     at_operators : IsAtOperators
     at_operators =
         let next = next_of text ts end are in
         let ends : EndIs names table text ts next.at next.next (AtOperators clause place) = subst (EndIs names table text ts next.at next.next) is next.ends in
-        record { next = next; ends = ends.0; reads = ends.1 }
+        record { next = next; ends = ends.0; reads = ends.1; own = ends.2 }
 
     pub operators_added : (then : Ops) → items_on (items_of (clause_tree names clause)) table ≡ Ok then
         → AreAdded table text ts from before ((after ++ clause_trees names piece.clauses.items) ++ clause_tree names clause ∷ []) then place
     operators_added then set =
         let found = at_operators in
         added_on table text ts from before (after ++ clause_trees names piece.clauses.items) table found.next.at (clause_tree names clause ∷ []) then place found.next.added
-        (place, then, found.ends, record { clause = found.reads; items = set }, (refl, refl))
+        (place, then, found.ends, record { tree = clause_tree names clause; kept_is = sym found.own; leaves = record { clause = found.reads; items = set } }, (refl, refl))
 
     pub operators_forward : from < place
     operators_forward = let found = at_operators in omega (arith, found.next.reached, found.ends.some)

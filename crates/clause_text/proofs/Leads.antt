@@ -3,7 +3,8 @@ use Rattle.std.proofs.Common.{ℕ, List, [], ◌∷◌, ◌++◌, slice_range, r
 use Rattle.prolog_tokens.specs.declared.token.Token.{Token}
 use Rattle.prolog_ops.specs.Table.{Ops}
 use Rattle.prolog_terms.specs.Tree.{Tree}
-use Rattle.clause_text.specs.Clauses.{LeavesAs, EndsFirst}
+use Rattle.clause_text.specs.Kept.{LeavesPlainly}
+use Rattle.clause_text.specs.Clauses.{EndsFirst}
 use Rattle.clause_text.specs.Pieces.{LeadTo}
 
 pub lead_joined : (a b c : Ops) (text : List ℕ) (ts : List Token) (from mid to : ℕ) (trees others : List Tree) → LeadTo a text ts from trees b mid → LeadTo b text ts mid others c to
@@ -15,6 +16,6 @@ lead_joined a b c text ts from mid to (tree ∷ trees) others (next, then, ends,
 
 -- a clause more
 pub lead_more : (table : Ops) (text : List ℕ) (ts : List Token) (from : ℕ) (trees : List Tree) (left : Ops) (at : ℕ) (tree : Tree) (then : Ops) (next : ℕ) → LeadTo table text ts from trees left at
-    → EndsFirst ts at next → LeavesAs left text (slice_range ts at next) tree then → LeadTo table text ts from (trees ++ tree ∷ []) then next
+    → EndsFirst ts at next → LeavesPlainly left text (slice_range ts at next) tree then → LeadTo table text ts from (trees ++ tree ∷ []) then next
 lead_more table text ts from trees left at tree then next lead ends leaves =
     lead_joined table left then text ts from at next trees (tree ∷ []) lead (next, then, ends, leaves, (refl, refl))

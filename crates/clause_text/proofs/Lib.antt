@@ -2,6 +2,8 @@ pub mod FirstParts
 pub mod KeptTables
 pub mod EachOn
 pub mod ClauseSplits
+pub mod PlainForms
+pub mod PlainWeights
 pub mod Leads
 pub mod LeadEnds
 pub mod RowClauses

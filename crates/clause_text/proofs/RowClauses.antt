@@ -11,7 +11,8 @@ use Rattle.prolog_ops.specs.Table.{Ops}
 use Rattle.prolog_terms.specs.Tree.{Tree}
 use Rattle.prolog_terms.specs.Clause.{ArePart}
 use Rattle.clause_text.specs.declared.fault.TextFault.{TextFault}
-use Rattle.clause_text.specs.Clauses.{AreClauses, HasClauseFault, opening_ops}
+use Rattle.clause_text.specs.Clauses.{HasClauseFault, opening_ops}
+use Rattle.clause_text.specs.Kept.{ArePlainClauses}
 use Rattle.clause_text.specs.Pieces.{AreAdded, IsFaultAhead}
 use Rattle.clause_text.proofs.LeadEnds.{lead_are, lead_fault, fault_from_start}
 
@@ -24,7 +25,7 @@ pub record AreLeft (names : List (List ℕ)) (text : List ℕ) (all : List Token
   pub cut : IsCut text (before ++ row_tokens rows)
   pub ends : EachEndsClause (token_rows rows)
   pub numbered : All (IsNumberedRow text names) rows
-  pub clauses : (more : List Tree) → AreClauses table text (row_tokens rows) more → AreClauses opening_ops text all (trees ++ more)
+  pub clauses : (more : List Tree) → ArePlainClauses table text (row_tokens rows) more → ArePlainClauses opening_ops text all (trees ++ more)
   pub faults : (fault : TextFault) → HasClauseFault table text (row_tokens rows) fault → HasClauseFault opening_ops text all fault
 
 -- all of them
@@ -38,15 +39,15 @@ all_left names text all rows left table trees same whole opens none cut ends num
       ends = ends;
       numbered = numbered;
       clauses = λ more are.
-          subst (λ ts. AreClauses opening_ops text all (ts ++ more)) (sym none) (subst (λ T. AreClauses T text all more) opens (subst (λ ts. AreClauses table text ts more) whole are));
+          subst (λ ts. ArePlainClauses opening_ops text all (ts ++ more)) (sym none) (subst (λ T. ArePlainClauses T text all more) opens (subst (λ ts. ArePlainClauses table text ts more) whole are));
       faults = λ fault has. subst (λ T. HasClauseFault T text all fault) opens (subst (λ ts. HasClauseFault table text ts fault) whole has);
     })
 
 -- none
 pub none_left : (names : List (List ℕ)) (text : List ℕ) (all : List Token) (rows : List NumberedRow) (table : Ops) (trees : List Tree) → rows ≡ []
-    → AreLeft names text all rows table trees → AreClauses opening_ops text all trees
+    → AreLeft names text all rows table trees → ArePlainClauses opening_ops text all trees
 none_left names text all rows table trees none left =
-    subst (AreClauses opening_ops text all) (append-nil trees) (left.clauses [] (ap row_tokens none))
+    subst (ArePlainClauses opening_ops text all) (append-nil trees) (left.clauses [] (ap row_tokens none))
 
 -- where a row is the next
 module _ (names : List (List ℕ)) (text : List ℕ) (all : List Token) (rows : List NumberedRow) (table : Ops) (trees : List Tree) (row : NumberedRow) (rest : List NumberedRow)
@@ -71,13 +72,12 @@ module _ (names : List (List ℕ)) (text : List ℕ) (all : List Token) (rows : 
     ends = own.ends.1;
     numbered = All-tail (IsNumberedRow text names) row rest own.numbered;
     clauses = λ more are.
-        subst (AreClauses opening_ops text all) (sym (ap (λ ts. ts ++ more) added.all ∙ append_assoc trees added.more more))
+        subst (ArePlainClauses opening_ops text all) (sym (ap (λ ts. ts ++ more) added.all ∙ append_assoc trees added.more more))
         (own.clauses (added.more ++ more)
         (lead_are table text row.tokens.items (row_tokens rest) 0 added.more more then (length row.tokens.items) added.lead (omega arith) are));
-    faults = λ fault has. own.faults fault (record {
-      before = added.more ++ has.before;
-      stands = lead_fault table text row.tokens.items (row_tokens rest) 0 added.more has.before then (length row.tokens.items) fault added.lead (omega arith) has.stands;
-    });
+    faults = λ fault has.
+        let behind = lead_fault table text row.tokens.items (row_tokens rest) 0 added.more has.before then (length row.tokens.items) fault added.lead (omega arith) has.stands in
+        own.faults fault (record { before = behind.0; stands = behind.1 });
   }
 
   -- or one is refused

@@ -1,5 +1,5 @@
 -- From what was read of the tokens of a text to what the text is.
-use Rattle.std.proofs.Common.{◌≡◌, ◌≢◌, ℕ, ◌+◌, ◌≤◌, List, [], ◌∷◌, length, All, ap, subst, ◌∙◌, arith, length-append}
+use Rattle.std.proofs.Common.{◌≡◌, ◌≢◌, ℕ, ◌+◌, ◌≤◌, List, [], ◌∷◌, length, map, All, ap, refl, sym, subst, ◌∙◌, arith, length-append}
 use Rattle.std.specs.Str.{IsUtf8}
 use Rattle.std.proofs.lemmas.List.Elements.{All-nil, All-cons}
 use Rattle.std.proofs.lemmas.List.Sums.{sum_by-cons}
@@ -16,7 +16,11 @@ use Rattle.clause_text.specs.declared.fault.TextFault.{TextFault}
 use Rattle.clause_text.specs.declared.fault.TextFault.TheVariants.{At, NoMemory}
 use Rattle.clause_text.specs.Clauses.{AreClauses, ReadsAs, HasClauseFault, opening_ops, total_weight}
 use Rattle.clause_text.specs.TextFault.{TokensHave, ClausesHave, fault_of_tokens}
+use Rattle.kept_clauses.specs.Plain.{plain}
+use Rattle.clause_text.specs.Kept.{ArePlainClauses, ReadsPlainly}
+use Rattle.clause_text.proofs.OneReading.{one_reading}
 use Rattle.clause_text.proofs.Offsets.{IsPlaced, clauses_placed}
+use Rattle.clause_text.proofs.PlainWeights.{plain_light}
 
 -- what was read of the tokens of the text is read of the bytes
 pub reads_as : (bytes text : List ℕ) (ts us : List Token) (trees : List Tree) → text ≡ bytes → us ≡ ts → IsUtf8 bytes → IsCut text ts → AreClauses opening_ops text us trees
@@ -27,6 +31,25 @@ reads_as bytes text ts us trees same listed utf8 cut are = record {
   cut = subst (λ t. IsCut t ts) same cut;
   clauses = subst (λ t. AreClauses opening_ops t ts trees) same (subst (λ all. AreClauses opening_ops text all trees) listed are);
 }
+
+-- clauses that are told by their plain trees are clauses
+whole_clauses : (table : Ops) (text : List ℕ) (ts : List Token) (kept : List Tree) → ArePlainClauses table text ts kept
+    → (trees : List Tree) × AreClauses table text ts trees × (kept ≡ map plain trees)
+whole_clauses table text ts [] none = ([], none, refl)
+whole_clauses table text ts (one ∷ kept) (part, rest, left, is, leaves, are) =
+    let others = whole_clauses left text rest kept are in
+    (leaves.tree ∷ others.0, (part, rest, left, is, leaves.leaves, others.1), λ i. leaves.kept_is i ∷ others.2 i)
+
+pub reads_plainly : (bytes text : List ℕ) (ts us : List Token) (kept : List Tree) → text ≡ bytes → us ≡ ts → IsUtf8 bytes → IsCut text ts
+    → ArePlainClauses opening_ops text us kept → ReadsPlainly bytes kept
+reads_plainly bytes text ts us kept same listed utf8 cut are =
+    let whole = whole_clauses opening_ops text us kept are in
+    record { trees = whole.0; reads = reads_as bytes text ts us whole.0 same listed utf8 cut whole.1; kept_are = whole.2 }
+
+-- a text is told by one list of plain trees
+pub one_plainly : (bytes : List ℕ) (kept others : List Tree) → ReadsPlainly bytes kept → ReadsPlainly bytes others → others ≡ kept
+one_plainly bytes kept others one two =
+    two.kept_are ∙ (ap (map plain) (one_reading bytes two.trees one.trees two.reads one.reads) ∙ sym one.kept_are)
 
 pub clauses_have : (bytes text : List ℕ) (ts us : List Token) (fault : TextFault) → text ≡ bytes → us ≡ ts → IsUtf8 bytes → IsCut text ts
     → HasClauseFault opening_ops text us fault → ClausesHave bytes fault
@@ -63,6 +86,23 @@ clauses_weigh table text ts (tree ∷ trees) (part, rest, left, is, leaves, are)
       clause_weight (table_of table) text part tree leaves.clause,
       clauses_weigh left text rest trees are,
     )
+
+plain_weigh : (trees : List Tree) → total_weight (map plain trees) ≤ total_weight trees
+plain_weigh [] = omega arith
+plain_weigh (tree ∷ trees) =
+    omega (
+      arith,
+      sum_by-cons (λ t. weight t + 2) tree trees,
+      sum_by-cons (λ t. weight t + 2) (plain tree) (map plain trees),
+      plain_light tree,
+      plain_weigh trees,
+    )
+
+-- and so it is for plain trees
+pub plain_clauses_weigh : (table : Ops) (text : List ℕ) (ts : List Token) (kept : List Tree) → ArePlainClauses table text ts kept → total_weight kept ≤ length ts
+plain_clauses_weigh table text ts kept are =
+    let whole = whole_clauses table text ts kept are in
+    omega (arith, ap total_weight whole.2, plain_weigh whole.0, clauses_weigh table text ts whole.0 whole.1)
 
 -- so each weighs no more than all do
 pub each_light : (trees : List Tree) (n : ℕ) → total_weight trees ≤ n → All (λ tree. weight tree ≤ n) trees

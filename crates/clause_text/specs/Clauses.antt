@@ -10,7 +10,7 @@ use Rattle.prolog_ops.specs.Table.{Ops, opening}
 use Rattle.prolog_terms.specs.declared.reader.ReadFault.{ReadFault}
 use Rattle.prolog_terms.specs.declared.reader.ReadFault.TheVariants as of_clauses
 use Rattle.prolog_terms.specs.Tree.{Tree}
-use Rattle.prolog_terms.specs.Terms.{tree_in}
+use Rattle.kept_clauses.specs.Words.{kept_tree}
 use Rattle.prolog_terms.specs.Weight.{weight}
 use Rattle.prolog_terms.specs.Words.{table_of}
 use Rattle.prolog_terms.specs.Clause.{IsClauseOf, IsReadFault, IsOneClause}
@@ -25,14 +25,14 @@ use Rattle.clause_text.specs.Items.{items_of, items_on}
 unfoldable pub opening_ops : Ops
 opening_ops = opening
 
--- the tree of a clause, whose names are numbers in these names
+-- the tree that a clause is kept as, whose names are numbers in these names
 abbrev pub clause_tree : List (List ℕ) → Clause → Tree
-clause_tree names clause = tree_in names (arc_value clause.nodes) clause.end
+clause_tree names clause = kept_tree names (arc_value clause.list) clause.at
 
 abbrev pub clause_trees : List (List ℕ) → List Clause → List Tree
 clause_trees names clauses = map (clause_tree names) clauses
 
--- the clauses of a text as trees
+-- the clauses of a text as the trees that they are kept as
 abbrev pub text_trees : TextClauses → List Tree
 text_trees text = clause_trees text.names text.clauses.items
 

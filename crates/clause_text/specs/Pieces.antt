@@ -1,5 +1,5 @@
 -- Clauses that stand side by side, where the table that the first of them is read with is known.
-use Rattle.std.specs.Prelude.{◌≡◌, ◌≢◌, ℕ, ◌-◌, ◌<◌, ◌≤◌, ◌⊎◌, List, [], ◌∷◌, ◌++◌, Some, length, map, slice_range}
+use Rattle.std.specs.Prelude.{◌≡◌, ◌≢◌, ℕ, ◌-◌, ◌<◌, ◌≤◌, ◌⊎◌, List, [], ◌∷◌, ◌++◌, Some, true, length, map, slice_range}
 use Rattle.prolog_tokens.specs.declared.token.Kind.TheVariants.{End}
 use Rattle.prolog_tokens.specs.declared.token.Token.{Token}
 use Rattle.prolog_ops.specs.Table.{Ops}
@@ -17,13 +17,17 @@ use Rattle.clause_text.specs.declared.piece.PieceEnd.TheVariants.{Whole, AtOpera
 use Rattle.clause_text.specs.declared.piece.ReadEnd.{ReadEnd}
 use Rattle.clause_text.specs.declared.piece.ReadEnd.TheVariants as read_end
 use Rattle.clause_text.specs.declared.piece.ReadStretch.{ReadStretch}
-use Rattle.clause_text.specs.Clauses.{LeavesAs, IsPartFault, EndsFirst, clause_tree, clause_trees, kind_there}
+use Rattle.kept_clauses.specs.Plain.{plain}
+use Rattle.kept_clauses.specs.Words.{kept_tree, Kept}
+use Rattle.clause_text.specs.Kept.{LeavesPlainly}
+use Rattle.clause_text.specs.Items.{has_some, items_of}
+use Rattle.clause_text.specs.Clauses.{IsPartFault, EndsFirst, clause_tree, clause_trees, kind_there}
 
--- from the table on, the tokens from a place up to another are the clauses, and leave the other table
+-- from the table on, the tokens from a place up to another are clauses with these plain trees, and leave the other table
 abbrev pub LeadTo : Ops → List ℕ → List Token → ℕ → List Tree → Ops → ℕ → Type 0
 LeadTo table text ts from [] left to = (table ≡ left) × (from ≡ to)
 LeadTo table text ts from (tree ∷ trees) left to =
-    (next : ℕ) × (then : Ops) × EndsFirst ts from next × LeavesAs table text (slice_range ts from next) tree then × LeadTo then text ts next trees left to
+    (next : ℕ) × (then : Ops) × EndsFirst ts from next × LeavesPlainly table text (slice_range ts from next) tree then × LeadTo then text ts next trees left to
 
 -- a clause ends directly before the place
 pub record IsBehindClause (ts : List Token) (to : ℕ) : Type 0 where
@@ -40,12 +44,14 @@ abbrev pub AreStretches : List Token → ℕ → List Stretch → ℕ → Type 0
 AreStretches ts from [] to = from ≡ to
 AreStretches ts from (stretch ∷ stretches) to = (stretch.from ≡ from) × IsStretch ts stretch × AreStretches ts stretch.to stretches to
 
--- what stands behind the clauses of a piece, which end at a place: nothing more up to the end of its stretch, a clause, or a part that is none;
+-- what stands behind the clauses of a piece, which end at a place: nothing more up to the end of its stretch, a clause that is its own plain tree, or a
+-- part that is none;
 -- the names are those that the clauses' names are numbers in
 abbrev pub EndIs : List (List ℕ) → Ops → List ℕ → List Token → ℕ → ℕ → PieceEnd → Type 0
 EndIs names table text ts at to Whole = at ≡ to
 EndIs names table text ts at to (AtOperators clause place) =
     EndsFirst ts at place × IsClauseOf (table_of table) text (slice_range ts at place) (clause_tree names clause)
+    × (plain (clause_tree names clause) ≡ clause_tree names clause)
 EndIs names table text ts at to (Refused fault) = fault ≢ NoMemory → (next : ℕ) × EndsFirst ts at next × IsPartFault table text (slice_range ts at next) fault
 
 -- what is read of the stretch from a place up to another under the table, which the clauses of the piece leave as it is
@@ -61,20 +67,30 @@ pub record IsPiece (names : List (List ℕ)) (table : Ops) (text : List ℕ) (ts
 abbrev pub read_trees : List (List ℕ) → ReadStretch → List Tree
 read_trees names read = map (tree_in names read.nodes) read.ends.items
 
--- what stands behind them, up to a place: nothing more, a clause that is the last of the nodes, or a part that is none
+-- what stands behind them, up to a place: nothing more, a clause that is the last of the nodes and sets operators, or a part that is none
 abbrev pub ReadEndIs : List (List ℕ) → Ops → List ℕ → List Token → ℕ → ℕ → List Node → ReadEnd → Type 0
 ReadEndIs names table text ts at to nodes read_end.Whole = at ≡ to
 ReadEndIs names table text ts at to nodes (read_end.AtOperators place) =
     EndsFirst ts at place × IsClauseOf (table_of table) text (slice_range ts at place) (root_tree names nodes)
+    × (has_some (items_of (root_tree names nodes)) ≡ true)
 ReadEndIs names table text ts at to nodes (read_end.Refused fault) =
     fault ≢ NoMemory → (next : ℕ) × EndsFirst ts at next × IsPartFault table text (slice_range ts at next) fault
 
--- a stretch as a piece, whose clauses don't share their nodes yet
+-- the same, where the clause that sets operators is the one of a list that begins at that word
+abbrev pub KeptEndIs : List (List ℕ) → Ops → List ℕ → List Token → ℕ → ℕ → Kept → ℕ → ReadEnd → Type 0
+KeptEndIs names table text ts at to kept word read_end.Whole = at ≡ to
+KeptEndIs names table text ts at to kept word (read_end.AtOperators place) =
+    EndsFirst ts at place × IsClauseOf (table_of table) text (slice_range ts at place) (kept_tree names kept word)
+    × (plain (kept_tree names kept word) ≡ kept_tree names kept word)
+KeptEndIs names table text ts at to kept word (read_end.Refused fault) =
+    fault ≢ NoMemory → (next : ℕ) × EndsFirst ts at next × IsPartFault table text (slice_range ts at next) fault
+
+-- a stretch as a piece, whose clauses don't share their list yet
 pub record IsRead (names : List (List ℕ)) (table : Ops) (text : List ℕ) (ts : List Token) (from to : ℕ) (read : ReadStretch) : Type 0 where
   pub some : from < to
   pub behind : IsBehindClause ts to
   pub at : ℕ
-  pub clauses : LeadTo table text ts from (read_trees names read) table at
+  pub clauses : LeadTo table text ts from (map plain (read_trees names read)) table at
   pub end : ReadEndIs names table text ts at to read.nodes read.end
 
 -- the pieces are read side by side from a place up to another

@@ -6,10 +6,13 @@ ghost use Rattle.prolog_terms.specs.Terms.{tree_of};
 ghost use Rattle.clause_text.specs.Items.{Item, priority_of, priority_when, kind_named, kind_of, name_of, is_name, names_of, listed_names, each_on};
 ghost use Rattle.clause_text.specs.Items.{name_on, with_names, item_on, item_of, items_on, exported_items, goal_items, directive_items, items_of};
 ghost use Rattle.clause_text.specs.Items.{has_some};
+ghost use Rattle.clause_text.specs.Clauses.{clause_tree};
 
 use crate::cause::Cause;
 use crate::fault::{TextFault, fault_at, fault_of_ops};
 use crate::terms::{directive_of, listed, operator_item, written_items};
+use crate::text_clauses::Clause;
+use prolog_names::Names;
 use prolog_ops::{OpKind, OpTable};
 use prolog_terms::{ConstKind, Term, TermKind, atom_name, inside, sides, start_of};
 use std::alloc::{AllocError, Global};
@@ -226,11 +229,17 @@ fn apply_directive(alloc: Global, table: &mut OpTable, directive: &Term) -> Resu
 
 /// Sets the operators of the operator items of a clause, in order. After an error those before it
 /// are set.
-pub fn apply_items(alloc: Global, table: &mut OpTable, clause: &Term) -> Result<(), TextFault>
-    ensures done { OnOk result (items_on (items_of (tree_of clause.now)) (ops_of table.old) ≡ Ok (ops_of table.new)) }
-    ensures refused { IfErr result (λ fault. fault ≢ TextFault.NoMemory → items_on (items_of (tree_of clause.now)) (ops_of table.old) ≡ Err fault) }
+pub fn apply_items(
+    alloc: Global,
+    table: &mut OpTable,
+    names: &Names,
+    clause: &Clause,
+) -> Result<(), TextFault>
+    ensures done { OnOk result (items_on (items_of (clause_tree names.now clause.now)) (ops_of table.old) ≡ Ok (ops_of table.new)) }
+    ensures refused { IfErr result (λ fault. fault ≢ TextFault.NoMemory
+        → items_on (items_of (clause_tree names.now clause.now)) (ops_of table.old) ≡ Err fault) }
 {
-    match directive_of(clause) {
+    match clause.directive(names) {
         Some(directive) => apply_directive(alloc, table, &directive),
         None => Ok(()),
     }

@@ -6,7 +6,8 @@ ghost use Rattle.prolog_tokens.specs.Rows.{EachEndsClause, tokens_of};
 ghost use Rattle.prolog_names.specs.Numbers.{AreNumbered, IsNumberedRow, token_rows};
 ghost use Rattle.prolog_ops.specs.Table.{ops_of};
 ghost use Rattle.prolog_terms.specs.Clause.{ArePart};
-ghost use Rattle.clause_text.specs.Clauses.{AreClauses, HasClauseFault, clause_trees, opening_ops, text_trees};
+ghost use Rattle.clause_text.specs.Kept.{ArePlainClauses};
+ghost use Rattle.clause_text.specs.Clauses.{HasClauseFault, clause_trees, opening_ops, text_trees};
 ghost use Rattle.clause_text.specs.Pieces.{IsBehindClause, ArePieces, AreAdded, IsFaultAhead};
 
 use crate::fault::TextFault;
@@ -64,7 +65,7 @@ fn keep(
         match end {
             PieceEnd::Whole => to = until,
             PieceEnd::AtOperators(clause, place) => {
-                apply_items(alloc, table, &clause.term(names))?;
+                apply_items(alloc, table, names, &clause)?;
                 if clauses.push(clause).is_err() {
                     return Err(TextFault::NoMemory);
                 }
@@ -141,7 +142,7 @@ pub fn read_clauses<R: Threads + Sync>(
     requires cut { IsCut text.now (tokens_of (token_rows numbered.rows.items)) }
     requires ends { EachEndsClause (token_rows numbered.rows.items) }
     requires numbered { All (IsNumberedRow text.now numbered.names) numbered.rows.items }
-    ensures ok { IfOk result (λ clauses. AreClauses opening_ops text.now (tokens_of (token_rows numbered.rows.items)) (text_trees clauses)) }
+    ensures ok { IfOk result (λ clauses. ArePlainClauses opening_ops text.now (tokens_of (token_rows numbered.rows.items)) (text_trees clauses)) }
     ensures fault { IfErr result (λ fault. fault ≢ TextFault.NoMemory
         → HasClauseFault opening_ops text.now (tokens_of (token_rows numbered.rows.items)) fault) }
 {

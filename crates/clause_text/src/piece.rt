@@ -12,11 +12,15 @@ ghost use Rattle.prolog_terms.specs.Clause.{ArePart, IsClauseOf, IsOneClause};
 ghost use Rattle.prolog_terms.specs.Words.{table_of};
 ghost use Rattle.clause_text.specs.Items.{has_some, items_of};
 ghost use Rattle.clause_text.specs.Clauses.{EndsFirst, IsUnread, clause_trees};
-ghost use Rattle.clause_text.specs.Pieces.{IsBehindClause, IsStretch, AreStretches, IsRead, ReadEndIs, IsPiece, EndIs, ArePieces};
+ghost use Rattle.clause_text.specs.Pieces.{IsBehindClause, IsStretch, AreStretches, IsRead, ReadEndIs, KeptEndIs, IsPiece, EndIs, ArePieces};
+ghost use Rattle.kept_clauses.specs.Plain.{plain};
+ghost use Rattle.kept_clauses.specs.Words.{AreKept, kept_tree};
+ghost use Rattle.prolog_terms.specs.Tree.{Tree};
 
 use crate::Clause;
 use crate::fault::TextFault;
 use crate::items::has_items;
+use kept_clauses::KeptList;
 use prolog_names::{Names, Numbered, numbered_part};
 use prolog_ops::OpTable;
 use prolog_terms::{NodeList, Reader, Term, read_onto};
@@ -31,9 +35,6 @@ const SIZE: usize = 4096;
 
 /// How few stretches are worth a thread of their own.
 const FEWEST: usize = 2;
-
-/// Nodes stay where they were read if they take at least three quarters of the capacity there.
-const LEAST_QUARTERS: usize = 3;
 
 /// Adjacent clauses, as yet unread: from one token index up to another.
 #[derive(Clone, Copy)]
@@ -228,53 +229,92 @@ fn read_on(
     ReadStretch { nodes, ends, end }
 }
 
-/// The clauses that end at these indices of the nodes, which they share.
-fn sharing(alloc: Global, nodes: &Arc<NodeList>, ends: &[usize]) -> Result<Vec<Clause>, AllocError>
-    ensures { IfOk result (λ clauses. (names : List (List ℕ)) → clause_trees names clauses.items ≡ map (tree_in names (arc_value nodes.now)) ends.now) }
+/// The clauses that end at these indices of the nodes, as they are kept, and the words of the list
+/// at which they begin.
+fn plain_clauses(
+    alloc: Global,
+    names: &Names,
+    nodes: &NodeList,
+    ends: &[usize],
+) -> Result<(KeptList, Vec<usize>), AllocError>
+    ensures { IfOk result (λ kept. AreKept names.now kept.0 kept.1.items (map (λ end. plain (tree_in names.now nodes.now end)) ends.now)) }
 {
-    let mut clauses = Vec::with_capacity(alloc, ends.len())?;
+    let mut list = KeptList::new(alloc);
+    let mut begins = Vec::with_capacity(alloc, ends.len())?;
     for end in ends {
-        let nodes = Arc::try_clone(nodes)?;
-        clauses.push(Clause { nodes, end: *end })?;
+        let clause = Term {
+            names,
+            nodes,
+            end: *end,
+        };
+        begins.push(list.push_clause(&clause)?)?;
+    }
+    Ok((list, begins))
+}
+
+/// Adds the last clause of the nodes if it sets operators, and returns the word at which it begins.
+fn push_last(
+    list: &mut KeptList,
+    names: &Names,
+    nodes: &NodeList,
+    end: ReadEnd,
+) -> Result<usize, AllocError>
+    ensures same { IfOk result (λ at. (begins : List ℕ) (trees : List Tree) → AreKept names.now list.old begins trees
+        → AreKept names.now list.new begins trees) }
+    ensures last { IfOk result (λ at. (table : Ops) (text : List ℕ) (ts : List TokenOf) (from to : ℕ)
+        → ReadEndIs names.now table text ts from to nodes.now end → KeptEndIs names.now table text ts from to list.new at end) }
+{
+    match end {
+        ReadEnd::Whole => Ok(0),
+        ReadEnd::AtOperators(_) => list.push_clause(&Term::root(names, nodes)),
+        ReadEnd::Refused(_) => Ok(0),
+    }
+}
+
+/// The clauses that begin at these words of the list, which they share.
+fn sharing(
+    alloc: Global,
+    list: &Arc<KeptList>,
+    begins: &[usize],
+) -> Result<Vec<Clause>, AllocError>
+    ensures { IfOk result (λ clauses. (names : List (List ℕ)) → clause_trees names clauses.items ≡ map (kept_tree names (arc_value list.now)) begins.now) }
+{
+    let mut clauses = Vec::with_capacity(alloc, begins.len())?;
+    for at in begins {
+        let list = Arc::try_clone(list)?;
+        clauses.push(Clause { list, at: *at })?;
     }
     Ok(clauses)
 }
 
-/// What follows the clauses, if these are the nodes.
-fn piece_end(nodes: Arc<NodeList>, end: ReadEnd) -> PieceEnd
-    ensures { (names : List (List ℕ)) (table : Ops) (text : List ℕ) (ts : List TokenOf) (at to : ℕ)
-        → ReadEndIs names table text ts at to (arc_value nodes) end → EndIs names table text ts at to result }
+/// What follows the clauses, if the last of the list begins at that word.
+fn piece_end(list: Arc<KeptList>, at: usize, end: ReadEnd) -> PieceEnd
+    ensures { (names : List (List ℕ)) (table : Ops) (text : List ℕ) (ts : List TokenOf) (from to : ℕ)
+        → KeptEndIs names table text ts from to (arc_value list) at end → EndIs names table text ts from to result }
 {
     match end {
         ReadEnd::Whole => PieceEnd::Whole,
-        ReadEnd::AtOperators(place) => {
-            let end = nodes.len();
-            PieceEnd::AtOperators(Clause { nodes, end }, place)
-        }
+        ReadEnd::AtOperators(place) => PieceEnd::AtOperators(Clause { list, at }, place),
         ReadEnd::Refused(fault) => PieceEnd::Refused(fault),
     }
 }
 
-/// The nodes as they are, if they take most of the capacity `room`, and a copy without spare
-/// capacity otherwise. Those before a clause that sets operators mostly take little of it.
-fn kept(alloc: Global, nodes: NodeList, room: usize) -> Result<NodeList, AllocError>
-    ensures { IfOk result (λ kept. kept ≡ nodes) }
+/// What was read of a stretch up to the token `to`, as clauses that share their list. The list has
+/// no spare capacity.
+fn shared(
+    alloc: Global,
+    names: &Names,
+    read: ReadStretch,
+    to: usize,
+) -> Result<Piece, AllocError>
+    ensures { IfOk result (λ piece. (table : Ops) (text : List ℕ) (ts : List TokenOf) (from : ℕ)
+        → IsRead names.now table text ts from to read → IsPiece names.now table text ts from to piece) }
 {
-    if nodes.len() >= room / 4 * LEAST_QUARTERS {
-        return Ok(nodes);
-    }
-    nodes.copied(alloc)
-}
-
-/// What was read of a stretch up to the token `to`, as clauses that share their nodes, which had
-/// the capacity `room`.
-fn shared(alloc: Global, read: ReadStretch, to: usize, room: usize) -> Result<Piece, AllocError>
-    ensures { IfOk result (λ piece. (names : List (List ℕ)) (table : Ops) (text : List ℕ) (ts : List TokenOf) (from : ℕ)
-        → IsRead names table text ts from to read → IsPiece names table text ts from to piece) }
-{
-    let nodes = Arc::new(alloc, kept(alloc, read.nodes, room)?)?;
-    let clauses = sharing(alloc, &nodes, &read.ends)?;
-    let end = piece_end(nodes, read.end);
+    let (mut list, begins) = plain_clauses(alloc, names, &read.nodes, &read.ends)?;
+    let last = push_last(&mut list, names, &read.nodes, read.end)?;
+    let list = Arc::new(alloc, list.copied(alloc)?)?;
+    let clauses = sharing(alloc, &list, &begins)?;
+    let end = piece_end(list, last, read.end);
     Ok(Piece { clauses, to, end })
 }
 
@@ -296,7 +336,7 @@ fn read_stretch(
     let room = stretch.to - stretch.from;
     let nodes = NodeList::with_room(alloc, room)?;
     let read = read_on(alloc, table, text, tokens, numbered, stretch, nodes);
-    shared(alloc, read, stretch.to, room)
+    shared(alloc, &numbered.names, read, stretch.to)
 }
 
 /// The piece of a stretch up to the token `to` if memory runs out.

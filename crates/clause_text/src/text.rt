@@ -3,6 +3,7 @@ ghost use Rattle.prolog_tokens.specs.declared.limits.TheConstants.{MOST_BYTES};
 ghost use Rattle.prolog_tokens.specs.Places.{IsOffset};
 ghost use Rattle.prolog_terms.specs.Tree.{Tree};
 ghost use Rattle.clause_text.specs.Clauses.{ReadsAs, text_trees, total_weight};
+ghost use Rattle.clause_text.specs.Kept.{ReadsPlainly};
 ghost use Rattle.clause_text.specs.TextFault.{HasTextFault, offset_of};
 
 use crate::cause::Cause;
@@ -15,7 +16,7 @@ use std::alloc::Global;
 use std::thread::Threads;
 
 /// The clauses of a text of at most 8,388,608 bytes in their order (ISO/IEC 13211-1, 6.2). Each is
-/// read with the operators that those before it leave.
+/// read with the operators that those before it leave, and kept by its plain tree.
 ///
 /// An error of its bytes comes first, then one of its tokens, and then the first one of its
 /// clauses. Each clause is read before its operator items are done. Clauses between operator items
@@ -27,8 +28,8 @@ pub fn read_text<R: Threads + Sync>(
     bytes: &[u8],
 ) -> Result<TextClauses, TextFault>
     requires small { length bytes.now ≤ MOST_BYTES }
-    ensures ok { IfOk result (λ clauses. ReadsAs bytes.now (text_trees clauses)) }
-    ensures only { IfOk result (λ clauses. (others : List Tree) → ReadsAs bytes.now others → others ≡ text_trees clauses) }
+    ensures ok { IfOk result (λ clauses. ReadsPlainly bytes.now (text_trees clauses)) }
+    ensures only { IfOk result (λ clauses. (others : List Tree) → ReadsPlainly bytes.now others → others ≡ text_trees clauses) }
     ensures none { IfErr result (λ fault. fault ≢ TextFault.NoMemory → (others : List Tree) → ReadsAs bytes.now others → ⊥) }
     ensures fault { IfErr result (λ fault. fault ≢ TextFault.NoMemory → HasTextFault bytes.now fault) }
     ensures only_fault { IfErr result (λ fault. fault ≢ TextFault.NoMemory → (other : TextFault) → HasTextFault bytes.now other → other ≡ fault) }

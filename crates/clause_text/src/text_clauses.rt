@@ -1,31 +1,44 @@
-ghost use Rattle.std.specs.Prelude.{◌≡◌};
+ghost use Rattle.std.specs.Prelude.{◌≡◌, option_map, IfSome};
 ghost use Rattle.std.specs.Arc.{arc_value};
 ghost use Rattle.prolog_terms.specs.Terms.{tree_of, IsOf};
+ghost use Rattle.kept_clauses.specs.Views.{clause_tree as kept_clause_tree, IsKeptIn, IsSoundClause};
 ghost use Rattle.clause_text.specs.Clauses.{clause_tree};
+ghost use Rattle.clause_text.specs.Items.{directive_of as directive_in};
 
+use crate::terms::directive_of;
+use kept_clauses::{KeptClause, KeptList};
 use prolog_names::Names;
-use prolog_terms::{NodeList, Term};
+use prolog_terms::Term;
 use std::sync::Arc;
 
-/// A clause of a text, which may be a directive or a grammar rule: the last of the first `end`
-/// nodes. Its names are numbers in the names of the text. Clauses that were read together share
-/// their nodes.
+/// A clause of a text, which may be a directive or a grammar rule: the one that begins at a word of
+/// a list. Its names are numbers in the names of the text. Clauses that were read together share
+/// their list. A rule or a fact is kept as its head and its goals, without the arguments that hold
+/// no goals.
 #[derive(Drop)]
 pub struct Clause {
-    pub nodes: Arc<NodeList>,
-    pub end: usize,
+    pub list: Arc<KeptList>,
+    pub at: usize,
 }
 
 impl Clause {
-    /// The term of the clause, with the names of its text.
-    pub fn term<'a>(&'a self, names: &'a Names) -> Term<'a>
-        ensures tree { tree_of result ≡ clause_tree names.now self.now }
-        ensures within { IsOf names.now (arc_value self.now.nodes) result }
+    /// The clause, with the names of its text.
+    pub fn kept<'a>(&'a self, names: &'a Names) -> KeptClause<'a>
+        ensures tree { kept_clause_tree result ≡ clause_tree names.now self.now }
+        ensures sound { IsSoundClause result }
+        ensures within { IsKeptIn names.now (arc_value self.now.list) result }
     {
-        Term {
-            names,
-            nodes: &self.nodes,
-            end: self.end,
+        self.list.clause(names, self.at)
+    }
+
+    /// The directive after the `:-` or `?-` of a clause that has no head.
+    pub fn directive<'a>(&'a self, names: &'a Names) -> Option<Term<'a>>
+        ensures tree { option_map tree_of result ≡ directive_in (clause_tree names.now self.now) }
+        ensures within { IfSome result (IsOf names.now (arc_value self.now.list).1) }
+    {
+        match self.kept(names) {
+            KeptClause::Whole(term) => directive_of(&term),
+            KeptClause::Plain(_) => None,
         }
     }
 }

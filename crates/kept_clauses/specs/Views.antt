@@ -2,7 +2,7 @@
 use Rattle.std.specs.Prelude.{◌≡◌, ℕ, ◌⊎◌, List, Some, None, true, if◌then◌else◌, drop}
 use Rattle.prolog_names.specs.Names.{name_at}
 use Rattle.prolog_terms.specs.Tree.{Tree}
-use Rattle.prolog_terms.specs.Terms.{tree_of}
+use Rattle.prolog_terms.specs.Terms.{tree_of, IsOf}
 use Rattle.kept_clauses.specs.declared.kept_clause.KeptCall.{KeptCall}
 use Rattle.kept_clauses.specs.declared.kept_clause.KeptGoal.{KeptGoal}
 use Rattle.kept_clauses.specs.declared.kept_clause.KeptGoal.TheVariants as kept_goal
@@ -11,7 +11,7 @@ use Rattle.kept_clauses.specs.declared.kept_clause.PlainForm.{PlainForm}
 use Rattle.kept_clauses.specs.declared.kept_clause.KeptClause.{KeptClause}
 use Rattle.kept_clauses.specs.declared.kept_clause.KeptClause.TheVariants as kept_clause
 use Rattle.kept_clauses.specs.Plain.{is_free, PlainCall, PlainGoal, called, whole, PlainClause, written}
-use Rattle.kept_clauses.specs.Words.{goals_in, end_in}
+use Rattle.kept_clauses.specs.Words.{goals_in, end_in, Kept}
 
 -- a call, whose name is a number in these names
 abbrev pub see_call : List (List ℕ) → KeptCall → PlainCall
@@ -51,3 +51,13 @@ IsSoundGoal (whole tree) = Unit {0}
 abbrev pub IsSoundClause : KeptClause → Type 0
 IsSoundClause (kept_clause.Whole term) = Unit {0}
 IsSoundClause (kept_clause.Plain form) = is_free (name_at form.goals.names.now form.head.number) ≡ true
+
+-- the term is of the nodes of that list, and the goals have these names
+abbrev pub IsKeptIn : List (List ℕ) → Kept → KeptClause → Type 0
+IsKeptIn names kept (kept_clause.Whole term) = IsOf names kept.1 term
+IsKeptIn names kept (kept_clause.Plain form) = form.goals.names.now ≡ names
+
+-- the term of a goal has these names
+abbrev pub HasNames : List (List ℕ) → KeptGoal → Type 0
+HasNames names (kept_goal.Call one) = Unit {0}
+HasNames names (kept_goal.Whole term) = term.names.now ≡ names

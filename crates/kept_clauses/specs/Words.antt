@@ -1,5 +1,5 @@
 -- Clauses as words of 64 bits: the head of a clause, its goals in order, and where it ends.
-use Rattle.std.specs.Prelude.{◌≡◌, ℕ, ◌/◌, ◌%◌, nat_eq, ◌||◌, not, List, [], ◌∷◌, ◌++◌, Option, Some, None, Bool, true, if◌then◌else◌, drop, length}
+use Rattle.std.specs.Prelude.{◌≡◌, ℕ, ◌/◌, ◌%◌, nat_eq, ◌||◌, not, List, [], ◌∷◌, ◌++◌, Option, Some, None, Bool, true, if◌then◌else◌, drop, length, map}
 use Rattle.std.specs.List.{list_any}
 use Rattle.prolog_names.specs.Names.{name_at}
 use Rattle.prolog_terms.specs.declared.node.Node.{Node}
@@ -125,3 +125,7 @@ pub record AddsClause (names : List (List ℕ)) (old new : Kept) (at : ℕ) (tre
   pub nodes_are : new.1 ≡ old.1 ++ nodes
   pub at_is : at ≡ length old.0
   pub tree_is : (later : List ℕ) (behind : List Node) → first_tree names (new.1 ++ behind) (words ++ later) ≡ tree
+
+-- the clauses that begin at these words are those trees, whatever stands behind them
+abbrev pub AreKept : List (List ℕ) → Kept → List ℕ → List Tree → Type 0
+AreKept names kept begins trees = (later : List ℕ) (behind : List Node) → map (kept_tree names (kept.0 ++ later, kept.1 ++ behind)) begins ≡ trees

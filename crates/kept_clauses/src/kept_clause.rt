@@ -1,5 +1,5 @@
 ghost use Rattle.std.specs.Prelude.{◌≡◌, ℕ, List, [], ◌∷◌, drop, IfSome, MatchOption};
-ghost use Rattle.kept_clauses.specs.Views.{see_call, see_goal, see_goals, IsSoundGoal};
+ghost use Rattle.kept_clauses.specs.Views.{see_call, see_goal, see_goals, HasNames, IsSoundGoal};
 ghost use Rattle.kept_clauses.specs.Words.{call_in, end_in};
 
 use crate::kept_list::KeptList;
@@ -64,6 +64,7 @@ impl<'a> KeptGoals<'a> {
         ensures goals { MatchOption result (see_goals self.now ≡ []) (λ pair. see_goals self.now ≡ see_goal self.now.names.now pair.0 ∷ see_goals pair.1) }
         ensures sound { IfSome result (λ pair. IsSoundGoal (see_goal self.now.names.now pair.0)) }
         ensures within { IfSome result (λ pair. pair.1.names.now ≡ self.now.names.now) }
+        ensures names { IfSome result (λ pair. HasNames self.now.names.now pair.0) }
     {
         reserved_law(self.names);
         let Some(word) = self.list.word(self.at) else {

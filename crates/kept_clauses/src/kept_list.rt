@@ -2,11 +2,11 @@
 
 ghost use Rattle.std.specs.Prelude.{◌≡◌, ◌<◌, ◌++◌, ◌∷◌, [], ℕ, List, None, Some, true, if◌then◌else◌, drop, IfOk, IfSome, OnOk, length, slice_get};
 ghost use Rattle.prolog_names.specs.Names.{name_at};
-ghost use Rattle.prolog_terms.specs.Terms.{tree_of};
+ghost use Rattle.prolog_terms.specs.Terms.{tree_of, IsOf};
 ghost use Rattle.prolog_terms.specs.Tree.{Tree};
 ghost use Rattle.kept_clauses.specs.BodyGoals.{IsFitHead, IsPlainHead};
 ghost use Rattle.kept_clauses.specs.Plain.{body_goals, clause_span, plain, whole};
-ghost use Rattle.kept_clauses.specs.Views.{clause_tree, see_form, IsSoundClause};
+ghost use Rattle.kept_clauses.specs.Views.{clause_tree, see_form, IsKeptIn, IsSoundClause};
 ghost use Rattle.kept_clauses.specs.Words.{AddsClause, AddsGoals, clause_with, goals_in, is_sound, kept_tree, number_in, term_in};
 
 use crate::kept_clause::{KeptCall, KeptClause, KeptGoals, PlainForm, call_of};
@@ -81,7 +81,7 @@ impl KeptList {
     /// The term that the word is, with these names.
     pub(crate) fn term<'a>(&'a self, names: &'a Names, word: u64) -> Term<'a>
         ensures tree { tree_of result ≡ term_in names.now self.now.1 word }
-        ensures names { result.names.now ≡ names.now }
+        ensures within { IsOf names.now self.now.1 result }
     {
         Term {
             names,
@@ -95,6 +95,7 @@ impl KeptList {
         ensures form { see_form result ≡ clause_with names.now word (drop at self.now.0)
             (if is_rule then Some (goals_in names.now self.now.1 (drop at self.now.0)) else None) }
         ensures name { name_at result.goals.names.now result.head.number ≡ name_at names.now (number_in word) }
+        ensures names { result.goals.names.now ≡ names.now }
     {
         PlainForm {
             head: call_of(word),
@@ -112,6 +113,7 @@ impl KeptList {
     pub fn clause<'a>(&'a self, names: &'a Names, at: usize) -> KeptClause<'a>
         ensures tree { clause_tree result ≡ kept_tree names.now self.now at }
         ensures sound { IsSoundClause result }
+        ensures within { IsKeptIn names.now self.now result }
     {
         reserved_law(names);
         let Some(word) = self.word(at) else {

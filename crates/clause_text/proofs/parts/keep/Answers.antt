@@ -20,8 +20,7 @@ returns-in_err-apply_items-in-AtOperators-clause-fault c =
     c.loop-piece.piece-iterator.rest.items (clause_trees c.args.names.now c.loop-piece.clauses.items) c.loop-piece.to c.loop-piece.invariant.1 c.in-Some.ensures.steps.0 c.in-AtOperators.clause
     c.in-AtOperators.place c.in-AtOperators.is text ts end are fault
     (ap (items_on (items_of (clause_tree c.args.names.now c.in-AtOperators.clause))) (sym c.loop-piece.invariant.0)
-    ∙ (ap (λ tree. items_on (items_of tree) (ops_of c.loop-piece.table)) (sym c.term.ensures.tree)
-    ∙ c.in_err-apply_items-in-AtOperators.ensures.refused (λ none. some (same ∙ none)) ∙ ap (λ f. Err f) (sym same))))
+    ∙ (c.in_err-apply_items-in-AtOperators.ensures.refused (λ none. some (same ∙ none)) ∙ ap (λ f. Err f) (sym same))))
 
 pub returns-in-AtOperators-clause-kept : goal.returns-in-AtOperators-clause-kept
 returns-in-AtOperators-clause-kept c = λ text ts end are.
@@ -38,7 +37,7 @@ returns-in-AtOperators-clause-kept c = λ text ts end are.
     c.loop-piece.piece-iterator.rest.items (clause_trees c.args.names.now c.loop-piece.clauses.items) c.loop-piece.to c.loop-piece.invariant.1 c.in-Some.ensures.steps.0 c.in-AtOperators.clause
     c.in-AtOperators.place c.in-AtOperators.is text ts end are (ops_of c.apply_items.new.table)
     (ap (items_on (items_of (clause_tree c.args.names.now c.in-AtOperators.clause))) (sym c.loop-piece.invariant.0)
-    ∙ (ap (λ tree. items_on (items_of tree) (ops_of c.loop-piece.table)) (sym c.term.ensures.tree) ∙ c.in_ok-apply_items-in-AtOperators.ensures.done)))
+    ∙ c.in_ok-apply_items-in-AtOperators.ensures.done))
 
 pub returns-in-AtOperators-clause-forward : goal.returns-in-AtOperators-clause-forward
 returns-in-AtOperators-clause-forward c = λ text ts end are some.

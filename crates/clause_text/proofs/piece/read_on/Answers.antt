@@ -2,6 +2,8 @@ use Rattle.std.proofs.Common.{◌≡◌, ◌++◌, ◌∷◌, [], ap, sym, ◌�
 use Rattle.prolog_names.specs.Numbers.{AreNumbered}
 use Rattle.prolog_ops.specs.Table.{ops_of}
 use Rattle.prolog_terms.specs.Terms.{root_tree, tree_in}
+use Rattle.std.proofs.lemmas.List.{map-append}
+use Rattle.kept_clauses.specs.Plain.{plain}
 use Rattle.clause_text.specs.Items.{items_of}
 use Rattle.clause_text.specs.Pieces.{LeadTo}
 use Rattle.clause_text.proofs.ClauseSplits.{slice_part, part_one}
@@ -32,13 +34,14 @@ loop-at-preserved c =
     let items = rw c.if-is_err.ensures.negation at c.push.ensures.items in
     let more = c.in-Ok.ensures.more in
     let all : map (tree_in names new) c.push.new.self.items ≡ clauses ++ tree ∷ [] =
-    trees_more names old new more.0 more.1 ends c.push.new.self.items c.len.result c.len.ensures items c.loop-at.invariant.2 in
-    let lead : LeadTo table text ts stretch.from (clauses ++ tree ∷ []) table next =
-    lead_more table text ts stretch.from clauses table c.loop-at.at tree table next c.loop-at.invariant.0 c.part_end-next.ensures
-    (record { clause = c.in-Ok.ensures.clause; items = none_on (items_of tree) table (sym c.in-Ok.ensures.sets ∙ c.if-sets.false) }) in (
-      subst (λ trees. LeadTo table text ts stretch.from trees table next) (sym all) lead,
+    trees_more names old new more.0 more.1 ends c.push.new.self.items c.len.result c.len.ensures.is items c.loop-at.invariant.2 in
+    let kept = map plain clauses in
+    let lead : LeadTo table text ts stretch.from (kept ++ plain tree ∷ []) table next =
+    lead_more table text ts stretch.from kept table c.loop-at.at (plain tree) table next c.loop-at.invariant.0 c.part_end-next.ensures
+    (record { tree = tree; kept_is = refl; leaves = record { clause = c.in-Ok.ensures.clause; items = none_on (items_of tree) table (sym c.in-Ok.ensures.sets ∙ c.if-sets.false) } }) in (
+      subst (λ trees. LeadTo table text ts stretch.from trees table next) (sym (ap (map plain) all ∙ map-append plain clauses (tree ∷ []))) lead,
       not_past ts c.loop-at.at next stretch.to c.part_end-next.ensures c.loop-at-test.true c.requires.stretch.ends,
-      ends_more old new more.0 more.1 ends c.push.new.self.items c.len.result c.len.ensures items c.loop-at.invariant.2,
+      ends_more old new more.0 more.1 ends c.push.new.self.items c.len.result c.len.ensures.is items c.loop-at.invariant.2,
     )
 
 pub returns-in-Err : goal.returns-in-Err
@@ -51,7 +54,7 @@ returns-in-Err c =
       at = c.loop-at.at;
       clauses =
           subst (λ trees. LeadTo (ops_of c.args.table.now) c.args.text.now c.args.tokens.now c.args.stretch.now.from trees (ops_of c.args.table.now) c.loop-at.at)
-          (sym (trees_kept_in names c.loop-at.nodes c.read_part.new.nodes more.0 more.1 c.loop-at.ends.items c.loop-at.invariant.2)) c.loop-at.invariant.0;
+          (sym (ap (map plain) (trees_kept_in names c.loop-at.nodes c.read_part.new.nodes more.0 more.1 c.loop-at.ends.items c.loop-at.invariant.2))) c.loop-at.invariant.0;
       end = λ some. (
         c.part_end-next.result,
         c.part_end-next.ensures,
@@ -69,8 +72,8 @@ returns-then-sets c =
       at = c.loop-at.at;
       clauses =
           subst (λ trees. LeadTo (ops_of c.args.table.now) c.args.text.now c.args.tokens.now c.args.stretch.now.from trees (ops_of c.args.table.now) c.loop-at.at)
-          (sym (trees_kept_in names c.loop-at.nodes c.read_part.new.nodes more.0 more.1 c.loop-at.ends.items c.loop-at.invariant.2)) c.loop-at.invariant.0;
-      end = (c.part_end-next.ensures, c.in-Ok.ensures.clause);
+          (sym (ap (map plain) (trees_kept_in names c.loop-at.nodes c.read_part.new.nodes more.0 more.1 c.loop-at.ends.items c.loop-at.invariant.2))) c.loop-at.invariant.0;
+      end = (c.part_end-next.ensures, c.in-Ok.ensures.clause, sym c.in-Ok.ensures.sets ∙ c.if-sets.true);
     }
 
 pub read_part-requires-clause-numbered : goal.read_part-requires-clause-numbered
@@ -93,7 +96,7 @@ returns-then-is_err c =
       at = c.loop-at.at;
       clauses =
           subst (λ trees. LeadTo (ops_of c.args.table.now) c.args.text.now c.args.tokens.now c.args.stretch.now.from trees (ops_of c.args.table.now) c.loop-at.at)
-          (sym (ap (map (tree_in names c.read_part.new.nodes)) items ∙ trees_kept_in names c.loop-at.nodes c.read_part.new.nodes more.0 more.1 c.loop-at.ends.items c.loop-at.invariant.2))
+          (sym (ap (map plain) (ap (map (tree_in names c.read_part.new.nodes)) items ∙ trees_kept_in names c.loop-at.nodes c.read_part.new.nodes more.0 more.1 c.loop-at.ends.items c.loop-at.invariant.2)))
           c.loop-at.invariant.0;
       end = λ some. absurd (some refl);
     }

@@ -1,22 +1,35 @@
-use Rattle.std.proofs.Common.{◌≡◌, ap, map, refl, subst, sym, ◌∙◌}
+use Rattle.std.proofs.Common.{◌≡◌, ℕ, ap, map, refl, subst, sym, ◌∙◌}
 use Rattle.std.specs.Arc.{arc_value}
+use Rattle.std.proofs.lemmas.Simd.{map-map}
 use Rattle.prolog_terms.specs.Terms.{tree_in}
+use Rattle.prolog_terms.specs.Tree.{Tree}
+use Rattle.kept_clauses.specs.Plain.{plain}
+use Rattle.kept_clauses.specs.Words.{Kept, kept_tree}
+use Rattle.kept_clauses.proofs.KeptClauses.{kept_now}
 use Rattle.clause_text.specs.Clauses.{clause_trees}
-use Rattle.clause_text.specs.Pieces.{LeadTo, ReadEndIs, read_trees}
+use Rattle.clause_text.specs.Pieces.{LeadTo, KeptEndIs, read_trees}
 use Rattle.clause_text.proofs.piece.shared.Goals as goal
 
 pub returns : goal.returns
-returns c = λ names table text ts from is.
+returns c = λ table text ts from is.
+    let names = c.args.names.now in
     let read = c.args.read in
-    let shared = arc_value c.in_ok-nodes.nodes in
-    let nodes : shared ≡ read.nodes = c.in_ok-nodes.ensures.ok ∙ c.in_ok-kept.ensures in
-    let trees : clause_trees names c.in_ok-clauses.clauses.items ≡ read_trees names read =
-    c.in_ok-clauses.ensures names ∙ (ap (map (tree_in names shared)) c.deref.ensures.value ∙ ap (λ ns. map (tree_in names ns) read.ends.items) nodes) in
+    let list : Kept = c.push_last.new.list in
+    let same : arc_value c.in_ok-list-2.list ≡ list = c.in_ok-list-2.ensures.ok ∙ c.in_ok-copied.ensures in
+    let each : ℕ → Tree = λ end. plain (tree_in names read.nodes end) in
+    let begins = c.in_ok-list.begins.items in
+    let trees : clause_trees names c.in_ok-clauses.clauses.items ≡ map plain (read_trees names read) =
+    c.in_ok-clauses.ensures names
+    ∙ ((λ i. map (kept_tree names (same i)) (c.deref-2.ensures.value i))
+    ∙ (kept_now names list begins (map each c.deref.result.now) (c.in_ok-last.ensures.same begins (map each c.deref.result.now) c.in_ok-list.ensures)
+    ∙ (ap (map each) c.deref.ensures.value ∙ sym (map-map plain (tree_in names read.nodes) read.ends.items)))) in
     record {
       some = is.some;
       behind = is.behind;
       told = refl;
       at = is.at;
-      clauses = subst (λ ts-read. LeadTo table text ts from ts-read table is.at) (sym trees) is.clauses;
-      end = c.piece_end-end.ensures names table text ts is.at c.args.to (subst (λ ns. ReadEndIs names table text ts is.at c.args.to ns read.end) (sym nodes) is.end);
+      clauses = subst (λ kept. LeadTo table text ts from kept table is.at) (sym trees) is.clauses;
+      end = c.piece_end-end.ensures names table text ts is.at c.args.to
+          (subst (λ kept. KeptEndIs names table text ts is.at c.args.to kept c.in_ok-last.last read.end) (sym same)
+          (c.in_ok-last.ensures.last table text ts is.at c.args.to is.end));
     }

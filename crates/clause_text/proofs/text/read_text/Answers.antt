@@ -6,10 +6,9 @@ use Rattle.prolog_tokens.proofs.Lookups.{cut_fewer}
 use Rattle.clause_text.specs.Clauses.{text_trees, opening_ops, total_weight}
 use Rattle.clause_text.specs.TextFault.{bytes, tokens, clauses}
 use Rattle.clause_text.proofs.Outcomes.{on_err, err_only, ok_with}
-use Rattle.clause_text.proofs.OneReading.{one_reading}
 use Rattle.clause_text.proofs.OneFault.{one_fault, fault_no_reading}
 use Rattle.clause_text.proofs.RowClauses.{row_tokens}
-use Rattle.clause_text.proofs.TextLemmas.{reads_as, clauses_have, tokens_have, placed_or_none, clauses_weigh}
+use Rattle.clause_text.proofs.TextLemmas.{reads_plainly, one_plainly, clauses_have, tokens_have, placed_or_none, plain_clauses_weigh}
 use Rattle.clause_text.proofs.text.read_text.Goals as goal
 
 pub returns-in-Err-clause-only_fault : goal.returns-in-Err-clause-only_fault
@@ -48,7 +47,7 @@ pub returns-clause-ok : goal.returns-clause-ok
 returns-clause-ok g c =
     ok_with c.read_clauses.result _ _ c.read_clauses.ensures.ok
     (λ found are.
-    reads_as c.args.bytes.now c.in-Ok.text.now (tokens_of c.in_ok-rows.rows.items) (row_tokens c.in_ok-numbered.numbered.rows.items) (text_trees found) c.in-Ok.ensures.cases.0
+    reads_plainly c.args.bytes.now c.in-Ok.text.now (tokens_of c.in_ok-rows.rows.items) (row_tokens c.in_ok-numbered.numbered.rows.items) (text_trees found) c.in-Ok.ensures.cases.0
     (ap tokens_of c.in_ok-numbered.ensures.tokens) c.in-Ok.ensures.cases.1 c.in_ok-rows.ensures.ok are)
 
 pub returns-clause-fault : goal.returns-clause-fault
@@ -62,9 +61,9 @@ pub returns-clause-only : goal.returns-clause-only
 returns-clause-only g c =
     ok_with c.read_clauses.result _ _ c.read_clauses.ensures.ok
     (λ found are others reads.
-    one_reading c.args.bytes.now others (text_trees found) reads
-    (reads_as c.args.bytes.now c.in-Ok.text.now (tokens_of c.in_ok-rows.rows.items) (row_tokens c.in_ok-numbered.numbered.rows.items) (text_trees found) c.in-Ok.ensures.cases.0 (ap tokens_of c.in_ok-numbered.ensures.tokens)
-    c.in-Ok.ensures.cases.1 c.in_ok-rows.ensures.ok are))
+    one_plainly c.args.bytes.now (text_trees found) others
+    (reads_plainly c.args.bytes.now c.in-Ok.text.now (tokens_of c.in_ok-rows.rows.items) (row_tokens c.in_ok-numbered.numbered.rows.items) (text_trees found) c.in-Ok.ensures.cases.0 (ap tokens_of c.in_ok-numbered.ensures.tokens)
+    c.in-Ok.ensures.cases.1 c.in_ok-rows.ensures.ok are) reads)
 
 pub returns-clause-none : goal.returns-clause-none
 returns-clause-none g c =
@@ -97,5 +96,5 @@ returns-clause-weights g c =
     ok_with c.read_clauses.result _ _ c.read_clauses.ensures.ok
     (λ found are.
     (let weigh : total_weight (text_trees found) ≤ length (row_tokens c.in_ok-numbered.numbered.rows.items) =
-    clauses_weigh opening_ops c.in-Ok.text.now (row_tokens c.in_ok-numbered.numbered.rows.items) (text_trees found) are in
+    plain_clauses_weigh opening_ops c.in-Ok.text.now (row_tokens c.in_ok-numbered.numbered.rows.items) (text_trees found) are in
     omega (arith, fewer, weigh, ap (λ rows. length (tokens_of rows)) c.in_ok-numbered.ensures.tokens, ap length c.in-Ok.ensures.cases.0)))
