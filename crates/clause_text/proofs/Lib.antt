@@ -4,6 +4,7 @@ pub mod EachOn
 pub mod ClauseSplits
 pub mod PlainForms
 pub mod PlainWeights
+pub mod PlainOffsets
 pub mod Leads
 pub mod LeadEnds
 pub mod RowClauses

@@ -1,6 +1,7 @@
 //! Theorems about each text: functions that do nothing, and are called for what they ensure.
 
-ghost use Rattle.std.specs.Prelude.{◌≡◌, ℕ, List, All};
+ghost use Rattle.std.specs.Prelude.{◌≡◌, ℕ, List, All, map};
+ghost use Rattle.kept_clauses.specs.Plain.{plain};
 ghost use Rattle.prolog_terms.specs.Tree.{Tree};
 ghost use Rattle.clause_text.specs.Cause.{number_of};
 ghost use Rattle.clause_text.specs.Clauses.{ReadsAs};
@@ -30,7 +31,9 @@ pub fn fault_is_no_reading()
     ensures { (text : List ℕ) (fault : TextFault) (trees : List Tree) → HasTextFault text fault → ReadsAs text trees → ⊥ }
 {}
 
-/// Each term of the clauses of a text starts at an offset of it.
+/// Each term of the clauses of a text starts at an offset of it, and so does each of their plain
+/// trees.
 pub fn terms_placed()
-    ensures { (text : List ℕ) (trees : List Tree) → ReadsAs text trees → All (HasOffsets text) trees }
+    ensures whole { (text : List ℕ) (trees : List Tree) → ReadsAs text trees → All (HasOffsets text) trees }
+    ensures plain { (text : List ℕ) (trees : List Tree) → ReadsAs text trees → All (HasOffsets text) (map plain trees) }
 {}

@@ -9,7 +9,11 @@ use Rattle.kept_clauses.specs.Plain.{is_free, PlainGoal, PlainClause, clause_spa
 use Rattle.clause_text.specs.Items.{directive_of}
 use Rattle.module_table.specs.Facts.{head_with, clause_head}
 use Rattle.module_table.specs.Heads.{is_among, control_names as control_heads, headless_names, named_head, owned_by, head, head_within}
-use Rattle.module_table.proofs.ReservedNames.{if_false, none_in, not_comma, not_semicolon, not_bar, not_then, not_negation, not_cut, not_colon, not_rule, not_query, not_grammar, not_brackets, not_curly}
+use Rattle.kept_clauses.proofs.Bodies.{if_false}
+use Rattle.kept_clauses.proofs.FreeNames.{IsNot, not_comma, not_semicolon, not_bar, not_then, not_negation, not_cut, not_colon, not_rule, not_query, not_grammar, not_brackets, not_curly}
+
+none_in : (name : List ℕ) → is_free name ≡ true → (word : List ℕ) (words : List (List ℕ)) → IsNot name word → is_among words name ≡ false → is_among (word ∷ words) name ≡ false
+none_in name free word words first others = (λ i. first.0 i || is_among words name) ∙ others
 
 -- no head has a free name and is a control construct, or no head at all
 module _ (name : List ℕ) (free : is_free name ≡ true) where

@@ -87,7 +87,7 @@ pub record Facts : Type 0 where
 
 -- the goals of a directive, whose names are numbers in these names
 abbrev pub goal_trees : List (List ℕ) → DirectiveGoals → List Tree
-goal_trees names goals = map (tree_in names (arc_value goals.nodes)) goals.ends.items
+goal_trees names goals = map (tree_in names (arc_value goals.list).1) goals.ends.items
 
 abbrev pub see_facts : FileFacts → Facts
 see_facts f = record {

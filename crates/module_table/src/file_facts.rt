@@ -21,18 +21,19 @@ use crate::load::Load;
 use crate::meta::Meta;
 use crate::runs::{end_in, push_last, push_run};
 use crate::said::FactFault;
-use clause_text::{Clause, TextClauses, directive_of};
+use clause_text::{Clause, TextClauses};
+use kept_clauses::{KeptClause, KeptList};
 use prolog_names::{Names, USER, names_law};
-use prolog_terms::{NodeList, Term, atom_number, binary, sides};
+use prolog_terms::{Term, atom_number, binary, sides};
 use prolog_tokens::Text;
 use std::alloc::Global;
 use std::sync::Arc;
 
-/// The goals of a directive: nodes that include those of its clause, and for each goal how many of
-/// them there are up to the goal's own.
+/// The goals of a directive: a list whose nodes include those of its clause, and for each goal how
+/// many nodes there are up to the goal's own.
 #[derive(Drop)]
 pub struct DirectiveGoals {
-    pub nodes: Arc<NodeList>,
+    pub list: Arc<KeptList>,
     pub ends: Vec<usize>,
 }
 
@@ -83,6 +84,23 @@ fn clause_head(owner: u32, clause: &Term) -> Result<OwnedHead, FactFault>
     }
 }
 
+/// The predicate that a clause defines in a file of the module `owner`, as it is kept.
+fn kept_head(owner: u32, names: &Names, clause: &Clause) -> Result<OwnedHead, FactFault>
+    requires { weight (clause_tree names.now clause.now) ≤ MOST_BYTES }
+    ensures ok { IfOk result (λ own. clause_head (name_at names.now owner) (clause_tree names.now clause.now)
+        ≡ Ok (record { module_ = name_at names.now own.module; name = name_at names.now own.name; arity = own.arity })) }
+    ensures refused { IfErr result (λ fault. IsWhy (clause_head (name_at names.now owner) (clause_tree names.now clause.now)) fault) }
+{
+    match clause.kept(names) {
+        KeptClause::Whole(term) => clause_head(owner, &term),
+        KeptClause::Plain(form) => Ok(OwnedHead {
+            module: owner,
+            name: form.head.number,
+            arity: form.head.arity as usize,
+        }),
+    }
+}
+
 /// Adds a clause that is no directive. It joins the last run if that has clauses of the same
 /// predicate, and otherwise it is a run of its own.
 fn push_headed(
@@ -100,7 +118,7 @@ fn push_headed(
     ensures refused { IfErr result (λ fault.
         IsWhy (headed (clause_head (name_at names.now owner) (clause_tree names.now clause)) (clause_tree names.now clause)) fault) }
 {
-    let own = match clause_head(owner, &clause.term(names)) {
+    let own = match kept_head(owner, names, &clause) {
         Ok(own) => own,
         Err(fault) => return Err(fault),
     };
@@ -138,12 +156,11 @@ fn push_clause(
     ensures ends { OnOk result (kinds.new.ends.items ≡ []) }
     ensures refused { IfErr result (λ fault. IsWhy (clause_said (home file.now (name_at names.now owner)) first (clause_tree names.now clause)) fault) }
 {
-    let term = clause.term(names);
-    let Some(directive) = directive_of(&term) else {
+    let Some(directive) = clause.directive(names) else {
         return push_headed(alloc, owner, names, clause, kinds);
     };
     push_directive(alloc, file, owner, first, &directive, kinds)?;
-    close_directive(alloc, kinds, clause.nodes)?;
+    close_directive(alloc, kinds, clause.list)?;
     Ok(())
 }
 
@@ -155,7 +172,7 @@ fn module_of(names: &Names, clauses: &[Clause]) -> u32
     let Some(first) = clauses.first() else {
         return USER;
     };
-    let Some(directive) = directive_of(&first.term(names)) else {
+    let Some(directive) = first.directive(names) else {
         return USER;
     };
     let Some((name, _exports)) = sides(&directive, "module") else {

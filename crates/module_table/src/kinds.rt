@@ -15,7 +15,7 @@ use crate::indicator::Indicator;
 use crate::load::Load;
 use crate::meta::Meta;
 use crate::said::{FactFault, Module, Part};
-use prolog_terms::NodeList;
+use kept_clauses::KeptList;
 use prolog_tokens::Text;
 use std::alloc::{AllocError, Global};
 use std::sync::Arc;
@@ -88,14 +88,14 @@ pub fn push_goal(kinds: &mut Kinds, end: usize) -> Result<(), AllocError>
     Ok(())
 }
 
-/// Adds the goals of the current directive with its nodes, if it has some.
+/// Adds the goals of the current directive with the list that has its nodes, if it has some.
 pub fn close_directive(
     alloc: Global,
     kinds: &mut Kinds,
-    nodes: Arc<NodeList>,
+    list: Arc<KeptList>,
 ) -> Result<(), AllocError>
     ensures same { OnOk result ((names : List (List ℕ)) (others : List NodeOf) → see_kinds names others kinds.new
-        ≡ see_kinds names (arc_value nodes) kinds.old) }
+        ≡ see_kinds names (arc_value list).1 kinds.old) }
     ensures ends { OnOk result (kinds.new.ends.items ≡ []) }
 {
     if kinds.ends.is_empty() {
@@ -103,7 +103,7 @@ pub fn close_directive(
     }
     let mut ends = Vec::new(alloc);
     std::mem::swap(&mut ends, &mut kinds.ends);
-    kinds.goals.push(DirectiveGoals { nodes, ends })?;
+    kinds.goals.push(DirectiveGoals { list, ends })?;
     Ok(())
 }
 

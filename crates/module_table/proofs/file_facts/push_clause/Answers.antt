@@ -18,23 +18,23 @@ returns-in_err-push_directive-clause-refused c =
     let tree = clause_tree names c.args.clause in
     let directive = tree_of c.in-Some.directive in
     let at : List (List ℕ) → Home = λ n. home c.args.file.now (name_at n c.args.owner) in
-    let is : directive_of tree ≡ Some directive = ap directive_of (sym c.term-term.ensures.tree) ∙ sym c.in-Some.ensures.tree in
+    let is : directive_of tree ≡ Some directive = sym c.in-Some.ensures.tree in
     let exit = err_from_is_err_and c.from_residual.result c.from_residual.ensures.1 in
     rw (exit.1, exit.2)
     (subst (λ said. IsWhy said c.in_err-push_directive.field-0.0) (directive_clause (at names) c.args.first tree directive is)
-    (subst (λ n. IsWhy (directive_said (at n) c.args.first directive) c.in_err-push_directive.field-0.0) (c.in-Some.ensures.within.0 ∙ c.term-term.ensures.within.0)
+    (subst (λ n. IsWhy (directive_said (at n) c.args.first directive) c.in_err-push_directive.field-0.0) c.in-Some.ensures.within.0
     c.in_err-push_directive.ensures.refused))
 
 pub returns-clause-ok : goal.returns-clause-ok
 returns-clause-ok c =
     let names = c.args.names.now in
-    let nodes = arc_value c.args.clause.nodes in
+    let nodes = (arc_value c.args.clause.list).1 in
     let tree = clause_tree names c.args.clause in
     let directive = tree_of c.in-Some.directive in
     let at : List (List ℕ) → Home = λ n. home c.args.file.now (name_at n c.args.owner) in
-    let is : directive_of tree ≡ Some directive = ap directive_of (sym c.term-term.ensures.tree) ∙ sym c.in-Some.ensures.tree in
+    let is : directive_of tree ≡ Some directive = sym c.in-Some.ensures.tree in
     let of : IsOf names nodes c.in-Some.directive =
-    (c.in-Some.ensures.within.0 ∙ c.term-term.ensures.within.0, c.in-Some.ensures.within.1 ∙ c.term-term.ensures.within.1) in
+    c.in-Some.ensures.within in
     let old = c.args.kinds.now in
     let mid = c.push_directive.new.kinds in
     let open_ = none_open names [] nodes old c.requires.closed in
