@@ -4,12 +4,16 @@ use Rattle.std.specs.List.{flat_map, filter_map, enumerate_from}
 use Rattle.prolog_terms.specs.Tree.{Tree}
 use Rattle.prolog_terms.specs.Terms.{tree_of}
 use Rattle.prolog_terms.specs.Weight.{weight}
+use Rattle.kept_clauses.specs.Plain.{body_tree}
+use Rattle.kept_clauses.specs.Views.{see_goals}
 use Rattle.module_table.specs.Defined.{Predicate}
 use Rattle.module_table.specs.Facts.{Facts}
 use Rattle.import_rules.specs.declared.home.Home.{Home}
 use Rattle.import_rules.specs.Program.{Seen, places_in}
 use Rattle.module_table.specs.declared.goal_arg.GoalArg.TheVariants.{Goal}
 use Rattle.call_edges.specs.declared.body.Body.{Body as BodyKept}
+use Rattle.call_edges.specs.declared.body.Content.{Content}
+use Rattle.call_edges.specs.declared.body.Content.TheVariants as kept
 use Rattle.module_table.specs.Metas.{added}
 use Rattle.call_edges.specs.Goals.{Met, Place, place, Rows, IsMet}
 use Rattle.call_edges.specs.Calls.{body_of}
@@ -19,8 +23,18 @@ pub record Body : Type 0 where
   pub file : ℕ
   pub at : Place
 
+-- where what a body is made of stands, in the module: goals are joined by commas
+abbrev pub content_at : List ℕ → Content → Place
+content_at owner (kept.Term role term) = place owner role (tree_of term)
+content_at owner (kept.Goals goals) = place owner (Goal 0) (body_tree (see_goals goals))
+
+-- its names
+abbrev pub names_in : Content → List (List ℕ)
+names_in (kept.Term role term) = term.names.now
+names_in (kept.Goals goals) = goals.names.now
+
 abbrev pub see_body : BodyKept → Body
-see_body b = record { file = b.file; at = place b.owner.now b.role (tree_of b.term) }
+see_body b = record { file = b.file; at = content_at b.owner.now b.content }
 
 -- the names and the module are those of a file of the program
 pub record IsHomeOf (seen : Seen) (owner : List ℕ) (names : List (List ℕ)) (home : Home) : Type 0 where
@@ -28,15 +42,9 @@ pub record IsHomeOf (seen : Seen) (owner : List ℕ) (names : List (List ℕ)) (
   pub module_ : home.facts.now.module ≡ owner
   pub names_ : home.facts.now.names ≡ names
 
--- the body stands in that module, with these names, and is kept with that file
-pub record IsBodyOf (home : Home) (owner : List ℕ) (names : List (List ℕ)) (b : BodyKept) : Type 0 where
-  pub home_ : b.home ≡ home
-  pub owner_ : b.owner.now ≡ owner
-  pub names_ : b.term.names.now ≡ names
-
 -- the body is kept with its file in the program
 abbrev pub IsAtHome : Seen → BodyKept → Type 0
-IsAtHome seen b = IsHomeOf seen b.owner.now b.term.names.now b.home
+IsAtHome seen b = IsHomeOf seen b.owner.now (names_in b.content) b.home
 
 abbrev pub body_in : ℕ → Place → Body
 body_in file at = record { file = file; at = at }

@@ -1,57 +1,81 @@
 //! The bodies of a program: those of clauses, and the goals of directives.
 
-ghost use Rattle.std.specs.Prelude.{◌≡◌, ◌<◌, ◌++◌, All, map, length, option_map, IfOk, IfSome, OnOk};
+ghost use Rattle.std.specs.Prelude.{◌≡◌, ◌<◌, ◌++◌, ℕ, List, true, All, map, length, option_map, IfOk, IfSome, OnOk};
 ghost use Rattle.prolog_terms.specs.Terms.{tree_of};
-ghost use Rattle.clause_text.specs.Clauses.{clause_trees};
+ghost use Rattle.kept_clauses.specs.Plain.{is_free, written};
+ghost use Rattle.kept_clauses.specs.Views.{see_form};
+ghost use Rattle.clause_text.specs.Clauses.{clause_tree, clause_trees};
 ghost use Rattle.module_table.specs.Facts.{goal_trees, see_facts};
 ghost use Rattle.import_rules.specs.Program.{Seen};
 ghost use Rattle.call_edges.specs.Calls.{body_of};
-ghost use Rattle.call_edges.specs.Bodies.{IsAtHome, IsBodyOf, IsHomeOf, see_body, body_in, clause_bodies, bodies_in, goal_body, goals_of_file, goals_in};
+ghost use Rattle.call_edges.specs.Bodies.{IsAtHome, IsHomeOf, content_at, names_in, see_body, clause_bodies, bodies_in, goal_body, goals_of_file, goals_in};
 
 use clause_text::Clause;
+use kept_clauses::{KeptClause, KeptGoals, PlainForm};
 use import_rules::{Home, Program};
 use module_table::{DirectiveGoals, FileFacts, GoalArg};
 use prolog_names::Names;
 use prolog_terms::{Term, binary};
 use std::alloc::{AllocError, Global};
 
-/// A body in a module: its file, the index of that among the files, the module, the role of the
-/// term, and the term.
+/// What a body is made of: a term with its role, or the goals of a rule that is kept by its plain
+/// form.
+#[derive(Clone, Copy)]
+pub enum Content<'a> {
+    Term { role: GoalArg, term: Term<'a> },
+    Goals(KeptGoals<'a>),
+}
+
+/// A body in a module: its file, the index of that among the files, the module, and what it is made
+/// of.
 #[derive(Clone, Copy)]
 pub struct Body<'a> {
     pub home: Home<'a>,
     pub file: u32,
     pub owner: &'a str,
-    pub role: GoalArg,
-    pub term: Term<'a>,
+    pub content: Content<'a>,
 }
 
-/// The body of a clause: of a rule a goal, and of a grammar rule a grammar body
+/// What the body of a clause is made of: of a rule a goal, and of a grammar rule a grammar body
 /// (ISO/IEC 13211-1, 7.4.3).
-fn body_of<'a>(home: Home<'a>, file: u32, owner: &'a str, clause: &Term<'a>) -> Option<Body<'a>>
-    ensures body { option_map see_body result ≡ option_map (body_in file) (body_of owner.now (tree_of clause.now)) }
-    ensures home { IfSome result (IsBodyOf home.entry owner.now clause.now.names.now) }
+fn term_content<'a>(clause: &Term<'a>) -> Option<Content<'a>>
+    ensures body { (owner : List ℕ) → option_map (content_at owner) result ≡ body_of owner (tree_of clause.now) }
+    ensures names { IfSome result (λ content. names_in content ≡ clause.now.names.now) }
 {
     let pair = binary(clause)?;
+    let term = pair.right;
     if pair.name == ":-" {
-        return Some(Body {
-            home,
-            file,
-            owner,
-            role: GoalArg::Goal(0),
-            term: pair.right,
-        });
+        let role = GoalArg::Goal(0);
+        return Some(Content::Term { role, term });
     }
     if pair.name == "-->" {
-        return Some(Body {
-            home,
-            file,
-            owner,
-            role: GoalArg::Grammar,
-            term: pair.right,
-        });
+        let role = GoalArg::Grammar;
+        return Some(Content::Term { role, term });
     }
     None
+}
+
+/// The goals of a plain form, if it is a rule.
+fn form_content<'a>(form: &PlainForm<'a>) -> Option<Content<'a>>
+    requires { is_free (see_form form.now).name ≡ true }
+    ensures body { (owner : List ℕ) → option_map (content_at owner) result ≡ body_of owner (written (see_form form.now)) }
+    ensures names { IfSome result (λ content. names_in content ≡ form.now.goals.names.now) }
+{
+    if !form.is_rule {
+        return None;
+    }
+    Some(Content::Goals(form.goals))
+}
+
+/// What the body of a clause is made of, with the names of its text.
+fn content_of<'a>(names: &'a Names, clause: &'a Clause) -> Option<Content<'a>>
+    ensures body { (owner : List ℕ) → option_map (content_at owner) result ≡ body_of owner (clause_tree names.now clause.now) }
+    ensures names { IfSome result (λ content. names_in content ≡ names.now) }
+{
+    match clause.kept(names) {
+        KeptClause::Whole(term) => term_content(&term),
+        KeptClause::Plain(form) => form_content(&form),
+    }
 }
 
 /// Adds the bodies of clauses of a module, whose names are numbers in `names`.
@@ -69,10 +93,15 @@ fn push_bodies<'a>(
         → All (IsAtHome seen) bodies.old.items → All (IsAtHome seen) bodies.new.items) }
 {
     for clause in clauses {
-        let Some(body) = body_of(home, file, owner, &clause.term(names)) else {
+        let Some(content) = content_of(names, clause) else {
             continue;
         };
-        bodies.push(body)?;
+        bodies.push(Body {
+            home,
+            file,
+            owner,
+            content,
+        })?;
     }
     Ok(())
 }
@@ -133,11 +162,13 @@ fn push_goals_in<'a>(
             home,
             file: place,
             owner: file.module.as_str(),
-            role: GoalArg::Goal(0),
-            term: Term {
-                names: &file.names,
-                nodes: &goals.nodes,
-                end: *end,
+            content: Content::Term {
+                role: GoalArg::Goal(0),
+                term: Term {
+                    names: &file.names,
+                    nodes: goals.list.nodes(),
+                    end: *end,
+                },
             },
         })?;
     }

@@ -111,7 +111,7 @@ fn declared_by(program: &Program, callee: Option<u32>) -> &[GoalArg]
 }
 
 /// What a name means, by what was found.
-fn meaning_found(callee: Option<u32>) -> Meant
+pub fn meaning_found(callee: Option<u32>) -> Meant
     ensures { IsMeaning callee result }
 {
     match callee {

@@ -11,7 +11,7 @@ ghost use Rattle.call_edges.specs.Bodies.{see_body, IsMetInBody, IsLight};
 
 use crate::body::{Body, bodies_of};
 use crate::role::{Meant, Met};
-use crate::walking::walk;
+use crate::walk_body::walk_body;
 use graph_law::Opener;
 use import_rules::Program;
 use std::alloc::AllocError;
@@ -74,7 +74,7 @@ pub fn push_called<'a>(
     let mut met = Vec::new(alloc);
     for body in bodies {
         met.clear();
-        walk(alloc, program, &body.term, body.owner, body.role, &mut met)?;
+        walk_body(alloc, program, body, &mut met)?;
         push_targets(program, body.file, &met, out)?;
     }
     Ok(())

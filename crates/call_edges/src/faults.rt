@@ -9,7 +9,7 @@ ghost use Rattle.call_edges.specs.FaultPlaces.{fault_at, AreFaultsIn};
 
 use crate::body::{Body, goals_of};
 use crate::role::Met;
-use crate::walking::walk;
+use crate::walk_body::walk_body;
 use import_rules::Program;
 use std::alloc::{AllocError, Global};
 
@@ -49,7 +49,7 @@ fn faults_in(
     let mut faults = Vec::new(alloc);
     for body in bodies {
         met.clear();
-        walk(alloc, program, &body.term, body.owner, body.role, &mut met)?;
+        walk_body(alloc, program, body, &mut met)?;
         push_places(body.file, &met, &mut faults)?;
     }
     Ok(faults)

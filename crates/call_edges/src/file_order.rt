@@ -10,7 +10,6 @@ use crate::lists::joined;
 use clause_text::Clause;
 use import_rules::Program;
 use prolog_names::Names;
-use prolog_terms::start_of;
 use rayon::prelude::*;
 use std::alloc::{AllocError, Global};
 use std::thread::Threads;
@@ -33,7 +32,7 @@ fn first_offset(names: &Names, clauses: &[Clause]) -> u32
     ensures { result ≡ first_offset (clause_trees names.now clauses.now) }
 {
     match clauses.first() {
-        Some(clause) => start_of(&clause.term(names)),
+        Some(clause) => clause.start(names),
         None => 0,
     }
 }

@@ -47,6 +47,7 @@ mod role;
 mod roots;
 mod table;
 mod unresolved;
+mod walk_body;
 mod walk_home;
 mod walking;
 

@@ -10,7 +10,7 @@ ghost use Rattle.call_edges.specs.Bodies.{see_body, IsLight, IsMetInBody};
 
 use crate::body::{Body, bodies_of};
 use crate::role::Met;
-use crate::walking::walk;
+use crate::walk_body::walk_body;
 use import_rules::Program;
 use std::alloc::{AllocError, Global};
 
@@ -27,7 +27,7 @@ fn push_met<'a>(
     ensures meant { OnOk result (AreMeant program.now met.old.items → AreMeant program.now met.new.items) }
 {
     for body in bodies {
-        walk(alloc, program, &body.term, body.owner, body.role, met)?;
+        walk_body(alloc, program, body, met)?;
     }
     Ok(())
 }

@@ -14,7 +14,7 @@ use crate::body::{Body, push_bodies_of};
 use crate::faults::push_places;
 use crate::found::{Found, Opening, push_found};
 use crate::role::Met;
-use crate::walk_home::walk_home;
+use crate::walk_body::walk_body_home;
 use import_rules::Program;
 use std::alloc::{AllocError, Global};
 
@@ -57,7 +57,7 @@ fn found_in<'a>(
 {
     for body in bodies {
         met.clear();
-        walk_home(alloc, &body.home, &body.term, body.role, met)?;
+        walk_body_home(alloc, body, met)?;
         push_found(program, opening, body.file, met, found)?;
         push_places(body.file, met, faults)?;
     }

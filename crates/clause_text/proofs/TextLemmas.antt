@@ -87,7 +87,7 @@ clauses_weigh table text ts (tree ∷ trees) (part, rest, left, is, leaves, are)
       clauses_weigh left text rest trees are,
     )
 
-plain_weigh : (trees : List Tree) → total_weight (map plain trees) ≤ total_weight trees
+pub plain_weigh : (trees : List Tree) → total_weight (map plain trees) ≤ total_weight trees
 plain_weigh [] = omega arith
 plain_weigh (tree ∷ trees) =
     omega (

@@ -1,6 +1,8 @@
 ghost use Rattle.std.specs.Prelude.{◌≡◌, option_map, IfSome};
 ghost use Rattle.std.specs.Arc.{arc_value};
 ghost use Rattle.prolog_terms.specs.Terms.{tree_of, IsOf};
+ghost use Rattle.prolog_terms.specs.Views.{start_of as start_in};
+ghost use Rattle.kept_clauses.specs.Plain.{clause_span};
 ghost use Rattle.kept_clauses.specs.Views.{clause_tree as kept_clause_tree, IsKeptIn, IsSoundClause};
 ghost use Rattle.clause_text.specs.Clauses.{clause_tree};
 ghost use Rattle.clause_text.specs.Items.{directive_of as directive_in};
@@ -8,7 +10,7 @@ ghost use Rattle.clause_text.specs.Items.{directive_of as directive_in};
 use crate::terms::directive_of;
 use kept_clauses::{KeptClause, KeptList};
 use prolog_names::Names;
-use prolog_terms::Term;
+use prolog_terms::{Span, Term, inside, start_of};
 use std::sync::Arc;
 
 /// A clause of a text, which may be a directive or a grammar rule: the one that begins at a word of
@@ -39,6 +41,29 @@ impl Clause {
         match self.kept(names) {
             KeptClause::Whole(term) => directive_of(&term),
             KeptClause::Plain(_) => None,
+        }
+    }
+
+    /// The position of the clause inside its brackets. Linear in its goals.
+    pub fn span(&self, names: &Names) -> Span
+        ensures { result ≡ clause_span (clause_tree names.now self.now) }
+    {
+        match self.kept(names) {
+            KeptClause::Whole(term) => inside(&term).span(),
+            KeptClause::Plain(form) => Span {
+                from: form.head.at,
+                to: form.goals.end(),
+            },
+        }
+    }
+
+    /// The byte offset at which the clause starts inside its brackets.
+    pub fn start(&self, names: &Names) -> u32
+        ensures { result ≡ start_in (clause_tree names.now self.now) }
+    {
+        match self.kept(names) {
+            KeptClause::Whole(term) => start_of(&term),
+            KeptClause::Plain(form) => form.head.at,
         }
     }
 }

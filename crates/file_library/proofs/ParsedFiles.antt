@@ -6,7 +6,9 @@ use Rattle.std.proofs.lemmas.List.{flat_map_more, append_assoc, take-append-drop
 use Rattle.std.proofs.lemmas.List.Concat.{flat_map-cons}
 use Rattle.std.proofs.lemmas.List.Elements.{Contains-append_left, Contains-append_right, Contains-get_or}
 use Rattle.list_laws.proofs.Zips.{zip_append}
-use Rattle.clause_text.specs.Clauses.{ReadsAs}
+use Rattle.kept_clauses.specs.Plain.{plain}
+use Rattle.clause_text.specs.Kept.{ReadsPlainly}
+use Rattle.clause_text.proofs.PlainOffsets.{all_plain_stand}
 use Rattle.clause_text.proofs.Offsets.{reading_placed}
 use Rattle.module_table.specs.declared.file_facts.FileFacts.{FileFacts}
 use Rattle.module_table.specs.declared.said.FactFault.{FactFault}
@@ -19,15 +21,16 @@ use Rattle.list_laws.proofs.OneOrder.{holds_of}
 use Rattle.file_library.specs.AskedFile.{IsFaultOf, items_in}
 
 -- what clauses say is refused, so the file has that fault
-pub facts_fault : (name text : List ℕ) (trees : List Tree) (result : Result FileFacts FactFault) → ReadsAs text trees → IfErr result (λ fault. IsWhy (file_said name trees) fault)
+pub facts_fault : (name text : List ℕ) (kept : List Tree) (result : Result FileFacts FactFault) → ReadsPlainly text kept → IfErr result (λ fault. IsWhy (file_said name kept) fault)
     → IfErr result (IsFaultOf name text)
-facts_fault name text trees (Ok facts) reads why = tt
-facts_fault name text trees (Err fault) reads why = at fault why
+facts_fault name text kept (Ok facts) is why = tt
+facts_fault name text kept (Err fault) is why = at fault (subst (λ trees. IsWhy (file_said name trees) fault) is.kept_are why)
   where
-    at : (fault : FactFault) → IsWhy (file_said name trees) fault → IsFaultOf name text fault
+    at : (fault : FactFault) → IsWhy (file_said name (map plain is.trees)) fault → IsFaultOf name text fault
     at (At cause offset) said = (
-      inr (record { trees = trees; reads = reads; said = said }),
-      refusals_placed text name trees (record { cause = cause; offset = offset }) (reading_placed text trees reads) said,
+      inr (record { trees = is.trees; reads = is.reads; said = said }),
+      refusals_placed text name (map plain is.trees) (record { cause = cause; offset = offset })
+          (all_plain_stand text is.trees (reading_placed text is.trees is.reads)) said,
     )
     at NoMemory said = tt
 

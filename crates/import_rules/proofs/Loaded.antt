@@ -8,8 +8,10 @@ use Rattle.prolog_terms.specs.Tree.{Tree}
 use Rattle.prolog_terms.specs.Weight.{weight}
 use Rattle.prolog_tokens.proofs.Lookups.{cut_fewer}
 use Rattle.clause_text.specs.Clauses.{ReadsAs, total_weight, opening_ops}
+use Rattle.kept_clauses.specs.Plain.{plain}
 use Rattle.clause_text.proofs.Offsets.{reading_placed}
-use Rattle.clause_text.proofs.TextLemmas.{clauses_weigh, each_light}
+use Rattle.clause_text.proofs.PlainOffsets.{all_plain_stand}
+use Rattle.clause_text.proofs.TextLemmas.{clauses_weigh, plain_weigh, each_light}
 use Rattle.module_table.specs.Facts.{Facts}
 use Rattle.module_table.specs.Metas.{Declaration}
 use Rattle.module_table.specs.FileText.{HasFacts}
@@ -24,24 +26,25 @@ use Rattle.file_library.specs.Loaded.{LoadedFiles, NamedText, IsTextOf, size_of,
 use Rattle.import_rules.specs.Metas.{HasFewMetas}
 use Rattle.import_rules.specs.Program.{IsReadFrom}
 
--- the clauses of a text weigh no more than it is long
-text_light : (text : List ℕ) (trees : List Tree) → ReadsAs text trees → total_weight trees ≤ length text
+-- the plain trees of the clauses of a text weigh no more than it is long
+text_light : (text : List ℕ) (trees : List Tree) → ReadsAs text trees → total_weight (map plain trees) ≤ length text
 text_light text trees reads =
-    omega (arith, clauses_weigh opening_ops text reads.tokens trees reads.clauses, cut_fewer text reads.tokens reads.cut)
+    omega (arith, plain_weigh trees, clauses_weigh opening_ops text reads.tokens trees reads.clauses, cut_fewer text reads.tokens reads.cut)
 
 -- no more predicates than the text is long
 few_in : (text : NamedText) (facts : Facts) → HasFacts text.0 text.1 facts → length facts.defined ≤ length text.1
-few_in text facts has = omega (arith, few_defined text.0 has.trees facts has.are, text_light text.1 has.trees has.reads)
+few_in text facts has = omega (arith, few_defined text.0 (map plain has.trees) facts has.are, text_light text.1 has.trees has.reads)
 
 read_from : (text : NamedText) (facts : Facts) → HasFacts text.0 text.1 facts → length text.1 ≤ MOST_BYTES → IsReadFrom text facts
 read_from text facts has small =
-    let light : All (λ tree. weight tree ≤ MOST_BYTES) has.trees = each_light has.trees MOST_BYTES (omega (arith, text_light text.1 has.trees has.reads, small)) in record {
+    let kept = map plain has.trees in
+    let light : All (λ tree. weight tree ≤ MOST_BYTES) kept = each_light kept MOST_BYTES (omega (arith, text_light text.1 has.trees has.reads, small)) in record {
       named = has.are.are.file;
       small = small;
-      placed = facts_placed text.1 text.0 has.trees facts (reading_placed text.1 has.trees has.reads) has.are;
-      light_clauses = clauses_light MOST_BYTES text.0 has.trees facts light has.are;
-      light_goals = goals_light MOST_BYTES text.0 has.trees facts light has.are;
-      small_metas = metas_small text.0 has.trees facts has.are;
+      placed = facts_placed text.1 text.0 kept facts (all_plain_stand text.1 has.trees (reading_placed text.1 has.trees has.reads)) has.are;
+      light_clauses = clauses_light MOST_BYTES text.0 kept facts light has.are;
+      light_goals = goals_light MOST_BYTES text.0 kept facts light has.are;
+      small_metas = metas_small text.0 kept facts has.are;
     }
 
 size_of_text : (files : Files) (roots : List (List ℕ)) (text : NamedText) → IsTextOf files roots text → size_of files text.0 ≡ length text.1
@@ -88,9 +91,10 @@ few_in_each loaded was =
 
 few_declared : (text : NamedText) (facts : Facts) → HasFacts text.0 text.1 facts → length text.1 ≤ MOST_BYTES → HasFewMetas facts
 few_declared text facts has small =
-    let heavy : total_weight has.trees ≤ MOST_BYTES = omega (arith, text_light text.1 has.trees has.reads, small) in
-    let args = metas_light MOST_BYTES text.0 has.trees facts (each_light has.trees MOST_BYTES heavy) has.are in record {
-      few = omega (arith, few_metas text.0 has.trees facts has.are, heavy);
+    let kept = map plain has.trees in
+    let heavy : total_weight kept ≤ MOST_BYTES = omega (arith, text_light text.1 has.trees has.reads, small) in
+    let args = metas_light MOST_BYTES text.0 kept facts (each_light kept MOST_BYTES heavy) has.are in record {
+      few = omega (arith, few_metas text.0 kept facts has.are, heavy);
       small = All-weaker (λ (d : Declaration). length d.args ≤ MOST_BYTES) (λ (d : Declaration). length d.args ≤ 4294967295) (λ d le. omega (arith, le)) facts.metas args;
     }
 

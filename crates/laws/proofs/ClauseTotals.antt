@@ -1,5 +1,5 @@
 -- The clauses of a predicate weigh no more together than the text of their file may be long.
-use Rattle.std.proofs.Common.{◌≡◌, ◌≤◌, ◌+◌, inl, inr, ℕ, Bool, not, List, [], ◌∷◌, Contains, filter, length, refl, sym, subst, arith}
+use Rattle.std.proofs.Common.{◌≡◌, ◌≤◌, ◌+◌, inl, inr, ℕ, Bool, not, List, [], ◌∷◌, Contains, filter, length, refl, sym, subst, arith, map}
 use Rattle.std.specs.List.{AllZip}
 use Rattle.std.specs.List.Sorted.{IsStrictlySortedBy}
 use Rattle.std.proofs.lemmas.List.Filters.{sum_by-filter_both}
@@ -8,8 +8,9 @@ use Rattle.prolog_tokens.specs.declared.limits.TheConstants.{MOST_BYTES}
 use Rattle.prolog_tokens.proofs.Lookups.{cut_fewer}
 use Rattle.prolog_terms.specs.Tree.{Tree}
 use Rattle.prolog_terms.specs.Weight.{weight}
+use Rattle.kept_clauses.specs.Plain.{plain}
 use Rattle.clause_text.specs.Clauses.{ReadsAs, opening_ops, total_weight}
-use Rattle.clause_text.proofs.TextLemmas.{clauses_weigh}
+use Rattle.clause_text.proofs.TextLemmas.{clauses_weigh, plain_weigh}
 use Rattle.module_table.specs.Defined.{Predicate, predicate_cmp}
 use Rattle.module_table.specs.Facts.{Facts, is_clause_of, module_of}
 use Rattle.module_table.specs.FileText.{HasFacts}
@@ -22,8 +23,8 @@ use Rattle.import_rules.proofs.Loaded.{was_read}
 kept_weigh : (keep : Tree → Bool) (trees : List Tree) → total_weight (filter keep trees) ≤ total_weight trees
 kept_weigh keep trees = omega (arith, sum_by-filter_both keep (λ tree. not (keep tree)) (λ tree. refl) (λ tree. weight tree + 2) trees)
 
-read_light : (text : List ℕ) (trees : List Tree) → ReadsAs text trees → total_weight trees ≤ length text
-read_light text trees reads = omega (arith, clauses_weigh opening_ops text reads.tokens trees reads.clauses, cut_fewer text reads.tokens reads.cut)
+read_light : (text : List ℕ) (trees : List Tree) → ReadsAs text trees → total_weight (map plain trees) ≤ length text
+read_light text trees reads = omega (arith, plain_weigh trees, clauses_weigh opening_ops text reads.tokens trees reads.clauses, cut_fewer text reads.tokens reads.cut)
 
 -- the predicates of a file are in order, and the clauses of each are light together
 pub record IsLightFile (file : Facts) : Type 0 where
@@ -34,10 +35,10 @@ light_file : (text : NamedText) (file : Facts) → HasFacts text.0 text.1 file �
 light_file text file has small = record {
   in_order = has.are.are.defined.in_order;
   light = λ p there.
-      let of_it : Tree → Bool = is_clause_of (module_of has.trees) p.module_ p.name p.arity in
-      let are : p.clauses ≡ filter of_it has.trees = clauses_are text.0 has.trees file has.are p there in
+      let of_it : Tree → Bool = is_clause_of (module_of (map plain has.trees)) p.module_ p.name p.arity in
+      let are : p.clauses ≡ filter of_it (map plain has.trees) = clauses_are text.0 (map plain has.trees) file has.are p there in
       subst (λ (trees : List Tree). total_weight trees ≤ MOST_BYTES) (sym are)
-      (omega (arith, kept_weigh of_it has.trees, read_light text.1 has.trees has.reads, small));
+      (omega (arith, kept_weigh of_it (map plain has.trees), read_light text.1 has.trees has.reads, small));
 }
 
 -- each file that was read from a text is so

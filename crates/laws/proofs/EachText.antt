@@ -1,5 +1,5 @@
 -- Each text is a reading or has a fault, and each file has facts or a fault.
-use Rattle.std.proofs.Common.{◌≡◌, ◌⊎◌, inl, inr, ℕ, zero, suc, ◌≤◌, true, false, List, [], ◌∷◌, ◌++◌, Option, Some, None, Ok, Err, codes, length, refl, ap, sym, subst, arith, append_assoc, length-append}
+use Rattle.std.proofs.Common.{◌≡◌, ◌⊎◌, inl, inr, ℕ, zero, suc, ◌≤◌, true, false, List, [], ◌∷◌, ◌++◌, Option, Some, None, Ok, Err, codes, length, refl, ap, sym, subst, arith, append_assoc, length-append, map}
 use Rattle.std.specs.Str.{IsUtf8}
 use Rattle.std.specs.List.{filter_map}
 use Rattle.prolog_tokens.specs.declared.token.Token.{Token}
@@ -10,6 +10,7 @@ use Rattle.prolog_terms.specs.declared.reader.ReadFault.{ReadFault}
 use Rattle.prolog_terms.specs.Tree.{Tree}
 use Rattle.prolog_terms.specs.Words.{table_of}
 use Rattle.prolog_terms.specs.Clause.{IsClauseOf, IsReadFault, ArePart}
+use Rattle.kept_clauses.specs.Plain.{plain}
 use Rattle.clause_text.specs.declared.cause.Cause.TheVariants.{NotUtf8}
 use Rattle.clause_text.specs.declared.fault.TextFault.{TextFault}
 use Rattle.clause_text.specs.declared.fault.TextFault.TheVariants.{At}
@@ -159,14 +160,14 @@ reading_or_fault text cuts reads = elim (utf8_or_not text) [
 pub file_or_fault : (name text : List ℕ) → IsCutOrFaulty text → IsReadOrFaulty text → ((facts : Facts) × HasFacts name text facts) ⊎ ((refusal : Refusal) × HasFault name text refusal)
 file_or_fault name text cuts reads = by_text (reading_or_fault text cuts reads)
   where
-    by_trees : (trees : List Tree) → ReadsAs text trees → ((facts : Facts) × AreFacts name trees facts) ⊎ ((refusal : Refusal) × (file_said name trees ≡ Err refusal))
+    by_trees : (trees : List Tree) → ReadsAs text trees → ((facts : Facts) × AreFacts name (map plain trees) facts) ⊎ ((refusal : Refusal) × (file_said name (map plain trees) ≡ Err refusal))
         → ((facts : Facts) × HasFacts name text facts) ⊎ ((refusal : Refusal) × HasFault name text refusal)
     by_trees trees read (inl (facts, are)) = inl (facts, record { trees = trees; reads = read; are = are })
     by_trees trees read (inr (refusal, said)) = inr (refusal, inr (record { trees = trees; reads = read; said = said }))
 
     by_text : ((trees : List Tree) × ReadsAs text trees) ⊎ ((fault : TextFault) × HasTextFault text fault)
         → ((facts : Facts) × HasFacts name text facts) ⊎ ((refusal : Refusal) × HasFault name text refusal)
-    by_text (inl (trees, read)) = by_trees trees read (facts_or_refusal name trees)
+    by_text (inl (trees, read)) = by_trees trees read (facts_or_refusal name (map plain trees))
     by_text (inr (fault, has)) =
         let of = text_cause text fault has in
         inr (record { cause = of.0; offset = of.1 }, inl (subst (HasTextFault text) of.2 has))

@@ -1,5 +1,5 @@
 -- Each fault of a text stands at an offset of it, and each offset has a place.
-use Rattle.std.proofs.Common.{◌≡◌, ℕ, zero, suc, ◌+◌, ◌-◌, List, refl, subst, ap, ◌∙◌, inl, inr, arith}
+use Rattle.std.proofs.Common.{◌≡◌, ℕ, zero, suc, ◌+◌, ◌-◌, List, refl, subst, ap, ◌∙◌, inl, inr, arith, map}
 use Rattle.std.specs.Prelude.{IfSome, take, length, chars, count_by, slice_index, slice_range, ◌==◌}
 use Rattle.std.proofs.lemmas.Bool.{cases_eq, cases_lt}
 use Rattle.prolog_tokens.specs.Places.{IsOffset, BeginsLine, IsPlace, fault_offset}
@@ -7,6 +7,8 @@ use Rattle.prolog_tokens.specs.declared.token.Place.{Place}
 use Rattle.prolog_tokens.specs.declared.token.TokenFault.{TokenFault}
 use Rattle.prolog_tokens.specs.declared.token.TokenFault.TheVariants as of_tokens
 use Rattle.prolog_tokens.proofs.Boundaries.{wrong_offset}
+use Rattle.kept_clauses.specs.Plain.{plain}
+use Rattle.clause_text.proofs.PlainOffsets.{all_plain_stand}
 use Rattle.clause_text.specs.declared.cause.Cause.{Cause}
 use Rattle.clause_text.specs.declared.fault.TextFault.TheVariants.{At}
 use Rattle.clause_text.specs.TextFault.{HasTextFault, bytes, tokens, clauses, fault_of_tokens}
@@ -33,7 +35,7 @@ text_stands text cause at (clauses has) = clauses_placed text (At cause at) has
 -- the fault of a file stands at an offset of its text
 pub fault_stands : (name text : List ℕ) (refusal : Refusal) → HasFault name text refusal → IsOffset text refusal.offset
 fault_stands name text refusal (inl has) = text_stands text refusal.cause refusal.offset has
-fault_stands name text refusal (inr has) = refusals_placed text name has.trees refusal (reading_placed text has.trees has.reads) has.said
+fault_stands name text refusal (inr has) = refusals_placed text name (map plain has.trees) refusal (all_plain_stand text has.trees (reading_placed text has.trees has.reads)) has.said
 
 -- the line before each offset begins somewhere
 line_begins : (text : List ℕ) (at : ℕ) → (from : ℕ) × BeginsLine text from at
