@@ -9,6 +9,8 @@ mod MeantLemmas
 mod AddedLemmas
 pub mod ListedMets
 pub mod WalkLemmas
+pub mod GoalMets
+pub mod SoundGoals
 pub mod FreeNames
 pub mod PlainCalls
 pub mod ControlSides

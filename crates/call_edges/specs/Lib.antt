@@ -6,6 +6,7 @@ pub mod PlainCalls
 pub mod Listed
 pub mod Calls
 pub mod Bodies
+pub mod KeptGoals
 pub mod Successors
 pub mod GoalFaults
 pub mod FaultPlaces
