@@ -13,13 +13,15 @@ use Rattle.prolog_terms.specs.Weight.{weight, weights}
 use Rattle.kept_clauses.specs.Plain.{is_free, silent, all_silent, PlainGoal, called, whole, PlainClause, variables, named_tree, goal_tree, goals_from, body_tree, written_as, written, span_at}
 use Rattle.module_table.specs.declared.goal_arg.GoalArg.{GoalArg}
 use Rattle.module_table.specs.declared.goal_arg.GoalArg.TheVariants.{Goal}
-use Rattle.module_table.proofs.ReservedNames.{if_false, both_true, not_negation, not_colon, no_control}
-use Rattle.module_table.proofs.PlainHeads.{count_variables, named_binary, no_rule, no_grammar}
+use Rattle.kept_clauses.proofs.Bodies.{if_false}
+use Rattle.kept_clauses.proofs.FreeNames.{both_true, not_negation, not_colon}
+use Rattle.module_table.proofs.PlainHeads.{no_control, count_variables, named_binary, no_rule, no_grammar}
 use Rattle.call_edges.specs.declared.role.Way.{Way}
 use Rattle.call_edges.specs.declared.role.Way.TheVariants.{Calling}
 use Rattle.call_edges.specs.Calls.{IsAmong, body_by, body_of}
 use Rattle.call_edges.specs.Goals.{Met, call, place, Rows, Standing, taken_by, way, is_control, role_at, IsMet, Adds, AddsMet}
-use Rattle.call_edges.specs.KeptGoals.{IsMetInGoal, IsMetInForm, IsSoundGoal}
+use Rattle.call_edges.specs.KeptGoals.{IsMetInGoal, IsMetInForm}
+use Rattle.kept_clauses.specs.Views.{IsSoundGoal}
 use Rattle.call_edges.specs.Listed.{mets_in, mets_among}
 use Rattle.call_edges.proofs.AddsLemmas.{adds_append, adds_as, adds_nothing, adds_then}
 use Rattle.call_edges.proofs.AmongLemmas.{none_among, first_or_later, at_first, at_later, among_as, flat_has}

@@ -3,14 +3,14 @@ use Rattle.std.proofs.Common.{◌≡◌, ℕ, ◌<◌, List, All, length, get_or
 use Rattle.import_rules.specs.declared.home.Home.{Home}
 use Rattle.import_rules.specs.Program.{Seen}
 use Rattle.call_edges.specs.declared.body.Body.{Body}
-use Rattle.call_edges.specs.Bodies.{IsAtHome, IsBodyOf, IsHomeOf}
+use Rattle.call_edges.specs.Bodies.{IsAtHome, IsHomeOf, names_in}
 
-pub body_at_home : (seen : Seen) (owner : List ℕ) (names there : List (List ℕ)) (home : Home) (b : Body) → IsHomeOf seen owner names home
-    → IsBodyOf home owner there b → there ≡ names → IsAtHome seen b
-body_at_home seen owner names there home b is of same = record {
-  program = ap (λ (h : Home). h.program.now) of.home_ ∙ is.program;
-  module_ = ap (λ (h : Home). h.facts.now.module) of.home_ ∙ is.module_ ∙ sym of.owner_;
-  names_ = ap (λ (h : Home). h.facts.now.names) of.home_ ∙ is.names_ ∙ sym (of.names_ ∙ same);
+pub body_at_home : (seen : Seen) (owner : List ℕ) (names : List (List ℕ)) (home : Home) (b : Body) → IsHomeOf seen owner names home → b.home ≡ home
+    → b.owner.now ≡ owner → names_in b.content ≡ names → IsAtHome seen b
+body_at_home seen owner names home b is home_is owner_is names_are = record {
+  program = ap (λ (h : Home). h.program.now) home_is ∙ is.program;
+  module_ = ap (λ (h : Home). h.facts.now.module) home_is ∙ is.module_ ∙ sym owner_is;
+  names_ = ap (λ (h : Home). h.facts.now.names) home_is ∙ is.names_ ∙ sym names_are;
 }
 
 -- each of them is

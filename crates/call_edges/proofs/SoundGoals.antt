@@ -4,8 +4,8 @@ use Rattle.std.specs.Str.{bytes_eq}
 use Rattle.std.proofs.lemmas.List.Elements.{All-nil, All-cons, All-append}
 use Rattle.prolog_terms.specs.Tree.{Tree, Trees, variable, constant, atom, compound, listed, tailed, curly, paren, none, more, count}
 use Rattle.kept_clauses.specs.Plain.{is_one_of, control_names, fits, is_plain_name, all_silent, PlainGoal, called, whole, compound_goal, atom_goal, body_goals}
-use Rattle.module_table.proofs.ReservedNames.{both_true, plain_free}
-use Rattle.call_edges.specs.KeptGoals.{IsSoundGoal}
+use Rattle.kept_clauses.proofs.FreeNames.{both_true, plain_free}
+use Rattle.kept_clauses.specs.Views.{IsSoundGoal}
 
 compound_sound : (at : ℕ) (name : List ℕ) (args : Trees) (tree : Tree) → IsSoundGoal (compound_goal at name args tree)
 compound_sound at name args tree = by_test (is_plain_name at name (count args) && all_silent args) refl

@@ -1,6 +1,6 @@
 -- What is met in the plain form of a clause, without its trees but for those of whole goals.
-use Rattle.std.specs.Prelude.{ℕ, ◌≡◌, ◌⊎◌, List, Option, Some, None, true}
-use Rattle.kept_clauses.specs.Plain.{is_free, PlainGoal, called, whole}
+use Rattle.std.specs.Prelude.{ℕ, ◌≡◌, List, Option, Some, None}
+use Rattle.kept_clauses.specs.Plain.{PlainGoal, called, whole}
 use Rattle.module_table.specs.declared.goal_arg.GoalArg.TheVariants.{Goal}
 use Rattle.call_edges.specs.Calls.{IsAmong}
 use Rattle.call_edges.specs.Goals.{Met, call, place, Rows, IsMet}
@@ -14,8 +14,3 @@ IsMetInGoal T owner (whole tree) m = IsMet T (place owner (Goal 0) tree) m
 abbrev pub IsMetInForm : Rows → List ℕ → Option (List PlainGoal) → Met → Type 0
 IsMetInForm T owner (Some goals) m = IsAmong (IsMetInGoal T owner) goals m
 IsMetInForm T owner None m = ⊥
-
--- a call is one as a term too: it has no arguments, or a free name
-abbrev pub IsSoundGoal : PlainGoal → Type 0
-IsSoundGoal (called one) = (one.arity ≡ 0) ⊎ (is_free one.name ≡ true)
-IsSoundGoal (whole tree) = Unit {0}

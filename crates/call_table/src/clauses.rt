@@ -10,7 +10,6 @@ ghost use Rattle.clause_text.specs.Clauses.{clause_trees};
 use clause_text::Clause;
 use import_rules::Program;
 use prolog_names::Names;
-use prolog_terms::start_of;
 use std::alloc::{AllocError, Global};
 
 /// Where a clause starts, in whatever brackets it is: the index of its file among the files, and
@@ -36,7 +35,7 @@ fn push_clauses(
     for clause in clauses {
         out.push(ClauseAt {
             file,
-            offset: start_of(&clause.term(names)),
+            offset: clause.start(names),
             node,
         })?;
     }

@@ -229,8 +229,8 @@ fn read_on(
     ReadStretch { nodes, ends, end }
 }
 
-/// The clauses that end at these indices of the nodes, as they are kept, and the words of the list
-/// at which they begin.
+/// The clauses that end at these indices of the nodes, as they are kept, and the indices at which
+/// they begin in the list.
 fn plain_clauses(
     alloc: Global,
     names: &Names,
@@ -252,7 +252,7 @@ fn plain_clauses(
     Ok((list, begins))
 }
 
-/// Adds the last clause of the nodes if it sets operators, and returns the word at which it begins.
+/// Adds the last clause of the nodes if it sets operators, and returns the index at which it begins.
 fn push_last(
     list: &mut KeptList,
     names: &Names,
@@ -271,7 +271,7 @@ fn push_last(
     }
 }
 
-/// The clauses that begin at these words of the list, which they share.
+/// The clauses that begin at these indices of the list, which they share.
 fn sharing(
     alloc: Global,
     list: &Arc<KeptList>,
@@ -287,7 +287,7 @@ fn sharing(
     Ok(clauses)
 }
 
-/// What follows the clauses, if the last of the list begins at that word.
+/// What follows the clauses, if the last of the list begins at that index.
 fn piece_end(list: Arc<KeptList>, at: usize, end: ReadEnd) -> PieceEnd
     ensures { (names : List (List ℕ)) (table : Ops) (text : List ℕ) (ts : List TokenOf) (from to : ℕ)
         → KeptEndIs names table text ts from to (arc_value list) at end → EndIs names table text ts from to result }

@@ -87,14 +87,14 @@ body_goals (tailed items tail span) = []
 body_goals (curly inner span) = []
 body_goals (paren inner span) = body_goals inner
 
--- a clause: where it stands, which predicate of the module it defines, and the goals of its body, if it is a rule
+-- a clause: its position, which predicate of the module it defines, and the goals of its body, if it is a rule
 pub record PlainClause : Type 0 where
   pub span : Span
   pub name : List ℕ
   pub arity : ℕ
   pub body : Option (List PlainGoal)
 
--- where the clause stands, inside its brackets
+-- the position of a clause, inside its brackets
 abbrev pub clause_span : Tree → Span
 clause_span tree = span_of (inside tree)
 

@@ -108,7 +108,7 @@ Kept = List ℕ × List Node
 abbrev pub kept_tree : List (List ℕ) → Kept → ℕ → Tree
 kept_tree names kept at = first_tree names kept.1 (drop at kept.0)
 
--- the new list has more words, which are those goals, whatever stands behind them
+-- the new list has more words, which are those goals, whatever follows them
 pub record AddsGoals (names : List (List ℕ)) (old new : Kept) (goals : List PlainGoal) : Type 0 where
   pub words : List ℕ
   pub nodes : List Node
@@ -117,7 +117,7 @@ pub record AddsGoals (names : List (List ℕ)) (old new : Kept) (goals : List Pl
   pub goals_are : (later : List ℕ) (behind : List Node) → goals_in names (new.1 ++ behind) (words ++ later) ≡ goals ++ goals_in names (new.1 ++ behind) later
   pub end_is : (later : List ℕ) → end_in (words ++ later) ≡ end_in later
 
--- the new list has more words, which are that clause, whatever stands behind them
+-- the new list has more words, which are that clause, whatever follows them
 pub record AddsClause (names : List (List ℕ)) (old new : Kept) (at : ℕ) (tree : Tree) : Type 0 where
   pub words : List ℕ
   pub nodes : List Node
@@ -126,6 +126,6 @@ pub record AddsClause (names : List (List ℕ)) (old new : Kept) (at : ℕ) (tre
   pub at_is : at ≡ length old.0
   pub tree_is : (later : List ℕ) (behind : List Node) → first_tree names (new.1 ++ behind) (words ++ later) ≡ tree
 
--- the clauses that begin at these words are those trees, whatever stands behind them
+-- the clauses that begin at these words are those trees, whatever follows them
 abbrev pub AreKept : List (List ℕ) → Kept → List ℕ → List Tree → Type 0
 AreKept names kept begins trees = (later : List ℕ) (behind : List Node) → map (kept_tree names (kept.0 ++ later, kept.1 ++ behind)) begins ≡ trees

@@ -8,7 +8,7 @@
 //!
 //! `KeptList::push_clause` takes a clause over. `KeptList::clause` returns it: as its plain form, a
 //! head and goals, or as a whole term. A directive, a grammar rule and a head of another module are
-//! whole. `specs/Plain.antt` says which tree a plain form stands for.
+//! whole. `specs/Plain.antt` says which tree a plain form means.
 //!
 //! What goals mean is unknown here. The crate `plain_clauses` shows that nothing is lost.
 #![tactic(auto)]

@@ -9,7 +9,6 @@ pub mod LeadOrder
 pub mod PredicateOrder
 pub mod FreeNames
 pub mod HeadLemmas
-pub mod ReservedNames
 pub mod PlainHeads
 pub mod Parts
 pub mod TakesLemmas

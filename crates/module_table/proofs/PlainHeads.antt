@@ -15,6 +15,13 @@ use Rattle.kept_clauses.proofs.FreeNames.{IsNot, not_comma, not_semicolon, not_b
 none_in : (name : List ℕ) → is_free name ≡ true → (word : List ℕ) (words : List (List ℕ)) → IsNot name word → is_among words name ≡ false → is_among (word ∷ words) name ≡ false
 none_in name free word words first others = (λ i. first.0 i || is_among words name) ∙ others
 
+-- it is no control construct of two goals
+pub no_control : (name : List ℕ) → is_free name ≡ true → is_among (codes "," ∷ codes ";" ∷ codes "|" ∷ codes "->" ∷ []) name ≡ false
+no_control name free =
+    none_in name free (codes ",") (codes ";" ∷ codes "|" ∷ codes "->" ∷ []) (not_comma name free)
+    (none_in name free (codes ";") (codes "|" ∷ codes "->" ∷ []) (not_semicolon name free)
+    (none_in name free (codes "|") (codes "->" ∷ []) (not_bar name free) (none_in name free (codes "->") [] (not_then name free) refl)))
+
 -- no head has a free name and is a control construct, or no head at all
 module _ (name : List ℕ) (free : is_free name ≡ true) where
   none_if : (test : Bool) (xs ys : List (List ℕ)) → is_among xs name ≡ false → is_among ys name ≡ false → is_among (if test then xs else ys) name ≡ false

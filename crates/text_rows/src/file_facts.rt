@@ -92,7 +92,7 @@ fn push_goals(
     for end in &goals.ends {
         let goal = Term {
             names,
-            nodes: &goals.nodes,
+            nodes: goals.list.nodes(),
             end: *end,
         };
         let from = goal.span().from;
@@ -156,7 +156,7 @@ fn push_starts(
     let (name, arity) = (names.text(predicate.name), predicate.arity);
     push_made(out, format!(in alloc; "{name}/{arity}"))?;
     for clause in predicate.clauses.as_slice() {
-        let from = clause.term(names).span().from;
+        let from = clause.start(names);
         push_made(out, format!(in alloc; " {from}"))?;
     }
     out.push_str(";")

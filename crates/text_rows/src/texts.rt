@@ -3,7 +3,8 @@ ghost use Rattle.prolog_tokens.specs.declared.limits.TheConstants.{MOST_BYTES};
 
 use crate::pieces::push_made;
 use clause_text::{TextClauses, read_text};
-use prolog_terms::{Form, Term, TermKind, inside};
+use kept_clauses::KeptClause;
+use prolog_terms::{Form, TermKind, inside};
 use std::alloc::{AllocError, Global};
 use std::thread::Threads;
 
@@ -21,11 +22,23 @@ pub fn count_told<R: Threads + Sync>(
     }
 }
 
-/// How a clause is written inside its brackets, if it is a compound term.
-fn form_of(clause: &Term) -> Option<Form> {
-    match inside(clause).kind() {
-        TermKind::Compound { form, .. } => Some(form),
-        _ => None,
+/// How a clause is written inside its brackets, if it is a compound term. The plain form of a fact
+/// is written in functional notation.
+fn form_of(clause: &KeptClause) -> Option<Form> {
+    match clause {
+        KeptClause::Whole(term) => match inside(term).kind() {
+            TermKind::Compound { form, .. } => Some(form),
+            _ => None,
+        },
+        KeptClause::Plain(plain) => {
+            if plain.is_rule {
+                return Some(Form::Infix);
+            }
+            if plain.head.arity == 0 {
+                return None;
+            }
+            Some(Form::Functional)
+        }
     }
 }
 
@@ -33,7 +46,7 @@ fn form_of(clause: &Term) -> Option<Form> {
 fn forms(alloc: Global, text: &TextClauses) -> Result<String, AllocError> {
     let mut out = String::new(alloc);
     for clause in &text.clauses {
-        let form = form_of(&clause.term(&text.names));
+        let form = form_of(&clause.kept(&text.names));
         push_made(&mut out, format!(in alloc; "{form:?};"))?;
     }
     Ok(out)

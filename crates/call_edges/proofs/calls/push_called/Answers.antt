@@ -8,8 +8,8 @@ use Rattle.call_edges.proofs.KeptMeanings.{none_meant}
 use Rattle.call_edges.proofs.CallLemmas.{IsCalledIn, body_goes, bodies_go}
 use Rattle.call_edges.proofs.calls.push_called.Goals as goal
 
-pub walk-requires : goal.walk-requires
-walk-requires c =
+pub walk_body-requires : goal.walk_body-requires
+walk_body-requires c =
     let bodies = c.args.bodies.now in
     let k = c.loop-body.body-index in
     let body = c.body-item.result in
@@ -20,7 +20,7 @@ walk-requires c =
 pub push_targets-requires : goal.push_targets-requires
 push_targets-requires c =
     let seen = c.args.program.now in
-    subst (AreMeant seen) (sym c.deref.ensures.value) (c.in_ok-walk.ensures.meant (none_meant seen c.clear.new.self.items c.clear.ensures.items))
+    subst (AreMeant seen) (sym c.deref.ensures.value) (c.in_ok-walk_body.ensures.meant (none_meant seen c.clear.new.self.items c.clear.ensures.items))
 
 pub loop-body-preserved : goal.loop-body-preserved
 loop-body-preserved c =
@@ -29,7 +29,7 @@ loop-body-preserved c =
     let out = c.loop-body.out.items in
     let called = c.push_targets.new.out.items in
     among_more (IsCalledIn seen) c.args.bodies.now c.loop-body.body-index body c.args.out.now.items out called c.loop-body-test.true c.body-item.is c.loop-body.invariant
-    (body_goes seen (see_body body) c.walk.new.met.items (see_mets c.clear.new.self.items) out called (ap see_mets c.clear.ensures.items) c.in_ok-walk.ensures.met
+    (body_goes seen (see_body body) c.walk_body.new.met.items (see_mets c.clear.new.self.items) out called (ap see_mets c.clear.ensures.items) c.in_ok-walk_body.ensures.met
     (rw c.deref.ensures.value at c.in_ok-push_targets.ensures))
 
 pub returns : goal.returns

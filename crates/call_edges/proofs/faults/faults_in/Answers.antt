@@ -7,8 +7,8 @@ use Rattle.call_edges.proofs.AmongLemmas.{among_more, among_all}
 use Rattle.call_edges.proofs.FaultLemmas.{IsSeenFault, body_faults, bodies_faults}
 use Rattle.call_edges.proofs.faults.faults_in.Goals as goal
 
-pub walk-requires : goal.walk-requires
-walk-requires c =
+pub walk_body-requires : goal.walk_body-requires
+walk_body-requires c =
     let bodies = c.args.bodies.now in
     let k = c.loop-body.body-index in
     let body = c.body-item.result in
@@ -21,7 +21,7 @@ loop-body-preserved c =
     let faults = c.loop-body.faults.items in
     let new = c.push_places.new.places.items in
     among_more (IsSeenFault (rows_of c.args.program.now)) c.args.bodies.now c.loop-body.body-index c.body-item.result [] faults new c.loop-body-test.true c.body-item.is c.loop-body.invariant
-    (body_faults (rows_of c.args.program.now) (see_body c.body-item.result) c.walk.new.met.items (see_mets c.clear.new.self.items) faults new (ap see_mets c.clear.ensures.items) c.in_ok-walk.ensures.met
+    (body_faults (rows_of c.args.program.now) (see_body c.body-item.result) c.walk_body.new.met.items (see_mets c.clear.new.self.items) faults new (ap see_mets c.clear.ensures.items) c.in_ok-walk_body.ensures.met
     (rw c.deref.ensures.value at c.in_ok-push_places.ensures))
 
 pub returns : goal.returns

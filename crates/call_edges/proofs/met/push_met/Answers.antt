@@ -7,8 +7,8 @@ use Rattle.call_edges.proofs.AmongLemmas.{among_more, among_all}
 use Rattle.call_edges.proofs.BodyMets.{IsSeenMet, bodies_met}
 use Rattle.call_edges.proofs.met.push_met.Goals as goal
 
-pub walk-requires : goal.walk-requires
-walk-requires c =
+pub walk_body-requires : goal.walk_body-requires
+walk_body-requires c =
     let bodies = c.args.bodies.now in
     let k = c.loop-body.body-index in
     let body = c.body-item.result in
@@ -21,8 +21,8 @@ loop-body-preserved c =
     let T = rows_of c.args.program.now in
     record {
       met = among_more (IsSeenMet T) c.args.bodies.now c.loop-body.body-index c.body-item.result (see_mets c.args.met.now.items) (see_mets c.loop-body.met.items)
-          (see_mets c.walk.new.met.items) c.loop-body-test.true c.body-item.is c.loop-body.invariant.met c.in_ok-walk.ensures.met;
-      meant = λ old. c.in_ok-walk.ensures.meant (c.loop-body.invariant.meant old);
+          (see_mets c.walk_body.new.met.items) c.loop-body-test.true c.body-item.is c.loop-body.invariant.met c.in_ok-walk_body.ensures.met;
+      meant = λ old. c.in_ok-walk_body.ensures.meant (c.loop-body.invariant.meant old);
     }
 
 pub returns-clause-met : goal.returns-clause-met

@@ -1,8 +1,7 @@
-use Rattle.std.proofs.Common.{◌≡◌, ℕ, List, map, get_or, ap, sym, ◌∙◌, subst, arith}
+use Rattle.std.proofs.Common.{◌≡◌, map, get_or, refl, ap, sym, ◌∙◌, subst, arith}
 use Rattle.std.proofs.lemmas.List.{length-map, get_or-map}
-use Rattle.prolog_terms.specs.Terms.{tree_of}
 use Rattle.import_rules.specs.Program.{Seen}
-use Rattle.call_edges.specs.Goals.{place, AddsMet}
+use Rattle.call_edges.specs.Goals.{AddsMet}
 use Rattle.call_edges.specs.ProgramRows.{rows_of}
 use Rattle.call_edges.specs.Meant.{AreMeant}
 use Rattle.call_edges.specs.Seen.{see_mets}
@@ -20,8 +19,8 @@ use Rattle.call_edges.proofs.FaultLemmas.{IsSeenFault, body_faults, seen_faults}
 use Rattle.call_edges.proofs.PlacedCallLemmas.{body_called}
 use Rattle.call_edges.proofs.opened.found_in.Goals as goal
 
-pub walk_home-requires-clause-small : goal.walk_home-requires-clause-small
-walk_home-requires-clause-small c =
+pub walk_body_home-requires-clause-light : goal.walk_body_home-requires-clause-light
+walk_body_home-requires-clause-light c =
     let bodies = c.args.bodies.now in
     let k = c.loop-body.body-index in
     let body = c.body-item.result in
@@ -29,19 +28,19 @@ walk_home-requires-clause-small c =
     let read : get_or (map see_body bodies) k (see_body body) ≡ see_body body = get_or-map see_body bodies k body (see_body body) within ∙ ap see_body (sym c.body-item.is) in
     subst IsLight read (c.requires.light k (see_body body) (omega (arith, within, length-map bodies see_body)))
 
-pub walk_home-requires-clause-names : goal.walk_home-requires-clause-names
-walk_home-requires-clause-names c =
+pub walk_body_home-requires-clause-home : goal.walk_body_home-requires-clause-home
+walk_body_home-requires-clause-home c =
     let at_home = home_at c.args.program.now c.args.bodies.now c.loop-body.body-index c.body-item.result c.requires.home c.loop-body-test.true c.body-item.is in
-    sym at_home.names_
+    record { program = refl; module_ = at_home.module_; names_ = at_home.names_ }
 
 pub push_found-requires : goal.push_found-requires
 push_found-requires c =
     let seen = c.args.program.now in
     let body = c.body-item.result in
     let at_home = home_at seen c.args.bodies.now c.loop-body.body-index body c.requires.home c.loop-body-test.true c.body-item.is in
-    let P : Seen → Type 0 = λ s. AreMeant s c.walk_home.new.met.items in
+    let P : Seen → Type 0 = λ s. AreMeant s c.walk_body_home.new.met.items in
     subst (AreMeant seen) (sym c.deref.ensures.value)
-    (subst P at_home.program (c.in_ok-walk_home.ensures.meant (none_meant body.home.program.now c.clear.new.self.items c.clear.ensures.items)))
+    (subst P at_home.program (c.in_ok-walk_body_home.ensures.meant (none_meant body.home.program.now c.clear.new.self.items c.clear.ensures.items)))
 
 pub loop-body-preserved : goal.loop-body-preserved
 loop-body-preserved c =
@@ -49,12 +48,11 @@ loop-body-preserved c =
     let bodies = c.args.bodies.now in
     let k = c.loop-body.body-index in
     let body = c.body-item.result in
-    let met = c.walk_home.new.met.items in
+    let met = c.walk_body_home.new.met.items in
     let empty = ap see_mets c.clear.ensures.items in
     let at_home = home_at seen bodies k body c.requires.home c.loop-body-test.true c.body-item.is in
-    let P : Seen → List ℕ → Type 0 = λ s owner. AddsMet (rows_of s) (place owner body.role (tree_of body.term)) (see_mets c.clear.new.self.items) (see_mets met) in
-    let walked : P seen body.owner.now =
-    subst (λ s. P s body.owner.now) at_home.program (subst (P body.home.program.now) at_home.module_ c.in_ok-walk_home.ensures.met) in
+    let P : Seen → Type 0 = λ s. AddsMet (rows_of s) (see_body body).at (see_mets c.clear.new.self.items) (see_mets met) in
+    let walked : P seen = subst P at_home.program c.in_ok-walk_body_home.ensures.met in
     let callees = c.loop-body.found.callees.items in
     let calls = see_calls c.loop-body.found.calls.items in
     let faults = c.loop-body.faults.items in

@@ -1,7 +1,6 @@
 use Rattle.std.proofs.Common.{◌≡◌, ◌+◌, ◌++◌, ◌∷◌, [], map, take, ap, sym, ◌∙◌, append_assoc}
 use Rattle.std.proofs.lemmas.List.{map-append, take_more}
 use Rattle.clause_text.specs.Clauses.{clause_tree}
-use Rattle.prolog_terms.specs.Views.{start_of}
 use Rattle.call_table.specs.Clauses.{clause_at}
 use Rattle.call_table.proofs.clauses.push_clauses.Goals as goal
 
@@ -18,8 +17,7 @@ loop-clause-preserved c =
     let split : map f (map tree (take (k + 1) clauses)) ≡ sofar ++ f (tree clause) ∷ [] =
     ap (λ xs. map f (map tree xs)) more
     ∙ (ap (map f) (map-append tree (take k clauses) (clause ∷ [])) ∙ map-append f (map tree (take k clauses)) (tree clause ∷ [])) in
-    let same : _ = c.start_of.ensures ∙ ap start_of c.term.ensures.tree in
     c.in_ok-push.ensures.items
-    ∙ (ap (λ at. c.loop-clause.out.items ++ record { file = c.args.file; offset = at; node = c.args.node } ∷ []) same
+    ∙ (ap (λ at. c.loop-clause.out.items ++ record { file = c.args.file; offset = at; node = c.args.node } ∷ []) c.start.ensures
     ∙ (ap (λ xs. xs ++ f (tree clause) ∷ []) c.loop-clause.invariant
     ∙ (append_assoc before sofar (f (tree clause) ∷ []) ∙ ap (λ xs. before ++ xs) (sym split))))
