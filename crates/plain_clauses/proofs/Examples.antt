@@ -4,7 +4,7 @@ use Rattle.prolog_terms.specs.declared.term.Span.{Span}
 use Rattle.prolog_terms.specs.declared.term.Form.TheVariants.{Functional, Infix, Prefix}
 use Rattle.prolog_terms.specs.declared.term.ConstKind.TheVariants.{Integer}
 use Rattle.prolog_terms.specs.Tree.{Tree, variable, constant, atom, compound, listed, tailed, curly, paren, trees_from}
-use Rattle.plain_clauses.specs.Plain.{is_plain_name, silent, PlainGoal, called, whole, PlainClause, plain_clause, plain, span_at}
+use Rattle.kept_clauses.specs.Plain.{fits, is_plain_name, silent, PlainGoal, called, whole, PlainClause, clause_span, plain_clause, plain, span_at}
 
 -- terms that start at an offset
 
@@ -47,13 +47,13 @@ abbrev a_call : ℕ → List ℕ → ℕ → PlainGoal
 a_call n own arity = called (record { at = n; name = own; arity = arity })
 
 abbrev defines : ℕ → List ℕ → ℕ → Option (List PlainGoal) → Option PlainClause
-defines n own arity body = Some (record { at = n; name = own; arity = arity; body = body })
+defines n own arity body = Some (record { span = at n; name = own; arity = arity; body = body })
 
 -- the goals of `p(X) :- body`
 abbrev has_goals : Tree → List PlainGoal → Type 0
 has_goals body goals = plain_clause (rule p body) ≡ defines 1 (codes "p") 1 (Some goals)
 
--- trees as plain trees have them
+-- trees as plain trees have them within, where no span is kept
 
 abbrev any : Tree
 any = variable (span_at 0)
@@ -64,28 +64,35 @@ plain_name n own = atom own (span_at n)
 abbrev plain_term : ℕ → List ℕ → List Tree → Tree
 plain_term n own args = compound own (trees_from args) Functional (span_at n)
 
-abbrev plain_rule : Tree → Tree → Tree
-plain_rule head body = compound (codes ":-") (trees_from (head ∷ body ∷ [])) Infix (span_at 1)
-
 abbrev plain_and : Tree → Tree → Tree
 plain_and left right = compound (codes ",") (trees_from (left ∷ right ∷ [])) Infix (span_at 0)
 
--- names: none of those with a meaning of their own, nor any with more than 511 arguments
+-- names: none of those with a meaning of their own, nor any with more than 63 arguments, nor at an offset from 8388608 on
 
-a_free_name : is_plain_name (codes "append") 3 ≡ true
+a_free_name : is_plain_name 5 (codes "append") 3 ≡ true
 a_free_name = refl
 
-no_control_construct : is_plain_name (codes "->") 2 ≡ false
+no_control_construct : is_plain_name 5 (codes "->") 2 ≡ false
 no_control_construct = refl
 
-no_module : is_plain_name (codes ":") 2 ≡ false
+no_module : is_plain_name 5 (codes ":") 2 ≡ false
 no_module = refl
 
-many_arguments : is_plain_name (codes "p") 511 ≡ true
+many_arguments : is_plain_name 5 (codes "p") 63 ≡ true
 many_arguments = refl
 
-too_many_arguments : is_plain_name (codes "p") 512 ≡ false
+too_many_arguments : is_plain_name 5 (codes "p") 64 ≡ false
 too_many_arguments = refl
+
+the_last_offset : is_plain_name 8388607 (codes "p") 63 ≡ true
+the_last_offset = refl
+
+past_the_last_offset : is_plain_name 8388608 (codes "p") 0 ≡ false
+past_the_last_offset = refl
+
+-- a reserved name fits too: `!` is a call as an atom
+any_name_fits : fits 8388607 0 ≡ true
+any_name_fits = refl
 
 -- silent terms: `X`, `[a]`, `[a|b]`, `([a])`, and none of `a`, `3`, `f(X)`, `{a}`
 
@@ -121,12 +128,12 @@ a_fact = refl
 an_atom_as_a_fact : plain_clause (name 1 (codes "a")) ≡ defines 1 (codes "a") 0 None
 an_atom_as_a_fact = refl
 
-arguments_of_a_fact : plain (with 3 (codes "p") (with 4 (codes "f") (var ∷ []) ∷ number 5 ∷ [])) ≡ plain_term 3 (codes "p") (any ∷ any ∷ [])
+arguments_of_a_fact : plain (with 3 (codes "p") (with 4 (codes "f") (var ∷ []) ∷ number 5 ∷ [])) ≡ with 3 (codes "p") (any ∷ any ∷ [])
 arguments_of_a_fact = refl
 
 -- `p(X) :- q(X, Y), r.`
 a_rule : plain (rule p (and_then (with 7 (codes "q") (var ∷ var ∷ [])) (name 9 (codes "r"))))
-    ≡ plain_rule (plain_term 0 (codes "p") (any ∷ [])) (plain_and (plain_term 7 (codes "q") (any ∷ any ∷ [])) (plain_name 9 (codes "r")))
+    ≡ rule (plain_term 0 (codes "p") (any ∷ [])) (plain_and (plain_term 7 (codes "q") (any ∷ any ∷ [])) (plain_name 9 (codes "r")))
 a_rule = refl
 
 -- `p(X) :- q([a], [a|T]).`
@@ -155,7 +162,7 @@ control_constructs = refl
 no_goals : has_goals var []
 no_goals = refl
 
-written_without_goals : plain (rule p var) ≡ plain_rule (plain_term 0 (codes "p") (any ∷ [])) any
+written_without_goals : plain (rule p var) ≡ rule (plain_term 0 (codes "p") (any ∷ [])) any
 written_without_goals = refl
 
 no_goals_either : has_goals (and_then (list (name 7 (codes "a") ∷ [])) (curly (name 8 (codes "b")) (at 9))) []
@@ -182,21 +189,32 @@ a_goal_within : has_goals (with 7 (codes "findall") (var ∷ with 8 (codes "q") 
     (whole (with 7 (codes "findall") (var ∷ with 8 (codes "q") (var ∷ []) ∷ var ∷ [])) ∷ [])
 a_goal_within = refl
 
+-- and goals past the last offset: `a`, `q(X)`
+
+a_late_atom : has_goals (name 8388608 (codes "a")) (whole (name 8388608 (codes "a")) ∷ [])
+a_late_atom = refl
+
+a_late_call : has_goals (with 8388608 (codes "q") (var ∷ [])) (whole (with 8388608 (codes "q") (var ∷ [])) ∷ [])
+a_late_call = refl
+
 -- only such goals of a clause do: `p(X) :- a, q(3), r(X).`
 one_of_three : plain (rule p (and_then (name 7 (codes "a")) (and_then (with 8 (codes "q") (number 9 ∷ [])) (with 10 (codes "r") (var ∷ [])))))
-    ≡ plain_rule (plain_term 0 (codes "p") (any ∷ []))
+    ≡ rule (plain_term 0 (codes "p") (any ∷ []))
     (plain_and (plain_name 7 (codes "a")) (plain_and (with 8 (codes "q") (number 9 ∷ [])) (plain_term 10 (codes "r") (any ∷ []))))
 one_of_three = refl
 
--- clauses in brackets have a plain form, which starts inside them: `(p(X)).`, `(p(X) :- a).`
+-- clauses in brackets have a plain form, with the span inside them: `(p(X)).`, `(p(X) :- a).`
 
-a_fact_in_brackets : plain (round p) ≡ plain_term 2 (codes "p") (any ∷ [])
+a_fact_in_brackets : plain (round p) ≡ with 2 (codes "p") (any ∷ [])
 a_fact_in_brackets = refl
 
-a_rule_in_brackets : plain (round (rule (round p) (round (name 7 (codes "a"))))) ≡ plain_rule (plain_term 0 (codes "p") (any ∷ [])) (plain_name 7 (codes "a"))
+span_in_brackets : clause_span (round (round p)) ≡ at 2
+span_in_brackets = refl
+
+a_rule_in_brackets : plain (round (rule (round p) (round (name 7 (codes "a"))))) ≡ rule (plain_term 0 (codes "p") (any ∷ [])) (plain_name 7 (codes "a"))
 a_rule_in_brackets = refl
 
--- clauses that keep their trees: `:- a.`, `?- a.`, `a --> b.`, `m:p(X) :- a.`, `m:p(X).`, `X :- a.`, `! :- a.`, `3.`, `[a].`
+-- clauses that keep their trees: `:- a.`, `?- a.`, `a --> b.`, `m:p(X) :- a.`, `m:p(X).`, `X :- a.`, `! :- a.`, `3.`, `[a].`, and a clause past the last offset
 
 a_directive : plain_clause (compound (codes ":-") (trees_from (name 2 (codes "a") ∷ [])) Prefix (at 1)) ≡ None
 a_directive = refl
@@ -224,3 +242,6 @@ a_number_as_a_clause = refl
 
 a_list_as_a_clause : plain_clause (list (name 5 (codes "a") ∷ [])) ≡ None
 a_list_as_a_clause = refl
+
+a_late_clause : plain_clause (name 8388608 (codes "a")) ≡ None
+a_late_clause = refl

@@ -1,5 +1,4 @@
 pub mod Examples
-pub mod FreeNames
 pub mod PlainForms
 pub mod WrittenForms
 pub mod PlainWeights

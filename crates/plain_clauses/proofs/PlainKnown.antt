@@ -12,7 +12,7 @@ use Rattle.module_table.specs.Facts.{Facts}
 use Rattle.module_table.specs.Placed.{ArePlacedIn}
 use Rattle.file_library.specs.Loaded.{NamedText}
 use Rattle.import_rules.specs.Program.{Seen, IsReadFrom, IsKnown}
-use Rattle.plain_clauses.specs.Plain.{plain}
+use Rattle.kept_clauses.specs.Plain.{plain}
 use Rattle.plain_clauses.specs.PlainFacts.{plain_predicate, plain_facts}
 use Rattle.plain_clauses.specs.PlainProgram.{plain_seen}
 use Rattle.plain_clauses.proofs.PlainImports.{numbers_same}

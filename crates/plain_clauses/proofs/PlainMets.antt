@@ -1,25 +1,20 @@
 -- What is met in a clause with a plain form: what is met in the goals of the form, in the order of the text.
-use Rattle.std.proofs.Common.{◌≡◌, ◌↔◌, inl, inr, ℕ, ◌+◌, ◌<◌, ◌==◌, Bool, true, false, ◌&&◌, ◌||◌, List, [], ◌∷◌, ◌++◌, Option, Some, None, length, if◌then◌else◌, codes, refl, sym, ap, ◌∙◌, subst, arith, append_assoc, append-nil}
+use Rattle.std.proofs.Common.{◌≡◌, ◌↔◌, inl, inr, ℕ, ◌+◌, ◌<◌, Bool, true, false, ◌&&◌, ◌||◌, List, [], ◌∷◌, ◌++◌, Option, Some, None, if◌then◌else◌, codes, refl, sym, ap, ◌∙◌, subst, arith, append_assoc, append-nil}
 use Rattle.std.specs.Prelude.{Contains}
-use Rattle.std.specs.List.{flat_map}
-use Rattle.std.specs.Option.{option_to_list}
 use Rattle.std.specs.Str.{bytes_eq}
-use Rattle.std.proofs.Math.Bool.{and-false}
 use Rattle.prolog_terms.specs.declared.term.Span.{Span}
 use Rattle.prolog_terms.specs.declared.term.Form.{Form}
 use Rattle.prolog_terms.specs.Tree.{Tree, Trees, variable, constant, atom, compound, listed, tailed, curly, paren, none, more, count}
-use Rattle.prolog_terms.specs.Views.{sides_of, trees_in}
-use Rattle.module_table.specs.declared.goal_arg.GoalArg.{GoalArg}
+use Rattle.prolog_terms.specs.Views.{sides_of}
+use Rattle.kept_clauses.specs.Plain.{is_one_of, control_names, fits, is_plain_name, all_silent, PlainGoal, called, whole, PlainClause, compound_goal, atom_goal, body_goals, plain_clause, plain}
 use Rattle.module_table.specs.declared.goal_arg.GoalArg.TheVariants.{Plain, Goal}
-use Rattle.call_edges.specs.declared.role.Way.{Way}
+use Rattle.kept_clauses.proofs.FreeNames.{both_true, plain_free}
 use Rattle.call_edges.specs.declared.role.Way.TheVariants.{Control, Qualified, Calling}
 use Rattle.call_edges.specs.Calls.{IsMetInClause, body_by, body_of}
-use Rattle.call_edges.specs.Goals.{Met, call, Place, Rows, Standing, no_goals, taken_by, way, is_control, role_at}
+use Rattle.call_edges.specs.Goals.{Met, Place, Rows, no_goals, way}
 use Rattle.call_edges.specs.Listed.{mets_in, mets_among}
+use Rattle.call_edges.proofs.GoalMets.{call_mets, met_by, goal_mets, goals_mets, body_mets}
 use Rattle.call_edges.proofs.ListedMets.{mets_are}
-use Rattle.call_edges.proofs.PartLemmas.{length_count}
-use Rattle.plain_clauses.specs.Plain.{is_one_of, control_names, is_free, is_plain_name, silent, all_silent, PlainGoal, called, whole, PlainClause, compound_goal, body_goals, plain_clause, plain}
-use Rattle.plain_clauses.proofs.FreeNames.{if_false, both_true, plain_free, not_negation, not_colon, no_control}
 use Rattle.plain_clauses.proofs.PlainForms.{rule_or_fact, fact_no_grammar}
 use Rattle.plain_clauses.proofs.WrittenForms.{same_by_form}
 
@@ -28,12 +23,6 @@ no_more xs = sym (append-nil xs)
 
 -- what a compound is to a body, by its name
 
-free_calls : (name : List ℕ) (n : ℕ) → is_free name ≡ true → way (Goal 0) name n ≡ Calling
-free_calls name n free =
-    if_false (true && is_control name n) _ _
-    ((λ i. (n == 2 && no_control name free i) || (n == 1 && (not_negation name free).1 i)) ∙ (λ i. and-false (n == 2) i || and-false (n == 1) i))
-    ∙ if_false (n == 2 && bytes_eq name (codes ":")) _ _ ((λ i. n == 2 && (not_colon name free).1 i) ∙ and-false (n == 2))
-
 negation_way : (name : List ℕ) → bytes_eq name (codes "\\+") ≡ true → way (Goal 0) name 1 ≡ Control
 negation_way name is = ap (λ (b : Bool). if b then Control else Calling) is
 
@@ -41,20 +30,6 @@ control_way : (name : List ℕ) → is_one_of control_names name ≡ true → wa
 control_way name is = ap (λ (b : Bool). if b || false then Control else (if bytes_eq name (codes ":") then Qualified else Calling)) is
 
 module _ (T : Rows) where
-  -- a silent term is met as nothing, whatever its role
-  pub silent_none : (owner : List ℕ) (role : GoalArg) (tree : Tree) → silent tree ≡ true → mets_in T owner role tree ≡ []
-  silent_none owner role (variable span) is = refl
-  silent_none owner role (listed items span) is = refl
-  silent_none owner role (tailed items tail span) is = refl
-  silent_none owner role (paren inner span) is = silent_none owner role inner is
-  silent_none owner role tree is = let none : false ≡ true = is in absurd (cc)
-
-  all_silent_none : (owner : List ℕ) (standing : Standing) (i : ℕ) (args : Trees) → all_silent args ≡ true → mets_among T owner standing i args ≡ []
-  all_silent_none owner standing i none is = refl
-  all_silent_none owner standing i (more tree trees) is =
-      let both = both_true (silent tree) (all_silent trees) is in
-      (λ k. silent_none owner (role_at standing i) tree both.0 k ++ all_silent_none owner standing (i + 1) trees both.1 k)
-
   -- nothing is met within a term that is no goal
   mutual
     plain_none : (owner : List ℕ) (tree : Tree) → mets_in T owner Plain tree ≡ []
@@ -72,68 +47,56 @@ module _ (T : Rows) where
     all_plain_none owner i (more tree trees) = λ k. plain_none owner tree k ++ all_plain_none owner (i + 1) trees k
 
   module _ (owner : List ℕ) where
-    -- what is met in the goals of a plain form
-
-    abbrev pub goal_mets : PlainGoal → List Met
-    goal_mets (called one) = call one.at owner one.name one.arity ∷ []
-    goal_mets (whole tree) = mets_in T owner (Goal 0) tree
-
-    abbrev pub goals_mets : List PlainGoal → List Met
-    goals_mets goals = flat_map goal_mets goals
-
-    abbrev pub body_mets : Option (List PlainGoal) → List Met
-    body_mets (Some goals) = goals_mets goals
-    body_mets None = []
-
-    append_mets : (xs ys : List PlainGoal) → goals_mets (xs ++ ys) ≡ goals_mets xs ++ goals_mets ys
+    append_mets : (xs ys : List PlainGoal) → goals_mets T owner (xs ++ ys) ≡ goals_mets T owner xs ++ goals_mets T owner ys
     append_mets [] ys = refl
-    append_mets (x ∷ xs) ys = ap (λ rest. goal_mets x ++ rest) (append_mets xs ys) ∙ sym (append_assoc (goal_mets x) (goals_mets xs) (goals_mets ys))
-
-    -- what is met at a compound, by what it is to the body, and in its arguments
-    abbrev met_by : Way → List ℕ → Trees → Span → List Met
-    met_by w name args span =
-        let apart = taken_by T w span.from owner (Goal 0) name (trees_in args) in option_to_list apart.met ++ mets_among T apart.module_ apart.standing 0 args
+    append_mets (x ∷ xs) ys = ap (λ rest. goal_mets T owner x ++ rest) (append_mets xs ys) ∙ sym (append_assoc (goal_mets T owner x) (goals_mets T owner xs) (goals_mets T owner ys))
 
     -- a compound that is no control construct
     compound_mets : (name : List ℕ) (args : Trees) (form : Form) (span : Span) →
-        mets_in T owner (Goal 0) (compound name args form span) ≡ goals_mets (compound_goal span.from name args (compound name args form span) ∷ [])
-    compound_mets name args form span = by_test (is_plain_name name (count args) && all_silent args) refl
+        mets_in T owner (Goal 0) (compound name args form span) ≡ goals_mets T owner (compound_goal span.from name args (compound name args form span) ∷ [])
+    compound_mets name args form span = by_test (is_plain_name span.from name (count args) && all_silent args) refl
       where
-        by_test : (test : Bool) → is_plain_name name (count args) && all_silent args ≡ test
+        by_test : (test : Bool) → is_plain_name span.from name (count args) && all_silent args ≡ test
             → mets_in T owner (Goal 0) (compound name args form span)
-            ≡ goals_mets ((if test then called (record { at = span.from; name = name; arity = count args }) else whole (compound name args form span)) ∷ [])
+            ≡ goals_mets T owner ((if test then called (record { at = span.from; name = name; arity = count args }) else whole (compound name args form span)) ∷ [])
         by_test true is =
-            let both = both_true (is_plain_name name (count args)) (all_silent args) is in
-            let arity = length (trees_in args) + 0 in
-            let many : arity ≡ count args = omega (arith, length_count args) in
-            ap (λ w. met_by w name args span) (free_calls name (length (trees_in args)) (plain_free name (count args) both.0))
-            ∙ (λ k. call span.from owner name (many k) ∷ all_silent_none owner (T owner name arity) 0 args both.1 k)
+            let both = both_true (is_plain_name span.from name (count args)) (all_silent args) is in
+            call_mets T owner name args span (plain_free span.from name (count args) both.0) both.1
         by_test false is = no_more (mets_in T owner (Goal 0) (compound name args form span))
 
-    pub goals_met : (tree : Tree) → mets_in T owner (Goal 0) tree ≡ goals_mets (body_goals tree)
+    -- an atom
+    atom_mets : (name : List ℕ) (span : Span) → mets_in T owner (Goal 0) (atom name span) ≡ goals_mets T owner (atom_goal span.from name (atom name span) ∷ [])
+    atom_mets name span = by_test (fits span.from 0)
+      where
+        by_test : (test : Bool) → mets_in T owner (Goal 0) (atom name span)
+            ≡ goals_mets T owner ((if test then called (record { at = span.from; name = name; arity = 0 }) else whole (atom name span)) ∷ [])
+        by_test true = refl
+        by_test false = no_more (mets_in T owner (Goal 0) (atom name span))
+
+    pub goals_met : (tree : Tree) → mets_in T owner (Goal 0) tree ≡ goals_mets T owner (body_goals tree)
     goals_met (variable span) = refl
     goals_met (constant kind minus value span) = no_more (mets_in T owner (Goal 0) (constant kind minus value span))
-    goals_met (atom name span) = refl
+    goals_met (atom name span) = atom_mets name span
     goals_met (compound name none form span) = compound_mets name none form span
     goals_met (compound name (more inner none) form span) = by_test (bytes_eq name (codes "\\+")) refl (goals_met inner)
       where
-        by_test : (test : Bool) → bytes_eq name (codes "\\+") ≡ test → mets_in T owner (Goal 0) inner ≡ goals_mets (body_goals inner)
+        by_test : (test : Bool) → bytes_eq name (codes "\\+") ≡ test → mets_in T owner (Goal 0) inner ≡ goals_mets T owner (body_goals inner)
             → mets_in T owner (Goal 0) (compound name (more inner none) form span)
-            ≡ goals_mets
+            ≡ goals_mets T owner
             (if test then body_goals inner else compound_goal span.from name (more inner none) (compound name (more inner none) form span) ∷ [])
         by_test true is inner_is =
-            ap (λ w. met_by w name (more inner none) span) (negation_way name is) ∙ sym (no_more (mets_in T owner (Goal 0) inner)) ∙ inner_is
+            ap (λ w. met_by T owner w name (more inner none) span) (negation_way name is) ∙ sym (no_more (mets_in T owner (Goal 0) inner)) ∙ inner_is
         by_test false is inner_is = compound_mets name (more inner none) form span
     goals_met (compound name (more left (more right none)) form span) = by_test (is_one_of control_names name) refl (goals_met left) (goals_met right)
       where
-        by_test : (test : Bool) → is_one_of control_names name ≡ test → mets_in T owner (Goal 0) left ≡ goals_mets (body_goals left)
-            → mets_in T owner (Goal 0) right ≡ goals_mets (body_goals right)
+        by_test : (test : Bool) → is_one_of control_names name ≡ test → mets_in T owner (Goal 0) left ≡ goals_mets T owner (body_goals left)
+            → mets_in T owner (Goal 0) right ≡ goals_mets T owner (body_goals right)
             → mets_in T owner (Goal 0) (compound name (more left (more right none)) form span)
-            ≡ goals_mets
+            ≡ goals_mets T owner
             (if test then body_goals left ++ body_goals right
             else compound_goal span.from name (more left (more right none)) (compound name (more left (more right none)) form span) ∷ [])
         by_test true is left_is right_is =
-            ap (λ w. met_by w name (more left (more right none)) span) (control_way name is)
+            ap (λ w. met_by T owner w name (more left (more right none)) span) (control_way name is)
             ∙ (λ k. left_is k ++ (sym (no_more (mets_in T owner (Goal 0) right)) ∙ right_is) k)
             ∙ sym (append_mets (body_goals left) (body_goals right))
         by_test false is left_is right_is = compound_mets name (more left (more right none)) form span
@@ -152,18 +115,18 @@ module _ (T : Rows) where
     abbrev pub clause_mets : Tree → List Met
     clause_mets tree = place_mets (body_of owner tree)
 
-    pub form_mets : (tree : Tree) (clause : PlainClause) → plain_clause tree ≡ Some clause → clause_mets tree ≡ body_mets clause.body
+    pub form_mets : (tree : Tree) (clause : PlainClause) → plain_clause tree ≡ Some clause → clause_mets tree ≡ body_mets T owner clause.body
     form_mets tree clause is =
         elim (rule_or_fact tree clause is) [
           | inl rule ↦
               ap (λ sides. place_mets (body_by owner sides (sides_of (codes "-->") tree))) rule.is
-              ∙ goals_met rule.sides.1 ∙ ap (λ (c : PlainClause). body_mets c.body) rule.named.clause_is
+              ∙ goals_met rule.sides.1 ∙ ap (λ (c : PlainClause). body_mets T owner c.body) rule.named.clause_is
           | inr fact ↦
-              (λ i. place_mets (body_by owner (fact.is i) (fact_no_grammar tree clause fact i))) ∙ ap (λ (c : PlainClause). body_mets c.body) fact.named.clause_is
+              (λ i. place_mets (body_by owner (fact.is i) (fact_no_grammar tree clause fact i))) ∙ ap (λ (c : PlainClause). body_mets T owner c.body) fact.named.clause_is
         ]
 
     pub plain_mets : (tree : Tree) → clause_mets (plain tree) ≡ clause_mets tree
-    plain_mets tree = same_by_form clause_mets (λ clause. body_mets clause.body) form_mets tree
+    plain_mets tree = same_by_form clause_mets (λ clause. body_mets T owner clause.body) form_mets tree
 
     pub clause_mets_are : (tree : Tree) (m : Met) → IsMetInClause T owner tree m ↔ Contains (clause_mets tree) m
     clause_mets_are tree m = (

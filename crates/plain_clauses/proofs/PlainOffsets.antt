@@ -3,13 +3,14 @@ use Rattle.std.proofs.Common.{◌≡◌, inl, inr, ℕ, zero, suc, Bool, true, f
 use Rattle.std.specs.Str.{bytes_eq}
 use Rattle.std.proofs.lemmas.Str.{IsUtf8-nil}
 use Rattle.prolog_tokens.specs.Places.{IsOffset}
+use Rattle.prolog_terms.specs.declared.term.Span.{Span}
 use Rattle.prolog_terms.specs.Tree.{Tree, Trees, variable, constant, atom, compound, listed, tailed, curly, paren, none, more, count}
-use Rattle.prolog_terms.specs.Views.{sides_of, start_of}
+use Rattle.prolog_terms.specs.Views.{sides_of}
 use Rattle.prolog_terms.proofs.ViewLemmas.{some_once, some_none, pair_if}
 use Rattle.clause_text.specs.Offsets.{HasOffsets, HaveOffsets}
 use Rattle.clause_text.proofs.TermOffsets.{start_stands}
-use Rattle.plain_clauses.specs.Plain.{is_one_of, control_names, is_plain_name, all_silent, PlainGoal, called, whole, PlainClause, compound_goal, body_goals, plain_clause}
-use Rattle.plain_clauses.specs.Plain.{variables, named_tree, goal_tree, goals_from, body_tree, written, plain}
+use Rattle.kept_clauses.specs.Plain.{is_one_of, control_names, fits, is_plain_name, all_silent, PlainGoal, called, whole, PlainClause, compound_goal, atom_goal, body_goals, clause_span}
+use Rattle.kept_clauses.specs.Plain.{plain_clause, span_at, variables, named_tree, goal_tree, goals_from, body_tree, written, plain}
 use Rattle.plain_clauses.proofs.PlainForms.{rule_or_fact}
 
 module _ (text : List ℕ) where
@@ -20,9 +21,9 @@ module _ (text : List ℕ) where
   variables_stand zero = tt
   variables_stand (suc n) = (begins, variables_stand n)
 
-  named_stands : (at : ℕ) (name : List ℕ) (arity : ℕ) → IsOffset text at → HasOffsets text (named_tree at name arity)
-  named_stands at name zero stands = stands
-  named_stands at name (suc n) stands = (stands, variables_stand (suc n))
+  named_stands : (span : Span) (name : List ℕ) (arity : ℕ) → IsOffset text span.from → HasOffsets text (named_tree span name arity)
+  named_stands span name zero stands = stands
+  named_stands span name (suc n) stands = (stands, variables_stand (suc n))
 
   abbrev Stand : List PlainGoal → Type 0
   Stand [] = Unit {0}
@@ -41,16 +42,23 @@ module _ (text : List ℕ) where
   body_stands (goal ∷ goals) stand = from_stands goal goals stand
 
   compound_stands : (at : ℕ) (name : List ℕ) (args : Trees) (tree : Tree) → IsOffset text at → HasOffsets text tree → HasOffsets text (goal_tree (compound_goal at name args tree))
-  compound_stands at name args tree stands all = by_test (is_plain_name name (count args) && all_silent args)
+  compound_stands at name args tree stands all = by_test (is_plain_name at name (count args) && all_silent args)
     where
       by_test : (test : Bool) → HasOffsets text (goal_tree (if test then called (record { at = at; name = name; arity = count args }) else whole tree))
-      by_test true = named_stands at name (count args) stands
+      by_test true = named_stands (span_at at) name (count args) stands
       by_test false = all
+
+  atom_stands : (name : List ℕ) (span : Span) → IsOffset text span.from → HasOffsets text (goal_tree (atom_goal span.from name (atom name span)))
+  atom_stands name span stands = by_test (fits span.from 0)
+    where
+      by_test : (test : Bool) → HasOffsets text (goal_tree (if test then called (record { at = span.from; name = name; arity = 0 }) else whole (atom name span)))
+      by_test true = stands
+      by_test false = stands
 
   goals_stand : (tree : Tree) → HasOffsets text tree → Stand (body_goals tree)
   goals_stand (variable span) all = tt
   goals_stand (constant kind minus value span) all = (all, tt)
-  goals_stand (atom name span) all = (all, tt)
+  goals_stand (atom name span) all = (atom_stands name span all, tt)
   goals_stand (compound name none form span) all = (compound_stands span.from name none (compound name none form span) all.0 all, tt)
   goals_stand (compound name (more inner none) form span) all = by_test (bytes_eq name (codes "\\+")) (goals_stand inner all.1.0)
     where
@@ -93,10 +101,10 @@ module _ (text : List ℕ) where
             let n = rule.named.named in
             let body = body_stands (body_goals rule.sides.1) (goals_stand rule.sides.1 (right_stands tree rule.sides.0 rule.sides.1 rule.is all)) in
             subst (λ (c : PlainClause). HasOffsets text (written c)) rule.named.clause_is
-            (start_stands text tree all, (named_stands 0 n.name n.arity begins, (body, tt)))
+            (start_stands text tree all, (named_stands (span_at 0) n.name n.arity begins, (body, tt)))
         | inr fact ↦
             let n = fact.named.named in
-            subst (λ (c : PlainClause). HasOffsets text (written c)) fact.named.clause_is (named_stands (start_of tree) n.name n.arity (start_stands text tree all))
+            subst (λ (c : PlainClause). HasOffsets text (written c)) fact.named.clause_is (named_stands (clause_span tree) n.name n.arity (start_stands text tree all))
       ]
 
   pub plain_stands : (tree : Tree) → HasOffsets text tree → HasOffsets text (plain tree)

@@ -21,7 +21,7 @@ use Rattle.call_edges.specs.Roots.{IsExportOf, Gives, IsGivenByRoot, IsCalledByG
 use Rattle.call_edges.specs.Unresolved.{IsUnresolved}
 use Rattle.call_edges.proofs.AmongLemmas.{among_as, among_map, among_flat}
 use Rattle.call_edges.proofs.BodyLemmas.{place_met, body_file}
-use Rattle.plain_clauses.specs.Plain.{plain}
+use Rattle.kept_clauses.specs.Plain.{plain}
 use Rattle.plain_clauses.specs.PlainFacts.{plain_predicate, plain_facts}
 use Rattle.plain_clauses.specs.PlainProgram.{plain_seen}
 use Rattle.plain_clauses.proofs.PlainMets.{plain_met}

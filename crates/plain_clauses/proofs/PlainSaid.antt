@@ -8,6 +8,7 @@ use Rattle.std.proofs.lemmas.List.{map-append}
 use Rattle.list_laws.proofs.Members.{map_has, map_from}
 use Rattle.prolog_terms.specs.Tree.{Tree}
 use Rattle.prolog_terms.specs.Views.{sides_of, start_of}
+use Rattle.prolog_terms.specs.declared.term.Span.{Span}
 use Rattle.clause_text.specs.Items.{directive_of}
 use Rattle.module_table.specs.Defined.{Defines, Predicate, clause_for, clauses_for, predicate_cmp, IsDefined, AreDefined}
 use Rattle.module_table.specs.Directives.{Home, home, directive_said}
@@ -16,9 +17,9 @@ use Rattle.module_table.specs.Heads.{Owned}
 use Rattle.module_table.specs.Kinds.{declared_part, load_part, defined_part, takes_part, goal_part, first_of, IsModule}
 use Rattle.module_table.specs.Said.{Said, Part, Refusal, declares, loads, defines, takes, goal, in_turn, each_said}
 use Rattle.module_table.proofs.DirectiveParts.{IsOfDirective, OfDirective, directive_of as directive_parts}
-use Rattle.plain_clauses.specs.Plain.{PlainClause, plain}
+use Rattle.kept_clauses.specs.Plain.{PlainClause, clause_span, plain}
 use Rattle.plain_clauses.specs.PlainFacts.{plain_predicate, plain_facts, plain_defines, plain_part, plain_said}
-use Rattle.plain_clauses.proofs.PlainForms.{directive_none, head_is, start_is}
+use Rattle.plain_clauses.proofs.PlainForms.{directive_none, head_is, span_is}
 use Rattle.plain_clauses.proofs.WrittenForms.{same_by_form}
 
 pub directive_same : (tree : Tree) → directive_of (plain tree) ≡ directive_of tree
@@ -28,8 +29,11 @@ pub head_same : (owner : List ℕ) (tree : Tree) → clause_head owner (plain tr
 head_same owner tree =
     same_by_form (clause_head owner) (λ (clause : PlainClause). Ok (record { module_ = owner; name = clause.name; arity = clause.arity })) (head_is owner) tree
 
+pub span_same : (tree : Tree) → clause_span (plain tree) ≡ clause_span tree
+span_same tree = same_by_form clause_span (λ (clause : PlainClause). clause.span) span_is tree
+
 pub start_same : (tree : Tree) → start_of (plain tree) ≡ start_of tree
-start_same tree = same_by_form start_of (λ (clause : PlainClause). clause.at) start_is tree
+start_same tree = ap (λ (span : Span). span.from) (span_same tree)
 
 -- what a clause says
 

@@ -1,21 +1,14 @@
 -- A plain tree weighs no more than its tree.
-use Rattle.std.proofs.Common.{◌≡◌, inl, inr, ℕ, zero, suc, ◌+◌, ◌≤◌, Bool, true, false, ◌&&◌, List, [], ◌∷◌, ◌++◌, Option, Some, None, if◌then◌else◌, codes, refl, subst, arith}
+use Rattle.std.proofs.Common.{◌≡◌, inl, inr, ℕ, ◌+◌, ◌≤◌, Bool, true, false, ◌&&◌, List, [], ◌∷◌, ◌++◌, Option, Some, None, if◌then◌else◌, codes, refl, subst, arith}
 use Rattle.std.specs.Str.{bytes_eq}
+use Rattle.prolog_terms.specs.declared.term.Span.{Span}
 use Rattle.prolog_terms.specs.Tree.{Tree, Trees, variable, constant, atom, compound, listed, tailed, curly, paren, none, more, count}
-use Rattle.prolog_terms.specs.Views.{start_of}
 use Rattle.prolog_terms.specs.Weight.{weight, weights}
 use Rattle.prolog_terms.proofs.ViewLemmas.{arity_weight, count_weight, sides_weight}
-use Rattle.plain_clauses.specs.Plain.{is_one_of, control_names, is_plain_name, all_silent, PlainGoal, called, whole, PlainClause, compound_goal, body_goals, plain_clause}
-use Rattle.plain_clauses.specs.Plain.{variables, named_tree, goal_tree, goals_from, body_tree, written, plain}
+use Rattle.kept_clauses.specs.Plain.{is_one_of, control_names, fits, is_plain_name, all_silent, PlainGoal, called, whole, PlainClause, compound_goal, atom_goal, body_goals, clause_span}
+use Rattle.kept_clauses.specs.Plain.{plain_clause, span_at, goal_tree, goals_from, body_tree, written, plain}
+use Rattle.call_edges.proofs.GoalMets.{named_weight}
 use Rattle.plain_clauses.proofs.PlainForms.{rule_or_fact}
-
-variables_weight : (n : ℕ) → weights (variables n) ≡ n
-variables_weight zero = refl
-variables_weight (suc n) = omega (arith, variables_weight n)
-
-named_weight : (at : ℕ) (name : List ℕ) (arity : ℕ) → weight (named_tree at name arity) ≡ arity
-named_weight at name zero = refl
-named_weight at name (suc n) = variables_weight (suc n)
 
 -- one goal more, and its comma
 from_weight : (goal : PlainGoal) (goals : List PlainGoal) → weight (goals_from goal goals) ≤ weight (goal_tree goal) + weight (body_tree goals) + 2
@@ -30,16 +23,23 @@ append_weight (x ∷ (y ∷ xs)) ys =
     omega arith
 
 compound_weight : (at : ℕ) (name : List ℕ) (args : Trees) (tree : Tree) → weights args ≤ weight tree → weight (goal_tree (compound_goal at name args tree)) ≤ weight tree
-compound_weight at name args tree within = by_test (is_plain_name name (count args) && all_silent args)
+compound_weight at name args tree within = by_test (is_plain_name at name (count args) && all_silent args)
   where
     by_test : (test : Bool) → weight (goal_tree (if test then called (record { at = at; name = name; arity = count args }) else whole tree)) ≤ weight tree
-    by_test true = omega (arith, within, named_weight at name (count args), count_weight args)
+    by_test true = omega (arith, within, named_weight (span_at at) name (count args), count_weight args)
     by_test false = omega arith
+
+atom_weight : (name : List ℕ) (span : Span) → weight (goal_tree (atom_goal span.from name (atom name span))) ≡ 0
+atom_weight name span = by_test (fits span.from 0)
+  where
+    by_test : (test : Bool) → weight (goal_tree (if test then called (record { at = span.from; name = name; arity = 0 }) else whole (atom name span))) ≡ 0
+    by_test true = refl
+    by_test false = refl
 
 goals_weight : (tree : Tree) → weight (body_tree (body_goals tree)) ≤ weight tree
 goals_weight (variable span) = omega arith
 goals_weight (constant kind minus value span) = omega arith
-goals_weight (atom name span) = omega arith
+goals_weight (atom name span) = omega (arith, atom_weight name span)
 goals_weight (compound name none form span) = compound_weight span.from name none (compound name none form span) (omega arith)
 goals_weight (compound name (more inner none) form span) = by_test (bytes_eq name (codes "\\+")) (goals_weight inner)
   where
@@ -73,7 +73,7 @@ written_light tree clause is =
           subst (λ (c : PlainClause). weight (written c) ≤ weight tree) rule.named.clause_is
           (omega (
             arith,
-            named_weight 0 n.name n.arity,
+            named_weight (span_at 0) n.name n.arity,
             arity_weight rule.sides.0 n rule.named.is,
             goals_weight rule.sides.1,
             sides_weight (codes ":-") tree rule.sides.0 rule.sides.1 rule.is,
@@ -81,7 +81,7 @@ written_light tree clause is =
       | inr fact ↦
           let n = fact.named.named in
           subst (λ (c : PlainClause). weight (written c) ≤ weight tree) fact.named.clause_is
-          (omega (arith, named_weight (start_of tree) n.name n.arity, arity_weight tree n fact.named.is))
+          (omega (arith, named_weight (clause_span tree) n.name n.arity, arity_weight tree n fact.named.is))
     ]
 
 pub plain_light : (tree : Tree) → weight (plain tree) ≤ weight tree

@@ -14,8 +14,9 @@ use Rattle.module_table.specs.Said.{Refusal}
 use Rattle.module_table.specs.Facts.{clause_head}
 use Rattle.call_edges.specs.Calls.{IsMetInClause}
 use Rattle.call_edges.specs.Goals.{Met, call, fault, Rows, as_declared, by_table, row}
+use Rattle.kept_clauses.specs.Views.{IsSoundGoal}
 use Rattle.call_edges.specs.Listed.{mets_in}
-use Rattle.plain_clauses.specs.Plain.{PlainGoal, called, written, plain}
+use Rattle.kept_clauses.specs.Plain.{PlainGoal, called, written, plain}
 use Rattle.plain_clauses.proofs.PlainMets.{clause_mets, clause_mets_are}
 
 abbrev at : ℕ → Span
@@ -38,7 +39,7 @@ user = codes "user"
 
 -- `p` with a body of one goal, as a plain tree would have it
 abbrev with_goal : PlainGoal → Tree
-with_goal goal = written (record { at = 1; name = codes "p"; arity = 0; body = Some (goal ∷ []) })
+with_goal goal = written (record { span = at 1; name = codes "p"; arity = 0; body = Some (goal ∷ []) })
 
 abbrev a_call : ℕ → List ℕ → ℕ → PlainGoal
 a_call n own arity = called (record { at = n; name = own; arity = arity })
@@ -128,6 +129,25 @@ moved_is_lost met =
 
 moved_is_kept : clause_mets declaring user (plain (rule p (with 7 (codes "q") (var ∷ [])))) ≡ call 7 user (codes "q") 1 ∷ []
 moved_is_kept = refl
+
+-- a call of a reserved name with arguments is none as a term, so it isn't sound: `','(X, Y)` has two goals, both variables
+
+abbrev joining : PlainGoal
+joining = a_call 7 (codes ",") 2
+
+nothing_is_met : clause_mets declaring user (with_goal joining) ≡ []
+nothing_is_met = refl
+
+call_is_lost : IsMetInClause declaring user (with_goal joining) (call 7 user (codes ",") 2) → ⊥
+call_is_lost met =
+    let one = call 7 user (codes ",") 2 in nothing_in one ((clause_mets_are declaring user (with_goal joining) one).0 met)
+
+not_sound : IsSoundGoal joining → ⊥
+not_sound sound = elim sound [ inl none ↦ absurd (omega (arith, none)) | inr free ↦ let both : false ≡ true = free in absurd (cc) ]
+
+-- and as an atom it is sound: `','`
+atom_is_sound : IsSoundGoal (a_call 7 (codes ",") 0)
+atom_is_sound = inl refl
 
 -- a goal of another module is no call of the name in this one: `p :- m:a.`
 

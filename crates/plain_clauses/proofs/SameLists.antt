@@ -12,7 +12,7 @@ use Rattle.call_edges.specs.Calls.{body_of}
 use Rattle.call_edges.specs.Goals.{Met, Place, Rows}
 use Rattle.call_edges.specs.ProgramRows.{rows_of}
 use Rattle.call_edges.specs.Successors.{body_mets, node_mets, is_target, calls_to, successor_lists}
-use Rattle.plain_clauses.specs.Plain.{plain}
+use Rattle.kept_clauses.specs.Plain.{plain}
 use Rattle.plain_clauses.specs.PlainFacts.{plain_predicate, plain_facts}
 use Rattle.plain_clauses.specs.PlainProgram.{plain_seen}
 use Rattle.plain_clauses.proofs.PlainMets.{place_mets, clause_mets, plain_mets}

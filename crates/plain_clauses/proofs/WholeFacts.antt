@@ -11,7 +11,7 @@ use Rattle.module_table.specs.Kinds.{declared_part, load_part, defined_part, tak
 use Rattle.module_table.specs.Said.{Said, Part}
 use Rattle.module_table.proofs.OneFacts.{one_facts}
 use Rattle.module_table.proofs.SaidLemmas.{ok_once}
-use Rattle.plain_clauses.specs.Plain.{plain}
+use Rattle.kept_clauses.specs.Plain.{plain}
 use Rattle.plain_clauses.specs.PlainFacts.{plain_facts, plain_defines, plain_part, plain_said}
 use Rattle.plain_clauses.proofs.PlainSaid.{IsGathered, kinds_same, defined_plain, defined_there, defined_from, file_plain, facts_are}
 

@@ -4,12 +4,12 @@ use Rattle.std.specs.List.{AllZip}
 use Rattle.module_table.specs.Facts.{Facts, AreFacts}
 use Rattle.module_table.specs.FileText.{HasFacts}
 use Rattle.file_library.specs.Loaded.{NamedText}
-use Rattle.plain_clauses.specs.Plain.{plain}
-use Rattle.plain_clauses.specs.PlainFacts.{plain_facts, HasPlainFacts}
+use Rattle.kept_clauses.specs.Plain.{plain}
+use Rattle.plain_clauses.specs.PlainFacts.{plain_facts, HasWholeFacts}
 use Rattle.plain_clauses.proofs.PlainSaid.{facts_are}
 use Rattle.plain_clauses.proofs.WholeFacts.{whole_facts}
 
-pub text_whole : (name text : List ℕ) (facts : Facts) → HasPlainFacts name text facts ↔ ((whole : Facts) × HasFacts name text whole × (facts ≡ plain_facts whole))
+pub text_whole : (name text : List ℕ) (facts : Facts) → HasFacts name text facts ↔ ((whole : Facts) × HasWholeFacts name text whole × (facts ≡ plain_facts whole))
 text_whole name text facts = (
   λ has. let own = whole_facts name has.trees facts has.are in (own.0, record { trees = has.trees; reads = has.reads; are = own.1 }, own.2),
   λ has. record {
@@ -19,13 +19,13 @@ text_whole name text facts = (
   },
 )
 
-abbrev pub HavePlainFacts : List NamedText → List Facts → Type 0
-HavePlainFacts texts files = AllZip (λ (text : NamedText) (facts : Facts). HasPlainFacts text.0 text.1 facts) texts files
-
 abbrev pub HaveFacts : List NamedText → List Facts → Type 0
 HaveFacts texts files = AllZip (λ (text : NamedText) (facts : Facts). HasFacts text.0 text.1 facts) texts files
 
-pub texts_whole : (texts : List NamedText) (files : List Facts) → HavePlainFacts texts files → (whole : List Facts) × HaveFacts texts whole × (files ≡ map plain_facts whole)
+abbrev pub HaveWholeFacts : List NamedText → List Facts → Type 0
+HaveWholeFacts texts files = AllZip (λ (text : NamedText) (facts : Facts). HasWholeFacts text.0 text.1 facts) texts files
+
+pub texts_whole : (texts : List NamedText) (files : List Facts) → HaveFacts texts files → (whole : List Facts) × HaveWholeFacts texts whole × (files ≡ map plain_facts whole)
 texts_whole [] [] have = ([], tt, refl)
 texts_whole [] (file ∷ files) have = absurd have
 texts_whole (text ∷ texts) [] have = absurd have

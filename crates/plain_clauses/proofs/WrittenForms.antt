@@ -1,36 +1,17 @@
 -- A plain form that is written as a term is the plain form of that term.
 use Rattle.std.proofs.Common.{◌≡◌, inl, inr, ℕ, zero, suc, Bool, true, false, ◌&&◌, List, [], ◌∷◌, ◌++◌, Option, Some, None, if◌then◌else◌, codes, refl, sym, ap, ◌∙◌, subst}
 use Rattle.std.specs.Str.{bytes_eq}
+use Rattle.prolog_terms.specs.declared.term.Span.{Span}
 use Rattle.prolog_terms.specs.Tree.{Tree, Trees, variable, constant, atom, compound, listed, tailed, curly, paren, none, more, count}
-use Rattle.prolog_terms.specs.Views.{sides_of, name_and_arity, start_of}
-use Rattle.plain_clauses.specs.Plain.{is_one_of, control_names, is_free, is_plain_name, all_silent, PlainGoal, called, whole, PlainClause, compound_goal, body_goals, clause_named, clause_by, plain_clause}
-use Rattle.plain_clauses.specs.Plain.{variables, named_tree, goal_tree, goals_from, body_tree, written, plain}
-use Rattle.plain_clauses.proofs.FreeNames.{if_true, if_false, both_true, plain_free, not_rule, not_negation, no_control}
+use Rattle.prolog_terms.specs.Views.{binary}
+use Rattle.kept_clauses.specs.Plain.{is_one_of, control_names, is_free, fits, is_plain_name, all_silent, PlainGoal, called, whole, PlainClause, compound_goal, atom_goal, body_goals, clause_span}
+use Rattle.kept_clauses.specs.Plain.{clause_named, clause_by, plain_clause, span_at, variables, named_tree, goal_tree, goals_from, body_tree, written, plain}
+use Rattle.kept_clauses.proofs.Bodies.{if_true, if_false}
+use Rattle.kept_clauses.proofs.FreeNames.{both_true, plain_free, not_negation}
+use Rattle.module_table.proofs.PlainHeads.{no_control}
+use Rattle.module_table.proofs.PlainHeads.{count_variables, named_back, named_span, named_binary, no_rule}
+use Rattle.call_edges.proofs.GoalMets.{silent_variables}
 use Rattle.plain_clauses.proofs.PlainForms.{rule_or_fact}
-
--- terms with variables for arguments
-
-pub count_variables : (n : ℕ) → count (variables n) ≡ n
-count_variables zero = refl
-count_variables (suc n) = ap (λ k. suc k) (count_variables n)
-
-pub silent_variables : (n : ℕ) → all_silent (variables n) ≡ true
-silent_variables zero = refl
-silent_variables (suc n) = silent_variables n
-
-named_back : (at : ℕ) (name : List ℕ) (arity : ℕ) → name_and_arity (named_tree at name arity) ≡ Some (record { name = name; arity = arity })
-named_back at name zero = refl
-named_back at name (suc n) = ap (λ k. Some (record { name = name; arity = suc k })) (count_variables n)
-
-named_start : (at : ℕ) (name : List ℕ) (arity : ℕ) → start_of (named_tree at name arity) ≡ at
-named_start at name zero = refl
-named_start at name (suc n) = refl
-
-named_no_rule : (at : ℕ) (name : List ℕ) (arity : ℕ) → is_free name ≡ true → sides_of (codes ":-") (named_tree at name arity) ≡ None
-named_no_rule at name zero free = refl
-named_no_rule at name (suc zero) free = refl
-named_no_rule at name (suc (suc zero)) free = if_false (bytes_eq name (codes ":-")) _ _ (not_rule name free).1
-named_no_rule at name (suc (suc (suc n))) free = refl
 
 -- goals that are read again as themselves
 
@@ -48,41 +29,58 @@ normal_append (x ∷ xs) ys first second = (first.0, normal_append xs ys first.1
 abbrev call_goal : ℕ → List ℕ → ℕ → PlainGoal
 call_goal at name arity = called (record { at = at; name = name; arity = arity })
 
--- a compound with a free name, of which the arguments are variables
+-- an atom, and a compound with a free name, of which the arguments are variables
 module _ (at : ℕ) (name : List ℕ) where
-  compound_back : (n : ℕ) (tree : Tree) → is_plain_name name n ≡ true → compound_goal at name (variables n) tree ≡ call_goal at name n
+  atom_back : (tree : Tree) → fits at 0 ≡ true → atom_goal at name tree ≡ call_goal at name 0
+  atom_back tree is = if_true (fits at 0) _ _ is
+
+  compound_back : (n : ℕ) (tree : Tree) → is_plain_name at name n ≡ true → compound_goal at name (variables n) tree ≡ call_goal at name n
   compound_back n tree is =
-      if_true (is_plain_name name (count (variables n)) && all_silent (variables n)) _ _
-      ((λ i. is_plain_name name (count_variables n i) && silent_variables n i) ∙ (λ i. is i && true))
+      if_true (is_plain_name at name (count (variables n)) && all_silent (variables n)) _ _
+      ((λ i. is_plain_name at name (count_variables n i) && silent_variables n i) ∙ (λ i. is i && true))
       ∙ ap (λ k. call_goal at name k) (count_variables n)
 
-  call_back : (n : ℕ) → is_plain_name name n ≡ true → body_goals (named_tree at name n) ≡ call_goal at name n ∷ []
-  call_back zero is = refl
+  abbrev tree_of : ℕ → Tree
+  tree_of n = named_tree (span_at at) name n
+
+  call_back : (n : ℕ) → is_plain_name at name n ≡ true → body_goals (tree_of n) ≡ call_goal at name n ∷ []
+  call_back zero is = ap (λ goal. goal ∷ []) (atom_back (tree_of 0) (both_true (is_free name) (fits at 0) is).1)
   call_back (suc zero) is =
-      if_false (bytes_eq name (codes "\\+")) _ _ (not_negation name (plain_free name 1 is)).1 ∙ ap (λ goal. goal ∷ []) (compound_back 1 (named_tree at name 1) is)
+      if_false (bytes_eq name (codes "\\+")) _ _ (not_negation name (plain_free at name 1 is)).1 ∙ ap (λ goal. goal ∷ []) (compound_back 1 (tree_of 1) is)
   call_back (suc (suc zero)) is =
-      if_false (is_one_of control_names name) _ _ (no_control name (plain_free name 2 is)) ∙ ap (λ goal. goal ∷ []) (compound_back 2 (named_tree at name 2) is)
-  call_back (suc (suc (suc n))) is = ap (λ goal. goal ∷ []) (compound_back (suc (suc (suc n))) (named_tree at name (suc (suc (suc n)))) is)
+      if_false (is_one_of control_names name) _ _ (no_control name (plain_free at name 2 is)) ∙ ap (λ goal. goal ∷ []) (compound_back 2 (tree_of 2) is)
+  call_back (suc (suc (suc n))) is = ap (λ goal. goal ∷ []) (compound_back (suc (suc (suc n))) (tree_of (suc (suc (suc n)))) is)
+
+atom_normal : (name : List ℕ) (span : Span) → IsNormal (atom_goal span.from name (atom name span))
+atom_normal name span = by_test (fits span.from 0) refl
+  where
+    by_test : (test : Bool) → fits span.from 0 ≡ test → IsNormal (atom_goal span.from name (atom name span))
+    by_test true test_is =
+        subst IsNormal (sym (atom_back span.from name (atom name span) test_is))
+        (ap (λ goal. goal ∷ []) (atom_back span.from name (atom name (span_at span.from)) test_is))
+    by_test false test_is =
+        let goal_is = if_false (fits span.from 0) (call_goal span.from name 0) (whole (atom name span)) test_is in
+        subst IsNormal (sym goal_is) (ap (λ goal. goal ∷ []) goal_is)
 
 compound_normal : (at : ℕ) (name : List ℕ) (args : Trees) (tree : Tree) → body_goals tree ≡ compound_goal at name args tree ∷ []
     → IsNormal (compound_goal at name args tree)
-compound_normal at name args tree is = by_test (is_plain_name name (count args) && all_silent args) refl
+compound_normal at name args tree is = by_test (is_plain_name at name (count args) && all_silent args) refl
   where
     chosen : Bool → PlainGoal
     chosen test = if test then call_goal at name (count args) else whole tree
 
-    by_test : (test : Bool) → is_plain_name name (count args) && all_silent args ≡ test → IsNormal (compound_goal at name args tree)
+    by_test : (test : Bool) → is_plain_name at name (count args) && all_silent args ≡ test → IsNormal (compound_goal at name args tree)
     by_test true test_is =
-        subst IsNormal (sym (if_true (is_plain_name name (count args) && all_silent args) _ _ test_is))
-        (call_back at name (count args) (both_true (is_plain_name name (count args)) (all_silent args) test_is).0)
+        subst IsNormal (sym (if_true (is_plain_name at name (count args) && all_silent args) _ _ test_is))
+        (call_back at name (count args) (both_true (is_plain_name at name (count args)) (all_silent args) test_is).0)
     by_test false test_is =
-        let goal_is = if_false (is_plain_name name (count args) && all_silent args) (call_goal at name (count args)) (whole tree) test_is in
+        let goal_is = if_false (is_plain_name at name (count args) && all_silent args) (call_goal at name (count args)) (whole tree) test_is in
         subst IsNormal (sym goal_is) (is ∙ ap (λ goal. goal ∷ []) goal_is)
 
 pub goals_normal : (tree : Tree) → AreNormal (body_goals tree)
 goals_normal (variable span) = tt
 goals_normal (constant kind minus value span) = (refl, tt)
-goals_normal (atom name span) = (refl, tt)
+goals_normal (atom name span) = (atom_normal name span, tt)
 goals_normal (compound name none form span) = (compound_normal span.from name none (compound name none form span) refl, tt)
 goals_normal (compound name (more inner none) form span) = by_test (bytes_eq name (codes "\\+")) refl (goals_normal inner)
   where
@@ -126,20 +124,21 @@ body_back (goal ∷ goals) normal = from_back goal goals normal
 
 -- clauses
 
-module _ (at : ℕ) (name : List ℕ) (arity : ℕ) (plain_name : is_plain_name name arity ≡ true) where
+module _ (span : Span) (name : List ℕ) (arity : ℕ) (plain_name : is_plain_name span.from name arity ≡ true) where
   abbrev made : Option (List PlainGoal) → PlainClause
-  made body = record { at = at; name = name; arity = arity; body = body }
+  made body = record { span = span; name = name; arity = arity; body = body }
 
-  named_made : (body : Option (List PlainGoal)) → clause_named at body (Some (record { name = name; arity = arity })) ≡ Some (made body)
-  named_made body = if_true (is_plain_name name arity) _ _ plain_name
+  named_made : (body : Option (List PlainGoal)) → clause_named span body (Some (record { name = name; arity = arity })) ≡ Some (made body)
+  named_made body = if_true (is_plain_name span.from name arity) _ _ plain_name
 
   rule_back : (goals : List PlainGoal) → body_goals (body_tree goals) ≡ goals → plain_clause (written (made (Some goals))) ≡ Some (made (Some goals))
-  rule_back goals back = (λ i. clause_named at (Some (back i)) (named_back 0 name arity i)) ∙ named_made (Some goals)
+  rule_back goals back = (λ i. clause_named span (Some (back i)) (named_back (span_at 0) name arity i)) ∙ named_made (Some goals)
 
   fact_back : plain_clause (written (made None)) ≡ Some (made None)
   fact_back =
-      ap (clause_by (named_tree at name arity)) (named_no_rule at name arity (plain_free name arity plain_name))
-      ∙ (λ i. clause_named (named_start at name arity i) None (named_back at name arity i)) ∙ named_made None
+      let tree = named_tree span name arity in
+      ap (clause_by tree) (no_rule (binary tree) (named_binary span name arity (plain_free span.from name arity plain_name)))
+      ∙ (λ i. clause_named (named_span span name arity i) None (named_back span name arity i)) ∙ named_made None
 
 pub written_back : (tree : Tree) (clause : PlainClause) → plain_clause tree ≡ Some clause → plain_clause (written clause) ≡ Some clause
 written_back tree clause is =
@@ -147,10 +146,10 @@ written_back tree clause is =
       | inl rule ↦
           let n = rule.named.named in
           subst (λ (c : PlainClause). plain_clause (written c) ≡ Some c) rule.named.clause_is
-          (rule_back (start_of tree) n.name n.arity rule.named.plain (body_goals rule.sides.1) (body_back (body_goals rule.sides.1) (goals_normal rule.sides.1)))
+          (rule_back (clause_span tree) n.name n.arity rule.named.plain (body_goals rule.sides.1) (body_back (body_goals rule.sides.1) (goals_normal rule.sides.1)))
       | inr fact ↦
           let n = fact.named.named in
-          subst (λ (c : PlainClause). plain_clause (written c) ≡ Some c) fact.named.clause_is (fact_back (start_of tree) n.name n.arity fact.named.plain)
+          subst (λ (c : PlainClause). plain_clause (written c) ≡ Some c) fact.named.clause_is (fact_back (clause_span tree) n.name n.arity fact.named.plain)
     ]
 
 -- whatever two terms of one plain form share is the same of a tree and its plain tree

@@ -1,4 +1,2 @@
-pub mod Plain
 pub mod PlainFacts
-pub mod FormMets
 pub mod PlainProgram

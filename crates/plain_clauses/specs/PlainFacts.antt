@@ -1,11 +1,11 @@
--- The facts of a file, with the plain trees of its clauses.
+-- Facts of files with plain trees, and with clauses as they are written.
 use Rattle.std.specs.Prelude.{ℕ, List, Ok, Err, map, option_map}
 use Rattle.prolog_terms.specs.Tree.{Tree}
 use Rattle.clause_text.specs.Clauses.{ReadsAs}
 use Rattle.module_table.specs.Defined.{Defines, Predicate}
 use Rattle.module_table.specs.Facts.{Facts, AreFacts}
 use Rattle.module_table.specs.Said.{Said, Part, defines}
-use Rattle.plain_clauses.specs.Plain.{plain}
+use Rattle.kept_clauses.specs.Plain.{plain}
 
 abbrev pub plain_predicate : Predicate → Predicate
 plain_predicate predicate = record predicate { clauses = map plain predicate.clauses }
@@ -13,11 +13,11 @@ plain_predicate predicate = record predicate { clauses = map plain predicate.cla
 abbrev pub plain_facts : Facts → Facts
 plain_facts facts = record facts { defined = map plain_predicate facts.defined }
 
--- the text is clauses, and the facts are those of a file of that name with their plain trees
-pub record HasPlainFacts (name text : List ℕ) (facts : Facts) : Type 0 where
+-- the text is clauses, and the facts are those of a file of that name with these clauses as they are written
+pub record HasWholeFacts (name text : List ℕ) (facts : Facts) : Type 0 where
   pub trees : List Tree
   pub reads : ReadsAs text trees
-  pub are : AreFacts name (map plain trees) facts
+  pub are : AreFacts name trees facts
 
 -- what clauses say, each that defines with its plain tree
 

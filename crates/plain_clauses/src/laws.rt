@@ -5,6 +5,7 @@ ghost use Rattle.std.specs.List.{AllZip};
 ghost use Rattle.prolog_terms.specs.Tree.{Tree};
 ghost use Rattle.prolog_terms.specs.Views.{start_of};
 ghost use Rattle.prolog_terms.specs.Weight.{weight};
+ghost use Rattle.kept_clauses.specs.Plain.{silent, PlainClause, body_goals, clause_span, plain, plain_clause};
 ghost use Rattle.clause_text.specs.Items.{directive_of};
 ghost use Rattle.clause_text.specs.Offsets.{HasOffsets};
 ghost use Rattle.module_table.specs.declared.goal_arg.GoalArg.{GoalArg};
@@ -22,23 +23,22 @@ ghost use Rattle.call_edges.specs.CallPlaces.{CallAt, IsCallOf};
 ghost use Rattle.call_edges.specs.FileOrder.{start_in};
 ghost use Rattle.call_edges.specs.Goals.{Met, Rows, place, IsMet};
 ghost use Rattle.call_edges.specs.GoalFaults.{IsGoalFault};
+ghost use Rattle.call_edges.specs.KeptGoals.{IsMetInGoal, IsMetInForm};
 ghost use Rattle.call_edges.specs.Roots.{IsRoot};
 ghost use Rattle.call_edges.specs.Successors.{successor_lists};
 ghost use Rattle.call_edges.specs.Unresolved.{IsUnresolved};
-ghost use Rattle.plain_clauses.specs.FormMets.{IsMetInGoal, IsMetInForm};
-ghost use Rattle.plain_clauses.specs.Plain.{silent, PlainClause, body_goals, plain, plain_clause};
-ghost use Rattle.plain_clauses.specs.PlainFacts.{plain_facts, HasPlainFacts};
+ghost use Rattle.plain_clauses.specs.PlainFacts.{plain_facts, HasWholeFacts};
 ghost use Rattle.plain_clauses.specs.PlainProgram.{plain_loaded, plain_seen};
 
-/// A clause with a plain form is no directive. It starts where the form says, and defines what the
-/// form says in the module of its file. In its body exactly the calls of the form occur, and what
+/// A clause with a plain form is no directive. Inside its brackets it has the span of the form, and
+/// it defines what the form says in the module of its file. In its body exactly the calls of the form occur, and what
 /// occurs in its whole goals, whatever a program declares (`met`). The same holds for each body
 /// and the goals in it (`body`), and a silent term has nothing in it, whatever its role (`silent`).
 pub fn plain_forms()
     ensures directive { (tree : Tree) (clause : PlainClause) → plain_clause tree ≡ Some clause → directive_of tree ≡ None }
     ensures head { (owner : List ℕ) (tree : Tree) (clause : PlainClause) → plain_clause tree ≡ Some clause
         → clause_head owner tree ≡ Ok (record { module_ = owner; name = clause.name; arity = clause.arity }) }
-    ensures start { (tree : Tree) (clause : PlainClause) → plain_clause tree ≡ Some clause → start_of tree ≡ clause.at }
+    ensures span { (tree : Tree) (clause : PlainClause) → plain_clause tree ≡ Some clause → clause_span tree ≡ clause.span }
     ensures met { (T : Rows) (owner : List ℕ) (tree : Tree) (clause : PlainClause) (m : Met) → plain_clause tree ≡ Some clause
         → IsMetInClause T owner tree m ↔ IsMetInForm T owner clause.body m }
     ensures body { (T : Rows) (owner : List ℕ) (body : Tree) (m : Met)
@@ -47,12 +47,13 @@ pub fn plain_forms()
 {}
 
 /// A plain tree is a directive exactly if its clause is, and then the same one. It defines the same
-/// predicate and starts at the same offset. The same goals occur in its body, each at its offset,
+/// predicate, has the same span and starts at the same offset. The same goals occur in its body, each at its offset,
 /// whatever a program declares (`met`). It weighs no more, and has terms only at offsets of the
 /// text. It is its own plain tree.
 pub fn plain_law()
     ensures directive { (tree : Tree) → directive_of (plain tree) ≡ directive_of tree }
     ensures head { (owner : List ℕ) (tree : Tree) → clause_head owner (plain tree) ≡ clause_head owner tree }
+    ensures span { (tree : Tree) → clause_span (plain tree) ≡ clause_span tree }
     ensures start { (tree : Tree) → start_of (plain tree) ≡ start_of tree }
     ensures met { (T : Rows) (owner : List ℕ) (tree : Tree) (m : Met) → IsMetInClause T owner (plain tree) m ↔ IsMetInClause T owner tree m }
     ensures light { (tree : Tree) → weight (plain tree) ≤ weight tree }
@@ -69,11 +70,11 @@ pub fn same_facts()
     ensures facts { (user : List ℕ) (trees : List Tree) (facts : Facts) → AreFacts user trees facts → AreFacts user (map plain trees) (plain_facts facts) }
     ensures whole { (user : List ℕ) (trees : List Tree) (facts : Facts) → AreFacts user (map plain trees) facts
         → (whole : Facts) × AreFacts user trees whole × (facts ≡ plain_facts whole) }
-    ensures text { (name text : List ℕ) (facts : Facts) → HasPlainFacts name text facts
-        ↔ ((whole : Facts) × HasFacts name text whole × (facts ≡ plain_facts whole)) }
+    ensures text { (name text : List ℕ) (facts : Facts) → HasFacts name text facts
+        ↔ ((whole : Facts) × HasWholeFacts name text whole × (facts ≡ plain_facts whole)) }
     ensures texts { (texts : List NamedText) (files : List Facts)
-        → AllZip (λ (text : NamedText) (facts : Facts). HasPlainFacts text.0 text.1 facts) texts files
-        → (whole : List Facts) × AllZip (λ (text : NamedText) (facts : Facts). HasFacts text.0 text.1 facts) texts whole × (files ≡ map plain_facts whole) }
+        → AllZip (λ (text : NamedText) (facts : Facts). HasFacts text.0 text.1 facts) texts files
+        → (whole : List Facts) × AllZip (λ (text : NamedText) (facts : Facts). HasWholeFacts text.0 text.1 facts) texts whole × (files ≡ map plain_facts whole) }
     ensures refusal { (user : List ℕ) (trees : List Tree) (refusal : Refusal)
         → (file_said user (map plain trees) ≡ Err refusal) ↔ (file_said user trees ≡ Err refusal) }
 {}

@@ -3,9 +3,11 @@
 //! A goal whose arguments are variables and lists makes one call, whatever any `meta_predicate`
 //! declares: `q(X, [Y])` calls `q/2` and nothing else. So a name, a number of arguments and an
 //! offset are enough to keep of it. Of the head of a clause its name and its number of arguments
-//! are. A plain tree is the clause again, with nothing but variables where arguments were. In
-//! `p(f(X), a) :- ( q(X), r(s) ; t ).` the goals `q(X)` and `t` are such calls, and `r(s)` stays
-//! as it is, since a program may declare that its argument is a goal.
+//! are, with the span of the clause. A plain tree is the clause again, with nothing but variables
+//! where arguments were. In `p(f(X), a) :- ( q(X), r(s) ; t ).` the goals `q(X)` and `t` are such
+//! calls, and `r(s)` stays as it is, since a program may declare that its argument is a goal. So
+//! does a goal of more than 63 arguments, or one past the offset 8,388,607: these two numbers fit
+//! in 29 bits. A clause with such a head, or past that offset, has no plain form.
 //!
 //! No code is here. The functions do nothing, and are called for what they ensure:
 //!

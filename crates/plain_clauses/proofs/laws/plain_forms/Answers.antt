@@ -1,5 +1,5 @@
 use Rattle.plain_clauses.proofs.FormMets.{body_met, form_met, silent_unmet}
-use Rattle.plain_clauses.proofs.PlainForms.{directive_none, head_is, start_is}
+use Rattle.plain_clauses.proofs.PlainForms.{directive_none, head_is, span_is}
 use Rattle.plain_clauses.proofs.laws.plain_forms.Goals as goal
 
 pub returns-clause-directive : goal.returns-clause-directive
@@ -8,8 +8,8 @@ returns-clause-directive c = directive_none
 pub returns-clause-head : goal.returns-clause-head
 returns-clause-head c = head_is
 
-pub returns-clause-start : goal.returns-clause-start
-returns-clause-start c = start_is
+pub returns-clause-span : goal.returns-clause-span
+returns-clause-span c = span_is
 
 pub returns-clause-met : goal.returns-clause-met
 returns-clause-met c = form_met

@@ -1,6 +1,6 @@
 use Rattle.plain_clauses.proofs.PlainMets.{plain_met}
 use Rattle.plain_clauses.proofs.PlainOffsets.{plain_stands}
-use Rattle.plain_clauses.proofs.PlainSaid.{directive_same, head_same, start_same}
+use Rattle.plain_clauses.proofs.PlainSaid.{directive_same, head_same, span_same, start_same}
 use Rattle.plain_clauses.proofs.PlainWeights.{plain_light}
 use Rattle.plain_clauses.proofs.WrittenForms.{form_same, plain_once}
 use Rattle.plain_clauses.proofs.laws.plain_law.Goals as goal
@@ -10,6 +10,9 @@ returns-clause-directive c = directive_same
 
 pub returns-clause-head : goal.returns-clause-head
 returns-clause-head c = head_same
+
+pub returns-clause-span : goal.returns-clause-span
+returns-clause-span c = span_same
 
 pub returns-clause-start : goal.returns-clause-start
 returns-clause-start c = start_same
