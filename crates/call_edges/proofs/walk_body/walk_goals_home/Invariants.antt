@@ -11,8 +11,8 @@ use Rattle.call_edges.specs.Seen.{see_mets}
 use Rattle.call_edges.proofs.walk_body.walk_goals_home.Given as goal
 
 -- with what is met in the goals that are left, all is met; they are sound if these are, have the same names and weigh no more
-abbrev pub invariant-loop-others : goal.invariant-loop-others
-invariant-loop-others l = record {
+abbrev pub invariant-loop-goal : goal.invariant-loop-goal
+invariant-loop-goal l = record {
   adds : (new : List Met) → Adds (IsAmong (IsMetInGoal (rows_of l.home.program.now) l.home.facts.now.module) (see_goals l.left)) (see_mets l.met.items) new
       → Adds (IsAmong (IsMetInGoal (rows_of l.home.program.now) l.home.facts.now.module) (see_goals l.fn.goals)) (see_mets l.fn.met.items) new;
   sound : All IsSoundGoal (see_goals l.left) → All IsSoundGoal (see_goals l.fn.goals);
@@ -21,5 +21,5 @@ invariant-loop-others l = record {
   meant : AreMeant l.home.program.now l.fn.met.items → AreMeant l.home.program.now l.met.items;
 }
 
-abbrev pub decreases-loop-others : goal.decreases-loop-others
-decreases-loop-others l = length (see_goals l.left)
+abbrev pub decreases-loop-goal : goal.decreases-loop-goal
+decreases-loop-goal l = length (see_goals l.left)
