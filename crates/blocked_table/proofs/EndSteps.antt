@@ -9,8 +9,8 @@ use Rattle.std.specs.Prelude.{Contains}
 use Rattle.blocked_table.specs.declared.blocked.Blocked.TheInside.{Inside}
 use Rattle.blocked_table.specs.Blocked.{HasRoom}
 use Rattle.blocked_table.specs.BlockedFields.{IsBlocked, IsVacant, value_of}
-use Rattle.blocked_table.specs.Kept.{kept_at}
-use Rattle.blocked_table.specs.Suspending.{Adds, AreGood}
+use Rattle.blocked_table.specs.Kept.{kept_at, Holds}
+use Rattle.blocked_table.specs.Suspending.{Adds, AreGood, CanWait}
 use Rattle.blocked_table.specs.Transfer.{IsCutAway, IsMoved, IsTransfer}
 use Rattle.blocked_table.proofs.Along.{IsOnTheWay, cut_away, new, shaped}
 use Rattle.blocked_table.proofs.Chain.{some_is}
@@ -44,6 +44,17 @@ transferred {old} {now} {s} {t} {after} {on} {node_now} {end} {spare} place way 
   within = within;
   is = is ∙ way.path;
   lowered = lowered_is;
+}
+
+-- with more capacity a search can wait as before
+pub waits_still : {kept : List (Option SearchValue)} {old new : SearchValue} {on : ℕ} → CanWait kept old on → new.stack ≡ old.stack
+    → new.wanted ≡ old.wanted → CanWait kept new on
+waits_still {kept} {old} {new} {on} can stack_is wanted_is = record {
+  some = omega (arith, can.some, ap size stack_is);
+  wants_nothing = wanted_is ∙ can.wants_nothing;
+  apart = subst (λ s. (place v : ℕ) → Holds kept place v → IsOn s v → ⊥) (sym stack_is) can.apart;
+  last = subst (λ s. IsLastBegun s on) (sym stack_is) can.last;
+  off = subst (λ s. IsOn s on → ⊥) (sym stack_is) can.off;
 }
 
 -- a search is put into a vacant slot, or into a new one

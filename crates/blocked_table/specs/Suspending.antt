@@ -1,11 +1,12 @@
 -- What becomes of a search that is to be suspended, and of the searches that it would wait for.
-use Rattle.std.specs.Prelude.{◌≡◌, ℕ, ◌+◌, true, false, List, [], ◌∷◌, Option, None, Some}
+use Rattle.std.specs.Prelude.{◌≡◌, ℕ, ◌+◌, ◌<◌, true, false, List, [], ◌∷◌, Option, None, Some}
 use Rattle.search_stack.specs.Stack.{Stack, size}
 use Rattle.search_stack.specs.GoodSearch.{IsGood}
-use Rattle.search_stack.specs.Search.{SearchValue, IsGoodSearch, joined}
+use Rattle.search_stack.specs.Search.{SearchValue, IsGoodSearch, IsLastBegun, IsOn, joined}
 use Rattle.blocked_table.specs.declared.suspended.Suspended.{Suspended}
 use Rattle.blocked_table.specs.declared.suspended.Suspended.TheVariants.{Kept, Moved}
-use Rattle.blocked_table.specs.Kept.{kept_at, ComesTo}
+use Rattle.blocked_table.specs.Blocked.{BlockedValue, HasRoom}
+use Rattle.blocked_table.specs.Kept.{kept_at, ComesTo, Holds}
 use Rattle.blocked_table.specs.Transfer.{IsCutAway, IsTransfer}
 
 -- the number of entries of a search, 0 if there is none, and of the one in a slot
@@ -40,6 +41,35 @@ pub record IsPartMoved (old new : List (Option SearchValue)) (s t : Stack) (v pl
 pub record AreGood (lists : List (List ℕ)) (roots done : List ℕ) (kept : List (Option SearchValue)) (s : Stack) : Type 0 where
   pub good : IsGood lists roots done true s
   pub kept_good : (place : ℕ) (search : SearchValue) → kept_at kept place ≡ Some search → IsGoodSearch lists roots done search
+
+-- and so they do for some graph, roots and finished nodes
+pub record AreGoodForSome (kept : List (Option SearchValue)) (s : Stack) : Type 0 where
+  pub lists : List (List ℕ)
+  pub roots : List ℕ
+  pub done : List ℕ
+  pub good : AreGood lists roots done kept s
+
+-- the search can wait for the node next to these suspended searches
+pub record CanWait (kept : List (Option SearchValue)) (search : SearchValue) (on : ℕ) : Type 0 where
+  -- it has a node
+  pub some : 0 < size search.stack
+  -- it waits for nothing yet
+  pub wants_nothing : search.wanted ≡ None
+  -- none of its nodes is on a suspended search
+  pub apart : (place v : ℕ) → Holds kept place v → IsOn search.stack v → ⊥
+  -- its last edge leads to the node
+  pub last : IsLastBegun search.stack on
+  -- the node isn't on the search itself
+  pub off : IsOn search.stack on → ⊥
+
+-- there is a slot for the search, and its nodes and the one that it is to wait for have words
+pub record HasRoomFor (value : BlockedValue) (s : Stack) (on : ℕ) : Type 0 where
+  -- a slot is vacant, or one more can be made
+  pub slot : HasRoom value
+  -- its nodes are below the count
+  pub below : (v : ℕ) → IsOn s v → v < value.count
+  -- and so is the one that it is to wait for
+  pub on_below : on < value.count
 
 -- the search is suspended if it wouldn't wait for itself, and else the searches on the cycle have
 -- moved on top of it

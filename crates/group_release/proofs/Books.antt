@@ -13,19 +13,20 @@ use Rattle.blocked_table.specs.declared.suspended.Suspended.{Suspended}
 use Rattle.blocked_table.specs.declared.suspended.Suspended.TheVariants.{Kept, Moved}
 use Rattle.blocked_table.specs.Blocked.{BlockedValue, IsTable, IsTaken}
 use Rattle.blocked_table.specs.Kept.{kept_at, Holds}
-use Rattle.blocked_table.specs.Suspending.{Adds, AreGood, IsSuspended, StaysGood}
+use Rattle.blocked_table.specs.Suspending.{Adds, AreGood, CanWait, HasRoomFor, IsSuspended, StaysGood}
 use Rattle.blocked_table.specs.Transfer.{IsTransfer}
 use Rattle.blocked_table.proofs.Chain.{none_is_not, some_is}
 use Rattle.group_release.specs.declared.book.Book.TheInside.{Inside}
-use Rattle.group_release.specs.Book.{BookValue, GoesOnBeside, IsGoodBook, RunsBeside, WantsOther}
+use Rattle.group_release.specs.Book.{BookValue, GoesOnBeside, IsGoodBook, RunsBeside, WantsOther, table_of}
 use Rattle.group_release.specs.BookFields.{IsBook, value_of}
 use Rattle.group_release.specs.Coding.{lists_from}
 use Rattle.group_release.specs.Released.{ReleasedGroups}
 use Rattle.group_release.specs.Outline.{kept_nodes, listed, newly_wanted, nodes_going, nodes_of, nodes_on, wanted_nodes, wants_of}
-use Rattle.group_release.proofs.Beside.{none_released}
+use Rattle.group_release.proofs.Beside.{last_below, none_released, on_within}
 use Rattle.group_release.proofs.Gathering.{IsGathering, gathered}
 use Rattle.group_release.proofs.KeptCounts.{at_wanted, kept_change, wanted_at, wanted_change}
 use Rattle.group_release.proofs.Nodes.{lowered_nodes, lowered_on, lowered_size, on_counted}
+use Rattle.group_release.proofs.Room.{always_room}
 
 -- a table of the same size
 pub same_size : (before after : BlockedValue) (n : ℕ) → before ≡ record { count = n; most = n; kept = before.kept } → after.count ≡ before.count
@@ -72,15 +73,25 @@ ok_more (Err error) F G each is = tt
 
 -- what `suspend` asks
 pub record MaySuspend (book : BookValue) (search : SearchValue) (on : ℕ) : Type 0 where
-  pub some : 0 < size search.stack
-  pub apart : (place v : ℕ) → Holds book.kept place v → IsOn search.stack v → ⊥
-  pub last : IsLastBegun search.stack on
-  pub off : IsOn search.stack on → ⊥
+  pub can_wait : CanWait book.kept search on
   pub unreleased : HasMember book.groups on → ⊥
   pub good : IsGood book.lists book.roots (flat book.groups) true search.stack
 
 pub may_at : (book now : BookValue) (search : SearchValue) (on : ℕ) → book ≡ now → MaySuspend now search on → MaySuspend book search on
 may_at book now search on is may = subst (λ value. MaySuspend value search on) (sym is) may
+
+-- the table of a book has room for it
+pub room_for : {fields : Inside} {search : SearchValue} {on : ℕ} → IsBook fields → IsTable (table_of (value_of fields))
+    → CanWait (value_of fields).kept search on → IsGood (value_of fields).lists (value_of fields).roots (flat (value_of fields).groups) true search.stack
+    → HasRoomFor fields.blocked search.stack on
+room_for {fields} {search} {on} is table can good =
+    let book : BookValue = value_of fields in
+    let below : (v : ℕ) → IsOn search.stack v → v < length book.lists = on_within book.lists book.roots is.good.closed is.good.rooted good in
+    subst (λ value. HasRoomFor value search.stack on) (sym is.table) (record {
+      slot = always_room (table_of book) table refl search.stack can.some below can.apart;
+      below = below;
+      on_below = last_below good can.last is.good.closed;
+    })
 
 -- and what it leaves
 pub record IsWellSuspended (book : BookValue) (new : List (Option SearchValue)) (search : SearchValue) (on : ℕ) (suspended : Suspended) : Type 0 where
@@ -93,7 +104,7 @@ module _ {book : BookValue} {search : SearchValue} {on count most : ℕ} (good :
     (table : IsTable (record { count = count; most = most; kept = book.kept })) (may : MaySuspend book search on) where
   -- no node of the search is released
   pub none_out : (v : ℕ) → IsOn search.stack v → HasMember book.groups v → ⊥
-  none_out = none_released may.good may.last good.legal may.unreleased
+  none_out = none_released may.good may.can_wait.last good.legal may.unreleased
 
   abbrev all_counted : ℕ → ℕ
   all_counted x = times x (kept_nodes book.kept) + times x (nodes_on search.stack)
@@ -104,12 +115,12 @@ module _ {book : BookValue} {search : SearchValue} {on count most : ℕ} (good :
     way = record {
       apart = table.apart;
       ends = table.ends;
-      off = may.apart;
-      last = may.last;
+      off = may.can_wait.apart;
+      last = may.can_wait.last;
       good = may.good;
       kept = λ place one at. ((table.each place one at).distinct, good.kept_good place one at);
     };
-    some = may.some;
+    some = may.can_wait.some;
     kept_off = good.unreleased;
     stack_off = none_out;
     wants = λ place w one at wanted.
@@ -145,7 +156,7 @@ module _ {book : BookValue} {search : SearchValue} {on count most : ℕ} (good :
                 let stack_is : search.stack ≡ one.stack = ap (λ (value : SearchValue). value.stack) is in
                 record {
                   unreleased = subst (λ u. HasMember book.groups u → ⊥) same may.unreleased;
-                  off = subst (λ u. IsOn one.stack u → ⊥) same (subst (λ s. IsOn s on → ⊥) stack_is may.off);
+                  off = subst (λ u. IsOn one.stack u → ⊥) same (subst (λ s. IsOn s on → ⊥) stack_is may.can_wait.off);
                 }
             | inr old ↦
                 let was : WantsOther book one w = good.wants i w one old wanted in

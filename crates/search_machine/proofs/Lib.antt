@@ -15,6 +15,7 @@ pub mod Stopping
 pub mod Acting
 pub mod Pushing
 pub mod Steps
+pub mod EdgeSteps
 -- schedules
 pub mod StackWork
 pub mod StateWork

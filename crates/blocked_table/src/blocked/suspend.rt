@@ -1,11 +1,6 @@
-ghost use Rattle.std.specs.Prelude.{◌≡◌, ◌⊎◌, ◌<◌, ◌≤◌, ℕ, List, None, Some, IfOk, IfErr};
-ghost use Rattle.search_stack.specs.Stack.{size};
-ghost use Rattle.search_stack.specs.Search.{IsDistinct, IsLastBegun, IsOn};
-ghost use Rattle.blocked_table.specs.Blocked.{HasRoom};
-ghost use Rattle.blocked_table.specs.Kept.{Ends, Holds, ComesTo};
-ghost use Rattle.blocked_table.specs.Paths.{IsPath};
-ghost use Rattle.blocked_table.specs.Suspending.{Adds, AreGood, IsSuspended, StaysGood, entries_of};
-ghost use Rattle.blocked_table.specs.Transfer.{IsTransfer};
+ghost use Rattle.std.specs.Prelude.{◌≡◌, ◌≤◌, ℕ, List, None, Some, IfOk, IfErr};
+ghost use Rattle.blocked_table.specs.Kept.{ComesTo};
+ghost use Rattle.blocked_table.specs.Suspending.{Adds, AreGood, AreGoodForSome, CanWait, HasRoomFor, IsSuspended, StaysGood};
 
 use super::Blocked;
 use crate::suspended::Suspended;
@@ -27,21 +22,16 @@ impl Blocked {
         mut search: Search,
         on: u32,
     ) -> Result<Suspended, (AllocError, Search)>
-        requires room { HasRoom self.old }
-        requires some { 0 < size search.stack }
-        requires wants_nothing { search.wanted ≡ None }
-        requires below { (v : ℕ) → IsOn search.stack v → v < self.old.count }
-        requires on_below { on < self.old.count }
-        requires apart { (place v : ℕ) → Holds self.old.kept place v → IsOn search.stack v → ⊥ }
-        requires last { IsLastBegun search.stack on }
-        requires off { IsOn search.stack on → ⊥ }
-        requires good { (lists : List (List ℕ)) × (roots : List ℕ) × (done : List ℕ) × AreGood lists roots done self.old.kept search.stack }
+        requires can_wait { CanWait self.old.kept search on }
+        requires room { HasRoomFor self.old search.stack on }
+        requires good { AreGoodForSome self.old.kept search.stack }
         ensures count { self.new.count ≡ self.old.count }
         ensures most { self.new.most ≡ self.old.most }
         ensures done { IfOk result (IsSuspended self.old.kept self.new.kept search on) }
         ensures kept { IfErr result (λ failed. self.new ≡ self.old) }
         ensures back { IfErr result (λ failed. failed.1.stack ≡ search.stack) }
         ensures back_wants { IfErr result (λ failed. failed.1.wanted ≡ None) }
+        ensures back_room { IfErr result (λ failed. search.spare ≤ failed.1.spare) }
 
         // All searches keep their invariant.
         ensures good { IfOk result (λ suspended. (lists : List (List ℕ)) (roots done : List ℕ)
@@ -68,12 +58,8 @@ impl Blocked {
     /// all nodes and slots are written. If out of memory, the search is returned and all stays as it
     /// was.
     fn keep(&mut self, mut search: Search, on: u32) -> Result<(), (AllocError, Search)>
-        requires room { HasRoom self.old }
-        requires some { 0 < size search.stack }
-        requires below { (v : ℕ) → IsOn search.stack v → v < self.old.count }
-        requires on_below { on < self.old.count }
-        requires apart { (place v : ℕ) → Holds self.old.kept place v → IsOn search.stack v → ⊥ }
-        requires last { IsLastBegun search.stack on }
+        requires can_wait { CanWait self.old.kept search on }
+        requires room { HasRoomFor self.old search.stack on }
         requires never { ComesTo self.old.kept search.stack on → ⊥ }
         ensures count { self.new.count ≡ self.old.count }
         ensures most { self.new.most ≡ self.old.most }

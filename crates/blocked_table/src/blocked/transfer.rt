@@ -6,7 +6,7 @@ ghost use Rattle.blocked_table.specs.Transfer.{IsTransfer};
 ghost use Rattle.blocked_table.specs.Blocked.{IsTable};
 ghost use Rattle.blocked_table.specs.Kept.{kept_at, Holds, ComesTo};
 ghost use Rattle.blocked_table.specs.Paths.{StepsAt, IsPath};
-ghost use Rattle.blocked_table.specs.Suspending.{AreGood, IsPartMoved, entries_of};
+ghost use Rattle.blocked_table.specs.Suspending.{AreGood, AreGoodForSome, CanWait, IsPartMoved, entries_of};
 
 use super::Blocked;
 use crate::words::write_words;
@@ -65,7 +65,7 @@ impl Blocked {
         requires step { (x : ℕ) × StepsAt self.old.kept node place x }
         requires last { IsLastBegun search.old.stack node }
         requires apart { (i v : ℕ) → Holds self.old.kept i v → IsOn search.old.stack v → ⊥ }
-        requires good { (lists : List (List ℕ)) × (roots : List ℕ) × (done : List ℕ) × AreGood lists roots done self.old.kept search.old.stack }
+        requires good { AreGoodForSome self.old.kept search.old.stack }
         requires room { (donor : SearchValue) → kept_at self.old.kept place ≡ Some donor → size donor.stack ≤ search.old.spare }
         ensures count { self.new.count ≡ self.old.count }
         ensures most { self.new.most ≡ self.old.most }
@@ -101,10 +101,8 @@ impl Blocked {
         requires path { IsPath self.old.kept on places.now end }
         requires back { IsOn search.old.stack end }
         requires room { entries_of self.old.kept places.now ≤ search.old.spare }
-        requires wants_nothing { search.old.wanted ≡ None }
-        requires last { IsLastBegun search.old.stack on }
-        requires apart { (place v : ℕ) → Holds self.old.kept place v → IsOn search.old.stack v → ⊥ }
-        requires good { (lists : List (List ℕ)) × (roots : List ℕ) × (done : List ℕ) × AreGood lists roots done self.old.kept search.old.stack }
+        requires can_wait { CanWait self.old.kept search.old on }
+        requires good { AreGoodForSome self.old.kept search.old.stack }
         ensures count { self.new.count ≡ self.old.count }
         ensures most { self.new.most ≡ self.old.most }
         ensures moved { IsTransfer self.old.kept self.new.kept search.old.stack on search.new.stack }

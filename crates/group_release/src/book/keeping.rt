@@ -2,11 +2,10 @@ ghost use Rattle.std.specs.Prelude.{◌≡◌, ◌⊎◌, ◌+◌, ◌<◌, ◌�
 ghost use Rattle.list_laws.specs.Counts.{times, flat};
 ghost use Rattle.graph_law.specs.Classes.{HasMember};
 ghost use Rattle.search_stack.specs.GoodSearch.{IsGood};
-ghost use Rattle.search_stack.specs.Search.{IsLastBegun, IsOn, IsReleasable};
-ghost use Rattle.search_stack.specs.Stack.{size};
+ghost use Rattle.search_stack.specs.Search.{IsReleasable};
 ghost use Rattle.blocked_table.specs.Blocked.{HasReady, IsTaken, IsWoken};
 ghost use Rattle.blocked_table.specs.Kept.{Holds};
-ghost use Rattle.blocked_table.specs.Suspending.{IsSuspended};
+ghost use Rattle.blocked_table.specs.Suspending.{CanWait, IsSuspended};
 ghost use Rattle.group_release.specs.Book.{GoesOnBeside, RunsBeside, released_of};
 ghost use Rattle.group_release.specs.Outline.{kept_nodes, newly_wanted, nodes_going, nodes_on, wanted_nodes};
 ghost use Rattle.group_release.specs.Released.{IsAppended, IsNewGroup};
@@ -21,11 +20,7 @@ impl Book {
     /// with what it waited for, it is returned instead, as `Blocked::suspend` does. If memory runs
     /// out, the search is returned and nothing changes.
     pub fn suspend(&mut self, search: Search, on: u32) -> Result<Suspended, (AllocError, Search)>
-        requires some { 0 < size search.stack }
-        requires wants_nothing { search.wanted ≡ None }
-        requires apart { (place v : ℕ) → Holds self.old.kept place v → IsOn search.stack v → ⊥ }
-        requires last { IsLastBegun search.stack on }
-        requires off { IsOn search.stack on → ⊥ }
+        requires can_wait { CanWait self.old.kept search on }
         requires unreleased { HasMember self.old.groups on → ⊥ }
         requires good { IsGood self.old.lists self.old.roots (flat self.old.groups) true search.stack }
         ensures only { IfOk result (λ _. self.new ≡ record self.old { kept = self.new.kept }) }
@@ -34,6 +29,7 @@ impl Book {
         ensures unchanged { IfErr result (λ _. self.new ≡ self.old) }
         ensures back { IfErr result (λ failed. failed.1.stack ≡ search.stack) }
         ensures back_wants { IfErr result (λ failed. failed.1.wanted ≡ None) }
+        ensures back_room { IfErr result (λ failed. search.spare ≤ failed.1.spare) }
 
         // In counts: no node is lost or doubled. A node that is newly waited for is `on` or on the
         // search that continues.

@@ -17,15 +17,15 @@ pub write_words-requires-clause-below : goal.write_words-requires-clause-below
 write_words-requires-clause-below c =
     let stack_is = ap (λ (one : SearchValue). one.stack) c.set_wanted.ensures in
     let wants = ap (λ (one : SearchValue). one.wanted) c.set_wanted.ensures in
-    let apart = rw (← c.self.view_is) at c.requires.apart in
-    let below = rw (← c.self.view_is) at c.requires.below in
+    let apart = rw (← c.self.view_is) at c.requires.can_wait.apart in
+    let below = rw (← c.self.view_is) at c.requires.room.below in
     let off : (i v : ℕ) → Holds c.self.inside.kept.items i v → IsOn c.set_wanted.new.self.stack v → ⊥ =
     λ i v holds on. apart i v holds (subst (λ stack. IsOn stack v) stack_is on) in
     λ v on. omega (arith, below v (subst (λ stack. IsOn stack v) stack_is on), c.in-Ok.ensures.whole.words)
 
 pub add-requires-clause-place : goal.add-requires-clause-place
 add-requires-clause-place c =
-    let room = room_left c.self.invariant c.in_default.ensures.cases.0 (rw (← c.self.view_is) at c.requires.room) in
+    let room = room_left c.self.invariant c.in_default.ensures.cases.0 (rw (← c.self.view_is) at c.requires.room.slot) in
     omega (arith, room, c.len-place.ensures, c.self.inside.kept.ok.0, c.in-Ok.ensures.whole.places)
 
 pub add-requires-clause-none : goal.add-requires-clause-none
@@ -38,8 +38,8 @@ pub invariant_of-self-in_default : goal.invariant_of-self-in_default
 invariant_of-self-in_default c =
     let stack_is = ap (λ (one : SearchValue). one.stack) c.set_wanted.ensures in
     let wants = ap (λ (one : SearchValue). one.wanted) c.set_wanted.ensures in
-    let apart = rw (← c.self.view_is) at c.requires.apart in
-    let below = rw (← c.self.view_is) at c.requires.below in
+    let apart = rw (← c.self.view_is) at c.requires.can_wait.apart in
+    let below = rw (← c.self.view_is) at c.requires.room.below in
     let off : (i v : ℕ) → Holds c.self.inside.kept.items i v → IsOn c.set_wanted.new.self.stack v → ⊥ =
     λ i v holds on. apart i v holds (subst (λ stack. IsOn stack v) stack_is on) in
     let low : (v : ℕ) → IsOn c.set_wanted.new.self.stack v → v < c.self.inside.count =
@@ -50,7 +50,7 @@ invariant_of-self-in_default c =
     let last : c.len-place.result ≡ length c.self.inside.kept.items = omega (arith, c.len-place.ensures, c.self.inside.kept.ok.0) in
     let adds : Adds c.self.inside.kept.items c.push.new.self.items c.len-place.result c.set_wanted.new.self =
     rw pushed (adds_last c.self.inside.kept.items c.len-place.result c.set_wanted.new.self last) in
-    let room = room_left c.self.invariant c.in_default.ensures.cases.0 (rw (← c.self.view_is) at c.requires.room) in
+    let room = room_left c.self.invariant c.in_default.ensures.cases.0 (rw (← c.self.view_is) at c.requires.room.slot) in
     record {
       table =
           keep_table adds c.args.on wants off c.self.inside.count c.self.inside.most (omega (
@@ -59,7 +59,7 @@ invariant_of-self-in_default c =
             ap length pushed,
             length_push c.self.inside.kept.items (Some c.set_wanted.new.self),
           ))
-          (record { some = omega (arith, c.requires.some, ap size stack_is); distinct = c.write_words.ensures.distinct }) low never c.self.invariant.table;
+          (record { some = omega (arith, c.requires.can_wait.some, ap size stack_is); distinct = c.write_words.ensures.distinct }) low never c.self.invariant.table;
       words = keep_words adds c.args.on wants off c.write_first.ensures.words c.write_words.ensures.written;
       waiting =
           rw c.add.ensures
@@ -96,8 +96,8 @@ pub write_words-requires-2-clause-below : goal.write_words-requires-2-clause-bel
 write_words-requires-2-clause-below c =
     let stack_is = ap (λ (one : SearchValue). one.stack) c.set_wanted.ensures in
     let wants = ap (λ (one : SearchValue). one.wanted) c.set_wanted.ensures in
-    let apart = rw (← c.self.view_is) at c.requires.apart in
-    let below = rw (← c.self.view_is) at c.requires.below in
+    let apart = rw (← c.self.view_is) at c.requires.can_wait.apart in
+    let below = rw (← c.self.view_is) at c.requires.room.below in
     let off : (i v : ℕ) → Holds c.self.inside.kept.items i v → IsOn c.set_wanted.new.self.stack v → ⊥ =
     λ i v holds on. apart i v holds (subst (λ stack. IsOn stack v) stack_is on) in
     λ v on. omega (arith, below v (subst (λ stack. IsOn stack v) stack_is on), c.in-Ok.ensures.whole.words)
@@ -122,8 +122,8 @@ pub invariant_of-self-2 : goal.invariant_of-self-2
 invariant_of-self-2 c =
     let stack_is = ap (λ (one : SearchValue). one.stack) c.set_wanted.ensures in
     let wants = ap (λ (one : SearchValue). one.wanted) c.set_wanted.ensures in
-    let apart = rw (← c.self.view_is) at c.requires.apart in
-    let below = rw (← c.self.view_is) at c.requires.below in
+    let apart = rw (← c.self.view_is) at c.requires.can_wait.apart in
+    let below = rw (← c.self.view_is) at c.requires.room.below in
     let off : (i v : ℕ) → Holds c.self.inside.kept.items i v → IsOn c.set_wanted.new.self.stack v → ⊥ =
     λ i v holds on. apart i v holds (subst (λ stack. IsOn stack v) stack_is on) in
     let low : (v : ℕ) → IsOn c.set_wanted.new.self.stack v → v < c.self.inside.count =
@@ -139,7 +139,7 @@ invariant_of-self-2 c =
             c.self.invariant.table.few,
             length-set c.self.inside.kept.items c.in-Some.place (Some c.set_wanted.new.self),
           ))
-          (record { some = omega (arith, c.requires.some, ap size stack_is); distinct = c.write_words-2.ensures.distinct }) low never c.self.invariant.table;
+          (record { some = omega (arith, c.requires.can_wait.some, ap size stack_is); distinct = c.write_words-2.ensures.distinct }) low never c.self.invariant.table;
       words = keep_words adds c.args.on wants off c.write_first.ensures.words c.write_words-2.ensures.written;
       waiting =
           rw c.add-2.ensures

@@ -60,7 +60,7 @@ pub unwrap-requires : goal.unwrap-requires
 unwrap-requires c =
     let step = rw (← c.self.view_is) at c.requires.step.1 in
     let donor = donor_read c.requires.step.0 c.index_mut.result.now c.in-Some.donor step c.index_mut.ensures.value (sym c.take.ensures.value ∙ c.in-Some.is) in
-    let good = rw (← c.self.view_is) at c.requires.good.3 in
+    let good = rw (← c.self.view_is) at c.requires.good.good in
     let way = way_of c.self.invariant.table good c.requires.last (rw (← c.self.view_is) at c.requires.apart) in
     let shaped = (good.kept_good c.args.place c.in-Some.donor donor.at).good.shaped in
     let away =
@@ -76,7 +76,7 @@ pub invariant_of-self-in_default-wanted-2 : goal.invariant_of-self-in_default-wa
 invariant_of-self-in_default-wanted-2 c =
     let step = rw (← c.self.view_is) at c.requires.step.1 in
     let donor = donor_read c.requires.step.0 c.index_mut.result.now c.in-Some.donor step c.index_mut.ensures.value (sym c.take.ensures.value ∙ c.in-Some.is) in
-    let good = rw (← c.self.view_is) at c.requires.good.3 in
+    let good = rw (← c.self.view_is) at c.requires.good.good in
     let way = way_of c.self.invariant.table good c.requires.last (rw (← c.self.view_is) at c.requires.apart) in
     let shaped = (good.kept_good c.args.place c.in-Some.donor donor.at).good.shaped in
     let away =
@@ -114,7 +114,7 @@ pub returns-in_default-wanted-2-clause-moved : goal.returns-in_default-wanted-2-
 returns-in_default-wanted-2-clause-moved c =
     let step = rw (← c.self.view_is) at c.requires.step.1 in
     let donor = donor_read c.requires.step.0 c.index_mut.result.now c.in-Some.donor step c.index_mut.ensures.value (sym c.take.ensures.value ∙ c.in-Some.is) in
-    let good = rw (← c.self.view_is) at c.requires.good.3 in
+    let good = rw (← c.self.view_is) at c.requires.good.good in
     let way = way_of c.self.invariant.table good c.requires.last (rw (← c.self.view_is) at c.requires.apart) in
     let shaped = (good.kept_good c.args.place c.in-Some.donor donor.at).good.shaped in
     let away =
@@ -163,7 +163,7 @@ pub add-requires-clause-node : goal.add-requires-clause-node
 add-requires-clause-node c =
     let step = rw (← c.self.view_is) at c.requires.step.1 in
     let donor = donor_read c.requires.step.0 c.index_mut.result.now c.in-Some.donor step c.index_mut.ensures.value (sym c.take.ensures.value ∙ c.in-Some.is) in
-    let good = rw (← c.self.view_is) at c.requires.good.3 in
+    let good = rw (← c.self.view_is) at c.requires.good.good in
     let way = way_of c.self.invariant.table good c.requires.last (rw (← c.self.view_is) at c.requires.apart) in
     let shaped = (good.kept_good c.args.place c.in-Some.donor donor.at).good.shaped in
     let away =
@@ -198,7 +198,7 @@ pub invariant_of-self-2 : goal.invariant_of-self-2
 invariant_of-self-2 c =
     let step = rw (← c.self.view_is) at c.requires.step.1 in
     let donor = donor_read c.requires.step.0 c.index_mut.result.now c.in-Some.donor step c.index_mut.ensures.value (sym c.take.ensures.value ∙ c.in-Some.is) in
-    let good = rw (← c.self.view_is) at c.requires.good.3 in
+    let good = rw (← c.self.view_is) at c.requires.good.good in
     let way = way_of c.self.invariant.table good c.requires.last (rw (← c.self.view_is) at c.requires.apart) in
     let shaped = (good.kept_good c.args.place c.in-Some.donor donor.at).good.shaped in
     let away =
@@ -262,7 +262,7 @@ pub returns-clause-moved : goal.returns-clause-moved
 returns-clause-moved c =
     let step = rw (← c.self.view_is) at c.requires.step.1 in
     let donor = donor_read c.requires.step.0 c.index_mut.result.now c.in-Some.donor step c.index_mut.ensures.value (sym c.take.ensures.value ∙ c.in-Some.is) in
-    let good = rw (← c.self.view_is) at c.requires.good.3 in
+    let good = rw (← c.self.view_is) at c.requires.good.good in
     let way = way_of c.self.invariant.table good c.requires.last (rw (← c.self.view_is) at c.requires.apart) in
     let shaped = (good.kept_good c.args.place c.in-Some.donor donor.at).good.shaped in
     let away =

@@ -1,18 +1,16 @@
 use Rattle.std.proofs.Common.{sym, subst}
-use Rattle.search_stack.specs.Search.{IsOn}
 use Rattle.blocked_table.specs.Suspending.{AreGood}
 use Rattle.blocked_table.specs.Transfer.{IsTransfer}
-use Rattle.blocked_table.proofs.EndSteps.{keep_good}
+use Rattle.blocked_table.proofs.EndSteps.{keep_good, waits_still}
 use Rattle.blocked_table.proofs.Paths.{path_chain}
 use Rattle.blocked_table.proofs.blocked.Blocked.suspend.Goals as goal
 
 pub returns-in_default-clause-good : goal.returns-in_default-clause-good
 returns-in_default-clause-good c =
-    λ lists roots done good place one at. keep_good c.args.search c.args.on c.in_ok-keep.ensures.kept.1 c.requires.last good place one at
+    λ lists roots done good place one at. keep_good c.args.search c.args.on c.in_ok-keep.ensures.kept.1 c.requires.can_wait.last good place one at
 
-pub transfer-requires-clause-apart : goal.transfer-requires-clause-apart
-transfer-requires-clause-apart c =
-    λ place v holds on. c.requires.apart place v holds (subst (λ stack. IsOn stack v) c.reserve.ensures.stack on)
+pub transfer-requires-clause-can_wait : goal.transfer-requires-clause-can_wait
+transfer-requires-clause-can_wait c = waits_still c.requires.can_wait c.reserve.ensures.stack c.reserve.ensures.wanted
 
 pub returns-clause-done : goal.returns-clause-done
 returns-clause-done c =

@@ -21,7 +21,7 @@ parts-init c =
           (λ i j before lt.
           path_once c.args.self.now.kept c.requires.table.apart c.requires.table.ends c.args.on c.args.places.now c.args.end c.requires.path i j 0 before lt)
           c.requires.room;
-      wants_nothing = c.requires.wants_nothing;
+      wants_nothing = c.requires.can_wait.wants_nothing;
     }
 
 pub move_part-node-requires-clause-step : goal.move_part-node-requires-clause-step
@@ -33,7 +33,7 @@ move_part-node-requires-clause-step c =
 
 pub move_part-node-requires-clause-last : goal.move_part-node-requires-clause-last
 move_part-node-requires-clause-last c =
-    let first = way_of c.requires.table c.requires.good.3 c.requires.last c.requires.apart in
+    let first = way_of c.requires.table c.requires.good.good c.requires.can_wait.last c.requires.can_wait.apart in
     let way =
     moved_along c.args.self.now.kept c.args.search.now.stack c.args.on c.parts.invariant.part.cuts c.parts.self.kept c.parts.search.stack c.parts.node
     first c.parts.invariant.part.moved in
@@ -41,7 +41,7 @@ move_part-node-requires-clause-last c =
 
 pub move_part-node-requires-clause-apart : goal.move_part-node-requires-clause-apart
 move_part-node-requires-clause-apart c =
-    let first = way_of c.requires.table c.requires.good.3 c.requires.last c.requires.apart in
+    let first = way_of c.requires.table c.requires.good.good c.requires.can_wait.last c.requires.can_wait.apart in
     let way =
     moved_along c.args.self.now.kept c.args.search.now.stack c.args.on c.parts.invariant.part.cuts c.parts.self.kept c.parts.search.stack c.parts.node
     first c.parts.invariant.part.moved in
@@ -49,11 +49,11 @@ move_part-node-requires-clause-apart c =
 
 pub move_part-node-requires-clause-good : goal.move_part-node-requires-clause-good
 move_part-node-requires-clause-good c =
-    let first = way_of c.requires.table c.requires.good.3 c.requires.last c.requires.apart in
+    let first = way_of c.requires.table c.requires.good.good c.requires.can_wait.last c.requires.can_wait.apart in
     let way =
     moved_along c.args.self.now.kept c.args.search.now.stack c.args.on c.parts.invariant.part.cuts c.parts.self.kept c.parts.search.stack c.parts.node
     first c.parts.invariant.part.moved in
-    (c.requires.good.0, c.requires.good.1, c.requires.good.2, good_of way)
+    record { lists = c.requires.good.lists; roots = c.requires.good.roots; done = c.requires.good.done; good = good_of way }
 
 pub move_part-node-requires-clause-room : goal.move_part-node-requires-clause-room
 move_part-node-requires-clause-room c =
@@ -81,7 +81,7 @@ parts-preserved c =
 
 pub back-requires-clause-some : goal.back-requires-clause-some
 back-requires-clause-some c =
-    let first = way_of c.requires.table c.requires.good.3 c.requires.last c.requires.apart in
+    let first = way_of c.requires.table c.requires.good.good c.requires.can_wait.last c.requires.can_wait.apart in
     let way =
     moved_along c.args.self.now.kept c.args.search.now.stack c.args.on c.parts.invariant.part.cuts c.parts.self.kept c.parts.search.stack c.parts.node
     first c.parts.invariant.part.moved in
@@ -93,7 +93,7 @@ back-requires-clause-wants_nothing c =
 
 pub back-requires-clause-last : goal.back-requires-clause-last
 back-requires-clause-last c =
-    let first = way_of c.requires.table c.requires.good.3 c.requires.last c.requires.apart in
+    let first = way_of c.requires.table c.requires.good.good c.requires.can_wait.last c.requires.can_wait.apart in
     let way =
     moved_along c.args.self.now.kept c.args.search.now.stack c.args.on c.parts.invariant.part.cuts c.parts.self.kept c.parts.search.stack c.parts.node
     first c.parts.invariant.part.moved in
@@ -109,7 +109,7 @@ returns-clause-most c =
 
 pub returns-clause-moved : goal.returns-clause-moved
 returns-clause-moved c =
-    let first = way_of c.requires.table c.requires.good.3 c.requires.last c.requires.apart in
+    let first = way_of c.requires.table c.requires.good.good c.requires.can_wait.last c.requires.can_wait.apart in
     let way =
     moved_along c.args.self.now.kept c.args.search.now.stack c.args.on c.parts.invariant.part.cuts c.parts.self.kept c.parts.search.stack c.parts.node
     first c.parts.invariant.part.moved in
@@ -125,7 +125,7 @@ returns-clause-moved c =
 
 pub returns-clause-good : goal.returns-clause-good
 returns-clause-good c =
-    let first = way_of c.requires.table c.requires.good.3 c.requires.last c.requires.apart in
+    let first = way_of c.requires.table c.requires.good.good c.requires.can_wait.last c.requires.can_wait.apart in
     let way =
     moved_along c.args.self.now.kept c.args.search.now.stack c.args.on c.parts.invariant.part.cuts c.parts.self.kept c.parts.search.stack c.parts.node
     first c.parts.invariant.part.moved in
@@ -139,7 +139,7 @@ returns-clause-good c =
     λ lists roots done good.
     let own =
     moved_along c.args.self.now.kept c.args.search.now.stack c.args.on c.parts.invariant.part.cuts c.parts.self.kept c.parts.search.stack c.parts.node
-    (way_of c.requires.table good c.requires.last c.requires.apart) c.parts.invariant.part.moved in
+    (way_of c.requires.table good c.requires.can_wait.last c.requires.can_wait.apart) c.parts.invariant.part.moved in
     c.back.ensures.good lists roots done true own.good (inl (c.back.ensures.on.1 here))
 
 pub returns-clause-kept_good : goal.returns-clause-kept_good
@@ -147,5 +147,5 @@ returns-clause-kept_good c =
     λ lists roots done good place kept at.
     let own =
     moved_along c.args.self.now.kept c.args.search.now.stack c.args.on c.parts.invariant.part.cuts c.parts.self.kept c.parts.search.stack c.parts.node
-    (way_of c.requires.table good c.requires.last c.requires.apart) c.parts.invariant.part.moved in
+    (way_of c.requires.table good c.requires.can_wait.last c.requires.can_wait.apart) c.parts.invariant.part.moved in
     (own.kept place kept at).1

@@ -1,58 +1,35 @@
-use Rattle.std.proofs.Common.{◌≡◌, ◌⊎◌, ◌+◌, ℕ, ◌<◌, length, refl, sym, ap, subst, arith}
+use Rattle.std.proofs.Common.{◌≡◌, ◌⊎◌, ◌+◌, ℕ, ◌<◌}
 use Rattle.std.specs.Prelude.{IfOk}
 use Rattle.list_laws.specs.Counts.{flat, times}
-use Rattle.blocked_table.specs.Blocked.{BlockedValue, HasRoom, IsTable}
+use Rattle.blocked_table.specs.Blocked.{IsTable}
 use Rattle.group_release.specs.Book.{BookValue, GoesOnBeside, IsGoodBook, table_of}
 use Rattle.group_release.specs.BookFields.{value_of}
 use Rattle.group_release.specs.Outline.{kept_nodes, newly_wanted, nodes_going, nodes_on, wanted_nodes}
-use Rattle.group_release.proofs.Beside.{on_within, last_below}
-use Rattle.group_release.proofs.Books.{IsWellSuspended, beside_marked, MaySuspend, may_at, ok_more, ok_well, suspended_book}
-use Rattle.group_release.proofs.Room.{always_room}
+use Rattle.group_release.proofs.Books.{IsWellSuspended, beside_marked, MaySuspend, may_at, ok_more, ok_well, room_for, suspended_book}
 use Rattle.group_release.proofs.book.Book.suspend.Goals as goal
+
+pub suspend-requires-clause-can_wait : goal.suspend-requires-clause-can_wait
+suspend-requires-clause-can_wait c = rw (← c.self.view_is) at c.requires.can_wait
 
 pub suspend-requires-clause-room : goal.suspend-requires-clause-room
 suspend-requires-clause-room c =
-    let book : BookValue = value_of c.self.inside in
-    let good : IsGoodBook book = c.self.invariant.good in
-    let table : IsTable (table_of book) = rw (← c.self.view_is) at c.keeps.ensures.table in
-    subst HasRoom (sym c.self.invariant.table)
-    (always_room (table_of book) table refl c.args.search.stack c.requires.some
-    (on_within book.lists book.roots good.closed good.rooted (rw (← c.self.view_is) at c.requires.good)) (rw (← c.self.view_is) at c.requires.apart))
-
-pub suspend-requires-clause-below : goal.suspend-requires-clause-below
-suspend-requires-clause-below c =
-    let book : BookValue = value_of c.self.inside in
-    let good : IsGoodBook book = c.self.invariant.good in
-    λ v on.
-    let lt : v < length book.lists = on_within book.lists book.roots good.closed good.rooted (rw (← c.self.view_is) at c.requires.good) v on in
-    omega (arith, lt, ap (λ (value : BlockedValue). value.count) c.self.invariant.table)
-
-pub suspend-requires-clause-on_below : goal.suspend-requires-clause-on_below
-suspend-requires-clause-on_below c =
-    let book : BookValue = value_of c.self.inside in
-    let good : IsGoodBook book = c.self.invariant.good in
-    let lt : c.args.on < length book.lists = last_below (rw (← c.self.view_is) at c.requires.good) c.requires.last good.closed in
-    omega (arith, lt, ap (λ (value : BlockedValue). value.count) c.self.invariant.table)
-
-pub suspend-requires-clause-apart : goal.suspend-requires-clause-apart
-suspend-requires-clause-apart c = rw (← c.self.view_is) at c.requires.apart
+    room_for c.self.invariant (rw (← c.self.view_is) at c.keeps.ensures.table) (rw (← c.self.view_is) at c.requires.can_wait)
+    (rw (← c.self.view_is) at c.requires.good)
 
 pub suspend-requires-clause-good : goal.suspend-requires-clause-good
 suspend-requires-clause-good c =
     let book : BookValue = value_of c.self.inside in
-    (book.lists, book.roots, flat book.groups, record { good = rw (← c.self.view_is) at c.requires.good; kept_good = c.self.invariant.good.kept_good })
+    record {
+      lists = book.lists;
+      roots = book.roots;
+      done = flat book.groups;
+      good = record { good = rw (← c.self.view_is) at c.requires.good; kept_good = c.self.invariant.good.kept_good };
+    }
 
 pub invariant_of-self : goal.invariant_of-self
 invariant_of-self c =
     let book : BookValue = value_of c.self.inside in
-    let may : MaySuspend book c.args.search c.args.on = may_at book c.args.self.now c.args.search c.args.on c.self.view_is (record {
-      some = c.requires.some;
-      apart = c.requires.apart;
-      last = c.requires.last;
-      off = c.requires.off;
-      unreleased = c.requires.unreleased;
-      good = c.requires.good;
-    }) in
+    let may : MaySuspend book c.args.search c.args.on = may_at book c.args.self.now c.args.search c.args.on c.self.view_is (record { can_wait = c.requires.can_wait; unreleased = c.requires.unreleased; good = c.requires.good }) in
     let table : IsTable (table_of book) = rw (← c.self.view_is) at c.keeps.ensures.table in
     let well : IfOk c.suspend.result (IsWellSuspended book c.suspend.new.self.kept c.args.search c.args.on) =
     ok_well c.self.invariant.good table may c.suspend.new.self.kept c.suspend.result c.suspend.ensures.done c.suspend.ensures.good in
@@ -65,14 +42,7 @@ returns-clause-done c = rw (← c.self.view_is) c.suspend.ensures.done
 pub returns-clause-beside : goal.returns-clause-beside
 returns-clause-beside c =
     let book : BookValue = value_of c.self.inside in
-    let may : MaySuspend book c.args.search c.args.on = may_at book c.args.self.now c.args.search c.args.on c.self.view_is (record {
-      some = c.requires.some;
-      apart = c.requires.apart;
-      last = c.requires.last;
-      off = c.requires.off;
-      unreleased = c.requires.unreleased;
-      good = c.requires.good;
-    }) in
+    let may : MaySuspend book c.args.search c.args.on = may_at book c.args.self.now c.args.search c.args.on c.self.view_is (record { can_wait = c.requires.can_wait; unreleased = c.requires.unreleased; good = c.requires.good }) in
     let table : IsTable (table_of book) = rw (← c.self.view_is) at c.keeps.ensures.table in
     let well : IfOk c.suspend.result (IsWellSuspended book c.suspend.new.self.kept c.args.search c.args.on) =
     ok_well c.self.invariant.good table may c.suspend.new.self.kept c.suspend.result c.suspend.ensures.done c.suspend.ensures.good in
@@ -83,14 +53,7 @@ returns-clause-beside c =
 pub returns-clause-kept_count : goal.returns-clause-kept_count
 returns-clause-kept_count c =
     let book : BookValue = value_of c.self.inside in
-    let may : MaySuspend book c.args.search c.args.on = may_at book c.args.self.now c.args.search c.args.on c.self.view_is (record {
-      some = c.requires.some;
-      apart = c.requires.apart;
-      last = c.requires.last;
-      off = c.requires.off;
-      unreleased = c.requires.unreleased;
-      good = c.requires.good;
-    }) in
+    let may : MaySuspend book c.args.search c.args.on = may_at book c.args.self.now c.args.search c.args.on c.self.view_is (record { can_wait = c.requires.can_wait; unreleased = c.requires.unreleased; good = c.requires.good }) in
     let table : IsTable (table_of book) = rw (← c.self.view_is) at c.keeps.ensures.table in
     let well : IfOk c.suspend.result (IsWellSuspended book c.suspend.new.self.kept c.args.search c.args.on) =
     ok_well c.self.invariant.good table may c.suspend.new.self.kept c.suspend.result c.suspend.ensures.done c.suspend.ensures.good in
@@ -101,14 +64,7 @@ returns-clause-kept_count c =
 pub returns-clause-wanted_count : goal.returns-clause-wanted_count
 returns-clause-wanted_count c =
     let book : BookValue = value_of c.self.inside in
-    let may : MaySuspend book c.args.search c.args.on = may_at book c.args.self.now c.args.search c.args.on c.self.view_is (record {
-      some = c.requires.some;
-      apart = c.requires.apart;
-      last = c.requires.last;
-      off = c.requires.off;
-      unreleased = c.requires.unreleased;
-      good = c.requires.good;
-    }) in
+    let may : MaySuspend book c.args.search c.args.on = may_at book c.args.self.now c.args.search c.args.on c.self.view_is (record { can_wait = c.requires.can_wait; unreleased = c.requires.unreleased; good = c.requires.good }) in
     let table : IsTable (table_of book) = rw (← c.self.view_is) at c.keeps.ensures.table in
     let well : IfOk c.suspend.result (IsWellSuspended book c.suspend.new.self.kept c.args.search c.args.on) =
     ok_well c.self.invariant.good table may c.suspend.new.self.kept c.suspend.result c.suspend.ensures.done c.suspend.ensures.good in

@@ -1,18 +1,11 @@
-use Rattle.std.proofs.Common.{◌∙◌, ◌<◌, true, false, length, Some, refl, sym, ap, subst, arith, length-set, true≢false}
-use Rattle.list_laws.specs.Counts.{flat}
-use Rattle.search_stack.specs.GoodSearch.{IsGood}
-use Rattle.search_stack.specs.Stack.{size}
-use Rattle.search_stack.specs.Search.{IsDone, IsOn, SearchValue}
+use Rattle.std.proofs.Common.{◌∙◌, true, Some, refl, ap, subst, arith, length-set}
+use Rattle.search_stack.specs.Search.{IsDone, SearchValue}
 use Rattle.group_release.specs.Book.{BookValue}
-use Rattle.search_stack.proofs.Driving.{mark_read}
 use Rattle.blocked_table.proofs.WakeSteps.{put_length}
-use Rattle.search_machine.specs.Events.{IsOther}
-use Rattle.group_release.proofs.Beside.{last_below}
 use Rattle.search_machine.specs.declared.step.Step.TheVariants.{Done, Open}
-use Rattle.search_machine.specs.MachineFields.{state_of}
-use Rattle.search_machine.proofs.Acting.{book_only, fails, fails_machine, next_acts, next_machine, out, out_begins, out_some, out_wants, put_state, same_book, same_machine, stays}
-use Rattle.search_machine.proofs.Steps.{back_step, begun_stops, claims_step, pass_step, suspend_step, transfer_step, unmarked_not}
-use Rattle.search_machine.proofs.Turns.{has_begun}
+use Rattle.search_machine.proofs.Acting.{book_only, fails, fails_machine, next_acts, next_machine, out, out_some, out_wants, put_state, same_book, same_machine, stays}
+use Rattle.search_machine.proofs.EdgeSteps.{edge_good, edge_waits, has_edge, other, unclaimed}
+use Rattle.search_machine.proofs.Steps.{back_step, begun_stops, claims_step, pass_step, suspend_step, transfer_step}
 use Rattle.search_machine.proofs.machine.Machine.begin_edge.Goals as goal
 
 pub begin-requires-clause-some : goal.begin-requires-clause-some
@@ -45,227 +38,205 @@ returns-in_default-begin c =
 
 pub index-requires : goal.index-requires
 index-requires c =
-    let is = out c.self.invariant (rw (← c.self.view_is) at c.requires.sound) (rw (← c.self.view_is) at c.requires.runs.1) c.index_mut.ensures.value
-    c.take.ensures.value c.in-Some.is in
-    let begins = out_begins is c.begin.ensures.next c.in-Some-begin.is c.in-Some-begin.ensures.begun in
-    let begun = has_begun is.good begins in
-    let below = last_below begun.has.good begun.last is.good.book.closed in
-    let counted = is.good.counted in
-    let within : c.in-Some-begin.node < length c.self.inside.claimed.items = omega (arith, below, counted) in
-    omega (arith, within, c.self.inside.claimed.ok.0)
+    let edge =
+    has_edge
+    (out c.self.invariant (rw (← c.self.view_is) at c.requires.sound) (rw (← c.self.view_is) at c.requires.runs.1) c.index_mut.ensures.value
+    c.take.ensures.value c.in-Some.is)
+    c.begin.ensures.next c.in-Some-begin.is c.in-Some-begin.ensures.begun in
+    omega (arith, edge.within, c.self.inside.claimed.ok.0)
 
 pub index_mut-requires-then-not-index : goal.index_mut-requires-then-not-index
 index_mut-requires-then-not-index c =
-    let is = out c.self.invariant (rw (← c.self.view_is) at c.requires.sound) (rw (← c.self.view_is) at c.requires.runs.1) c.index_mut.ensures.value
-    c.take.ensures.value c.in-Some.is in
-    let begins = out_begins is c.begin.ensures.next c.in-Some-begin.is c.in-Some-begin.ensures.begun in
-    let begun = has_begun is.good begins in
-    let below = last_below begun.has.good begun.last is.good.book.closed in
-    let counted = is.good.counted in
-    let within : c.in-Some-begin.node < length c.self.inside.claimed.items = omega (arith, below, counted) in
-    omega (arith, within, c.self.inside.claimed.ok.0)
+    let edge =
+    has_edge
+    (out c.self.invariant (rw (← c.self.view_is) at c.requires.sound) (rw (← c.self.view_is) at c.requires.runs.1) c.index_mut.ensures.value
+    c.take.ensures.value c.in-Some.is)
+    c.begin.ensures.next c.in-Some-begin.is c.in-Some-begin.ensures.begun in
+    omega (arith, edge.within, c.self.inside.claimed.ok.0)
 
 pub invariant_of-self-then-not-index : goal.invariant_of-self-then-not-index
 invariant_of-self-then-not-index c =
-    let is = out c.self.invariant (rw (← c.self.view_is) at c.requires.sound) (rw (← c.self.view_is) at c.requires.runs.1) c.index_mut.ensures.value
-    c.take.ensures.value c.in-Some.is in
-    let begins = out_begins is c.begin.ensures.next c.in-Some-begin.is c.in-Some-begin.ensures.begun in
-    let begun = has_begun is.good begins in
-    let below = last_below begun.has.good begun.last is.good.book.closed in
-    let counted = is.good.counted in
-    let within : c.in-Some-begin.node < length c.self.inside.claimed.items = omega (arith, below, counted) in
-    let unclaimed = unmarked_not c.self.inside.claimed.items c.in-Some-begin.node
-    (mark_read c.self.inside.claimed.items c.in-Some-begin.node c.index.result.now false within c.index.ensures c.if-not-index.true) in
-    let step = claims_step c.self.inside c.args.place is c.take.new.self c.in-Some-begin.node c.begin.new.self begins c.begin.ensures.wants_nothing unclaimed in
+    let edge =
+    has_edge
+    (out c.self.invariant (rw (← c.self.view_is) at c.requires.sound) (rw (← c.self.view_is) at c.requires.runs.1) c.index_mut.ensures.value
+    c.take.ensures.value c.in-Some.is)
+    c.begin.ensures.next c.in-Some-begin.is c.in-Some-begin.ensures.begun in
+    let step =
+    claims_step c.self.inside c.args.place edge.out c.take.new.self c.in-Some-begin.node c.begin.new.self edge.begins c.begin.ensures.wants_nothing
+    (unclaimed edge c.index.ensures c.if-not-index.true) in
     next_machine c.self.inside _ c.args.place (Open c.in-Some-begin.node) c.self.invariant (rw (← c.self.view_is) at c.requires.sound) step (same_book c.self.inside.book)
     (put_length c.self.inside.running.items c.args.place c.take.new.self (Some c.begin.new.self))
 
 pub returns-then-not-index : goal.returns-then-not-index
 returns-then-not-index c =
-    let is = out c.self.invariant (rw (← c.self.view_is) at c.requires.sound) (rw (← c.self.view_is) at c.requires.runs.1) c.index_mut.ensures.value
-    c.take.ensures.value c.in-Some.is in
-    let begins = out_begins is c.begin.ensures.next c.in-Some-begin.is c.in-Some-begin.ensures.begun in
-    let begun = has_begun is.good begins in
-    let below = last_below begun.has.good begun.last is.good.book.closed in
-    let counted = is.good.counted in
-    let within : c.in-Some-begin.node < length c.self.inside.claimed.items = omega (arith, below, counted) in
-    let unclaimed = unmarked_not c.self.inside.claimed.items c.in-Some-begin.node
-    (mark_read c.self.inside.claimed.items c.in-Some-begin.node c.index.result.now false within c.index.ensures c.if-not-index.true) in
-    let step = claims_step c.self.inside c.args.place is c.take.new.self c.in-Some-begin.node c.begin.new.self begins c.begin.ensures.wants_nothing unclaimed in
+    let edge =
+    has_edge
+    (out c.self.invariant (rw (← c.self.view_is) at c.requires.sound) (rw (← c.self.view_is) at c.requires.runs.1) c.index_mut.ensures.value
+    c.take.ensures.value c.in-Some.is)
+    c.begin.ensures.next c.in-Some-begin.is c.in-Some-begin.ensures.begun in
+    let step =
+    claims_step c.self.inside c.args.place edge.out c.take.new.self c.in-Some-begin.node c.begin.new.self edge.begins c.begin.ensures.wants_nothing
+    (unclaimed edge c.index.ensures c.if-not-index.true) in
     rw (← c.self.view_is) (next_acts c.self.inside c.self.inside.book c.args.place (Open c.in-Some-begin.node) step (same_book c.self.inside.book))
 
 pub back-requires-clause-some : goal.back-requires-clause-some
 back-requires-clause-some c =
-    let is = out c.self.invariant (rw (← c.self.view_is) at c.requires.sound) (rw (← c.self.view_is) at c.requires.runs.1) c.index_mut.ensures.value
-    c.take.ensures.value c.in-Some.is in
-    let begins = out_begins is c.begin.ensures.next c.in-Some-begin.is c.in-Some-begin.ensures.begun in (has_begun is.good begins).has.some
+    let edge =
+    has_edge
+    (out c.self.invariant (rw (← c.self.view_is) at c.requires.sound) (rw (← c.self.view_is) at c.requires.runs.1) c.index_mut.ensures.value
+    c.take.ensures.value c.in-Some.is)
+    c.begin.ensures.next c.in-Some-begin.is c.in-Some-begin.ensures.begun in
+    edge.has.has.some
 
 pub invariant_of-self-then-back : goal.invariant_of-self-then-back
 invariant_of-self-then-back c =
-    let is = out c.self.invariant (rw (← c.self.view_is) at c.requires.sound) (rw (← c.self.view_is) at c.requires.runs.1) c.index_mut.ensures.value
-    c.take.ensures.value c.in-Some.is in
-    let begins = out_begins is c.begin.ensures.next c.in-Some-begin.is c.in-Some-begin.ensures.begun in
+    let edge =
+    has_edge
+    (out c.self.invariant (rw (← c.self.view_is) at c.requires.sound) (rw (← c.self.view_is) at c.requires.runs.1) c.index_mut.ensures.value
+    c.take.ensures.value c.in-Some.is)
+    c.begin.ensures.next c.in-Some-begin.is c.in-Some-begin.ensures.begun in
     let on = c.back.ensures.on.0 c.if-back.true in
-    let step = back_step c.self.inside c.args.place is c.take.new.self c.in-Some-begin.node c.begin.new.self c.back.new.self begins on
+    let step =
+    back_step c.self.inside c.args.place edge.out c.take.new.self c.in-Some-begin.node c.begin.new.self c.back.new.self edge.begins on
     (ap (λ (value : SearchValue). value.stack) (c.back.ensures.lowered c.if-back.true on.place on.within on.is)) c.back.ensures.wants_nothing in
     next_machine c.self.inside _ c.args.place Done c.self.invariant (rw (← c.self.view_is) at c.requires.sound) step (same_book c.self.inside.book)
     (put_length c.self.inside.running.items c.args.place c.take.new.self (Some c.back.new.self))
 
 pub returns-then-back : goal.returns-then-back
 returns-then-back c =
-    let is = out c.self.invariant (rw (← c.self.view_is) at c.requires.sound) (rw (← c.self.view_is) at c.requires.runs.1) c.index_mut.ensures.value
-    c.take.ensures.value c.in-Some.is in
-    let begins = out_begins is c.begin.ensures.next c.in-Some-begin.is c.in-Some-begin.ensures.begun in
+    let edge =
+    has_edge
+    (out c.self.invariant (rw (← c.self.view_is) at c.requires.sound) (rw (← c.self.view_is) at c.requires.runs.1) c.index_mut.ensures.value
+    c.take.ensures.value c.in-Some.is)
+    c.begin.ensures.next c.in-Some-begin.is c.in-Some-begin.ensures.begun in
     let on = c.back.ensures.on.0 c.if-back.true in
-    let step = back_step c.self.inside c.args.place is c.take.new.self c.in-Some-begin.node c.begin.new.self c.back.new.self begins on
+    let step =
+    back_step c.self.inside c.args.place edge.out c.take.new.self c.in-Some-begin.node c.begin.new.self c.back.new.self edge.begins on
     (ap (λ (value : SearchValue). value.stack) (c.back.ensures.lowered c.if-back.true on.place on.within on.is)) c.back.ensures.wants_nothing in
     rw (← c.self.view_is) (next_acts c.self.inside c.self.inside.book c.args.place Done step (same_book c.self.inside.book))
 
 pub invariant_of-self-then-holds : goal.invariant_of-self-then-holds
 invariant_of-self-then-holds c =
-    let is = out c.self.invariant (rw (← c.self.view_is) at c.requires.sound) (rw (← c.self.view_is) at c.requires.runs.1) c.index_mut.ensures.value
-    c.take.ensures.value c.in-Some.is in
-    let begins = out_begins is c.begin.ensures.next c.in-Some-begin.is c.in-Some-begin.ensures.begun in
-    let has = (rw c.released.ensures at c.holds.ensures).0 c.if-holds.true in
-    let step = pass_step c.self.inside c.args.place is c.take.new.self c.in-Some-begin.node c.begin.new.self c.back.new.self begins has (rw c.if-back.false at c.back.ensures.unchanged)
-    c.back.ensures.wants_nothing in
+    let edge =
+    has_edge
+    (out c.self.invariant (rw (← c.self.view_is) at c.requires.sound) (rw (← c.self.view_is) at c.requires.runs.1) c.index_mut.ensures.value
+    c.take.ensures.value c.in-Some.is)
+    c.begin.ensures.next c.in-Some-begin.is c.in-Some-begin.ensures.begun in
+    let step =
+    pass_step c.self.inside c.args.place edge.out c.take.new.self c.in-Some-begin.node c.begin.new.self c.back.new.self edge.begins
+    ((rw c.released.ensures at c.holds.ensures).0 c.if-holds.true) (rw c.if-back.false at c.back.ensures.unchanged) c.back.ensures.wants_nothing in
     next_machine c.self.inside _ c.args.place Done c.self.invariant (rw (← c.self.view_is) at c.requires.sound) step (same_book c.self.inside.book)
     (put_length c.self.inside.running.items c.args.place c.take.new.self (Some c.back.new.self))
 
 pub returns-then-holds : goal.returns-then-holds
 returns-then-holds c =
-    let is = out c.self.invariant (rw (← c.self.view_is) at c.requires.sound) (rw (← c.self.view_is) at c.requires.runs.1) c.index_mut.ensures.value
-    c.take.ensures.value c.in-Some.is in
-    let begins = out_begins is c.begin.ensures.next c.in-Some-begin.is c.in-Some-begin.ensures.begun in
-    let has = (rw c.released.ensures at c.holds.ensures).0 c.if-holds.true in
-    let step = pass_step c.self.inside c.args.place is c.take.new.self c.in-Some-begin.node c.begin.new.self c.back.new.self begins has (rw c.if-back.false at c.back.ensures.unchanged)
-    c.back.ensures.wants_nothing in
+    let edge =
+    has_edge
+    (out c.self.invariant (rw (← c.self.view_is) at c.requires.sound) (rw (← c.self.view_is) at c.requires.runs.1) c.index_mut.ensures.value
+    c.take.ensures.value c.in-Some.is)
+    c.begin.ensures.next c.in-Some-begin.is c.in-Some-begin.ensures.begun in
+    let step =
+    pass_step c.self.inside c.args.place edge.out c.take.new.self c.in-Some-begin.node c.begin.new.self c.back.new.self edge.begins
+    ((rw c.released.ensures at c.holds.ensures).0 c.if-holds.true) (rw c.if-back.false at c.back.ensures.unchanged) c.back.ensures.wants_nothing in
     rw (← c.self.view_is) (next_acts c.self.inside c.self.inside.book c.args.place Done step (same_book c.self.inside.book))
 
-pub suspend-requires-clause-some : goal.suspend-requires-clause-some
-suspend-requires-clause-some c =
-    let is = out c.self.invariant (rw (← c.self.view_is) at c.requires.sound) (rw (← c.self.view_is) at c.requires.runs.1) c.index_mut.ensures.value
-    c.take.ensures.value c.in-Some.is in
-    let begins = out_begins is c.begin.ensures.next c.in-Some-begin.is c.in-Some-begin.ensures.begun in
-    let same = ap (λ (value : SearchValue). value.stack) (rw c.if-back.false at c.back.ensures.unchanged) in
-    let has = (has_begun is.good begins).has in
-    omega (arith, has.some, ap size same)
-
-pub suspend-requires-clause-apart : goal.suspend-requires-clause-apart
-suspend-requires-clause-apart c =
-    let is = out c.self.invariant (rw (← c.self.view_is) at c.requires.sound) (rw (← c.self.view_is) at c.requires.runs.1) c.index_mut.ensures.value
-    c.take.ensures.value c.in-Some.is in
-    let begins = out_begins is c.begin.ensures.next c.in-Some-begin.is c.in-Some-begin.ensures.begun in
-    let same = ap (λ (value : SearchValue). value.stack) (rw c.if-back.false at c.back.ensures.unchanged) in
-    let has = (has_begun is.good begins).has in
-    λ place v holds on. has.off_kept place v holds (subst (λ stack. IsOn stack v) same on)
+pub suspend-requires-clause-can_wait : goal.suspend-requires-clause-can_wait
+suspend-requires-clause-can_wait c =
+    let edge =
+    has_edge
+    (out c.self.invariant (rw (← c.self.view_is) at c.requires.sound) (rw (← c.self.view_is) at c.requires.runs.1) c.index_mut.ensures.value
+    c.take.ensures.value c.in-Some.is)
+    c.begin.ensures.next c.in-Some-begin.is c.in-Some-begin.ensures.begun in
+    edge_waits edge (rw c.if-back.false at c.back.ensures.unchanged) c.back.ensures.wants_nothing c.back.ensures.on c.if-back.false
 
 pub suspend-requires-clause-good : goal.suspend-requires-clause-good
 suspend-requires-clause-good c =
-    let is = out c.self.invariant (rw (← c.self.view_is) at c.requires.sound) (rw (← c.self.view_is) at c.requires.runs.1) c.index_mut.ensures.value
-    c.take.ensures.value c.in-Some.is in
-    let begins = out_begins is c.begin.ensures.next c.in-Some-begin.is c.in-Some-begin.ensures.begun in
-    let same = ap (λ (value : SearchValue). value.stack) (rw c.if-back.false at c.back.ensures.unchanged) in
-    let has = (has_begun is.good begins).has in
-    subst (IsGood c.self.inside.book.lists c.self.inside.book.roots (flat c.self.inside.book.groups) true) (sym same) has.good
+    let edge =
+    has_edge
+    (out c.self.invariant (rw (← c.self.view_is) at c.requires.sound) (rw (← c.self.view_is) at c.requires.runs.1) c.index_mut.ensures.value
+    c.take.ensures.value c.in-Some.is)
+    c.begin.ensures.next c.in-Some-begin.is c.in-Some-begin.ensures.begun in
+    edge_good edge (rw c.if-back.false at c.back.ensures.unchanged) c.back.ensures.wants_nothing
 
 pub invariant_of-self-in-Ok-Kept : goal.invariant_of-self-in-Ok-Kept
 invariant_of-self-in-Ok-Kept c =
-    let is = out c.self.invariant (rw (← c.self.view_is) at c.requires.sound) (rw (← c.self.view_is) at c.requires.runs.1) c.index_mut.ensures.value
-    c.take.ensures.value c.in-Some.is in
-    let begins = out_begins is c.begin.ensures.next c.in-Some-begin.is c.in-Some-begin.ensures.begun in
-    let begun = has_begun is.good begins in
-    let below = last_below begun.has.good begun.last is.good.book.closed in
-    let counted = is.good.counted in
-    let within : c.in-Some-begin.node < length c.self.inside.claimed.items = omega (arith, below, counted) in
-    let same = rw c.if-back.false at c.back.ensures.unchanged in
-    let other : IsOther (state_of c.self.inside) c.begin.new.self.stack c.in-Some-begin.node = record {
-      claimed = mark_read c.self.inside.claimed.items c.in-Some-begin.node c.index.result.now true within c.index.ensures c.if-not-index.false;
-      unreleased = λ has. true≢false (sym ((rw c.released.ensures at c.holds.ensures).1 has) ∙ c.if-holds.false);
-      off = λ on. true≢false (sym (c.back.ensures.on.1 on) ∙ c.if-back.false);
-    } in
-    let step = suspend_step c.self.inside c.args.place is c.take.new.self c.in-Some-begin.node c.begin.new.self c.back.new.self c.suspend.new.self begins other same c.take.ensures.after
-    (rw c.in-Ok-Kept.field-0-is at c.in-Ok-Kept.ensures.done) c.in-Ok-Kept.ensures.only in
+    let edge =
+    has_edge
+    (out c.self.invariant (rw (← c.self.view_is) at c.requires.sound) (rw (← c.self.view_is) at c.requires.runs.1) c.index_mut.ensures.value
+    c.take.ensures.value c.in-Some.is)
+    c.begin.ensures.next c.in-Some-begin.is c.in-Some-begin.ensures.begun in
+    let step =
+    suspend_step c.self.inside c.args.place edge.out c.take.new.self c.in-Some-begin.node c.begin.new.self c.back.new.self c.suspend.new.self edge.begins
+    (other edge c.index.ensures c.if-not-index.false (rw c.released.ensures at c.holds.ensures) c.if-holds.false c.back.ensures.on c.if-back.false)
+    (rw c.if-back.false at c.back.ensures.unchanged) c.take.ensures.after (rw c.in-Ok-Kept.field-0-is at c.in-Ok-Kept.ensures.done) c.in-Ok-Kept.ensures.only in
     next_machine c.self.inside _ c.args.place Done c.self.invariant (rw (← c.self.view_is) at c.requires.sound) step (book_only c.suspend.new.self.kept c.self.inside.book.groups c.in-Ok-Kept.ensures.only)
     (length-set c.self.inside.running.items c.args.place c.take.new.self)
 
 pub returns-in-Ok-Kept : goal.returns-in-Ok-Kept
 returns-in-Ok-Kept c =
-    let is = out c.self.invariant (rw (← c.self.view_is) at c.requires.sound) (rw (← c.self.view_is) at c.requires.runs.1) c.index_mut.ensures.value
-    c.take.ensures.value c.in-Some.is in
-    let begins = out_begins is c.begin.ensures.next c.in-Some-begin.is c.in-Some-begin.ensures.begun in
-    let begun = has_begun is.good begins in
-    let below = last_below begun.has.good begun.last is.good.book.closed in
-    let counted = is.good.counted in
-    let within : c.in-Some-begin.node < length c.self.inside.claimed.items = omega (arith, below, counted) in
-    let same = rw c.if-back.false at c.back.ensures.unchanged in
-    let other : IsOther (state_of c.self.inside) c.begin.new.self.stack c.in-Some-begin.node = record {
-      claimed = mark_read c.self.inside.claimed.items c.in-Some-begin.node c.index.result.now true within c.index.ensures c.if-not-index.false;
-      unreleased = λ has. true≢false (sym ((rw c.released.ensures at c.holds.ensures).1 has) ∙ c.if-holds.false);
-      off = λ on. true≢false (sym (c.back.ensures.on.1 on) ∙ c.if-back.false);
-    } in
-    let step = suspend_step c.self.inside c.args.place is c.take.new.self c.in-Some-begin.node c.begin.new.self c.back.new.self c.suspend.new.self begins other same c.take.ensures.after
-    (rw c.in-Ok-Kept.field-0-is at c.in-Ok-Kept.ensures.done) c.in-Ok-Kept.ensures.only in
+    let edge =
+    has_edge
+    (out c.self.invariant (rw (← c.self.view_is) at c.requires.sound) (rw (← c.self.view_is) at c.requires.runs.1) c.index_mut.ensures.value
+    c.take.ensures.value c.in-Some.is)
+    c.begin.ensures.next c.in-Some-begin.is c.in-Some-begin.ensures.begun in
+    let step =
+    suspend_step c.self.inside c.args.place edge.out c.take.new.self c.in-Some-begin.node c.begin.new.self c.back.new.self c.suspend.new.self edge.begins
+    (other edge c.index.ensures c.if-not-index.false (rw c.released.ensures at c.holds.ensures) c.if-holds.false c.back.ensures.on c.if-back.false)
+    (rw c.if-back.false at c.back.ensures.unchanged) c.take.ensures.after (rw c.in-Ok-Kept.field-0-is at c.in-Ok-Kept.ensures.done) c.in-Ok-Kept.ensures.only in
     rw (← c.self.view_is) (next_acts c.self.inside c.suspend.new.self c.args.place Done step (book_only c.suspend.new.self.kept c.self.inside.book.groups c.in-Ok-Kept.ensures.only))
 
 pub invariant_of-self-in-Ok-Moved : goal.invariant_of-self-in-Ok-Moved
 invariant_of-self-in-Ok-Moved c =
-    let is = out c.self.invariant (rw (← c.self.view_is) at c.requires.sound) (rw (← c.self.view_is) at c.requires.runs.1) c.index_mut.ensures.value
-    c.take.ensures.value c.in-Some.is in
-    let begins = out_begins is c.begin.ensures.next c.in-Some-begin.is c.in-Some-begin.ensures.begun in
-    let begun = has_begun is.good begins in
-    let below = last_below begun.has.good begun.last is.good.book.closed in
-    let counted = is.good.counted in
-    let within : c.in-Some-begin.node < length c.self.inside.claimed.items = omega (arith, below, counted) in
-    let same = rw c.if-back.false at c.back.ensures.unchanged in
-    let other : IsOther (state_of c.self.inside) c.begin.new.self.stack c.in-Some-begin.node = record {
-      claimed = mark_read c.self.inside.claimed.items c.in-Some-begin.node c.index.result.now true within c.index.ensures c.if-not-index.false;
-      unreleased = λ has. true≢false (sym ((rw c.released.ensures at c.holds.ensures).1 has) ∙ c.if-holds.false);
-      off = λ on. true≢false (sym (c.back.ensures.on.1 on) ∙ c.if-back.false);
-    } in
-    let step = transfer_step c.self.inside c.args.place is c.take.new.self c.in-Some-begin.node c.begin.new.self c.back.new.self c.in-Ok-Moved.after c.suspend.new.self begins other same
-    (rw c.in-Ok-Moved.field-0-is at c.in-Ok-Moved.ensures.done) c.in-Ok-Moved.ensures.only in
+    let edge =
+    has_edge
+    (out c.self.invariant (rw (← c.self.view_is) at c.requires.sound) (rw (← c.self.view_is) at c.requires.runs.1) c.index_mut.ensures.value
+    c.take.ensures.value c.in-Some.is)
+    c.begin.ensures.next c.in-Some-begin.is c.in-Some-begin.ensures.begun in
+    let step =
+    transfer_step c.self.inside c.args.place edge.out c.take.new.self c.in-Some-begin.node c.begin.new.self c.back.new.self c.in-Ok-Moved.after c.suspend.new.self edge.begins
+    (other edge c.index.ensures c.if-not-index.false (rw c.released.ensures at c.holds.ensures) c.if-holds.false c.back.ensures.on c.if-back.false)
+    (rw c.if-back.false at c.back.ensures.unchanged) (rw c.in-Ok-Moved.field-0-is at c.in-Ok-Moved.ensures.done) c.in-Ok-Moved.ensures.only in
     next_machine c.self.inside _ c.args.place Done c.self.invariant (rw (← c.self.view_is) at c.requires.sound) step (book_only c.suspend.new.self.kept c.self.inside.book.groups c.in-Ok-Moved.ensures.only)
     (put_length c.self.inside.running.items c.args.place c.take.new.self (Some c.in-Ok-Moved.after))
 
 pub returns-in-Ok-Moved : goal.returns-in-Ok-Moved
 returns-in-Ok-Moved c =
-    let is = out c.self.invariant (rw (← c.self.view_is) at c.requires.sound) (rw (← c.self.view_is) at c.requires.runs.1) c.index_mut.ensures.value
-    c.take.ensures.value c.in-Some.is in
-    let begins = out_begins is c.begin.ensures.next c.in-Some-begin.is c.in-Some-begin.ensures.begun in
-    let begun = has_begun is.good begins in
-    let below = last_below begun.has.good begun.last is.good.book.closed in
-    let counted = is.good.counted in
-    let within : c.in-Some-begin.node < length c.self.inside.claimed.items = omega (arith, below, counted) in
-    let same = rw c.if-back.false at c.back.ensures.unchanged in
-    let other : IsOther (state_of c.self.inside) c.begin.new.self.stack c.in-Some-begin.node = record {
-      claimed = mark_read c.self.inside.claimed.items c.in-Some-begin.node c.index.result.now true within c.index.ensures c.if-not-index.false;
-      unreleased = λ has. true≢false (sym ((rw c.released.ensures at c.holds.ensures).1 has) ∙ c.if-holds.false);
-      off = λ on. true≢false (sym (c.back.ensures.on.1 on) ∙ c.if-back.false);
-    } in
-    let step = transfer_step c.self.inside c.args.place is c.take.new.self c.in-Some-begin.node c.begin.new.self c.back.new.self c.in-Ok-Moved.after c.suspend.new.self begins other same
-    (rw c.in-Ok-Moved.field-0-is at c.in-Ok-Moved.ensures.done) c.in-Ok-Moved.ensures.only in
+    let edge =
+    has_edge
+    (out c.self.invariant (rw (← c.self.view_is) at c.requires.sound) (rw (← c.self.view_is) at c.requires.runs.1) c.index_mut.ensures.value
+    c.take.ensures.value c.in-Some.is)
+    c.begin.ensures.next c.in-Some-begin.is c.in-Some-begin.ensures.begun in
+    let step =
+    transfer_step c.self.inside c.args.place edge.out c.take.new.self c.in-Some-begin.node c.begin.new.self c.back.new.self c.in-Ok-Moved.after c.suspend.new.self edge.begins
+    (other edge c.index.ensures c.if-not-index.false (rw c.released.ensures at c.holds.ensures) c.if-holds.false c.back.ensures.on c.if-back.false)
+    (rw c.if-back.false at c.back.ensures.unchanged) (rw c.in-Ok-Moved.field-0-is at c.in-Ok-Moved.ensures.done) c.in-Ok-Moved.ensures.only in
     rw (← c.self.view_is) (next_acts c.self.inside c.suspend.new.self c.args.place Done step (book_only c.suspend.new.self.kept c.self.inside.book.groups c.in-Ok-Moved.ensures.only))
 
 pub invariant_of-self-in-Err : goal.invariant_of-self-in-Err
 invariant_of-self-in-Err c =
-    let is = out c.self.invariant (rw (← c.self.view_is) at c.requires.sound) (rw (← c.self.view_is) at c.requires.runs.1) c.index_mut.ensures.value
-    c.take.ensures.value c.in-Some.is in
-    let begins = out_begins is c.begin.ensures.next c.in-Some-begin.is c.in-Some-begin.ensures.begun in
+    let edge =
+    has_edge
+    (out c.self.invariant (rw (← c.self.view_is) at c.requires.sound) (rw (← c.self.view_is) at c.requires.runs.1) c.index_mut.ensures.value
+    c.take.ensures.value c.in-Some.is)
+    c.begin.ensures.next c.in-Some-begin.is c.in-Some-begin.ensures.begun in
     let same = ap (λ (value : SearchValue). value.stack) (rw c.if-back.false at c.back.ensures.unchanged) in
     let book = c.fail.ensures ∙ ap (λ (value : BookValue). record value { failed = true }) c.in-Err.ensures.unchanged in
-    let stops = begun_stops c.self.inside c.args.place is c.take.new.self c.in-Some-begin.node c.begin.new.self c.in-Err.back c.fail.new.self begins (c.in-Err.ensures.back ∙ same)
-    c.in-Err.ensures.back_wants book in
+    let stops =
+    begun_stops c.self.inside c.args.place edge.out c.take.new.self c.in-Some-begin.node c.begin.new.self c.in-Err.back c.fail.new.self edge.begins
+    (c.in-Err.ensures.back ∙ same) c.in-Err.ensures.back_wants book in
     fails_machine c.self.inside _ c.args.place c.self.invariant (rw (← c.self.view_is) at c.requires.sound) stops book
     (put_length c.self.inside.running.items c.args.place c.take.new.self (Some c.in-Err.back))
 
 pub returns-in-Err : goal.returns-in-Err
 returns-in-Err c =
-    let is = out c.self.invariant (rw (← c.self.view_is) at c.requires.sound) (rw (← c.self.view_is) at c.requires.runs.1) c.index_mut.ensures.value
-    c.take.ensures.value c.in-Some.is in
-    let begins = out_begins is c.begin.ensures.next c.in-Some-begin.is c.in-Some-begin.ensures.begun in
+    let edge =
+    has_edge
+    (out c.self.invariant (rw (← c.self.view_is) at c.requires.sound) (rw (← c.self.view_is) at c.requires.runs.1) c.index_mut.ensures.value
+    c.take.ensures.value c.in-Some.is)
+    c.begin.ensures.next c.in-Some-begin.is c.in-Some-begin.ensures.begun in
     let same = ap (λ (value : SearchValue). value.stack) (rw c.if-back.false at c.back.ensures.unchanged) in
     let book = c.fail.ensures ∙ ap (λ (value : BookValue). record value { failed = true }) c.in-Err.ensures.unchanged in
-    let stops = begun_stops c.self.inside c.args.place is c.take.new.self c.in-Some-begin.node c.begin.new.self c.in-Err.back c.fail.new.self begins (c.in-Err.ensures.back ∙ same)
-    c.in-Err.ensures.back_wants book in
+    let stops =
+    begun_stops c.self.inside c.args.place edge.out c.take.new.self c.in-Some-begin.node c.begin.new.self c.in-Err.back c.fail.new.self edge.begins
+    (c.in-Err.ensures.back ∙ same) c.in-Err.ensures.back_wants book in
     rw (← c.self.view_is) (fails c.self.inside c.fail.new.self c.args.place stops book)

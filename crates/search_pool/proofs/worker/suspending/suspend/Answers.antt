@@ -13,12 +13,18 @@ use Rattle.search_pool.proofs.worker.suspending.suspend.Goals as goal
 use Rattle.search_pool.proofs.TurnLaws.{apart_kept, goes_on, good_in, good_released, is_turn_of, took_turn}
 use Rattle.search_pool.proofs.TurnSuspending.{beside_good, may_keep, may_move, released_settled}
 
-pub suspend-requires-clause-apart : goal.suspend-requires-clause-apart
-suspend-requires-clause-apart g c =
+pub suspend-requires-clause-can_wait : goal.suspend-requires-clause-can_wait
+suspend-requires-clause-can_wait g c =
     let took =
     took_turn c.turn-turn.result c.book-book.ensures.value c.turn-turn.ensures.table c.turn-turn.ensures.view c.turn-turn.ensures.taken
     c.turn-turn.ensures.lent in
-    apart_kept c.requires.at_work.working took
+    record {
+      some = c.requires.some;
+      wants_nothing = c.requires.at_work.working.wants_nothing;
+      apart = apart_kept c.requires.at_work.working took;
+      last = c.requires.elsewhere.last;
+      off = c.requires.elsewhere.away;
+    }
 
 pub suspend-requires-clause-good : goal.suspend-requires-clause-good
 suspend-requires-clause-good g c =
