@@ -12,7 +12,7 @@ use Rattle.search_stack.proofs.Join.{good_join, lows_from}
 use Rattle.search_stack.proofs.Joined.{joins}
 use Rattle.search_stack.proofs.Steps.{keeps}
 use Rattle.blocked_table.specs.Kept.{kept_at, Holds, IsApart, Follows, IsChain, IsFree, IsAtReady, Ends, AllEnd}
-use Rattle.blocked_table.specs.Transfer.{IsCutAway, IsMoved}
+use Rattle.blocked_table.specs.Transfer.{IsCutAway, ArePartsMoved}
 use Rattle.blocked_table.proofs.Chain.{none_is_not, some_is}
 use Rattle.blocked_table.proofs.Rests.{WantsAbove, joined_on, on_up, last_join, rest_on, on_rest, rest_distinct, rest_wants}
 
@@ -276,7 +276,7 @@ module _ {lists : List (List ℕ)} {roots done : List ℕ} {now : List (Option S
 
 -- a whole transfer
 pub moved_along : {lists : List (List ℕ)} {roots done : List ℕ} (now : List (Option SearchValue)) (s : Stack) (v : ℕ) (cuts : List (ℕ × ℕ))
-    (new : List (Option SearchValue)) (t : Stack) (end : ℕ) → IsOnTheWay lists roots done now s v → IsMoved now s v cuts new t end
+    (new : List (Option SearchValue)) (t : Stack) (end : ℕ) → IsOnTheWay lists roots done now s v → ArePartsMoved now s v cuts new t end
     → IsOnTheWay lists roots done new t end
 moved_along {lists} {roots} {done} now s v [] new t end way moved =
     subst (λ kept. IsOnTheWay lists roots done kept t end) (sym moved.0)

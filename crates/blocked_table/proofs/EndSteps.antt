@@ -1,20 +1,20 @@
 -- The end of a transfer, and the slot of a search that is suspended.
-use Rattle.std.proofs.Common.{vec_len, ◌≡◌, inl, inr, ℕ, ◌<◌, ◌+◌, List, [], ◌∷◌, ◌++◌, length, get_or, drop, set, Option, None, Some, ap, ◌∙◌, sym, subst, arith, add-one, drop-cons, get_or-set_same, get_or-set_other}
+use Rattle.std.proofs.Common.{vec_len, ◌≡◌, inl, inr, ℕ, ◌<◌, ◌≤◌, ◌+◌, List, [], ◌∷◌, ◌++◌, length, get_or, drop, set, Option, None, Some, ap, ◌∙◌, sym, subst, arith, add-one, drop-cons, get_or-set_same, get_or-set_other}
 use Rattle.std.proofs.lemmas.Bool.{cases_eq, cases_lt}
-use Rattle.std.proofs.lemmas.List.{get_or_append_left, get_or_past, get_or_push, length_push}
+use Rattle.std.proofs.lemmas.List.{drop_all, get_or_append_left, get_or_past, get_or_push, length_push}
 use Rattle.search_stack.specs.Stack.{Stack, size, node}
 use Rattle.search_stack.specs.Search.{SearchValue, IsGoodSearch, IsLastBegun, IsOn, joined, lowered}
 use Rattle.std.proofs.lemmas.List.Elements.{Contains-push}
 use Rattle.std.specs.Prelude.{Contains}
 use Rattle.blocked_table.specs.declared.blocked.Blocked.TheInside.{Inside}
-use Rattle.blocked_table.specs.Blocked.{HasRoom}
+use Rattle.blocked_table.specs.Blocked.{BlockedValue, HasRoom, IsTable}
 use Rattle.blocked_table.specs.BlockedFields.{IsBlocked, IsVacant, value_of}
-use Rattle.blocked_table.specs.Kept.{kept_at, Holds}
-use Rattle.blocked_table.specs.Suspending.{Adds, AreGood, CanWait}
-use Rattle.blocked_table.specs.Transfer.{IsCutAway, IsMoved, IsTransfer}
-use Rattle.blocked_table.proofs.Along.{IsOnTheWay, cut_away, new, shaped}
+use Rattle.blocked_table.specs.Kept.{ComesTo, Holds, kept_at}
+use Rattle.blocked_table.specs.Suspending.{Adds, AreGood, CanWait, HasRoomFor}
+use Rattle.blocked_table.specs.Transfer.{IsCutAway, ArePartsMoved, IsTransfer}
+use Rattle.blocked_table.proofs.Along.{IsOnTheWay, cut_away, moved_along, new, shaped}
 use Rattle.blocked_table.proofs.Chain.{some_is}
-use Rattle.blocked_table.proofs.MovedSteps.{IsPartWay}
+use Rattle.blocked_table.proofs.MovedSteps.{IsPartWay, way_of}
 use Rattle.blocked_table.proofs.Rests.{on_low}
 
 pub rest_drop : (xs : List ℕ) (i : ℕ) → i < length xs → drop i xs ≡ get_or xs i 0 ∷ drop (i + 1) xs
@@ -22,7 +22,7 @@ rest_drop xs i lt = rw (add-one, drop-cons xs i 0)
 
 -- what was on the receiver still is
 pub moved_on : {lists : List (List ℕ)} {roots done : List ℕ} (now : List (Option SearchValue)) (s : Stack) (v : ℕ) (cuts : List (ℕ × ℕ))
-    (after : List (Option SearchValue)) (t : Stack) (end u : ℕ) → IsOnTheWay lists roots done now s v → IsMoved now s v cuts after t end
+    (after : List (Option SearchValue)) (t : Stack) (end u : ℕ) → IsOnTheWay lists roots done now s v → ArePartsMoved now s v cuts after t end
     → IsOn s u → IsOn t u
 moved_on now s v [] after t end u way moved on = subst (λ stack. IsOn stack u) (sym moved.1) on
 moved_on now s v (cut ∷ cuts) after t end u way moved on =
@@ -38,13 +38,35 @@ transferred {old} {now} {s} {t} {after} {on} {node_now} {end} {spare} place way 
   cuts = way.cuts;
   whole = t;
   end = end;
-  moved = subst (λ u. IsMoved old s on way.cuts now t u) way.path way.moved;
+  moved = subst (λ u. ArePartsMoved old s on way.cuts now t u) way.path way.moved;
   back = back;
   place = place;
   within = within;
   is = is ∙ way.path;
   lowered = lowered_is;
 }
+
+-- what the steps of a transfer share: the way so far, with the next slot or at its end
+module _ {old now : List (Option SearchValue)} {s t : Stack} {on node_now end spare : ℕ} (places : List ℕ) (i : ℕ) where
+  pub part_next : i < length places → IsPartWay old s on now t node_now (drop i places) end spare
+      → IsPartWay old s on now t node_now (get_or places i 0 ∷ drop (i + 1) places) end spare
+  part_next lt part = subst (λ rest. IsPartWay old s on now t node_now rest end spare) (rest_drop places i lt) part
+
+  pub part_end : length places ≤ i → IsPartWay old s on now t node_now (drop i places) end spare
+      → IsPartWay old s on now t node_now [] end spare
+  part_end past part = subst (λ rest. IsPartWay old s on now t node_now rest end spare) (drop_all i places past) part
+
+module _ {value : BlockedValue} {lists : List (List ℕ)} {roots done : List ℕ} {search : SearchValue} {on : ℕ} (table : IsTable value)
+    (can : CanWait value.kept search on) (good : AreGood lists roots done value.kept search.stack) {now : List (Option SearchValue)} {t : Stack}
+    {node_now end spare : ℕ} where
+  pub way_so_far : {rest : List ℕ} → IsPartWay value.kept search.stack on now t node_now rest end spare → IsOnTheWay lists roots done now t node_now
+  way_so_far {rest} part =
+      moved_along value.kept search.stack on part.cuts now t node_now (way_of table good can.last can.apart) part.moved
+
+  pub end_on : IsPartWay value.kept search.stack on now t node_now [] end spare → IsOn search.stack end → IsOn t node_now
+  end_on part back =
+      subst (IsOn t) (sym part.path)
+      (moved_on value.kept search.stack on part.cuts now t node_now end (way_of table good can.last can.apart) part.moved back)
 
 -- with more capacity a search can wait as before
 pub waits_still : {kept : List (Option SearchValue)} {old new : SearchValue} {on : ℕ} → CanWait kept old on → new.stack ≡ old.stack
@@ -98,6 +120,31 @@ keep_good {lists} {roots} {done} {old} {after} {place} search on adds last good 
 pub vacant_last : {fields : Inside} → IsBlocked fields → (rest : List ℕ) (p : ℕ) → fields.vacant.items ≡ rest ++ p ∷ []
     → IsVacant fields.kept.items p
 vacant_last {fields} is rest p last = is.vacant.to p (subst (λ xs. Contains xs p) (sym last) (Contains-push rest p))
+
+-- a search that has been told to wait, as `keep` puts it into a slot
+pub record IsPut (fields : Inside) (after : SearchValue) (on : ℕ) : Type 0 where
+  pub some : 0 < size after.stack
+  pub wants : after.wanted ≡ Some on
+  pub off : (i v : ℕ) → Holds fields.kept.items i v → IsOn after.stack v → ⊥
+  pub below : (v : ℕ) → IsOn after.stack v → v < fields.count
+  pub never : ComesTo fields.kept.items after.stack on → ⊥
+  pub slot : HasRoom (value_of fields)
+
+pub put_at : (fields : Inside) {value : BlockedValue} {search after : SearchValue} {on : ℕ} → value_of fields ≡ value
+    → CanWait value.kept search on → HasRoomFor value search.stack on → (ComesTo value.kept search.stack on → ⊥)
+    → after ≡ record search { wanted = Some on } → IsPut fields after on
+put_at fields {value} {search} {after} {on} value_is can room never after_is =
+    let stack_is : search.stack ≡ after.stack = sym (ap (λ (one : SearchValue). one.stack) after_is) in
+    subst (λ s. IsPut fields (record { stack = s; wanted = after.wanted; spare = after.spare }) on) stack_is
+    (record {
+      some = can.some;
+      wants = ap (λ (one : SearchValue). one.wanted) after_is;
+      off =
+          subst (λ (all : BlockedValue). (i v : ℕ) → Holds all.kept i v → IsOn search.stack v → ⊥) (sym value_is) can.apart;
+      below = subst (λ (all : BlockedValue). (v : ℕ) → IsOn search.stack v → v < all.count) (sym value_is) room.below;
+      never = subst (λ (all : BlockedValue). ComesTo all.kept search.stack on → ⊥) (sym value_is) never;
+      slot = subst HasRoom (sym value_is) room.slot;
+    })
 
 -- if no slot is vacant, there is capacity for a new one
 pub room_left : {fields : Inside} → IsBlocked fields → vec_len fields.vacant ≡ 0 → HasRoom (value_of fields) → length fields.kept.items < fields.most

@@ -1,12 +1,12 @@
 -- What the calls read of the fields of `Blocked`.
-use Rattle.std.proofs.Common.{nat_eq, ne_eqb, true≢false, ◌≡◌, inl, inr, ℕ, ◌<◌, ◌≤◌, List, [], ◌∷◌, ◌++◌, length, get_or, replicate, set, vec_len, vec_capacity, Option, None, Some, ap, ◌∙◌, sym, subst, arith, get_or-set_same, get_or-set_other, length-set}
+use Rattle.std.proofs.Common.{nat_eq, ne_eqb, ◌≡◌, inl, inr, ℕ, ◌<◌, ◌≤◌, List, [], ◌∷◌, ◌++◌, length, get_or, replicate, set, vec_len, vec_capacity, Option, None, Some, ap, ◌∙◌, sym, subst, arith, get_or-set_same, get_or-set_other, length-set, true≢false}
 use Rattle.std.proofs.lemmas.Bool.{cases_lt, eq-eqb}
-use Rattle.std.proofs.lemmas.List.{get_or_default, length_push, length-replicate}
+use Rattle.std.proofs.lemmas.List.{get_or_default, length_push}
 use Rattle.std.proofs.lemmas.List.Elements.{Contains-get_or, Contains-push}
 use Rattle.std.specs.Prelude.{Bool, true, not, Contains}
 use Rattle.search_stack.specs.Search.{SearchValue}
 use Rattle.blocked_table.specs.declared.blocked.Blocked.TheInside.{Inside}
-use Rattle.blocked_table.specs.Blocked.{HasReady, IsReadyAt, IsTable, IsTaken}
+use Rattle.blocked_table.specs.Blocked.{BlockedValue, HasReady, IsReadyAt, IsTable, IsTaken}
 use Rattle.blocked_table.specs.BlockedFields.{AreWaiting, AreWhole, AreWords, IsBlocked, value_of}
 use Rattle.blocked_table.specs.Kept.{kept_at}
 use Rattle.blocked_table.specs.Listed.{AreJust}
@@ -27,6 +27,12 @@ pub ready_within : {fields : Inside} → IsBlocked fields → (rest : List ℕ) 
 ready_within {fields} is rest p last =
     let there : IsReadyAt fields.kept.items p = ready_last is rest p last in
     place_within fields.kept.items p there.search there.at
+
+-- nothing but the suspended searches has changed, in two steps
+pub still_only : (old : BlockedValue) {middle new : BlockedValue} → middle ≡ record old { kept = middle.kept } → new ≡ record middle { kept = new.kept }
+    → new ≡ record old { kept = new.kept }
+still_only old {middle} {new} first second =
+    second ∙ ap (λ (value : BlockedValue). record value { kept = new.kept }) first
 
 -- what is read in a slot
 pub read_kept : (kept : List (Option SearchValue)) (p : ℕ) (read : Option SearchValue) → p < length kept → read ≡ get_or kept p read
@@ -131,14 +137,6 @@ pub empty_waiting : (kept : List (Option SearchValue)) (waiters : WaitersValue) 
     → waiters ≡ record { count = count; words = replicate n 0 } → AreWaiting waiters.words kept
 empty_waiting kept waiters count n none are =
     subst (λ words. AreWaiting words kept) (sym (ap (λ (all : WaitersValue). all.words) are)) (waiting_none kept n none)
-
-pub empty_whole : (holders : List ℕ) (waiters : WaitersValue) (count most : ℕ) → holders ≡ replicate count 0
-    → waiters ≡ record { count = count; words = replicate most 0 } → AreWhole count most holders waiters
-empty_whole holders waiters count most zeros are = record {
-  words = ap length zeros ∙ length-replicate {A = ℕ} count 0;
-  nodes = ap (λ (all : WaitersValue). all.count) are;
-  places = omega (arith, ap (λ (all : WaitersValue). length all.words) are, length-replicate {A = ℕ} most 0);
-}
 
 pub empty_blocked : (fields : Inside) → fields.kept.items ≡ [] → fields.vacant.items ≡ [] → fields.ready.items ≡ []
     → fields.holders.items ≡ [] → fields.waiters ≡ record { count = 0; words = replicate 0 0 }

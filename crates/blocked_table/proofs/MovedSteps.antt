@@ -6,13 +6,13 @@ use Rattle.blocked_table.specs.Blocked.{BlockedValue, IsTable}
 use Rattle.blocked_table.specs.Kept.{kept_at, Holds}
 use Rattle.blocked_table.specs.Paths.{StepsAt, IsPath}
 use Rattle.blocked_table.specs.Suspending.{AreGood, IsPartMoved, entries_at, entries_of, entries_on}
-use Rattle.blocked_table.specs.Transfer.{IsCutAway, IsMoved}
+use Rattle.blocked_table.specs.Transfer.{IsCutAway, ArePartsMoved}
 use Rattle.blocked_table.proofs.Along.{IsOnTheWay}
 
 -- one more search is cut, at the end of the way so far
 pub moved_more : (now : List (Option SearchValue)) (s : Stack) (v : ℕ) (cuts : List (ℕ × ℕ)) (middle : List (Option SearchValue)) (t : Stack) (x : ℕ)
-    (cut : ℕ × ℕ) → IsMoved now s v cuts middle t x → (away : IsCutAway middle x cut)
-    → IsMoved now s v (cuts ++ cut ∷ []) away.next (joined t away.donor.stack cut.1) away.wants
+    (cut : ℕ × ℕ) → ArePartsMoved now s v cuts middle t x → (away : IsCutAway middle x cut)
+    → ArePartsMoved now s v (cuts ++ cut ∷ []) away.next (joined t away.donor.stack cut.1) away.wants
 moved_more now s v [] middle t x cut moved away =
     let same_list : middle ≡ now = moved.0 in
     let first : IsCutAway now v cut =
@@ -55,7 +55,7 @@ entries_same now next (p ∷ ps) same =
 pub record IsPartWay (old : List (Option SearchValue)) (s : Stack) (on : ℕ) (now : List (Option SearchValue)) (t : Stack) (node : ℕ) (rest : List ℕ)
     (end spare : ℕ) : Type 0 where
   pub cuts : List (ℕ × ℕ)
-  pub moved : IsMoved old s on cuts now t node
+  pub moved : ArePartsMoved old s on cuts now t node
   pub path : IsPath now node rest end
   pub once : (i j : ℕ) → i < j → j < length rest → get_or rest i 0 ≡ get_or rest j 0 → ⊥
   pub room : entries_of now rest ≤ spare
@@ -73,7 +73,7 @@ pub part_more : {old now : List (Option SearchValue)} {s t : Stack} {on node end
     → IsPartWay old s on new after wants rest end left
 part_more {old} {now} {s} {t} {on} {node} {end} {spare} place rest new after wants left was part used =
     let away : IsCutAway now node (place, part.frame) = part.away in
-    let moved : IsMoved old s on (was.cuts ++ (place, part.frame) ∷ []) away.next (joined t away.donor.stack part.frame) away.wants =
+    let moved : ArePartsMoved old s on (was.cuts ++ (place, part.frame) ∷ []) away.next (joined t away.donor.stack part.frame) away.wants =
     moved_more old s on was.cuts now t node (place, part.frame) was.moved away in
     let same : (i : ℕ) → i < length rest → kept_at new (get_or rest i 0) ≡ kept_at now (get_or rest i 0) = λ i lt.
     ap (λ kept. kept_at kept (get_or rest i 0)) (sym part.next_is)
@@ -86,9 +86,9 @@ part_more {old} {now} {s} {t} {on} {node} {end} {spare} place rest new after wan
     record {
       cuts = was.cuts ++ (place, part.frame) ∷ [];
       moved =
-          subst (λ kept. IsMoved old s on (was.cuts ++ (place, part.frame) ∷ []) kept after wants) part.next_is
-          (subst (λ stack. IsMoved old s on (was.cuts ++ (place, part.frame) ∷ []) away.next stack wants) (sym part.stack_is)
-          (subst (λ u. IsMoved old s on (was.cuts ++ (place, part.frame) ∷ []) away.next (joined t away.donor.stack part.frame) u) part.wants_is moved));
+          subst (λ kept. ArePartsMoved old s on (was.cuts ++ (place, part.frame) ∷ []) kept after wants) part.next_is
+          (subst (λ stack. ArePartsMoved old s on (was.cuts ++ (place, part.frame) ∷ []) away.next stack wants) (sym part.stack_is)
+          (subst (λ u. ArePartsMoved old s on (was.cuts ++ (place, part.frame) ∷ []) away.next (joined t away.donor.stack part.frame) u) part.wants_is moved));
       path = path_same now new wants rest end same (subst (λ u. IsPath now u rest end) wanted was.path.2);
       once = λ i j before lt is. was.once (suc i) (suc j) (omega (arith, before)) (omega (arith, lt)) is;
       room = omega (arith, was.room, entries, entries_same now new rest same, used away.donor away.at);

@@ -6,7 +6,7 @@ use Rattle.search_stack.specs.Search.{SearchValue}
 use Rattle.blocked_table.specs.Blocked.{IsTaken}
 use Rattle.blocked_table.specs.BlockedFields.{AreWaiting, wait_word, wanted_word}
 use Rattle.blocked_table.specs.Kept.{kept_at}
-use Rattle.blocked_table.specs.Waking.{IsOneWoken, IsUnwanted}
+use Rattle.blocked_table.specs.Waking.{IsOneWoken}
 use Rattle.blocked_table.proofs.WaiterSteps.{zeros}
 
 -- no search is suspended, and no slot waits
@@ -44,11 +44,6 @@ word_some kept place w search at wants = ap wait_word at ∙ ap wanted_word want
 pub word_none : (kept : List (Option SearchValue)) (place : ℕ) (search : SearchValue) → kept_at kept place ≡ Some search → search.wanted ≡ None
     → wait_word (kept_at kept place) ≡ 0
 word_none kept place search at wants = ap wait_word at ∙ ap wanted_word wants
-
--- if no slot waits for a node, no search does
-pub unwanted : (words : List ℕ) (kept : List (Option SearchValue)) → AreWaiting words kept → (w : ℕ)
-    → ((place : ℕ) → get_or words place 0 ≡ w + 1 → ⊥) → IsUnwanted kept w
-unwanted words kept are w none place one at wants = none place (are place ∙ word_some kept place w one at wants)
 
 -- a slot that waits has a search that waits for the node
 

@@ -1,5 +1,5 @@
 -- What becomes of a search that is to be suspended, and of the searches that it would wait for.
-use Rattle.std.specs.Prelude.{◌≡◌, ℕ, ◌+◌, ◌<◌, true, false, List, [], ◌∷◌, Option, None, Some}
+use Rattle.std.specs.Prelude.{◌≡◌, ℕ, ◌+◌, ◌<◌, ◌≤◌, true, false, List, [], ◌∷◌, Option, None, Some}
 use Rattle.search_stack.specs.Stack.{Stack, size}
 use Rattle.search_stack.specs.GoodSearch.{IsGood}
 use Rattle.search_stack.specs.Search.{SearchValue, IsGoodSearch, IsLastBegun, IsOn, joined}
@@ -35,6 +35,12 @@ pub record IsPartMoved (old new : List (Option SearchValue)) (s t : Stack) (v pl
   pub next_is : away.next ≡ new
   pub stack_is : t ≡ joined s away.donor.stack frame
   pub wants_is : away.wants ≡ wants
+
+-- and it is on top of the search, which waits for nothing and has used no more capacity than for it
+pub record IsPartOnTop (old new : List (Option SearchValue)) (search after : SearchValue) (v place wants : ℕ) : Type 0 where
+  pub part : IsPartMoved old new search.stack after.stack v place wants
+  pub wants_nothing : after.wanted ≡ None
+  pub spare : (donor : SearchValue) → kept_at old place ≡ Some donor → search.spare ≤ after.spare + size donor.stack
 
 -- the search and the suspended ones satisfy the invariant for one graph, list of roots and finished
 -- nodes, the search with its last edge open

@@ -23,10 +23,10 @@ pub record IsCutAway (now : List (Option SearchValue)) (v : ℕ) (cut : ℕ × �
 
 -- the search that holds v is cut there and comes on top of s, then the one that holds what it
 -- waited for, and so on, up to the node `end`; each cut is a slot and a frame
-abbrev pub IsMoved : List (Option SearchValue) → Stack → ℕ → List (ℕ × ℕ) → List (Option SearchValue) → Stack → ℕ → Type 0
-IsMoved now s v [] new t end = (new ≡ now) × (t ≡ s) × (end ≡ v)
-IsMoved now s v (cut ∷ cuts) new t end =
-    (away : IsCutAway now v cut) × IsMoved away.next (joined s away.donor.stack cut.1) away.wants cuts new t end
+abbrev pub ArePartsMoved : List (Option SearchValue) → Stack → ℕ → List (ℕ × ℕ) → List (Option SearchValue) → Stack → ℕ → Type 0
+ArePartsMoved now s v [] new t end = (new ≡ now) × (t ≡ s) × (end ≡ v)
+ArePartsMoved now s v (cut ∷ cuts) new t end =
+    (away : IsCutAway now v cut) × ArePartsMoved away.next (joined s away.donor.stack cut.1) away.wants cuts new t end
 
 -- following what searches wait for leads from v back to s: the upper parts have moved, the edge at
 -- the end is a back edge, and each rest stays
@@ -34,7 +34,7 @@ pub record IsTransfer (old new : List (Option SearchValue)) (s : Stack) (v : ℕ
   pub cuts : List (ℕ × ℕ)
   pub whole : Stack
   pub end : ℕ
-  pub moved : IsMoved old s v cuts new whole end
+  pub moved : ArePartsMoved old s v cuts new whole end
   pub back : IsOn s end
   pub place : ℕ
   pub within : place < size whole

@@ -85,8 +85,7 @@ impl Blocked {
     /// Takes a ready search from its slot, if there is one. It takes a step for each node of the
     /// search.
     pub fn take_ready(&mut self) -> Option<Search>
-        ensures count { self.new.count ≡ self.old.count }
-        ensures most { self.new.most ≡ self.old.most }
+        ensures only { self.new ≡ record self.old { kept = self.new.kept } }
         ensures some { IfSome result (λ search. IsTaken self.old.kept self.new.kept search) }
         ensures none { IfNone result (HasReady self.old.kept → ⊥) }
         ensures unchanged { IfNone result (self.new ≡ self.old) }

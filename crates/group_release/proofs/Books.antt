@@ -8,7 +8,7 @@ use Rattle.graph_law.specs.Classes.{HasMember, IsClass}
 use Rattle.graph_law.specs.Graph.{Calls, IsClosed}
 use Rattle.search_stack.specs.Stack.{size}
 use Rattle.search_stack.specs.GoodSearch.{IsGood}
-use Rattle.search_stack.specs.Search.{SearchValue, IsLastBegun, IsOn}
+use Rattle.search_stack.specs.Search.{SearchValue, IsOn}
 use Rattle.blocked_table.specs.declared.suspended.Suspended.{Suspended}
 use Rattle.blocked_table.specs.declared.suspended.Suspended.TheVariants.{Kept, Moved}
 use Rattle.blocked_table.specs.Blocked.{BlockedValue, IsTable, IsTaken}
@@ -29,17 +29,14 @@ use Rattle.group_release.proofs.Nodes.{lowered_nodes, lowered_on, lowered_size, 
 use Rattle.group_release.proofs.Room.{always_room}
 
 -- a table of the same size
-pub same_size : (before after : BlockedValue) (n : ℕ) → before ≡ record { count = n; most = n; kept = before.kept } → after.count ≡ before.count
-    → after.most ≡ before.most → after ≡ record { count = n; most = n; kept = after.kept }
-same_size before after n was count most =
-    let count_is : after.count ≡ n = count ∙ ap (λ (value : BlockedValue). value.count) was in
-    let most_is : after.most ≡ n = most ∙ ap (λ (value : BlockedValue). value.most) was in
-    λ i. record { count = count_is i; most = most_is i; kept = after.kept }
+pub same_size : (before after : BlockedValue) (n : ℕ) → before ≡ record { count = n; most = n; kept = before.kept }
+    → after ≡ record before { kept = after.kept } → after ≡ record { count = n; most = n; kept = after.kept }
+same_size before after n was only = only ∙ ap (λ (value : BlockedValue). record value { kept = after.kept }) was
 
-pub table_changes : (fields : Inside) (after : BlockedValue) → IsBook fields → after.count ≡ fields.blocked.count → after.most ≡ fields.blocked.most
+pub table_changes : (fields : Inside) (after : BlockedValue) → IsBook fields → after ≡ record fields.blocked { kept = after.kept }
     → IsGoodBook (record (value_of fields) { kept = after.kept }) → IsBook (record fields { blocked = after })
-table_changes fields after is count most good = record {
-  table = same_size fields.blocked after (length (value_of fields).lists) is.table count most;
+table_changes fields after is only good = record {
+  table = same_size fields.blocked after (length (value_of fields).lists) is.table only;
   groups = is.groups;
   good = good;
 }
@@ -76,9 +73,6 @@ pub record MaySuspend (book : BookValue) (search : SearchValue) (on : ℕ) : Typ
   pub can_wait : CanWait book.kept search on
   pub unreleased : HasMember book.groups on → ⊥
   pub good : IsGood book.lists book.roots (flat book.groups) true search.stack
-
-pub may_at : (book now : BookValue) (search : SearchValue) (on : ℕ) → book ≡ now → MaySuspend now search on → MaySuspend book search on
-may_at book now search on is may = subst (λ value. MaySuspend value search on) (sym is) may
 
 -- the table of a book has room for it
 pub room_for : {fields : Inside} {search : SearchValue} {on : ℕ} → IsBook fields → IsTable (table_of (value_of fields))
@@ -248,14 +242,27 @@ module _ {book : BookValue} {search : SearchValue} {on count most : ℕ} (good :
       (stays book.lists book.roots (flat book.groups) (record { good = may.good; kept_good = good.kept_good }))
   ok_well new (Err error) is stays = tt
 
+-- so it is after each call that `suspend` allows
+pub well_suspended : {fields : Inside} {now : BookValue} {search : SearchValue} {on : ℕ} {E : Type 0} (new : List (Option SearchValue))
+    (result : Result Suspended E) → value_of fields ≡ now → IsBook fields → IsTable (table_of now) → CanWait now.kept search on
+    → (HasMember now.groups on → ⊥) → IsGood now.lists now.roots (flat now.groups) true search.stack
+    → IfOk result (IsSuspended fields.blocked.kept new search on)
+    → IfOk result (λ suspended. (lists : List (List ℕ)) (roots done : List ℕ) → AreGood lists roots done fields.blocked.kept search.stack
+    → StaysGood lists roots done new suspended)
+    → IfOk result (IsWellSuspended (value_of fields) new search on)
+well_suspended {fields} {now} {search} {on} {E} new result now_is is table can unreleased good done stays =
+    let may : MaySuspend (value_of fields) search on =
+    subst (λ value. MaySuspend value search on) (sym now_is) (record { can_wait = can; unreleased = unreleased; good = good }) in
+    ok_well is.good (subst (λ value. IsTable (table_of value)) (sym now_is) table) may new result done stays
+
 -- whatever the mark is
 pub suspended_book : {E : Type 0} (fields : Inside) (after : BlockedValue) (failed : Bool) (search : SearchValue) (on : ℕ) (result : Result Suspended E)
-    → IsBook fields → after.count ≡ fields.blocked.count → after.most ≡ fields.blocked.most
+    → IsBook fields → after ≡ record fields.blocked { kept = after.kept }
     → IfOk result (IsWellSuspended (value_of fields) after.kept search on) → IfErr result (λ error. after ≡ fields.blocked)
     → IsBook (record fields { failed = failed; blocked = after })
-suspended_book fields after failed search on (Ok suspended) is count most well same =
-    marked_book failed (table_changes fields after is count most well.good)
-suspended_book fields after failed search on (Err error) is count most well same =
+suspended_book fields after failed search on (Ok suspended) is only well same =
+    marked_book failed (table_changes fields after is only well.good)
+suspended_book fields after failed search on (Err error) is only well same =
     marked_book failed (subst (λ table. IsBook (record fields { blocked = table })) (sym same) is)
 
 -- a ready search is taken
@@ -326,11 +333,11 @@ pub some_well : {book : BookValue} {count most : ℕ} → IsGoodBook book → Is
 some_well good table new None is = tt
 some_well good table new (Some search) is = taken_well good table is
 
-pub taken_book : (fields : Inside) (after : BlockedValue) (result : Option SearchValue) → IsBook fields → after.count ≡ fields.blocked.count
-    → after.most ≡ fields.blocked.most → IfSome result (IsWellTaken (value_of fields) after.kept) → IfNone result (after ≡ fields.blocked)
+pub taken_book : (fields : Inside) (after : BlockedValue) (result : Option SearchValue) → IsBook fields
+    → after ≡ record fields.blocked { kept = after.kept } → IfSome result (IsWellTaken (value_of fields) after.kept) → IfNone result (after ≡ fields.blocked)
     → IsBook (record fields { blocked = after })
-taken_book fields after None is count most well same = subst (λ table. IsBook (record fields { blocked = table })) (sym same) is
-taken_book fields after (Some search) is count most well same = table_changes fields after is count most well.good
+taken_book fields after None is only well same = subst (λ table. IsBook (record fields { blocked = table })) (sym same) is
+taken_book fields after (Some search) is only well same = table_changes fields after is only well.good
 
 pub taken_wants : (fields : Inside) (after : BlockedValue) (result : Option SearchValue) → IfSome result (IsWellTaken (value_of fields) after.kept)
     → IfNone result (after ≡ fields.blocked) → (x : ℕ) → times x (wanted_nodes after.kept) ≡ times x (wanted_nodes fields.blocked.kept)

@@ -8,7 +8,7 @@ use Rattle.search_stack.specs.Search.{SearchValue, IsOn, below_frame, joined}
 use Rattle.search_stack.proofs.Changes.{Joins}
 use Rattle.search_stack.proofs.Frames.{position_within}
 use Rattle.blocked_table.specs.Kept.{kept_at, Holds}
-use Rattle.blocked_table.specs.Transfer.{IsCutAway, IsMoved}
+use Rattle.blocked_table.specs.Transfer.{IsCutAway, ArePartsMoved}
 use Rattle.blocked_table.proofs.Along.{IsOnTheWay, IsRest, above, at_cut, cut_away, donor_holds, new, next_off, rest_of, rest_wanted, shaped, was_held}
 use Rattle.blocked_table.proofs.Chain.{some_is}
 use Rattle.blocked_table.proofs.Rests.{joined_on, on_low, on_up}
@@ -120,7 +120,7 @@ module _ {lists : List (List ℕ)} {roots done : List ℕ} {Released Wanted : �
 -- a whole transfer
 pub gathered : {lists : List (List ℕ)} {roots done : List ℕ} {Released Wanted : ℕ → Type 0} {count : ℕ → ℕ} (now : List (Option SearchValue))
     (s : Stack) (v : ℕ) (cuts : List (ℕ × ℕ)) (after : List (Option SearchValue)) (t : Stack) (end : ℕ)
-    → IsGathering lists roots done Released Wanted count now s v → IsMoved now s v cuts after t end
+    → IsGathering lists roots done Released Wanted count now s v → ArePartsMoved now s v cuts after t end
     → IsGathering lists roots done Released Wanted count after t end
 gathered {lists} {roots} {done} {Released} {Wanted} {count} now s v [] after t end was moved =
     subst (λ kept. IsGathering lists roots done Released Wanted count kept t end) (sym moved.0)

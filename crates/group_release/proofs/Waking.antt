@@ -186,13 +186,13 @@ module _ {book : BookValue} {group last : List ℕ} {new : List (Option SearchVa
 pub released_book : (fields : Inside) (blocked : BlockedValue) (released : ReleasedGroups) (group : List ℕ) → IsBook fields
     → IsNewGroup (released_of (value_of fields)) group
     → IsReleasable (value_of fields).lists (value_of fields).roots (flat (value_of fields).groups) group
-    → ((place v : ℕ) → Holds fields.blocked.kept place v → Contains group v → ⊥) → blocked.count ≡ fields.blocked.count
-    → blocked.most ≡ fields.blocked.most → IsWoken group fields.blocked.kept blocked.kept → IsAppended fields.released group released
+    → ((place v : ℕ) → Holds fields.blocked.kept place v → Contains group v → ⊥)
+    → blocked ≡ record fields.blocked { kept = blocked.kept } → IsWoken group fields.blocked.kept blocked.kept → IsAppended fields.released group released
     → ((more : List ℕ) → ((v : ℕ) → Contains (flat (value_of fields).groups) v → Contains more v) → ((v : ℕ) → Contains group v → Contains more v)
     → (place : ℕ) (search : SearchValue) → kept_at blocked.kept place ≡ Some search
     → IsGoodSearch (value_of fields).lists (value_of fields).roots more search)
     → IsBook (record fields { blocked = blocked; released = released })
-released_book fields blocked released group is new release apart count most woken appended stays =
+released_book fields blocked released group is new release apart only woken appended stays =
     let book : BookValue = value_of fields in
     let last : List ℕ = appended.last in
     let moved : IsPermutation group last = appended.same_members in
@@ -202,7 +202,7 @@ released_book fields blocked released group is new release apart count most woke
     (more_new is.good release new.fresh apart woken moved appended.ascending)) in
     let count_is : released.count ≡ length book.lists = appended.count ∙ ap (λ (value : ReleasedGroups). value.count) is.groups in
     record {
-      table = same_size fields.blocked blocked (length book.lists) is.table count most;
+      table = same_size fields.blocked blocked (length book.lists) is.table only;
       groups = λ i. record { count = count_is i; groups = released.groups };
       good = subst (λ groups. IsGoodBook (record book { kept = blocked.kept; groups = groups })) (sym appended.groups) good;
     }

@@ -1,37 +1,44 @@
 -- A search that was taken out of its place and has begun an edge, as the exits of `begin_edge` find it.
-use Rattle.std.proofs.Common.{◌≡◌, ◌↔◌, ℕ, ◌<◌, Bool, true, false, length, get_or, Option, None, Some, true≢false, ap, ◌∙◌, sym, subst, arith}
+use Rattle.std.proofs.Common.{◌≡◌, ◌↔◌, ℕ, ◌<◌, Bool, true, false, length, get_or, Option, None, Some, ap, ◌∙◌, sym, subst, arith, true≢false}
 use Rattle.std.specs.Prelude.{IsTrue}
 use Rattle.graph_law.specs.Classes.{HasMember}
 use Rattle.list_laws.specs.Counts.{flat}
 use Rattle.search_stack.specs.GoodSearch.{IsGood}
 use Rattle.search_stack.specs.Search.{SearchValue, IsOn, next_successor, one_more_begun}
-use Rattle.search_stack.specs.Stack.{position, top}
+use Rattle.search_stack.specs.Stack.{Stack, position, top}
 use Rattle.search_stack.proofs.Driving.{mark_read}
 use Rattle.blocked_table.specs.Suspending.{CanWait}
 use Rattle.group_release.proofs.Beside.{last_below}
 use Rattle.search_machine.specs.declared.machine.Machine.TheInside.{Inside}
-use Rattle.search_machine.specs.Events.{Begins, IsOther}
-use Rattle.search_machine.specs.MachineFields.{state_of}
+use Rattle.search_machine.specs.Events.{Begins, IsOther, Runs}
+use Rattle.search_machine.specs.Machine.{MachineValue}
+use Rattle.search_machine.specs.MachineFields.{IsMachine, state_of, value_of}
 use Rattle.search_machine.specs.State.{IsClaimed}
-use Rattle.search_machine.proofs.Acting.{IsOut, out_begins}
+use Rattle.search_machine.proofs.Acting.{IsOut, out as take_out, out_begins}
 use Rattle.search_machine.proofs.Steps.{unmarked_not}
 use Rattle.search_machine.proofs.Turns.{HasBegun, has_begun}
 
 pub record HasEdge (fields : Inside) (place v : ℕ) (begun : SearchValue) : Type 0 where
+  pub sound : fields.book.failed ≡ false
   pub search : SearchValue
   pub out : IsOut fields place search
   pub begins : Begins (state_of fields) place v begun.stack
   pub has : HasBegun out.good place v begun.stack
   pub within : v < length fields.claimed.items
 
-pub has_edge : {fields : Inside} {place v : ℕ} {search begun : SearchValue} {result : Option ℕ} → IsOut fields place search
+pub has_edge : {fields : Inside} {now : MachineValue} {place v : ℕ} {search begun : SearchValue} {read taken : Option SearchValue} {result : Option ℕ}
+    → value_of fields ≡ now → IsMachine fields → now.failed ≡ false → (stack : Stack) × Runs now.state place stack
+    → read ≡ get_or fields.running.items place read → taken ≡ read → taken ≡ Some search
     → result ≡ next_successor search.stack → result ≡ Some v
     → begun ≡ record search { stack = one_more_begun search.stack (position search.stack (top search.stack)) } → HasEdge fields place v begun
-has_edge {fields} {place} {v} {search} {begun} {result} out next some is =
-    let begins : Begins (state_of fields) place v begun.stack = out_begins out next some is in
+has_edge {fields} {now} {place} {v} {search} {begun} {read} {taken} {result} now_is is sound runs here took taken_is next some begun_is =
+    let failed : fields.book.failed ≡ false = ap (λ (value : MachineValue). value.failed) now_is ∙ sound in
+    let out : IsOut fields place search =
+    take_out is failed (subst (λ (value : MachineValue). Runs value.state place runs.0) (sym now_is) runs.1) here took taken_is in
+    let begins : Begins (state_of fields) place v begun.stack = out_begins out next some begun_is in
     let has : HasBegun out.good place v begun.stack = has_begun out.good begins in
     let below : v < length fields.book.lists = last_below has.has.good has.last out.good.book.closed in
-    record { search = search; out = out; begins = begins; has = has; within = omega (arith, below, out.good.counted) }
+    record { sound = failed; search = search; out = out; begins = begins; has = has; within = omega (arith, below, out.good.counted) }
 
 module _ {fields : Inside} {place v : ℕ} {begun : SearchValue} (edge : HasEdge fields place v begun) where
   -- the node is claimed or not, as its mark was read

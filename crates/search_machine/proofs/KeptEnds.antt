@@ -6,7 +6,7 @@ use Rattle.search_stack.specs.Search.{SearchValue, IsOn, joined}
 use Rattle.search_stack.proofs.Frames.{position_le}
 use Rattle.blocked_table.specs.Blocked.{IsWoken}
 use Rattle.blocked_table.specs.Kept.{kept_at, Holds, Follows, IsChain, IsFree, IsAtReady, Ends, AllEnd}
-use Rattle.blocked_table.specs.Transfer.{IsCutAway, IsMoved}
+use Rattle.blocked_table.specs.Transfer.{IsCutAway, ArePartsMoved}
 use Rattle.blocked_table.proofs.Along.{IsOnTheWay, at_cut, cut_away, left, rest_of, shaped}
 use Rattle.blocked_table.proofs.Chain.{held_or_free, none_is_not, some_is}
 use Rattle.group_release.proofs.Waking.{still, was_kept}
@@ -96,7 +96,7 @@ module _ {group : List ℕ} {old new : List (Option SearchValue)} (woken : IsWok
 
 -- no search that is left where others are cut is empty
 pub moved_some : {lists : List (List ℕ)} {roots done : List ℕ} (now : List (Option SearchValue)) (s : Stack) (v : ℕ) (cuts : List (ℕ × ℕ))
-    (new : List (Option SearchValue)) (t : Stack) (end : ℕ) → IsOnTheWay lists roots done now s v → IsMoved now s v cuts new t end
+    (new : List (Option SearchValue)) (t : Stack) (end : ℕ) → IsOnTheWay lists roots done now s v → ArePartsMoved now s v cuts new t end
     → ((place : ℕ) (search : SearchValue) → kept_at now place ≡ Some search → 0 < size search.stack)
     → (place : ℕ) (search : SearchValue) → kept_at new place ≡ Some search → 0 < size search.stack
 moved_some now s v [] new t end way moved some place search at = some place search (sym (ap (λ kept. kept_at kept place) moved.0) ∙ at)

@@ -5,7 +5,7 @@ use Rattle.list_laws.proofs.Standing.{total_at}
 use Rattle.search_stack.specs.Stack.{Stack}
 use Rattle.search_stack.specs.Search.{SearchValue, below_frame, joined}
 use Rattle.blocked_table.specs.Kept.{kept_at}
-use Rattle.blocked_table.specs.Transfer.{IsCutAway, IsLeft, IsMoved, IsTransfer}
+use Rattle.blocked_table.specs.Transfer.{IsCutAway, IsLeft, ArePartsMoved, IsTransfer}
 use Rattle.search_machine.specs.Work.{kept_work, stack_work, taking_work}
 use Rattle.search_machine.proofs.StackWork.{joined_work, lowered_work}
 use Rattle.search_machine.proofs.StateWork.{most_taking}
@@ -37,7 +37,7 @@ cut_work {now} {v} {cut} s away =
     )
 
 moved_work : (now : List (Option SearchValue)) (s : Stack) (v : ℕ) (cuts : List (ℕ × ℕ)) (new : List (Option SearchValue)) (t : Stack) (end : ℕ)
-    → IsMoved now s v cuts new t end → total kept_work new + stack_work t ≤ total kept_work now + stack_work s
+    → ArePartsMoved now s v cuts new t end → total kept_work new + stack_work t ≤ total kept_work now + stack_work s
 moved_work now s v [] new t end moved =
     let kept : total kept_work new ≡ total kept_work now = ap (total kept_work) moved.0 in
     let stack : stack_work t ≡ stack_work s = ap stack_work moved.1 in

@@ -9,6 +9,7 @@ use Rattle.std.specs.Prelude.{Contains}
 use Rattle.graph_law.specs.Classes.{HasMember}
 use Rattle.search_stack.specs.Stack.{Stack, IsShaped, size, top, low, position}
 use Rattle.search_stack.specs.Search.{SearchValue, IsDone, IsOn, IsRipe, below_frame, lowered, nodes_from, retreated}
+use Rattle.search_stack.proofs.Driving.{mark_read}
 use Rattle.blocked_table.specs.declared.suspended.Suspended.TheVariants.{Kept, Moved}
 use Rattle.blocked_table.specs.Blocked.{HasReady, IsTaken, IsWoken}
 use Rattle.blocked_table.proofs.EndSteps.{rest_drop}
@@ -18,11 +19,11 @@ use Rattle.group_release.specs.Released.{IsAppended}
 use Rattle.search_machine.specs.declared.machine.Machine.TheInside.{Inside}
 use Rattle.search_machine.specs.declared.step.Step.TheVariants.{Done, Open}
 use Rattle.search_machine.specs.Events.{skip, resume, back, pass, suspend, transfer, retreat, release, Begins, GoesOn, GoesOnWith, IsIdle, IsOther, SetsAt}
-use Rattle.search_machine.specs.Machine.{IsStep, Stops}
-use Rattle.search_machine.specs.MachineFields.{state_of}
+use Rattle.search_machine.specs.Machine.{IsStep, MachineValue, Stops}
+use Rattle.search_machine.specs.MachineFields.{IsMachine, state_of, value_of}
 use Rattle.search_machine.specs.State.{State, IsClaimed, IsGoodState}
 use Rattle.search_machine.specs.Runs.{HasMore}
-use Rattle.search_machine.proofs.Acting.{IsOut, goes, out_runs, puts, puts_back}
+use Rattle.search_machine.proofs.Acting.{IsOut, goes, out_runs, puts, puts_back, sound_good}
 
 -- what isn't marked
 pub unmarked_not : (marks : List Bool) (v : ℕ) → get_or marks v false ≡ false → get_or marks v false ≡ true → ⊥
@@ -229,8 +230,22 @@ below_of {stack} shaped done unripe =
     ]
 
 -- an idle place
-module _ (fields : Inside) (place : ℕ) (good : IsGoodState fields.book.lists fields.book.roots false (state_of fields))
-    (idle : IsIdle (state_of fields) place) (book : BookValue) where
+pub record IsStarting (fields : Inside) (place : ℕ) : Type 0 where
+  pub sound : fields.book.failed ≡ false
+  pub good : IsGoodState fields.book.lists fields.book.roots false (state_of fields)
+  pub idle : IsIdle (state_of fields) place
+
+pub starting : {fields : Inside} {now : MachineValue} {place : ℕ} → value_of fields ≡ now → IsMachine fields → now.failed ≡ false
+    → IsIdle now.state place → IsStarting fields place
+starting {fields} {now} {place} now_is is sound idle =
+    let failed : fields.book.failed ≡ false = ap (λ (value : MachineValue). value.failed) now_is ∙ sound in
+    record {
+      sound = failed;
+      good = sound_good is failed;
+      idle = subst (λ (value : MachineValue). IsIdle value.state place) (sym now_is) idle;
+    }
+
+module _ {fields : Inside} {place : ℕ} (start : IsStarting fields place) (book : BookValue) where
   abbrev here : State
   here = state_of fields
 
@@ -244,10 +259,10 @@ module _ (fields : Inside) (place : ℕ) (good : IsGoodState fields.book.lists f
       })
   resume_step search taken only =
       resume (record {
-        idle = idle;
+        idle = start.idle;
         search = search;
         taken = taken;
-        goes_on = goes (puts here.running place (Some search) idle.within) refl taken.wants_nothing;
+        goes_on = goes (puts here.running place (Some search) start.idle.within) refl taken.wants_nothing;
         only = λ i. record here {
           running = set fields.running.items place (Some search);
           kept = book.kept;
@@ -256,41 +271,57 @@ module _ (fields : Inside) (place : ℕ) (good : IsGoodState fields.book.lists f
         };
       })
 
-  -- the next root
-  module _ (read : List ℕ) (more : HasMore here) (none_ready : HasReady here.kept → ⊥) (same : book ≡ fields.book) (read_is : read ≡ book.roots) where
+  -- the next root, as the book's list was read
+  pub record HasRoot (read : List ℕ) : Type 0 where
+    pub more : HasMore here
+    pub none_ready : HasReady here.kept → ⊥
+    pub same : book ≡ fields.book
+    pub read_is : read ≡ book.roots
+
+  pub has_root : {now : MachineValue} {read : List ℕ} → value_of fields ≡ now → HasMore now.state → (HasReady fields.book.kept → ⊥)
+      → book ≡ fields.book → read ≡ book.roots → HasRoot read
+  has_root {now} {read} now_is more none_ready same read_is =
+      record {
+        more = subst (λ (value : MachineValue). HasMore value.state) (sym now_is) more;
+        none_ready = none_ready;
+        same = same;
+        read_is = read_is;
+      }
+
+  module _ {read : List ℕ} (next : HasRoot read) where
     abbrev pub root : ℕ
     root = get_or read fields.given 0
 
     next_root : here.to_come ≡ root ∷ drop (fields.given + 1) book.roots
     next_root =
-        let roots_are : book.roots ≡ fields.book.roots = ap (λ (value : BookValue). value.roots) same in
+        let roots_are : book.roots ≡ fields.book.roots = ap (λ (value : BookValue). value.roots) next.same in
         let within : fields.given < length fields.book.roots =
-        elim more as (λ _. fields.given < length fields.book.roots)
-        [ inl some ↦ omega (arith, some, length-drop fields.given fields.book.roots) | inr ready ↦ absurd (none_ready ready) ] in
+        elim next.more as (λ _. fields.given < length fields.book.roots)
+        [ inl some ↦ omega (arith, some, length-drop fields.given fields.book.roots) | inr ready ↦ absurd (next.none_ready ready) ] in
         rest_drop fields.book.roots fields.given within
-        ∙ (λ i. get_or ((sym roots_are ∙ sym read_is) i) fields.given 0 ∷ drop (fields.given + 1) (sym roots_are i))
+        ∙ (λ i. get_or ((sym roots_are ∙ sym next.read_is) i) fields.given 0 ∷ drop (fields.given + 1) (sym roots_are i))
 
     pub root_within : root < length fields.claimed.items
     root_within =
         let member : Contains fields.book.roots root =
-        good.come root (subst (λ xs. Contains xs root) (sym next_root) (in_first root (drop (fields.given + 1) book.roots))) in
-        let below : root < length fields.book.lists = All-contains (λ each. each < length fields.book.lists) fields.book.roots root good.book.rooted member in
-        omega (arith, below, good.counted)
+        start.good.come root (subst (λ xs. Contains xs root) (sym next_root) (in_first root (drop (fields.given + 1) book.roots))) in
+        let below : root < length fields.book.lists = All-contains (λ each. each < length fields.book.lists) fields.book.roots root start.good.book.rooted member in
+        omega (arith, below, start.good.counted)
 
-    pub skip_step : IsClaimed here root
+    pub skip_step : {mark : Bool} → mark ≡ get_or fields.claimed.items root mark → mark ≡ true
         → IsStep Done place here
         (record here { kept = book.kept; to_come = drop (fields.given + 1) book.roots; groups = book.groups })
-    skip_step claimed =
+    skip_step {mark} marked is =
         skip (record {
-          idle = idle;
-          none_ready = none_ready;
+          idle = start.idle;
+          none_ready = next.none_ready;
           root = root;
           next = next_root;
-          claimed = claimed;
-          only = λ i. record here { kept = (same i).kept; to_come = drop (fields.given + 1) book.roots; groups = (same i).groups };
+          claimed = mark_read fields.claimed.items root mark true root_within marked is;
+          only = λ i. record here { kept = (next.same i).kept; to_come = drop (fields.given + 1) book.roots; groups = (next.same i).groups };
         })
 
-    pub root_step : (IsClaimed here root → ⊥)
+    pub root_step : {mark : Bool} → mark ≡ get_or fields.claimed.items root mark → mark ≡ false
         → IsStep (Open root) place here
         (record here {
           waiting = set fields.waiting.items place (Some root);
@@ -299,18 +330,18 @@ module _ (fields : Inside) (place : ℕ) (good : IsGoodState fields.book.lists f
           to_come = drop (fields.given + 1) book.roots;
           groups = book.groups;
         })
-    root_step unclaimed =
+    root_step {mark} marked is =
         inl
         (record {
-          idle = idle;
-          none_ready = none_ready;
+          idle = start.idle;
+          none_ready = next.none_ready;
           next = next_root;
-          unclaimed = unclaimed;
+          unclaimed = unmarked_not fields.claimed.items root (mark_read fields.claimed.items root mark false root_within marked is);
           only = λ i. record here {
             waiting = set fields.waiting.items place (Some root);
-            kept = (same i).kept;
+            kept = (next.same i).kept;
             claimed = set fields.claimed.items root true;
             to_come = drop (fields.given + 1) book.roots;
-            groups = (same i).groups;
+            groups = (next.same i).groups;
           };
         })

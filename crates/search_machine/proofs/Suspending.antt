@@ -39,8 +39,8 @@ module _ {lists : List (List ℕ)} {roots : List ℕ} {s : State} (good : IsGood
       let has : HasBegun good place v begun = has_begun good begins in
       subst (IsLeaving place v) (sym is) (record { has = has.has; last = has.last; other = other })
 
-  may : {place v : ℕ} {search : SearchValue} → IsLeaving place v search.stack → MaySuspend (book_of lists roots s) (record search { wanted = None }) v
-  may {place} {v} {search} is = record {
+  may : {place v : ℕ} (search : SearchValue) → IsLeaving place v search.stack → MaySuspend (book_of lists roots s) (record search { wanted = None }) v
+  may {place} {v} search is = record {
     can_wait =
         record { some = is.has.some; wants_nothing = refl; apart = is.has.off_kept; last = is.last; off = is.other.off };
     unreleased = is.other.unreleased;
@@ -70,7 +70,7 @@ module _ {lists : List (List ℕ)} {roots : List ℕ} {s : State} (good : IsGood
       let stays : (i : ℕ) (one : SearchValue) → kept_at t.kept i ≡ Some one → IsGoodSearch lists roots (flat s.groups) one =
       keep_good search e.v adds is.last (are_good is) in
       let well : IsWellSuspended (book_of lists roots s) t.kept (record search { wanted = None }) e.v Kept =
-      suspended_well good.book (table good) (may {search = search} is) t.kept Kept e.kept stays in
+      suspended_well good.book (table good) (may search is) t.kept Kept e.kept stays in
       let plain : IsPlain good t.kept s.groups e.leaves e.begins.runs.free = record {
         book = well.good;
         some = λ i one there.
@@ -106,7 +106,7 @@ module _ {lists : List (List ℕ)} {roots : List ℕ} {s : State} (good : IsGood
       subst (IsGood lists roots (flat s.groups) false) (sym transfer.lowered)
       (back_good end.good end.last transfer.place transfer.within transfer.is) in
       let well : IsWellSuspended (book_of lists roots s) t.kept (record search { wanted = None }) e.v (Moved e.after) =
-      suspended_well good.book (table good) (may {search = search} is) t.kept (Moved e.after) e.moved ((λ i one at. (end.kept i one at).1), after_good) in
+      suspended_well good.book (table good) (may search is) t.kept (Moved e.after) e.moved ((λ i one at. (end.kept i one at).1), after_good) in
       let plain : IsPlain good t.kept s.groups e.goes_on.sets e.begins.runs.free = record {
         book = well.good;
         some = moved_some s.kept search.stack e.v transfer.cuts t.kept transfer.whole transfer.end way transfer.moved good.some;

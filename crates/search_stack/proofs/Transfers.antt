@@ -1,5 +1,5 @@
 -- What moves between the fields of two searches where the upper part of one comes on top of the other.
-use Rattle.std.proofs.Common.{false, vec_capacity, ne_eqb, ◌≡◌, ℕ, ◌<◌, ◌≤◌, ◌+◌, ◌-◌, ◌^◌, ◌++◌, List, length, get_or, take, drop, map, nat_eq, None, Some, All, ap, ◌∙◌, sym, arith}
+use Rattle.std.proofs.Common.{false, vec_capacity, ne_eqb, ◌≡◌, ℕ, ◌<◌, ◌≤◌, ◌+◌, ◌-◌, ◌^◌, ◌++◌, List, length, get_or, take, drop, map, nat_eq, None, Some, All, ap, ◌∙◌, sym, subst, arith}
 use Rattle.std.proofs.lemmas.Bool.{cond-true, cond-false, eq-eqb, eqb-false}
 use Rattle.std.proofs.lemmas.List.{get_or_default, map-append, drop-map, take-map, get_or-drop, length-drop, length-map}
 use Rattle.std.specs.Prelude.{Contains}
@@ -7,11 +7,11 @@ use Rattle.std.specs.Map.{keys_of}
 use Rattle.search_stack.specs.declared.cut.Cut.{Cut}
 use Rattle.search_stack.specs.declared.frame.Frame.{Frame}
 use Rattle.search_stack.specs.declared.search.Opened.{Opened}
-use Rattle.search_stack.specs.Fields.{IsSearch, entry_of, stack_of}
+use Rattle.search_stack.specs.Fields.{IsSearch, entry_of, stack_of, value_of}
 use Rattle.indexmap.specs.IndexMap.{spare}
 use Rattle.search_stack.specs.declared.search.Search.TheInside.{Inside}
 use Rattle.search_stack.specs.GoodSearch.{Dips}
-use Rattle.search_stack.specs.Search.{IsCut, IsLastBegun, IsOn, below_frame, joined, last_begun, moved}
+use Rattle.search_stack.specs.Search.{SearchValue, IsCut, IsLastBegun, IsOn, below_frame, joined, last_begun, moved}
 use Rattle.search_stack.specs.Stack.{Stack, IsShaped, begun, height, low, size, target, top}
 use Rattle.search_stack.specs.Stack.{position as position_on}
 use Rattle.search_stack.proofs.Changes.{Joins, Keeps}
@@ -157,9 +157,9 @@ pub record CanAppend (a b : Inside) (first frame : ℕ) : Type 0 where
   pub shaped : IsShaped (joined (held a) (held b) frame)
   pub rest_shaped : IsShaped (below_frame (held b) frame)
 
-pub can_append : {a b : Inside} {v first frame : ℕ} → IsSearch a → IsSearch b → IsLastBegun (held a) v → IsCut (held b) v frame
+can_append_cut : {a b : Inside} {v first frame : ℕ} → IsSearch a → IsSearch b → IsLastBegun (held a) v → IsCut (held b) v frame
     → first ≡ position_on (held b) frame → size (held b) ≤ a.spare + first → CanAppend a b first frame
-can_append {a} {b} {v} {first} {frame} is_a is_b last cut at room =
+can_append_cut {a} {b} {v} {first} {frame} is_a is_b last cut at room =
     let long : size (held b) ≡ length b.opened.entries = size_is b.opened.entries b.frames.items in
     let long_a : size (held a) ≡ length a.opened.entries = size_is a.opened.entries a.frames.items in
     let tall : height (held b) ≡ length b.frames.items = height_is b.opened.entries b.frames.items in
@@ -182,6 +182,17 @@ can_append {a} {b} {v} {first} {frame} is_a is_b last cut at room =
       shaped = shaped_join is_a.shaped is_b.shaped last cut new;
       rest_shaped = shaped_below is_b.shaped left;
     }
+
+-- as a caller sees both
+pub can_append : {a b : Inside} {self donor : SearchValue} {first frame : ℕ} → value_of a ≡ self → value_of b ≡ donor → IsSearch a → IsSearch b
+    → (v : ℕ) × IsLastBegun self.stack v × IsCut donor.stack v frame → first ≡ position_on donor.stack frame → size donor.stack ≤ self.spare + first
+    → CanAppend a b first frame
+can_append {a} {b} {self} {donor} {first} {frame} self_is donor_is is_a is_b (v, last, cut) at room =
+    let stack_is : held a ≡ self.stack = ap (λ (value : SearchValue). value.stack) self_is in
+    let donor_stack_is : held b ≡ donor.stack = ap (λ (value : SearchValue). value.stack) donor_is in
+    can_append_cut is_a is_b (subst (λ s. IsLastBegun s v) (sym stack_is) last) (subst (λ s. IsCut s v frame) (sym donor_stack_is) cut)
+    (at ∙ ap (λ s. position_on s frame) (sym donor_stack_is))
+    (omega (arith, room, ap size donor_stack_is, ap (λ (value : SearchValue). value.spare) self_is))
 
 -- the fields that have moved are those of the joined stack
 pub joined_fields : (a b : Inside) (cut : Cut) {base : ℕ} {entries : List (ℕ × Opened)} {frames : List Frame} → base ≡ length a.opened.entries

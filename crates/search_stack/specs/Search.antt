@@ -112,10 +112,21 @@ joined s d a = record {
   frames = s.frames ++ map (moved (size s) (position d a)) (drop a d.frames);
 }
 
--- the last successor that the top frame's entry has begun, or none where there is no frame
+-- the last successor that the top frame's entry has begun, or none if there is no frame
 abbrev pub last_begun : Stack → Option ℕ
 last_begun s =
     if nat_eq (height s) 0 then None else Some (target s (position s (top s)) (begun s (position s (top s)) - 1))
+
+-- the part of the donor from the frame on has moved on top of the search, and `left` is what the donor keeps
+pub record IsMoved (old new donor left : SearchValue) (frame : ℕ) : Type 0 where
+  -- the search has that part, and waits for nothing
+  pub joined : new.stack ≡ joined old.stack donor.stack frame
+  pub wants_nothing : new.wanted ≡ None
+  -- no more capacity is used than for that part
+  pub spare : old.spare + position donor.stack frame ≤ new.spare + size donor.stack
+  -- the donor has the part below, and waits for the last node that its top has begun
+  pub rest : left.stack ≡ below_frame donor.stack frame
+  pub rest_wants : left.wanted ≡ last_begun left.stack
 
 -- the search is good with nothing undecided: where it wants a node, the last edge of its top is open and leads to that node
 pub record IsGoodSearch (lists : List (List ℕ)) (roots done : List ℕ) (search : SearchValue) : Type 0 where

@@ -25,8 +25,7 @@ impl Blocked {
         requires can_wait { CanWait self.old.kept search on }
         requires room { HasRoomFor self.old search.stack on }
         requires good { AreGoodForSome self.old.kept search.stack }
-        ensures count { self.new.count ≡ self.old.count }
-        ensures most { self.new.most ≡ self.old.most }
+        ensures only { self.new ≡ record self.old { kept = self.new.kept } }
         ensures done { IfOk result (IsSuspended self.old.kept self.new.kept search on) }
         ensures kept { IfErr result (λ failed. self.new ≡ self.old) }
         ensures back { IfErr result (λ failed. failed.1.stack ≡ search.stack) }
@@ -61,8 +60,7 @@ impl Blocked {
         requires can_wait { CanWait self.old.kept search on }
         requires room { HasRoomFor self.old search.stack on }
         requires never { ComesTo self.old.kept search.stack on → ⊥ }
-        ensures count { self.new.count ≡ self.old.count }
-        ensures most { self.new.most ≡ self.old.most }
+        ensures only { self.new ≡ record self.old { kept = self.new.kept } }
         ensures kept { IfOk result (λ done. (place : ℕ) × Adds self.old.kept self.new.kept place (record search { wanted = Some on })) }
         ensures unchanged { IfErr result (λ failed. self.new ≡ self.old) }
         ensures back { IfErr result (λ failed. failed.1 ≡ search) }

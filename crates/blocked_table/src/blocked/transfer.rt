@@ -1,12 +1,12 @@
 ghost use Rattle.std.specs.Prelude.{◌≡◌, ◌+◌, ◌<◌, ◌≤◌, ℕ, List, [], true, false, None, Some, IfOk, IfSome, IfNone};
 ghost use Rattle.search_stack.specs.Stack.{size};
-ghost use Rattle.search_stack.specs.GoodSearch.{IsGood};
-ghost use Rattle.search_stack.specs.Search.{SearchValue, IsGoodSearch, IsLastBegun, IsOn};
+ghost use Rattle.search_stack.specs.Search.{SearchValue, IsLastBegun, IsOn};
+ghost use Rattle.blocked_table.specs.declared.suspended.Suspended.TheVariants.{Moved};
 ghost use Rattle.blocked_table.specs.Transfer.{IsTransfer};
 ghost use Rattle.blocked_table.specs.Blocked.{IsTable};
 ghost use Rattle.blocked_table.specs.Kept.{kept_at, Holds, ComesTo};
 ghost use Rattle.blocked_table.specs.Paths.{StepsAt, IsPath};
-ghost use Rattle.blocked_table.specs.Suspending.{AreGood, AreGoodForSome, CanWait, IsPartMoved, entries_of};
+ghost use Rattle.blocked_table.specs.Suspending.{AreGood, AreGoodForSome, CanWait, IsPartOnTop, StaysGood, entries_of};
 
 use super::Blocked;
 use crate::words::write_words;
@@ -67,11 +67,8 @@ impl Blocked {
         requires apart { (i v : ℕ) → Holds self.old.kept i v → IsOn search.old.stack v → ⊥ }
         requires good { AreGoodForSome self.old.kept search.old.stack }
         requires room { (donor : SearchValue) → kept_at self.old.kept place ≡ Some donor → size donor.stack ≤ search.old.spare }
-        ensures count { self.new.count ≡ self.old.count }
-        ensures most { self.new.most ≡ self.old.most }
-        ensures moved { IsPartMoved self.old.kept self.new.kept search.old.stack search.new.stack node place result }
-        ensures wants_nothing { search.new.wanted ≡ None }
-        ensures spare { (donor : SearchValue) → kept_at self.old.kept place ≡ Some donor → search.old.spare ≤ search.new.spare + size donor.stack }
+        ensures only { self.new ≡ record self.old { kept = self.new.kept } }
+        ensures moved { IsPartOnTop self.old.kept self.new.kept search.old search.new node place result }
     {
         let Some(mut donor) = self.kept[place as usize].take() else {
             return node;
@@ -103,14 +100,11 @@ impl Blocked {
         requires room { entries_of self.old.kept places.now ≤ search.old.spare }
         requires can_wait { CanWait self.old.kept search.old on }
         requires good { AreGoodForSome self.old.kept search.old.stack }
-        ensures count { self.new.count ≡ self.old.count }
-        ensures most { self.new.most ≡ self.old.most }
+        ensures only { self.new ≡ record self.old { kept = self.new.kept } }
         ensures moved { IsTransfer self.old.kept self.new.kept search.old.stack on search.new.stack }
         ensures wants_nothing { search.new.wanted ≡ None }
         ensures good { (lists : List (List ℕ)) (roots done : List ℕ) → AreGood lists roots done self.old.kept search.old.stack
-            → IsGood lists roots done false search.new.stack }
-        ensures kept_good { (lists : List (List ℕ)) (roots done : List ℕ) → AreGood lists roots done self.old.kept search.old.stack
-            → (place : ℕ) (kept : SearchValue) → kept_at self.new.kept place ≡ Some kept → IsGoodSearch lists roots done kept }
+            → StaysGood lists roots done self.new.kept (Moved search.new) }
     {
         let mut node = on;
         'parts: for &place in places {

@@ -1,6 +1,6 @@
 ghost use Rattle.std.specs.Prelude.{◌≡◌, ◌↔◌, IsTrue, ◌+◌, ◌≤◌, ℕ, Bool, true, List, Some, None, IfSome, IfNone};
 ghost use Rattle.search_stack.specs.GoodSearch.{IsGood};
-ghost use Rattle.search_stack.specs.Search.{IsCut, IsLastBegun, IsOn, below_frame, joined, last_begun as last_begun_on};
+ghost use Rattle.search_stack.specs.Search.{IsCut, IsLastBegun, IsMoved, IsOn};
 ghost use Rattle.search_stack.specs.Stack.{size, position as position_of};
 
 use super::Search;
@@ -42,11 +42,7 @@ impl Search {
         requires position { cut.position ≡ position_of donor.old.stack cut.frame }
         requires room { size donor.old.stack ≤ self.old.spare + cut.position }
         requires apart { (v : ℕ) → IsOn self.old.stack v → IsOn donor.old.stack v → ⊥ }
-        ensures joined { self.new.stack ≡ joined self.old.stack donor.old.stack cut.frame }
-        ensures wants_nothing { self.new.wanted ≡ None }
-        ensures spare { self.old.spare + cut.position ≤ self.new.spare + size donor.old.stack }
-        ensures rest { donor.new.stack ≡ below_frame donor.old.stack cut.frame }
-        ensures rest_wants { donor.new.wanted ≡ last_begun_on donor.new.stack }
+        ensures moved { IsMoved self.old self.new donor.old donor.new cut.frame }
 
         // Well-formed searches stay so: this one with its last edge open, and the rest too.
         ensures good { (lists : List (List ℕ)) (roots done : List ℕ) (opened : Bool) → IsGood lists roots done true self.old.stack

@@ -1,13 +1,10 @@
-use Rattle.std.proofs.Common.{ℕ, ◌≡◌, ◌<◌, ◌+◌, ◌∙◌, length, set, Some, ap, sym, subst, arith, length-set}
+use Rattle.std.proofs.Common.{◌≡◌, ◌+◌, ◌∙◌, length, set, Some, ap, subst, arith, length-set}
 use Rattle.std.proofs.lemmas.List.{append-nil, length_push}
-use Rattle.search_stack.specs.Stack.{size}
-use Rattle.search_stack.specs.Search.{SearchValue, IsOn}
 use Rattle.blocked_table.specs.BlockedFields.{IsVacant, wait_word}
-use Rattle.blocked_table.specs.Kept.{ComesTo, Holds}
 use Rattle.blocked_table.specs.Listed.{AreJust}
 use Rattle.blocked_table.specs.Suspending.{Adds}
 use Rattle.blocked_table.specs.Waiters.{WaitersValue}
-use Rattle.blocked_table.proofs.EndSteps.{adds_at, adds_last, room_left, vacant_last}
+use Rattle.blocked_table.proofs.EndSteps.{adds_at, adds_last, put_at, room_left, vacant_last}
 use Rattle.blocked_table.proofs.FieldSteps.{still_whole}
 use Rattle.blocked_table.proofs.KeepTables.{keep_popped, keep_pushed, keep_ready, keep_table, keep_words}
 use Rattle.blocked_table.proofs.Waits.{waiting_put, word_some}
@@ -15,17 +12,13 @@ use Rattle.blocked_table.proofs.blocked.Blocked.keep.Goals as goal
 
 pub write_words-requires-clause-below : goal.write_words-requires-clause-below
 write_words-requires-clause-below c =
-    let stack_is = ap (λ (one : SearchValue). one.stack) c.set_wanted.ensures in
-    let wants = ap (λ (one : SearchValue). one.wanted) c.set_wanted.ensures in
-    let apart = rw (← c.self.view_is) at c.requires.can_wait.apart in
-    let below = rw (← c.self.view_is) at c.requires.room.below in
-    let off : (i v : ℕ) → Holds c.self.inside.kept.items i v → IsOn c.set_wanted.new.self.stack v → ⊥ =
-    λ i v holds on. apart i v holds (subst (λ stack. IsOn stack v) stack_is on) in
-    λ v on. omega (arith, below v (subst (λ stack. IsOn stack v) stack_is on), c.in-Ok.ensures.whole.words)
+    let put = put_at c.self.inside c.self.view_is c.requires.can_wait c.requires.room c.requires.never c.set_wanted.ensures in
+    λ v on. omega (arith, put.below v on, c.in-Ok.ensures.whole.words)
 
 pub add-requires-clause-place : goal.add-requires-clause-place
 add-requires-clause-place c =
-    let room = room_left c.self.invariant c.in_default.ensures.cases.0 (rw (← c.self.view_is) at c.requires.room.slot) in
+    let put = put_at c.self.inside c.self.view_is c.requires.can_wait c.requires.room c.requires.never c.set_wanted.ensures in
+    let room = room_left c.self.invariant c.in_default.ensures.cases.0 put.slot in
     omega (arith, room, c.len-place.ensures, c.self.inside.kept.ok.0, c.in-Ok.ensures.whole.places)
 
 pub add-requires-clause-none : goal.add-requires-clause-none
@@ -36,42 +29,33 @@ add-requires-clause-none c =
 
 pub invariant_of-self-in_default : goal.invariant_of-self-in_default
 invariant_of-self-in_default c =
-    let stack_is = ap (λ (one : SearchValue). one.stack) c.set_wanted.ensures in
-    let wants = ap (λ (one : SearchValue). one.wanted) c.set_wanted.ensures in
-    let apart = rw (← c.self.view_is) at c.requires.can_wait.apart in
-    let below = rw (← c.self.view_is) at c.requires.room.below in
-    let off : (i v : ℕ) → Holds c.self.inside.kept.items i v → IsOn c.set_wanted.new.self.stack v → ⊥ =
-    λ i v holds on. apart i v holds (subst (λ stack. IsOn stack v) stack_is on) in
-    let low : (v : ℕ) → IsOn c.set_wanted.new.self.stack v → v < c.self.inside.count =
-    λ v on. below v (subst (λ stack. IsOn stack v) stack_is on) in
-    let never : ComesTo c.self.inside.kept.items c.set_wanted.new.self.stack c.args.on → ⊥ =
-    subst (λ stack. ComesTo c.self.inside.kept.items stack c.args.on → ⊥) (sym stack_is) (rw (← c.self.view_is) at c.requires.never) in
+    let put = put_at c.self.inside c.self.view_is c.requires.can_wait c.requires.room c.requires.never c.set_wanted.ensures in
     let pushed = rw c.unwrap.ensures at c.push.ensures.items in
     let last : c.len-place.result ≡ length c.self.inside.kept.items = omega (arith, c.len-place.ensures, c.self.inside.kept.ok.0) in
     let adds : Adds c.self.inside.kept.items c.push.new.self.items c.len-place.result c.set_wanted.new.self =
     rw pushed (adds_last c.self.inside.kept.items c.len-place.result c.set_wanted.new.self last) in
-    let room = room_left c.self.invariant c.in_default.ensures.cases.0 (rw (← c.self.view_is) at c.requires.room.slot) in
+    let room = room_left c.self.invariant c.in_default.ensures.cases.0 put.slot in
     record {
       table =
-          keep_table adds c.args.on wants off c.self.inside.count c.self.inside.most (omega (
+          keep_table adds c.args.on put.wants put.off c.self.inside.count c.self.inside.most (omega (
             arith,
             room,
             ap length pushed,
             length_push c.self.inside.kept.items (Some c.set_wanted.new.self),
           ))
-          (record { some = omega (arith, c.requires.can_wait.some, ap size stack_is); distinct = c.write_words.ensures.distinct }) low never c.self.invariant.table;
-      words = keep_words adds c.args.on wants off c.write_first.ensures.words c.write_words.ensures.written;
+          (record { some = put.some; distinct = c.write_words.ensures.distinct }) put.below put.never c.self.invariant.table;
+      words = keep_words adds c.args.on put.wants put.off c.write_first.ensures.words c.write_words.ensures.written;
       waiting =
           rw c.add.ensures
           (waiting_put c.self.inside.kept.items c.push.new.self.items c.write_first.new.waiters.words c.len-place.result (c.args.on + 1) c.write_first.ensures.waiting
-          (omega (arith, room, last, c.in-Ok.ensures.whole.places)) (word_some c.push.new.self.items c.len-place.result c.args.on c.set_wanted.new.self adds.at wants) adds.same);
+          (omega (arith, room, last, c.in-Ok.ensures.whole.places)) (word_some c.push.new.self.items c.len-place.result c.args.on c.set_wanted.new.self adds.at put.wants) adds.same);
       whole = λ some.
           still_whole c.in-Ok.ensures.whole c.write_words.ensures.written.each (ap (λ (all : WaitersValue). all.count) c.add.ensures)
           (ap (λ (all : WaitersValue). length all.words) c.add.ensures ∙ length-set c.write_first.new.waiters.words c.len-place.result (c.args.on + 1));
       vacant = subst (AreJust (IsVacant c.push.new.self.items)) (c.in_default.ensures.items ∙ append-nil c.pop.new.self.items)
-          (keep_pushed adds c.args.on wants off last (ap length pushed ∙ length_push c.self.inside.kept.items (Some c.set_wanted.new.self))
+          (keep_pushed adds c.args.on put.wants put.off last (ap length pushed ∙ length_push c.self.inside.kept.items (Some c.set_wanted.new.self))
           c.self.invariant.vacant);
-      ready = keep_ready adds c.args.on wants off c.self.invariant.ready;
+      ready = keep_ready adds c.args.on put.wants put.off c.self.invariant.ready;
       kept_room = omega (arith, c.self.invariant.kept_room, c.push.ensures.capacity);
       vacant_room = omega (arith, c.self.invariant.vacant_room, c.pop.ensures.capacity);
       ready_room = c.self.invariant.ready_room;
@@ -94,13 +78,8 @@ overflow_add-place-2 c =
 
 pub write_words-requires-2-clause-below : goal.write_words-requires-2-clause-below
 write_words-requires-2-clause-below c =
-    let stack_is = ap (λ (one : SearchValue). one.stack) c.set_wanted.ensures in
-    let wants = ap (λ (one : SearchValue). one.wanted) c.set_wanted.ensures in
-    let apart = rw (← c.self.view_is) at c.requires.can_wait.apart in
-    let below = rw (← c.self.view_is) at c.requires.room.below in
-    let off : (i v : ℕ) → Holds c.self.inside.kept.items i v → IsOn c.set_wanted.new.self.stack v → ⊥ =
-    λ i v holds on. apart i v holds (subst (λ stack. IsOn stack v) stack_is on) in
-    λ v on. omega (arith, below v (subst (λ stack. IsOn stack v) stack_is on), c.in-Ok.ensures.whole.words)
+    let put = put_at c.self.inside c.self.view_is c.requires.can_wait c.requires.room c.requires.never c.set_wanted.ensures in
+    λ v on. omega (arith, put.below v on, c.in-Ok.ensures.whole.words)
 
 pub add-requires-2-clause-place : goal.add-requires-2-clause-place
 add-requires-2-clause-place c =
@@ -120,38 +99,29 @@ index_mut-requires c =
 
 pub invariant_of-self-2 : goal.invariant_of-self-2
 invariant_of-self-2 c =
-    let stack_is = ap (λ (one : SearchValue). one.stack) c.set_wanted.ensures in
-    let wants = ap (λ (one : SearchValue). one.wanted) c.set_wanted.ensures in
-    let apart = rw (← c.self.view_is) at c.requires.can_wait.apart in
-    let below = rw (← c.self.view_is) at c.requires.room.below in
-    let off : (i v : ℕ) → Holds c.self.inside.kept.items i v → IsOn c.set_wanted.new.self.stack v → ⊥ =
-    λ i v holds on. apart i v holds (subst (λ stack. IsOn stack v) stack_is on) in
-    let low : (v : ℕ) → IsOn c.set_wanted.new.self.stack v → v < c.self.inside.count =
-    λ v on. below v (subst (λ stack. IsOn stack v) stack_is on) in
-    let never : ComesTo c.self.inside.kept.items c.set_wanted.new.self.stack c.args.on → ⊥ =
-    subst (λ stack. ComesTo c.self.inside.kept.items stack c.args.on → ⊥) (sym stack_is) (rw (← c.self.view_is) at c.requires.never) in
+    let put = put_at c.self.inside c.self.view_is c.requires.can_wait c.requires.room c.requires.never c.set_wanted.ensures in
     let vacant = vacant_last c.self.invariant c.pop.new.self.items c.in-Some.place c.in-Some.ensures.items in
     let adds = adds_at c.self.inside.kept.items c.in-Some.place c.set_wanted.new.self vacant.0 vacant.1 in
     record {
       table =
-          keep_table adds c.args.on wants off c.self.inside.count c.self.inside.most (omega (
+          keep_table adds c.args.on put.wants put.off c.self.inside.count c.self.inside.most (omega (
             arith,
             c.self.invariant.table.few,
             length-set c.self.inside.kept.items c.in-Some.place (Some c.set_wanted.new.self),
           ))
-          (record { some = omega (arith, c.requires.can_wait.some, ap size stack_is); distinct = c.write_words-2.ensures.distinct }) low never c.self.invariant.table;
-      words = keep_words adds c.args.on wants off c.write_first.ensures.words c.write_words-2.ensures.written;
+          (record { some = put.some; distinct = c.write_words-2.ensures.distinct }) put.below put.never c.self.invariant.table;
+      words = keep_words adds c.args.on put.wants put.off c.write_first.ensures.words c.write_words-2.ensures.written;
       waiting =
           rw c.add-2.ensures
           (waiting_put c.self.inside.kept.items (set c.self.inside.kept.items c.in-Some.place (Some c.set_wanted.new.self)) c.write_first.new.waiters.words c.in-Some.place (c.args.on + 1) c.write_first.ensures.waiting
-          (omega (arith, vacant.0, c.self.invariant.table.few, c.in-Ok.ensures.whole.places)) (word_some (set c.self.inside.kept.items c.in-Some.place (Some c.set_wanted.new.self)) c.in-Some.place c.args.on c.set_wanted.new.self adds.at wants) adds.same);
+          (omega (arith, vacant.0, c.self.invariant.table.few, c.in-Ok.ensures.whole.places)) (word_some (set c.self.inside.kept.items c.in-Some.place (Some c.set_wanted.new.self)) c.in-Some.place c.args.on c.set_wanted.new.self adds.at put.wants) adds.same);
       whole = λ some.
           still_whole c.in-Ok.ensures.whole c.write_words-2.ensures.written.each (ap (λ (all : WaitersValue). all.count) c.add-2.ensures)
           (ap (λ (all : WaitersValue). length all.words) c.add-2.ensures ∙ length-set c.write_first.new.waiters.words c.in-Some.place (c.args.on + 1));
-      vacant = keep_popped adds c.args.on wants off c.pop.new.self.items
+      vacant = keep_popped adds c.args.on put.wants put.off c.pop.new.self.items
           (length-set c.self.inside.kept.items c.in-Some.place (Some c.set_wanted.new.self))
           (subst (AreJust (IsVacant c.self.inside.kept.items)) c.in-Some.ensures.items c.self.invariant.vacant);
-      ready = keep_ready adds c.args.on wants off c.self.invariant.ready;
+      ready = keep_ready adds c.args.on put.wants put.off c.self.invariant.ready;
       kept_room = c.self.invariant.kept_room;
       vacant_room = omega (arith, c.self.invariant.vacant_room, c.pop.ensures.capacity);
       ready_room = c.self.invariant.ready_room;

@@ -26,4 +26,4 @@ pub returns-clause-good : goal.returns-clause-good
 returns-clause-good c =
     λ lists roots done good.
     let moved = subst (λ stack. AreGood lists roots done c.args.self.now.kept stack) (sym c.reserve.ensures.stack) good in
-    (c.transfer.ensures.kept_good lists roots done moved, c.transfer.ensures.good lists roots done moved)
+    c.transfer.ensures.good lists roots done moved

@@ -1,8 +1,9 @@
-use Rattle.std.proofs.Common.{◌∙◌, get_or, take, sym, subst, arith}
+use Rattle.std.proofs.Common.{get_or, take, sym, subst, arith}
 use Rattle.std.proofs.lemmas.List.{take_all, take_more}
 use Rattle.std.proofs.lemmas.List.Elements.{Contains-get_or}
 use Rattle.std.specs.Prelude.{Contains}
 use Rattle.blocked_table.proofs.WakeGood.{woken_good}
+use Rattle.blocked_table.proofs.FieldSteps.{still_only}
 use Rattle.blocked_table.proofs.WakeSteps.{all_woken, none_more, some_more}
 use Rattle.blocked_table.proofs.blocked.Blocked.wake.Goals as goal
 
@@ -12,8 +13,7 @@ nodes-preserved c =
     let member = Contains-get_or c.args.group.now c.nodes.node-index 0 c.nodes-test.true in
     rw (take_more c.args.group.now c.nodes.node-index 0 c.nodes-test.true)
     (record {
-      count = c.wake_node.ensures.count ∙ c.nodes.invariant.count;
-      most = c.wake_node.ensures.most ∙ c.nodes.invariant.most;
+      only = still_only c.args.self.now c.nodes.invariant.only c.wake_node.ensures.only;
       woken =
           some_more c.nodes.invariant.woken c.wake_node.ensures.woken (λ w is. subst (Contains c.args.group.now) (sym is) member);
       none = none_more (take c.nodes.node-index c.args.group.now) node c.wake_node.ensures.woken c.nodes.invariant.none c.wake_node.ensures.none;

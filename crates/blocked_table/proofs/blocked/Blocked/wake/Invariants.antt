@@ -5,8 +5,7 @@ use Rattle.blocked_table.proofs.blocked.Blocked.wake.Given as goal
 
 abbrev pub invariant-nodes : goal.invariant-nodes
 invariant-nodes l = record {
-  count : l.self.count ≡ l.fn.self.count;
-  most : l.self.most ≡ l.fn.self.most;
+  only : l.self ≡ record l.fn.self { kept = l.self.kept };
   woken : AreSomeWoken (Contains l.group) l.fn.self.kept l.self.kept;
   none : (w : ℕ) → Contains (take l.node-index l.group) w → IsUnwanted l.self.kept w;
 }

@@ -1,7 +1,8 @@
-use Rattle.std.proofs.Common.{◌≡◌, ◌<◌, ◌∙◌, length, sym, subst}
+use Rattle.std.proofs.Common.{◌≡◌, ◌<◌, length, sym, subst}
 use Rattle.blocked_table.specs.Blocked.{BlockedValue}
 use Rattle.blocked_table.specs.Waking.{AreSomeWoken}
 use Rattle.blocked_table.proofs.Chain.{place_within}
+use Rattle.blocked_table.proofs.FieldSteps.{still_only}
 use Rattle.blocked_table.proofs.Waits.{wants_below, wants_less}
 use Rattle.blocked_table.proofs.WakeSteps.{one_some, some_more}
 use Rattle.blocked_table.proofs.blocked.Blocked.wake_node.Goals as goal
@@ -15,8 +16,7 @@ places-smaller c =
 
 pub places-preserved : goal.places-preserved
 places-preserved c = record {
-  count = c.wake_one.ensures.count ∙ c.places.invariant.count;
-  most = c.wake_one.ensures.most ∙ c.places.invariant.most;
+  only = still_only c.args.self.now c.places.invariant.only c.wake_one.ensures.only;
   woken = some_more c.places.invariant.woken (one_some (c.wake_one.ensures.woken c.places-test.true)) (λ w is. is);
 }
 

@@ -5,8 +5,7 @@ use Rattle.blocked_table.proofs.blocked.Blocked.wake_node.Given as goal
 
 abbrev pub invariant-places : goal.invariant-places
 invariant-places l = record {
-  count : l.self.count ≡ l.fn.self.count;
-  most : l.self.most ≡ l.fn.self.most;
+  only : l.self ≡ record l.fn.self { kept = l.self.kept };
   woken : AreSomeWoken (λ w. w ≡ l.node) l.fn.self.kept l.self.kept;
 }
 

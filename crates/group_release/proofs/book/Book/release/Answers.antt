@@ -12,7 +12,7 @@ invariant_of-self c =
     let book : BookValue = value_of c.self.inside in
     let woken : IsWoken c.args.group.items c.self.inside.blocked.kept c.wake.new.self.kept = rw c.deref.ensures.value at c.wake.ensures.woken in
     released_book c.self.inside c.wake.new.self c.append.new.self c.args.group.items c.self.invariant (rw (← c.self.view_is) at c.requires.new)
-    (rw (← c.self.view_is) at c.requires.releasable) (rw (← c.self.view_is) at c.requires.apart) c.wake.ensures.count c.wake.ensures.most woken
+    (rw (← c.self.view_is) at c.requires.releasable) (rw (← c.self.view_is) at c.requires.apart) c.wake.ensures.only woken
     c.append.ensures
     (λ more olds news place search at.
     c.wake.ensures.good book.lists book.roots (flat book.groups) more c.self.invariant.good.kept_good olds

@@ -1,11 +1,9 @@
 use Rattle.std.proofs.Common.{◌≡◌, ◌⊎◌, ◌+◌, ℕ, ◌<◌}
-use Rattle.std.specs.Prelude.{IfOk}
 use Rattle.list_laws.specs.Counts.{flat, times}
-use Rattle.blocked_table.specs.Blocked.{IsTable}
-use Rattle.group_release.specs.Book.{BookValue, GoesOnBeside, IsGoodBook, table_of}
+use Rattle.group_release.specs.Book.{BookValue, GoesOnBeside}
 use Rattle.group_release.specs.BookFields.{value_of}
 use Rattle.group_release.specs.Outline.{kept_nodes, newly_wanted, nodes_going, nodes_on, wanted_nodes}
-use Rattle.group_release.proofs.Books.{IsWellSuspended, beside_marked, MaySuspend, may_at, ok_more, ok_well, room_for, suspended_book}
+use Rattle.group_release.proofs.Books.{IsWellSuspended, beside_marked, ok_more, room_for, suspended_book, well_suspended}
 use Rattle.group_release.proofs.book.Book.suspend.Goals as goal
 
 pub suspend-requires-clause-can_wait : goal.suspend-requires-clause-can_wait
@@ -28,12 +26,10 @@ suspend-requires-clause-good c =
 
 pub invariant_of-self : goal.invariant_of-self
 invariant_of-self c =
-    let book : BookValue = value_of c.self.inside in
-    let may : MaySuspend book c.args.search c.args.on = may_at book c.args.self.now c.args.search c.args.on c.self.view_is (record { can_wait = c.requires.can_wait; unreleased = c.requires.unreleased; good = c.requires.good }) in
-    let table : IsTable (table_of book) = rw (← c.self.view_is) at c.keeps.ensures.table in
-    let well : IfOk c.suspend.result (IsWellSuspended book c.suspend.new.self.kept c.args.search c.args.on) =
-    ok_well c.self.invariant.good table may c.suspend.new.self.kept c.suspend.result c.suspend.ensures.done c.suspend.ensures.good in
-    suspended_book c.self.inside c.suspend.new.self _ c.args.search c.args.on c.suspend.result c.self.invariant c.suspend.ensures.count c.suspend.ensures.most well
+    let well =
+    well_suspended c.suspend.new.self.kept c.suspend.result c.self.view_is c.self.invariant c.keeps.ensures.table c.requires.can_wait c.requires.unreleased c.requires.good
+    c.suspend.ensures.done c.suspend.ensures.good in
+    suspended_book c.self.inside c.suspend.new.self _ c.args.search c.args.on c.suspend.result c.self.invariant c.suspend.ensures.only well
     c.suspend.ensures.kept
 
 pub returns-clause-done : goal.returns-clause-done
@@ -42,10 +38,9 @@ returns-clause-done c = rw (← c.self.view_is) c.suspend.ensures.done
 pub returns-clause-beside : goal.returns-clause-beside
 returns-clause-beside c =
     let book : BookValue = value_of c.self.inside in
-    let may : MaySuspend book c.args.search c.args.on = may_at book c.args.self.now c.args.search c.args.on c.self.view_is (record { can_wait = c.requires.can_wait; unreleased = c.requires.unreleased; good = c.requires.good }) in
-    let table : IsTable (table_of book) = rw (← c.self.view_is) at c.keeps.ensures.table in
-    let well : IfOk c.suspend.result (IsWellSuspended book c.suspend.new.self.kept c.args.search c.args.on) =
-    ok_well c.self.invariant.good table may c.suspend.new.self.kept c.suspend.result c.suspend.ensures.done c.suspend.ensures.good in
+    let well =
+    well_suspended c.suspend.new.self.kept c.suspend.result c.self.view_is c.self.invariant c.keeps.ensures.table c.requires.can_wait c.requires.unreleased c.requires.good
+    c.suspend.ensures.done c.suspend.ensures.good in
     let now : BookValue = record book { kept = c.suspend.new.self.kept } in
     ok_more c.suspend.result (IsWellSuspended book c.suspend.new.self.kept c.args.search c.args.on) (GoesOnBeside (record now { failed = _ }))
     (λ suspended is. beside_marked now _ suspended is.beside) well
@@ -53,10 +48,9 @@ returns-clause-beside c =
 pub returns-clause-kept_count : goal.returns-clause-kept_count
 returns-clause-kept_count c =
     let book : BookValue = value_of c.self.inside in
-    let may : MaySuspend book c.args.search c.args.on = may_at book c.args.self.now c.args.search c.args.on c.self.view_is (record { can_wait = c.requires.can_wait; unreleased = c.requires.unreleased; good = c.requires.good }) in
-    let table : IsTable (table_of book) = rw (← c.self.view_is) at c.keeps.ensures.table in
-    let well : IfOk c.suspend.result (IsWellSuspended book c.suspend.new.self.kept c.args.search c.args.on) =
-    ok_well c.self.invariant.good table may c.suspend.new.self.kept c.suspend.result c.suspend.ensures.done c.suspend.ensures.good in
+    let well =
+    well_suspended c.suspend.new.self.kept c.suspend.result c.self.view_is c.self.invariant c.keeps.ensures.table c.requires.can_wait c.requires.unreleased c.requires.good
+    c.suspend.ensures.done c.suspend.ensures.good in
     rw (← c.self.view_is)
     (ok_more c.suspend.result (IsWellSuspended book c.suspend.new.self.kept c.args.search c.args.on)
     (λ suspended. (x : ℕ) → times x (kept_nodes c.suspend.new.self.kept) + times x (nodes_going suspended) ≡ times x (kept_nodes book.kept) + times x (nodes_on c.args.search.stack)) (λ suspended is. is.kept_count) well)
@@ -64,10 +58,9 @@ returns-clause-kept_count c =
 pub returns-clause-wanted_count : goal.returns-clause-wanted_count
 returns-clause-wanted_count c =
     let book : BookValue = value_of c.self.inside in
-    let may : MaySuspend book c.args.search c.args.on = may_at book c.args.self.now c.args.search c.args.on c.self.view_is (record { can_wait = c.requires.can_wait; unreleased = c.requires.unreleased; good = c.requires.good }) in
-    let table : IsTable (table_of book) = rw (← c.self.view_is) at c.keeps.ensures.table in
-    let well : IfOk c.suspend.result (IsWellSuspended book c.suspend.new.self.kept c.args.search c.args.on) =
-    ok_well c.self.invariant.good table may c.suspend.new.self.kept c.suspend.result c.suspend.ensures.done c.suspend.ensures.good in
+    let well =
+    well_suspended c.suspend.new.self.kept c.suspend.result c.self.view_is c.self.invariant c.keeps.ensures.table c.requires.can_wait c.requires.unreleased c.requires.good
+    c.suspend.ensures.done c.suspend.ensures.good in
     rw (← c.self.view_is)
     (ok_more c.suspend.result (IsWellSuspended book c.suspend.new.self.kept c.args.search c.args.on)
     (λ suspended. (x : ℕ) → 0 < times x (wanted_nodes c.suspend.new.self.kept) → (0 < times x (wanted_nodes book.kept)) ⊎ (0 < times x (newly_wanted c.args.on suspended))) (λ suspended is. is.wanted_count) well)

@@ -14,7 +14,7 @@ invariant_of-self c =
     let table : IsTable (table_of book) = rw (← c.self.view_is) at c.keeps.ensures.table in
     let well : IfSome c.take_ready.result (IsWellTaken book c.take_ready.new.self.kept) =
     some_well c.self.invariant.good table c.take_ready.new.self.kept c.take_ready.result c.take_ready.ensures.some in
-    taken_book c.self.inside c.take_ready.new.self c.take_ready.result c.self.invariant c.take_ready.ensures.count c.take_ready.ensures.most well
+    taken_book c.self.inside c.take_ready.new.self c.take_ready.result c.self.invariant c.take_ready.ensures.only well
     c.take_ready.ensures.unchanged
 
 pub returns-clause-beside : goal.returns-clause-beside

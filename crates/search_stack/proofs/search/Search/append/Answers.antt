@@ -1,4 +1,4 @@
-use Rattle.std.proofs.Common.{◌<◌, ap, sym, subst, arith}
+use Rattle.std.proofs.Common.{◌<◌, refl, ap, sym, subst, arith}
 use Rattle.std.specs.Prelude.{true}
 use Rattle.search_stack.specs.GoodSearch.{IsGood}
 use Rattle.search_stack.specs.Stack.{IsShaped, begun, height, position, size, top}
@@ -11,22 +11,19 @@ use Rattle.search_stack.proofs.search.Search.append.Goals as goal
 pub overflow_sub-count : goal.overflow_sub-count
 overflow_sub-count c =
     let can =
-    can_append c.self.invariant c.donor.invariant (rw (← c.self.view_is) at c.requires.last.1) (rw (← c.donor.view_is) at c.requires.last.2)
-    (rw (← c.donor.view_is) at c.requires.position) (rw (← c.donor.view_is) at (rw (← c.self.view_is) at c.requires.room)) in
+    can_append c.self.view_is c.donor.view_is c.self.invariant c.donor.invariant c.requires.last c.requires.position c.requires.room in
     omega (arith, can.within, c.len.ensures.len)
 
 pub move_entries-requires-clause-within : goal.move_entries-requires-clause-within
 move_entries-requires-clause-within c =
     let can =
-    can_append c.self.invariant c.donor.invariant (rw (← c.self.view_is) at c.requires.last.1) (rw (← c.donor.view_is) at c.requires.last.2)
-    (rw (← c.donor.view_is) at c.requires.position) (rw (← c.donor.view_is) at (rw (← c.self.view_is) at c.requires.room)) in
+    can_append c.self.view_is c.donor.view_is c.self.invariant c.donor.invariant c.requires.last c.requires.position c.requires.room in
     can.within
 
 pub move_entries-requires-clause-room : goal.move_entries-requires-clause-room
 move_entries-requires-clause-room c =
     let can =
-    can_append c.self.invariant c.donor.invariant (rw (← c.self.view_is) at c.requires.last.1) (rw (← c.donor.view_is) at c.requires.last.2)
-    (rw (← c.donor.view_is) at c.requires.position) (rw (← c.donor.view_is) at (rw (← c.self.view_is) at c.requires.room)) in
+    can_append c.self.view_is c.donor.view_is c.self.invariant c.donor.invariant c.requires.last c.requires.position c.requires.room in
     can.entry_room
 
 pub move_entries-requires-clause-apart : goal.move_entries-requires-clause-apart
@@ -39,57 +36,49 @@ move_entries-requires-clause-apart c =
 pub move_frames-requires-clause-within : goal.move_frames-requires-clause-within
 move_frames-requires-clause-within c =
     let can =
-    can_append c.self.invariant c.donor.invariant (rw (← c.self.view_is) at c.requires.last.1) (rw (← c.donor.view_is) at c.requires.last.2)
-    (rw (← c.donor.view_is) at c.requires.position) (rw (← c.donor.view_is) at (rw (← c.self.view_is) at c.requires.room)) in
+    can_append c.self.view_is c.donor.view_is c.self.invariant c.donor.invariant c.requires.last c.requires.position c.requires.room in
     omega (arith, can.frame_within)
 
 pub move_frames-requires-clause-room : goal.move_frames-requires-clause-room
 move_frames-requires-clause-room c =
     let can =
-    can_append c.self.invariant c.donor.invariant (rw (← c.self.view_is) at c.requires.last.1) (rw (← c.donor.view_is) at c.requires.last.2)
-    (rw (← c.donor.view_is) at c.requires.position) (rw (← c.donor.view_is) at (rw (← c.self.view_is) at c.requires.room)) in
+    can_append c.self.view_is c.donor.view_is c.self.invariant c.donor.invariant c.requires.last c.requires.position c.requires.room in
     omega (arith, can.frame_room, can.count)
 
 pub move_frames-requires-clause-positions : goal.move_frames-requires-clause-positions
 move_frames-requires-clause-positions c =
     let can =
-    can_append c.self.invariant c.donor.invariant (rw (← c.self.view_is) at c.requires.last.1) (rw (← c.donor.view_is) at c.requires.last.2)
-    (rw (← c.donor.view_is) at c.requires.position) (rw (← c.donor.view_is) at (rw (← c.self.view_is) at c.requires.room)) in
+    can_append c.self.view_is c.donor.view_is c.self.invariant c.donor.invariant c.requires.last c.requires.position c.requires.room in
     can.moves.positions
 
 pub move_frames-requires-clause-lows : goal.move_frames-requires-clause-lows
 move_frames-requires-clause-lows c =
     let can =
-    can_append c.self.invariant c.donor.invariant (rw (← c.self.view_is) at c.requires.last.1) (rw (← c.donor.view_is) at c.requires.last.2)
-    (rw (← c.donor.view_is) at c.requires.position) (rw (← c.donor.view_is) at (rw (← c.self.view_is) at c.requires.room)) in
+    can_append c.self.view_is c.donor.view_is c.self.invariant c.donor.invariant c.requires.last c.requires.position c.requires.room in
     can.moves.lows
 
 pub move_frames-requires-clause-small_positions : goal.move_frames-requires-clause-small_positions
 move_frames-requires-clause-small_positions c =
     let can =
-    can_append c.self.invariant c.donor.invariant (rw (← c.self.view_is) at c.requires.last.1) (rw (← c.donor.view_is) at c.requires.last.2)
-    (rw (← c.donor.view_is) at c.requires.position) (rw (← c.donor.view_is) at (rw (← c.self.view_is) at c.requires.room)) in
+    can_append c.self.view_is c.donor.view_is c.self.invariant c.donor.invariant c.requires.last c.requires.position c.requires.room in
     rw c.len-base.ensures.len can.moves.small_positions
 
 pub move_frames-requires-clause-small_lows : goal.move_frames-requires-clause-small_lows
 move_frames-requires-clause-small_lows c =
     let can =
-    can_append c.self.invariant c.donor.invariant (rw (← c.self.view_is) at c.requires.last.1) (rw (← c.donor.view_is) at c.requires.last.2)
-    (rw (← c.donor.view_is) at c.requires.position) (rw (← c.donor.view_is) at (rw (← c.self.view_is) at c.requires.room)) in
+    can_append c.self.view_is c.donor.view_is c.self.invariant c.donor.invariant c.requires.last c.requires.position c.requires.room in
     rw c.len-base.ensures.len can.moves.small_lows
 
 pub overflow_sub-self : goal.overflow_sub-self
 overflow_sub-self c =
     let can =
-    can_append c.self.invariant c.donor.invariant (rw (← c.self.view_is) at c.requires.last.1) (rw (← c.donor.view_is) at c.requires.last.2)
-    (rw (← c.donor.view_is) at c.requires.position) (rw (← c.donor.view_is) at (rw (← c.self.view_is) at c.requires.room)) in
+    can_append c.self.view_is c.donor.view_is c.self.invariant c.donor.invariant c.requires.last c.requires.position c.requires.room in
     omega (arith, can.count, can.within, c.len.ensures.len)
 
 pub last_begun-donor-inside-requires-clause-shaped : goal.last_begun-donor-inside-requires-clause-shaped
 last_begun-donor-inside-requires-clause-shaped c =
     let can =
-    can_append c.self.invariant c.donor.invariant (rw (← c.self.view_is) at c.requires.last.1) (rw (← c.donor.view_is) at c.requires.last.2)
-    (rw (← c.donor.view_is) at c.requires.position) (rw (← c.donor.view_is) at (rw (← c.self.view_is) at c.requires.room)) in
+    can_append c.self.view_is c.donor.view_is c.self.invariant c.donor.invariant c.requires.last c.requires.position c.requires.room in
     let rest =
     rest_fields c.donor.inside c.args.cut (rw (← c.donor.view_is) at c.requires.position) c.move_entries.ensures.from c.move_frames.ensures.from in
     rw c.deref.ensures.value (subst IsShaped (sym rest) can.rest_shaped)
@@ -97,8 +86,7 @@ last_begun-donor-inside-requires-clause-shaped c =
 pub last_begun-donor-inside-requires-clause-begins : goal.last_begun-donor-inside-requires-clause-begins
 last_begun-donor-inside-requires-clause-begins c =
     let can =
-    can_append c.self.invariant c.donor.invariant (rw (← c.self.view_is) at c.requires.last.1) (rw (← c.donor.view_is) at c.requires.last.2)
-    (rw (← c.donor.view_is) at c.requires.position) (rw (← c.donor.view_is) at (rw (← c.self.view_is) at c.requires.room)) in
+    can_append c.self.view_is c.donor.view_is c.self.invariant c.donor.invariant c.requires.last c.requires.position c.requires.room in
     let rest =
     rest_fields c.donor.inside c.args.cut (rw (← c.donor.view_is) at c.requires.position) c.move_entries.ensures.from c.move_frames.ensures.from in
     rw c.deref.ensures.value
@@ -110,8 +98,7 @@ last_begun-donor-inside-requires-clause-begins c =
 pub invariant_of-self : goal.invariant_of-self
 invariant_of-self c =
     let can =
-    can_append c.self.invariant c.donor.invariant (rw (← c.self.view_is) at c.requires.last.1) (rw (← c.donor.view_is) at c.requires.last.2)
-    (rw (← c.donor.view_is) at c.requires.position) (rw (← c.donor.view_is) at (rw (← c.self.view_is) at c.requires.room)) in
+    can_append c.self.view_is c.donor.view_is c.self.invariant c.donor.invariant c.requires.last c.requires.position c.requires.room in
     let is =
     joined_fields c.self.inside c.donor.inside c.args.cut c.len-base.ensures.len (rw (← c.donor.view_is) at c.requires.position) c.move_entries.ensures.to
     c.move_frames.ensures.to in
@@ -154,8 +141,7 @@ invariant_of-self c =
 pub invariant_of-donor : goal.invariant_of-donor
 invariant_of-donor c =
     let can =
-    can_append c.self.invariant c.donor.invariant (rw (← c.self.view_is) at c.requires.last.1) (rw (← c.donor.view_is) at c.requires.last.2)
-    (rw (← c.donor.view_is) at c.requires.position) (rw (← c.donor.view_is) at (rw (← c.self.view_is) at c.requires.room)) in
+    can_append c.self.view_is c.donor.view_is c.self.invariant c.donor.invariant c.requires.last c.requires.position c.requires.room in
     let rest =
     rest_fields c.donor.inside c.args.cut (rw (← c.donor.view_is) at c.requires.position) c.move_entries.ensures.from c.move_frames.ensures.from in
     let long = ap size rest in
@@ -186,39 +172,28 @@ invariant_of-donor c =
           );
     }
 
-pub returns-clause-joined : goal.returns-clause-joined
-returns-clause-joined c =
-    let is =
-    joined_fields c.self.inside c.donor.inside c.args.cut c.len-base.ensures.len (rw (← c.donor.view_is) at c.requires.position) c.move_entries.ensures.to
-    c.move_frames.ensures.to in
-    rw (← c.self.view_is) (rw (← c.donor.view_is) is)
-
-pub returns-clause-spare : goal.returns-clause-spare
-returns-clause-spare c =
+pub returns-clause-moved : goal.returns-clause-moved
+returns-clause-moved c =
     let can =
-    can_append c.self.invariant c.donor.invariant (rw (← c.self.view_is) at c.requires.last.1) (rw (← c.donor.view_is) at c.requires.last.2)
-    (rw (← c.donor.view_is) at c.requires.position) (rw (← c.donor.view_is) at (rw (← c.self.view_is) at c.requires.room)) in
+    can_append c.self.view_is c.donor.view_is c.self.invariant c.donor.invariant c.requires.last c.requires.position c.requires.room in
+    let at = rw (← c.donor.view_is) at c.requires.position in
+    let is =
+    joined_fields c.self.inside c.donor.inside c.args.cut c.len-base.ensures.len at c.move_entries.ensures.to c.move_frames.ensures.to in
+    let rest = rest_fields c.donor.inside c.args.cut at c.move_entries.ensures.from c.move_frames.ensures.from in
     rw (← c.self.view_is)
     (rw (← c.donor.view_is)
-    (omega (
-      arith,
-      can.count,
-      can.within,
-      c.len.ensures.len,
-      size_is c.donor.inside.opened.entries c.donor.inside.frames.items,
-    )))
-
-pub returns-clause-rest : goal.returns-clause-rest
-returns-clause-rest c =
-    let rest =
-    rest_fields c.donor.inside c.args.cut (rw (← c.donor.view_is) at c.requires.position) c.move_entries.ensures.from c.move_frames.ensures.from in
-    rw (← c.donor.view_is) rest
+    (record {
+      joined = is;
+      wants_nothing = refl;
+      spare = omega (arith, can.count, can.within, c.len.ensures.len, at, size_is c.donor.inside.opened.entries c.donor.inside.frames.items);
+      rest = rest;
+      rest_wants = rw c.deref.ensures.value at c.last_begun-donor-inside.ensures;
+    }))
 
 pub returns-clause-good : goal.returns-clause-good
 returns-clause-good c =
     let can =
-    can_append c.self.invariant c.donor.invariant (rw (← c.self.view_is) at c.requires.last.1) (rw (← c.donor.view_is) at c.requires.last.2)
-    (rw (← c.donor.view_is) at c.requires.position) (rw (← c.donor.view_is) at (rw (← c.self.view_is) at c.requires.room)) in
+    can_append c.self.view_is c.donor.view_is c.self.invariant c.donor.invariant c.requires.last c.requires.position c.requires.room in
     let is =
     joined_fields c.self.inside c.donor.inside c.args.cut c.len-base.ensures.len (rw (← c.donor.view_is) at c.requires.position) c.move_entries.ensures.to
     c.move_frames.ensures.to in
@@ -233,8 +208,7 @@ returns-clause-good c =
 pub returns-clause-good_rest : goal.returns-clause-good_rest
 returns-clause-good_rest c =
     let can =
-    can_append c.self.invariant c.donor.invariant (rw (← c.self.view_is) at c.requires.last.1) (rw (← c.donor.view_is) at c.requires.last.2)
-    (rw (← c.donor.view_is) at c.requires.position) (rw (← c.donor.view_is) at (rw (← c.self.view_is) at c.requires.room)) in
+    can_append c.self.view_is c.donor.view_is c.self.invariant c.donor.invariant c.requires.last c.requires.position c.requires.room in
     let rest =
     rest_fields c.donor.inside c.args.cut (rw (← c.donor.view_is) at c.requires.position) c.move_entries.ensures.from c.move_frames.ensures.from in
     let cut = rw (← c.donor.view_is) at c.requires.last.2 in

@@ -10,8 +10,7 @@ impl Blocked {
     /// Makes ready each suspended search that waits for a node of the group. It takes a step for
     /// each node of the group and for each search that becomes ready.
     pub fn wake(&mut self, group: &[u32])
-        ensures count { self.new.count ≡ self.old.count }
-        ensures most { self.new.most ≡ self.old.most }
+        ensures only { self.new ≡ record self.old { kept = self.new.kept } }
         ensures woken { IsWoken group.now self.old.kept self.new.kept }
 
         // Suspended searches keep their invariant if the group is finished now.
@@ -27,8 +26,7 @@ impl Blocked {
 
     /// Makes ready each suspended search that waits for the node.
     fn wake_node(&mut self, node: u32)
-        ensures count { self.new.count ≡ self.old.count }
-        ensures most { self.new.most ≡ self.old.most }
+        ensures only { self.new ≡ record self.old { kept = self.new.kept } }
         ensures woken { AreSomeWoken (λ w. w ≡ node) self.old.kept self.new.kept }
         ensures none { IsUnwanted self.new.kept node }
     {
@@ -37,8 +35,7 @@ impl Blocked {
 
     /// Makes ready one suspended search that waits for the node. Returns whether there was one.
     fn wake_one(&mut self, node: u32) -> bool
-        ensures count { self.new.count ≡ self.old.count }
-        ensures most { self.new.most ≡ self.old.most }
+        ensures only { self.new ≡ record self.old { kept = self.new.kept } }
         ensures woken { result ≡ true → IsOneWoken node self.old.kept self.new.kept }
         ensures none { result ≡ false → IsUnwanted self.old.kept node }
         ensures unchanged { result ≡ false → self.new ≡ self.old }
