@@ -1,12 +1,11 @@
 -- What holds over one relation of calls holds over another that has the same calls.
 use Rattle.std.proofs.Common.{inl, inr, ℕ, List}
 use Rattle.std.proofs.lemmas.List.Elements.{All-weaker}
-use Rattle.std.specs.Prelude.{Contains}
-use Rattle.graph_law.specs.Reach.{Agree, IsReached}
-use Rattle.graph_law.specs.Classes.{IsClass, AreClasses, IsRecursive, GroupCalls, least_member}
+use Rattle.graph_law.specs.Reach.{Agree}
+use Rattle.graph_law.specs.Classes.{IsClass, IsRecursive, GroupCalls, least_member}
 use Rattle.graph_law.specs.Heights.{HaveHeights}
 use Rattle.graph_law.specs.LegalOrder.{IsLegalOrder}
-use Rattle.graph_law.proofs.ReachLaws.{is_reached_along, each_other_along}
+use Rattle.graph_law.proofs.ReachLaws.{each_other_along}
 
 pub Agree-sym : {c d : ℕ → ℕ → Type 0} → Agree c d → Agree d c
 Agree-sym agree = record { to = agree.from; from = agree.to }
@@ -17,29 +16,6 @@ IsClass-agree {c} {d} {class} agree is = record {
   ascending = is.ascending;
   mutual_reach = λ p q here there. each_other_along c d agree.to p q (is.mutual_reach p q here there);
   whole = λ p q here both. is.whole p q here (each_other_along d c agree.from p q both);
-}
-
-pub AreClasses-agree : {c d : ℕ → ℕ → Type 0} {starts : List ℕ} {classes : List (List ℕ)}
-    → Agree c d → AreClasses c starts classes → AreClasses d starts classes
-AreClasses-agree {c} {d} {starts} {classes} agree are = record {
-  each = All-weaker (IsClass c) (IsClass d) (λ class is. IsClass-agree agree is) classes are.each;
-  reached = λ p has. is_reached_along c d agree.to starts p (are.reached p has);
-  all = λ p reached. are.all p (is_reached_along d c agree.from starts p reached);
-  in_order = are.in_order;
-}
-
--- the same classes from starts that have the same members
-pub AreClasses-starts : {calls : ℕ → ℕ → Type 0} {starts others : List ℕ} {classes : List (List ℕ)}
-    → ((p : ℕ) → Contains starts p → Contains others p) → ((p : ℕ) → Contains others p → Contains starts p)
-    → AreClasses calls starts classes → AreClasses calls others classes
-AreClasses-starts {calls} {starts} {others} {classes} to from are = record {
-  each = are.each;
-  reached = λ p has.
-      let reached : IsReached calls starts p = are.reached p has in
-      record { start = reached.start; is_start = to reached.start reached.is_start; reaches = reached.reaches };
-  all = λ p reached.
-      are.all p (record { start = reached.start; is_start = from reached.start reached.is_start; reaches = reached.reaches });
-  in_order = are.in_order;
 }
 
 pub IsRecursive-agree : {c d : ℕ → ℕ → Type 0} (class : List ℕ) → Agree c d → IsRecursive c class → IsRecursive d class

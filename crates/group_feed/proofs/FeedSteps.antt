@@ -1,20 +1,18 @@
 -- What the feeder owes when it gives the turn back, and what it pushes.
 use Rattle.std.proofs.Common.{◌≡◌, inl, inr, ℕ, ◌<◌, ◌+◌, true, List, [], ◌∷◌, ◌++◌, length, take, drop, get_or, subst, sym, refl, ap, ◌∙◌, arith}
 use Rattle.std.proofs.lemmas.Bool.{cases_lt}
-use Rattle.std.proofs.lemmas.List.{append-nil, get_or_append_left, length-append, take-append-drop, take_at, take_more}
-use Rattle.std.specs.Prelude.{All, Contains}
+use Rattle.std.proofs.lemmas.List.{append-nil, get_or_append_left, length-append, take-append-drop, take_more}
+use Rattle.std.specs.Prelude.{Contains}
 use Rattle.list_laws.specs.Counts.{IsLonger, flat, times}
 use Rattle.list_laws.proofs.Counting.{counted, standing, times-append}
 use Rattle.graph_law.specs.Classes.{HasMember}
 use Rattle.group_release.specs.Book.{BookValue}
 use Rattle.group_release.proofs.Nodes.{from_flat, in_flat}
-use Rattle.node_claims.specs.Claims.{ClaimsValue}
 use Rattle.node_claims.specs.Steps.{MayGive}
 use Rattle.node_claims.specs.Views.{outline_of}
 use Rattle.node_claims.specs.declared.view.Taken.{Taken}
 use Rattle.node_claims.specs.declared.view.View.{View}
 use Rattle.group_feed.specs.Copying.{AreCopied, AreSeen, AreWithin}
-use Rattle.group_feed.specs.Feeder.{AreFed}
 use Rattle.group_feed.specs.Ordered.{AreOrdered}
 use Rattle.group_feed.proofs.LineSteps.{first_ordered}
 
@@ -33,10 +31,6 @@ may_rest v t book now taken is failed idle =
       same = λ x. let none : times x v.nodes ≡ 0 = ap (times x) idle in omega (arith, none);
       wants = λ x wanted. inl wanted;
     }))
-
--- the old groups are the first of the new ones
-pub take_longer : {A : Type 0} (old new : List A) → IsLonger old new → take (length old) new ≡ old
-take_longer old new longer = ap (take (length old)) longer.is ∙ take_at old longer.more (length old) refl
 
 -- the groups up to a place are the first ones
 take_drop : (n : ℕ) (groups : List (List ℕ)) → groups ≡ take n groups ++ drop n groups
@@ -67,13 +61,6 @@ has_more old new p longer has =
       member = subst (λ g. Contains g p) (sym (get_or_append_left old longer.more [] has.place within)) has.member;
     })
 
--- a part of what may be fed may be fed
-pub part_fed : (claims : ClaimsValue) (old new : List (List ℕ)) → IsLonger old new → AreFed claims new → AreFed claims old
-part_fed claims old new longer are = record {
-  ordered = part_ordered claims.lists old new longer are.ordered;
-  reached = λ v has. are.reached v (has_more old new v longer has);
-}
-
 -- what was seen finished is released in the book that was lent
 pub seen_within : (groups released : List (List ℕ)) (seen : List ℕ) → AreSeen groups seen → ((x : ℕ) → 0 < times x seen → 0 < times x (flat released))
     → AreWithin groups released
@@ -92,7 +79,3 @@ seen_copied groups released seen within lent p has =
     let both = times-append p seen (flat released) in
     let here : 0 < times p (flat released) = elim (cases_lt 0 (times p seen)) [ inl before ↦ lent p before | inr none ↦ omega (arith, has, both, none) ] in
     within p (from_flat released p (standing p (flat released) here))
-
--- nodes that are in one of the groups still are, where there are more groups
-pub still_in : (old new : List (List ℕ)) (nodes : List ℕ) → IsLonger old new → All (HasMember old) nodes → All (HasMember new) nodes
-still_in old new nodes longer each k d lt = has_more old new (get_or nodes k d) longer (each k d lt)

@@ -8,7 +8,7 @@ use Rattle.graph_law.specs.Classes.{IsRecursive}
 use Rattle.graph_law.specs.Graph.{Calls}
 use Rattle.group_release.specs.declared.level.Level.{Level}
 use Rattle.group_release.specs.Levels.{IsLevelOf, IsRaised, LeadDown, MembersLeadDown}
-use Rattle.group_release.proofs.RaisedSteps.{members_more, raised_none}
+use Rattle.group_release.proofs.RaisedSteps.{members_more}
 
 -- one of the members calls itself
 pub record HasOwnCall (lists : List (List ℕ)) (members : List ℕ) : Type 0 where
@@ -20,13 +20,6 @@ pub record HasOwnCall (lists : List (List ℕ)) (members : List ℕ) : Type 0 wh
 pub record AreMembersSeen (lists : List (List ℕ)) (places : List ℕ) (levels : List Level) (group : List ℕ) (n height : ℕ) (recursive : Bool) : Type 0 where
   pub raised : IsRaised (MembersLeadDown lists places (length levels) (take n group)) levels 0 height
   pub mark : IsTrue recursive ↔ ((2 ≤ length group) ⊎ HasOwnCall lists (take n group))
-
-pub seen_none : (lists : List (List ℕ)) (places : List ℕ) (levels : List Level) (group : List ℕ) (recursive : Bool)
-    → (IsTrue recursive ↔ (2 ≤ length group)) → AreMembersSeen lists places levels group 0 0 recursive
-seen_none lists places levels group recursive mark = record {
-  raised = raised_none (MembersLeadDown lists places (length levels) []) levels 0 (λ j led. let none = led.is_member.1 in omega (arith, none));
-  mark = (λ is. inl (mark.0 is), λ either. elim either [ inl two ↦ mark.1 two | inr own ↦ let none = own.is_member.1 in absurd (omega (arith, none)) ]);
-}
 
 -- one member more
 pub seen_more : {lists : List (List ℕ)} {places : List ℕ} {levels : List Level} {group : List ℕ} {n height : ℕ} {recursive : Bool} (after : ℕ) (own : Bool)

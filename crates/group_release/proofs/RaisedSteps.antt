@@ -6,10 +6,6 @@ use Rattle.group_release.specs.declared.level.Level.{Level}
 use Rattle.group_release.specs.Level.{level_at}
 use Rattle.group_release.specs.Levels.{IsRaised, LeadDown, MembersLeadDown}
 
--- nothing is led to
-pub raised_none : (P : ℕ → Type 0) (levels : List Level) (height : ℕ) → ((j : ℕ) → P j → ⊥) → IsRaised P levels height height
-raised_none P levels height none = record { kept = omega arith; above = λ j led. absurd (none j led); least = inl refl }
-
 -- two ways to say what is led to
 pub raised_same : (P Q : ℕ → Type 0) (levels : List Level) (before after : ℕ) → ((j : ℕ) → P j → Q j) → ((j : ℕ) → Q j → P j)
     → IsRaised P levels before after → IsRaised Q levels before after

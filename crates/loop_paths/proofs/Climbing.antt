@@ -1,6 +1,6 @@
 -- How a path is read from its last node back to its first.
 use Rattle.std.proofs.Common.{◌≡◌, ℕ, ◌<◌, ◌≤◌, List, [], ◌∷◌, ◌++◌, length, get_or, reverse, refl, sym, ap, ◌∙◌, arith}
-use Rattle.std.proofs.lemmas.List.{append_assoc, append-nil, get_or_default, reverse-append}
+use Rattle.std.proofs.lemmas.List.{append_assoc, get_or_default, reverse-append}
 use Rattle.graph_law.specs.Graph.{Calls}
 use Rattle.loop_paths.specs.Grown.{IsTree, path_at}
 
@@ -9,12 +9,6 @@ pub record IsClimbing (nodes callers : List ℕ) (place at : ℕ) (out : List �
   pub upto : at ≤ place
   pub on : (lists : List (List ℕ)) (from : ℕ) (paths : List (List ℕ)) → IsTree (Calls lists) from nodes callers paths
       → path_at paths place ≡ path_at paths at ++ reverse out
-
-pub climbing_start : (nodes callers : List ℕ) (place : ℕ) → IsClimbing nodes callers place place []
-climbing_start nodes callers place = record {
-  upto = omega arith;
-  on = λ lists from paths tree. sym (append-nil (path_at paths place));
-}
 
 reverse_push : (out : List ℕ) (n : ℕ) → reverse (out ++ n ∷ []) ≡ n ∷ reverse out
 reverse_push out n = reverse-append out (n ∷ [])

@@ -1,6 +1,6 @@
 -- Laws of paths.
 use Rattle.std.proofs.Common.{◌≡◌, ℕ, suc, ◌<◌, ◌≤◌, List, [], ◌∷◌, ◌++◌, length, refl, sym, ap, ◌∙◌, arith, subst}
-use Rattle.graph_law.specs.Reach.{IsWalk, Reaches}
+use Rattle.graph_law.specs.Reach.{IsWalk}
 use Rattle.graph_law.proofs.ReachLaws.{walk_append}
 use Rattle.loop_paths.specs.Paths.{IsPath, IsLead}
 
@@ -39,10 +39,3 @@ path_short calls p q [] is short = absurd is
 path_short calls p q (n ∷ []) is short = sym is.0 ∙ is.1
 path_short calls p q (n ∷ (m ∷ rest)) is short =
     absurd (let long : length (n ∷ (m ∷ rest)) ≡ suc (suc (length rest)) = refl in omega (arith, short, long))
-
-pub reaches_path : (calls : ℕ → ℕ → Type 0) (p q : ℕ) (path : List ℕ) → IsPath calls p q path → Reaches calls p q
-reaches_path calls p q [] is = absurd is
-reaches_path calls p q (n ∷ rest) is = record { path = rest; walk = subst (λ (each : ℕ). IsWalk calls each rest q) is.0 is.1 }
-
-pub path_reaches : (calls : ℕ → ℕ → Type 0) (p q : ℕ) (reaches : Reaches calls p q) → IsPath calls p q (p ∷ reaches.path)
-path_reaches calls p q reaches = (refl, reaches.walk)

@@ -73,10 +73,6 @@ circuits_from_returns lists groups places found legal nodes placed are = record 
       (least_is_member class) (get_or found i None) (are.at i lt);
 }
 
-pub some_in_each : (calls : ℕ → ℕ → Type 0) (groups : List (List ℕ)) → IsLegalOrder calls groups → All (λ group. 0 < length group) groups
-some_in_each calls groups legal =
-    All-from_get_or (λ group. 0 < length group) groups [] (λ i lt. let class = legal.each i [] lt in class.inhabited)
-
 pub least_in_each : (lists : List (List ℕ)) (groups : List (List ℕ)) (places : List ℕ) → IsLegalOrder (Calls lists) groups
     → ((p : ℕ) → HasMember groups p → p < length lists)
     → All (λ group. least_member group < length (inner_lists lists places)) groups

@@ -50,10 +50,6 @@ module _ {lists : List (List ℕ)} {roots : List ℕ} {failed : Bool} {s : State
       elim (cases_eq u v) as (λ _. IsClaimed asked u)
       [ inl is ↦ subst (IsClaimed asked) (sym is) claims_it | inr ne ↦ marks.1 u ne ∙ was ]
 
-  claims_only : (u : ℕ) → IsClaimed asked u → (u ≡ v) ⊎ IsClaimed s u
-  claims_only u now =
-      elim (cases_eq u v) as (λ _. (u ≡ v) ⊎ IsClaimed s u) [ inl is ↦ inl is | inr ne ↦ inr (sym (marks.1 u ne) ∙ now) ]
-
   places : (waiting_at asked place ≡ Some v) × ((i : ℕ) → (i ≡ place → ⊥) → waiting_at asked i ≡ waiting_at s i)
   places = written s.waiting place (Some v) None (omega (arith, within, good.places))
 

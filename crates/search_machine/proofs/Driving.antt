@@ -90,17 +90,6 @@ pub record IsDriven (lists : List (List ℕ)) (roots : List ℕ) (searches seed 
   pub run : IsRun lists seed (opening_state (length lists) roots searches) states machine.state
   pub number_is : number ≡ number_of seed states
 
-pub first_driven : (lists : List (List ℕ)) (roots : List ℕ) (searches seed : ℕ) (machine : MachineValue)
-    → machine ≡ record { lists = lists; roots = roots; failed = false; state = opening_state (length lists) roots searches }
-    → IsDriven lists roots searches seed seed machine
-first_driven lists roots searches seed machine is = record {
-  lists_are = ap (λ (value : MachineValue). value.lists) is;
-  sound = ap (λ (value : MachineValue). value.failed) is;
-  states = [];
-  run = sym (ap (λ (value : MachineValue). value.state) is);
-  number_is = refl;
-}
-
 module _ {lists : List (List ℕ)} {roots : List ℕ} {searches seed number : ℕ} {machine : MachineValue}
     (driven : IsDriven lists roots searches seed number machine) where
   pub next_driven : (next place : ℕ) (places : List ℕ) (after : MachineValue) → next ≡ next_number number → AreActors machine.state places

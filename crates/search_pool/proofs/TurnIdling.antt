@@ -7,8 +7,6 @@ use Rattle.std.specs.Prelude.{All, Contains, slice_get, slice_range}
 use Rattle.list_laws.specs.Counts.{times, flat}
 use Rattle.list_laws.proofs.Counting.{counted}
 use Rattle.graph_law.specs.Classes.{HasMember}
-use Rattle.graph_law.specs.Graph.{Calls}
-use Rattle.graph_law.specs.Reach.{IsReached}
 use Rattle.search_stack.specs.Search.{SearchValue}
 use Rattle.search_stack.specs.Stack.{Entry, Stack, size}
 use Rattle.group_release.specs.Book.{BookValue, IsGoodBook}
@@ -148,7 +146,3 @@ finished {claims} {worker} search seen n work is idle seen_is all each = (
         (subst (λ seen. All (λ root. 0 < times root seen) (take n claims.roots)) (sym seen_is) each),
   ),
 )
-
--- each root is reached
-pub root_reached : (claims : ClaimsValue) (root : ℕ) → Contains claims.roots root → IsReached (Calls claims.lists) claims.roots root
-root_reached claims root has = record { start = root; is_start = has; reaches = record { path = []; walk = refl } }

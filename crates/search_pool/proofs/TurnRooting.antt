@@ -1,5 +1,5 @@
 -- A worker has claimed a root.
-use Rattle.std.proofs.Common.{◌≡◌, inl, inr, ℕ, zero, suc, ◌<◌, ◌+◌, true, false, List, [], ◌∷◌, ◌++◌, length, take, get_or, Some, refl, ap, ◌∙◌, sym, subst, arith}
+use Rattle.std.proofs.Common.{◌≡◌, inl, inr, ℕ, zero, suc, ◌<◌, ◌+◌, true, false, List, [], ◌∷◌, ◌++◌, length, take, get_or, Some, ap, ◌∙◌, sym, subst, arith}
 use Rattle.std.proofs.lemmas.Bool.{cases_lt}
 use Rattle.std.proofs.lemmas.List.{append-nil, get_or_default}
 use Rattle.std.proofs.lemmas.List.Elements.{Contains-append_left}
@@ -41,21 +41,6 @@ module _ {claims : ClaimsValue} {worker : Worker} (work : IsAtWork claims worker
             (seen_more (take worker.seen_roots claims.roots) worker.pass.view.seen (root ∷ []) work.seen);
       }
 
-  -- another has it
-  pub held_at_work : pass.view ≡ claimed root 1 worker.pass.view → IsAtWork claims (record worker { pass = pass }) false
-  held_at_work view =
-      let seen : pass.view.seen ≡ worker.pass.view.seen = ap (λ (v : View). v.seen) view in
-      record {
-        working = record {
-          has = record { pass_of = of; nodes = ap (λ (v : View). v.nodes) view ∙ work.working.has.nodes };
-          wants_nothing = work.working.wants_nothing;
-          good = subst (λ seen. IsGood claims.lists claims.roots seen false worker.search.stack) (sym seen) work.working.good;
-        };
-        handed = work.handed;
-        within = work.within;
-        seen = subst (λ seen. All (λ root. 0 < times root seen) (take worker.seen_roots claims.roots)) (sym seen) work.seen;
-      }
-
   -- it is won, and not opened yet
   module _ (view : pass.view ≡ claimed root 0 worker.pass.view) {search : SearchValue} where
     pub won_working : search.stack ≡ worker.search.stack → search.wanted ≡ worker.search.wanted → IsWorking claims pass search (Some root) true
@@ -72,20 +57,6 @@ module _ {claims : ClaimsValue} {worker : Worker} (work : IsAtWork claims worker
           subst (λ s. IsGood claims.lists claims.roots pass.view.seen true s) (sym stack)
           (subst (λ seen. IsGood claims.lists claims.roots seen true worker.search.stack) (sym (ap (λ (v : View). v.seen) view)) (good_open work.working.good));
     }
-
-  -- it is won
-  pub won_at_work : pass.view ≡ claimed root 0 worker.pass.view → (root < length claims.lists) × Contains claims.roots root
-      → HasWon claims (record worker { pass = pass }) root
-  won_at_work view is =
-      let working = won_working view {search = worker.search} refl refl in
-      record {
-        working = working;
-        handed = work.handed;
-        within = work.within;
-        seen = subst (λ seen. All (λ root. 0 < times root seen) (take worker.seen_roots claims.roots)) (sym (ap (λ (v : View). v.seen) view)) work.seen;
-        below = is.0;
-        is_root = is.1;
-      }
 
 -- a root that was won is opened
 pub opened_at_work : {claims : ClaimsValue} {worker : Worker} {root : ℕ} → HasWon claims worker root → {search : SearchValue}
