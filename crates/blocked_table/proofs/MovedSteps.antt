@@ -4,7 +4,7 @@ use Rattle.search_stack.specs.Stack.{Stack, size}
 use Rattle.search_stack.specs.Search.{SearchValue, IsCut, IsLastBegun, IsOn, joined}
 use Rattle.blocked_table.specs.Blocked.{BlockedValue, IsTable}
 use Rattle.blocked_table.specs.Kept.{kept_at, Holds}
-use Rattle.blocked_table.specs.Paths.{StepsAt, IsPath}
+use Rattle.blocked_table.specs.Paths.{StepsAt, IsWaitPath}
 use Rattle.blocked_table.specs.Suspending.{AreGood, IsPartMoved, entries_at, entries_of, entries_on}
 use Rattle.blocked_table.specs.Transfer.{IsCutAway, ArePartsMoved}
 use Rattle.blocked_table.proofs.Along.{IsOnTheWay}
@@ -32,7 +32,7 @@ moved_more now s v (one ∷ cuts) middle t x cut moved away =
 
 -- searches in other slots stay on the path
 path_same : (now next : List (Option SearchValue)) (v : ℕ) (places : List ℕ) (w : ℕ)
-    → ((i : ℕ) → i < length places → kept_at next (get_or places i 0) ≡ kept_at now (get_or places i 0)) → IsPath now v places w → IsPath next v places w
+    → ((i : ℕ) → i < length places → kept_at next (get_or places i 0) ≡ kept_at now (get_or places i 0)) → IsWaitPath now v places w → IsWaitPath next v places w
 path_same now next v [] w same path = path
 path_same now next v (p ∷ ps) w same path =
     let step : StepsAt now v p path.0 = path.1 in (
@@ -56,11 +56,11 @@ pub record IsPartWay (old : List (Option SearchValue)) (s : Stack) (on : ℕ) (n
     (end spare : ℕ) : Type 0 where
   pub cuts : List (ℕ × ℕ)
   pub moved : ArePartsMoved old s on cuts now t node
-  pub path : IsPath now node rest end
+  pub path : IsWaitPath now node rest end
   pub once : (i j : ℕ) → i < j → j < length rest → get_or rest i 0 ≡ get_or rest j 0 → ⊥
   pub room : entries_of now rest ≤ spare
 
-pub part_start : (old : List (Option SearchValue)) (s : Stack) (on : ℕ) (places : List ℕ) (end spare : ℕ) → IsPath old on places end
+pub part_start : (old : List (Option SearchValue)) (s : Stack) (on : ℕ) (places : List ℕ) (end spare : ℕ) → IsWaitPath old on places end
     → ((i j : ℕ) → i < j → j < length places → get_or places i 0 ≡ get_or places j 0 → ⊥) → entries_of old places ≤ spare
     → IsPartWay old s on old s on places end spare
 part_start old s on places end spare path once room =
@@ -89,7 +89,7 @@ part_more {old} {now} {s} {t} {on} {node} {end} {spare} place rest new after wan
           subst (λ kept. ArePartsMoved old s on (was.cuts ++ (place, part.frame) ∷ []) kept after wants) part.next_is
           (subst (λ stack. ArePartsMoved old s on (was.cuts ++ (place, part.frame) ∷ []) away.next stack wants) (sym part.stack_is)
           (subst (λ u. ArePartsMoved old s on (was.cuts ++ (place, part.frame) ∷ []) away.next (joined t away.donor.stack part.frame) u) part.wants_is moved));
-      path = path_same now new wants rest end same (subst (λ u. IsPath now u rest end) wanted was.path.2);
+      path = path_same now new wants rest end same (subst (λ u. IsWaitPath now u rest end) wanted was.path.2);
       once = λ i j before lt is. was.once (suc i) (suc j) (omega (arith, before)) (omega (arith, lt)) is;
       room = omega (arith, was.room, entries, entries_same now new rest same, used away.donor away.at);
     }

@@ -3,19 +3,19 @@ use Rattle.std.proofs.Common.{◌≡◌, ◌⊎◌, ℕ, zero, suc, ◌<◌, Lis
 use Rattle.search_stack.specs.Search.{SearchValue, IsOn}
 use Rattle.search_stack.specs.Stack.{Stack}
 use Rattle.blocked_table.specs.Kept.{Holds, IsApart, Follows, IsChain, IsFree, IsAtReady, AllEnd, ComesTo}
-use Rattle.blocked_table.specs.Paths.{StepsAt, IsPath}
+use Rattle.blocked_table.specs.Paths.{StepsAt, IsWaitPath}
 use Rattle.blocked_table.proofs.Chain.{IsRing, chain_on, end_stops, follows_one, no_ring, place_within, same_search}
 
 pub step_follows : {kept : List (Option SearchValue)} {v place x : ℕ} → StepsAt kept v place x → Follows kept v x
 step_follows {kept} {v} {place} {x} step = record { place = place; holds = step.holds; wants = step.wants }
 
 -- a path and one step more
-pub path_push : (kept : List (Option SearchValue)) (v : ℕ) (places : List ℕ) (w place x : ℕ) → IsPath kept v places w → StepsAt kept w place x
-    → IsPath kept v (places ++ place ∷ []) x
+pub path_push : (kept : List (Option SearchValue)) (v : ℕ) (places : List ℕ) (w place x : ℕ) → IsWaitPath kept v places w → StepsAt kept w place x
+    → IsWaitPath kept v (places ++ place ∷ []) x
 path_push kept v [] w place x path step = (x, subst (λ k. StepsAt kept k place x) (sym path) step, refl)
 path_push kept v (p ∷ ps) w place x path step = (path.0, path.1, path_push kept path.0 ps w place x path.2 step)
 
-pub path_chain : (kept : List (Option SearchValue)) (v : ℕ) (places : List ℕ) (w : ℕ) → IsPath kept v places w → (xs : List ℕ) × IsChain kept v xs w
+pub path_chain : (kept : List (Option SearchValue)) (v : ℕ) (places : List ℕ) (w : ℕ) → IsWaitPath kept v places w → (xs : List ℕ) × IsChain kept v xs w
 path_chain kept v [] w path = ([], path)
 path_chain kept v (p ∷ ps) w path =
     let rest : (xs : List ℕ) × IsChain kept path.0 xs w = path_chain kept path.0 ps w path.2 in
@@ -29,7 +29,7 @@ record IsPassed (kept : List (Option SearchValue)) (v place : ℕ) : Type 0 wher
   next : ℕ
   step : StepsAt kept node place next
 
-passed : (kept : List (Option SearchValue)) (v : ℕ) (places : List ℕ) (w i d : ℕ) → IsPath kept v places w → i < length places
+passed : (kept : List (Option SearchValue)) (v : ℕ) (places : List ℕ) (w i d : ℕ) → IsWaitPath kept v places w → i < length places
     → IsPassed kept v (get_or places i d)
 passed kept v [] w i d path lt = absurd (omega (arith, lt))
 passed kept v (p ∷ ps) w zero d path lt = record { node = v; steps = []; chain = refl; next = path.0; step = path.1 }
@@ -52,7 +52,7 @@ ring_of kept x (y ∷ ys) u chain follows =
 
 module _ (kept : List (Option SearchValue)) (apart : IsApart kept) (all : AllEnd kept) where
   -- a slot that was passed doesn't come again
-  never_again : (v p x : ℕ) (places : List ℕ) (w i d : ℕ) → StepsAt kept v p x → IsPath kept x places w → i < length places
+  never_again : (v p x : ℕ) (places : List ℕ) (w i d : ℕ) → StepsAt kept v p x → IsWaitPath kept x places w → i < length places
       → get_or places i d ≡ p → ⊥
   never_again v p x places w i d step path lt is =
       let there : IsPassed kept x p = subst (λ q. IsPassed kept x q) is (passed kept x places w i d path lt) in
@@ -66,7 +66,7 @@ module _ (kept : List (Option SearchValue)) (apart : IsApart kept) (all : AllEnd
       } in
       no_ring kept apart x (all p x step.holds.search step.holds.at step.wants) (ring_of kept x there.steps there.node there.chain follows)
 
-  pub path_once : (v : ℕ) (places : List ℕ) (w : ℕ) → IsPath kept v places w → (i j d : ℕ) → i < j → j < length places
+  pub path_once : (v : ℕ) (places : List ℕ) (w : ℕ) → IsWaitPath kept v places w → (i j d : ℕ) → i < j → j < length places
       → get_or places i d ≡ get_or places j d → ⊥
   path_once v [] w path i j d before lt same = omega (arith, lt)
   path_once v (p ∷ ps) w path zero zero d before lt same = omega (arith, before)
@@ -76,7 +76,7 @@ module _ (kept : List (Option SearchValue)) (apart : IsApart kept) (all : AllEnd
   path_once v (p ∷ ps) w path (suc i) (suc j) d before lt same =
       path_once path.0 ps w path.2 i j d (omega (arith, before)) (omega (arith, lt)) same
 
-  pub path_within : (v : ℕ) (places : List ℕ) (w : ℕ) → IsPath kept v places w → (i d : ℕ) → i < length places → get_or places i d < length kept
+  pub path_within : (v : ℕ) (places : List ℕ) (w : ℕ) → IsWaitPath kept v places w → (i d : ℕ) → i < length places → get_or places i d < length kept
   path_within v places w path i d lt =
       let there : IsPassed kept v (get_or places i d) = passed kept v places w i d path lt in
       place_within kept (get_or places i d) there.step.holds.search there.step.holds.at
@@ -92,7 +92,7 @@ module _ (kept : List (Option SearchValue)) (apart : IsApart kept) (all : AllEnd
 
   -- if a walk stops off the stack, and no suspended search holds a node of the stack, no walk comes
   -- to the stack
-  pub never_comes : (v : ℕ) (places : List ℕ) (w : ℕ) (s : Stack) → IsPath kept v places w → IsFree kept w ⊎ IsAtReady kept w
+  pub never_comes : (v : ℕ) (places : List ℕ) (w : ℕ) (s : Stack) → IsWaitPath kept v places w → IsFree kept w ⊎ IsAtReady kept w
       → (IsOn s w → ⊥) → ((place u : ℕ) → Holds kept place u → IsOn s u → ⊥) → ComesTo kept s v → ⊥
   never_comes v places w s path is off free comes =
       let walk : (xs : List ℕ) × IsChain kept v xs w = path_chain kept v places w path in

@@ -5,7 +5,7 @@ use Rattle.search_stack.specs.Stack.{Stack, size}
 use Rattle.search_stack.specs.Search.{SearchValue, IsOn}
 use Rattle.blocked_table.specs.Blocked.{BlockedValue, IsTable}
 use Rattle.blocked_table.specs.Kept.{kept_at, Holds, IsFree, IsAtReady, Ends, ComesTo}
-use Rattle.blocked_table.specs.Paths.{StepsAt, IsPath}
+use Rattle.blocked_table.specs.Paths.{StepsAt, IsWaitPath}
 use Rattle.blocked_table.specs.Suspending.{entries_at, entries_of, entries_on}
 use Rattle.blocked_table.proofs.Chain.{held_or_free, place_within, some_is}
 use Rattle.blocked_table.proofs.FieldSteps.{read_kept}
@@ -14,12 +14,12 @@ use Rattle.blocked_table.proofs.Paths.{path_push, path_once, path_within, never_
 
 -- the path so far, and how many entries the searches on it have
 pub record IsWalking (kept : List (Option SearchValue)) (on : ℕ) (places : List ℕ) (node entries : ℕ) : Type 0 where
-  pub path : IsPath kept on places node
+  pub path : IsWaitPath kept on places node
   pub entries_is : entries ≡ entries_of kept places
 
 pub walking_start : (kept : List (Option SearchValue)) (on : ℕ) (places : List ℕ) → places ≡ [] → IsWalking kept on places on 0
 walking_start kept on places none = record {
-  path = subst (λ ps. IsPath kept on ps on) (sym none) refl;
+  path = subst (λ ps. IsWaitPath kept on ps on) (sym none) refl;
   entries_is = sym (ap (entries_of kept) none);
 }
 
@@ -42,7 +42,7 @@ walking_more {kept} {on} {places} {node} {entries} place wanted more was step is
 }
 
 -- a path has no more slots than the list
-pub path_short : {value : BlockedValue} → IsTable value → (v : ℕ) (places : List ℕ) (w : ℕ) → IsPath value.kept v places w
+pub path_short : {value : BlockedValue} → IsTable value → (v : ℕ) (places : List ℕ) (w : ℕ) → IsWaitPath value.kept v places w
     → length places ≤ length value.kept
 path_short {value} table v places w path =
     few_once places (length value.kept) (λ i j before lt. path_once value.kept table.apart table.ends v places w path i j 0 before lt)

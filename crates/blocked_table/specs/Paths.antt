@@ -9,6 +9,6 @@ pub record StepsAt (kept : List (Option SearchValue)) (v place x : ℕ) : Type 0
   pub wants : holds.search.wanted ≡ Some x
 
 -- following what searches wait for leads from v over the searches in these slots to w
-abbrev pub IsPath : List (Option SearchValue) → ℕ → List ℕ → ℕ → Type 0
-IsPath kept v [] w = v ≡ w
-IsPath kept v (p ∷ ps) w = (x : ℕ) × StepsAt kept v p x × IsPath kept x ps w
+abbrev pub IsWaitPath : List (Option SearchValue) → ℕ → List ℕ → ℕ → Type 0
+IsWaitPath kept v [] w = v ≡ w
+IsWaitPath kept v (p ∷ ps) w = (x : ℕ) × StepsAt kept v p x × IsWaitPath kept x ps w

@@ -11,7 +11,7 @@ use std::marker::Model;
 
 mod suspend;
 mod transfer;
-mod waking;
+mod wake;
 
 /// Suspended searches, each kept until the node that it waits for is finished.
 ///

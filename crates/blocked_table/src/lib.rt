@@ -12,6 +12,7 @@
 mod blocked;
 mod suspended;
 mod waiters;
+mod way;
 mod words;
 
 pub use blocked::Blocked;

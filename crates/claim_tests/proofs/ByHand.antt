@@ -12,7 +12,7 @@ use Rattle.group_release.specs.Outline.{nodes_on}
 use Rattle.node_claims.specs.Claims.{ClaimsValue, PassValue, IsPassOf}
 use Rattle.node_claims.specs.Views.{both, claimed}
 use Rattle.node_claims.specs.declared.view.View.{View}
-use Rattle.search_pool.specs.Driving.{IsIdle}
+use Rattle.search_pool.specs.Driving.{IsIdlePass}
 use Rattle.search_pool.specs.Worker.{IsWorking}
 
 -- nothing is on an empty stack
@@ -23,7 +23,7 @@ none_on {s} v is on =
     omega (arith, within, none)
 
 -- a pass that had no node has won one
-pub wins_first : {claims : ClaimsValue} (old : PassValue) {pass : PassValue} {search : SearchValue} (v : ℕ) → IsIdle claims old → IsPassOf claims pass
+pub wins_first : {claims : ClaimsValue} (old : PassValue) {pass : PassValue} {search : SearchValue} (v : ℕ) → IsIdlePass claims old → IsPassOf claims pass
     → pass.view ≡ claimed v 0 old.view → search.stack ≡ empty_stack → search.wanted ≡ None → IsWorking claims pass search (Some v) true
 wins_first {claims} old {pass} {search} v idle of view stack wanted = record {
   has = record {

@@ -22,13 +22,13 @@ use Rattle.node_claims.specs.Steps.{IsLent, MayClose, MayGive}
 use Rattle.node_claims.specs.Views.{outline_of}
 use Rattle.node_claims.specs.declared.view.Taken.{Taken}
 use Rattle.node_claims.specs.declared.view.View.{View}
-use Rattle.search_pool.specs.Driving.{IsIdle}
-use Rattle.search_pool.specs.Worker.{IsRunning}
+use Rattle.search_pool.specs.Driving.{IsIdlePass}
+use Rattle.search_pool.specs.Worker.{IsSearching}
 use Rattle.search_pool.proofs.EdgesKept.{has_alone}
 
 -- the pass of a search has the turn, and the group that was taken off the search is all of it
 pub record TookAll (claims : ClaimsValue) (pass : PassValue) (search : SearchValue) (group : List ℕ) (rest : SearchValue) (turn : TurnValue) : Type 0 where
-  pub runs : IsRunning claims pass search false
+  pub runs : IsSearching claims pass search false
   pub group_is : group ≡ nodes_from search.stack (top search.stack)
   pub rest_is : rest ≡ record search { stack = below_frame search.stack (top search.stack) }
   pub empty : size rest.stack ≡ 0
@@ -179,7 +179,7 @@ module _ {claims : ClaimsValue} {pass : PassValue} {search : SearchValue} {group
     pub gives_idle : (given : PassValue) → given.table ≡ after.table
         → given.view
         ≡ record after.view { nodes = nodes_with rest None; seen = after.view.seen ++ flat after.book.groups; told = after.book.failed }
-        → IsIdle claims given
+        → IsIdlePass claims given
     gives_idle given table view =
         let of = took.runs.working.has.pass_of in (
           (

@@ -7,8 +7,8 @@ ghost use Rattle.graph_law.specs.Reach.{IsReached};
 ghost use Rattle.list_laws.specs.Counts.{times};
 ghost use Rattle.search_stack.specs.Search.{IsLastBegun, IsOn};
 ghost use Rattle.search_stack.specs.Stack.{size};
-ghost use Rattle.search_pool.specs.Driving.{IsIdle};
-ghost use Rattle.search_pool.specs.Worker.{IsRunning, IsWorking};
+ghost use Rattle.search_pool.specs.Driving.{IsIdlePass};
+ghost use Rattle.search_pool.specs.Worker.{IsSearching, IsWorking};
 
 use graph_law::{Graph, Opener};
 use node_claims::{Claimed, Claims, Looked, Pass};
@@ -26,10 +26,10 @@ pub(crate) fn start(
     root: u32,
 ) -> Result<Search, Fail>
     requires made { claims.now.lists ≡ graph.now.lists }
-    requires idle { IsIdle claims.now pass.old }
+    requires idle { IsIdlePass claims.now pass.old }
     requires below { root < length claims.now.lists }
     requires root { Contains claims.now.roots root }
-    ensures { IfOk result (λ search. IsRunning claims.now pass.new search false) }
+    ensures { IfOk result (λ search. IsSearching claims.now pass.new search false) }
 {
     let Claimed::Won = claims.claim(pass, root) else {
         return Err("another pass has the root".into());
@@ -54,7 +54,7 @@ fn push(
     requires away { IsOn search.old.stack node → ⊥ }
     requires led { (size search.old.stack ≡ 0) ⊎ IsLastBegun search.old.stack node }
     requires reached { size search.old.stack ≡ 0 → IsReached (Calls claims.now.lists) claims.now.roots node }
-    ensures { OnOk result (IsRunning claims.now pass.now search.new false) }
+    ensures { OnOk result (IsSearching claims.now pass.now search.new false) }
 {
     let mut succs = Vec::new(alloc);
     graph.expand(node, &mut succs)?;
@@ -65,9 +65,9 @@ fn push(
 
 /// Claims a node that the pass has already.
 fn claim_again(claims: &Claims, pass: &mut Pass, search: &Search, node: u32) -> Result<(), Fail>
-    requires runs { IsRunning claims.now pass.old search.now false }
+    requires runs { IsSearching claims.now pass.old search.now false }
     requires below { node < length claims.now.lists }
-    ensures { OnOk result (IsRunning claims.now pass.new search.now false) }
+    ensures { OnOk result (IsSearching claims.now pass.new search.now false) }
 {
     let Claimed::Held = claims.claim(pass, node) else {
         return Err("the node isn't held".into());
@@ -77,9 +77,9 @@ fn claim_again(claims: &Claims, pass: &mut Pass, search: &Search, node: u32) -> 
 
 /// Looks at a node that no pass has claimed.
 fn look_unseen(claims: &Claims, pass: &mut Pass, search: &Search, node: u32) -> Result<(), Fail>
-    requires runs { IsRunning claims.now pass.old search.now false }
+    requires runs { IsSearching claims.now pass.old search.now false }
     requires below { node < length claims.now.lists }
-    ensures { OnOk result (IsRunning claims.now pass.new search.now false) }
+    ensures { OnOk result (IsSearching claims.now pass.new search.now false) }
 {
     let Looked::Unseen = claims.look(pass, node) else {
         return Err("the node was claimed".into());
@@ -89,8 +89,8 @@ fn look_unseen(claims: &Claims, pass: &mut Pass, search: &Search, node: u32) -> 
 
 /// Begins the next edge, which must lead to the node.
 fn begin(claims: &Claims, pass: &Pass, search: &mut Search, node: u32) -> Result<(), Fail>
-    requires { IsRunning claims.now pass.now search.old false }
-    ensures runs { OnOk result (IsRunning claims.now pass.now search.new true) }
+    requires { IsSearching claims.now pass.now search.old false }
+    ensures runs { OnOk result (IsSearching claims.now pass.now search.new true) }
     ensures last { OnOk result (IsLastBegun search.new.stack node) }
 {
     let Some(next) = search.begin() else {
@@ -112,9 +112,9 @@ fn enter(
     node: u32,
 ) -> Result<(), Fail>
     requires made { claims.now.lists ≡ graph.now.lists }
-    requires runs { IsRunning claims.now pass.old search.old false }
+    requires runs { IsSearching claims.now pass.old search.old false }
     requires below { node < length claims.now.lists }
-    ensures { OnOk result (IsRunning claims.now pass.new search.new false) }
+    ensures { OnOk result (IsSearching claims.now pass.new search.new false) }
 {
     begin(claims, pass, search, node)?;
     let Claimed::Won = claims.claim(pass, node) else {
@@ -125,8 +125,8 @@ fn enter(
 
 /// Follows the next edge back to a node of the search.
 fn back(claims: &Claims, pass: &Pass, search: &mut Search, node: u32) -> Result<(), Fail>
-    requires { IsRunning claims.now pass.now search.old false }
-    ensures { OnOk result (IsRunning claims.now pass.now search.new false) }
+    requires { IsSearching claims.now pass.now search.old false }
+    ensures { OnOk result (IsSearching claims.now pass.now search.new false) }
 {
     begin(claims, pass, search, node)?;
     if !search.back(node) {
@@ -137,8 +137,8 @@ fn back(claims: &Claims, pass: &Pass, search: &mut Search, node: u32) -> Result<
 
 /// Joins the top segment to the one below.
 fn join(claims: &Claims, pass: &Pass, search: &mut Search) -> Result<(), Fail>
-    requires { IsRunning claims.now pass.now search.old false }
-    ensures { OnOk result (IsRunning claims.now pass.now search.new false) }
+    requires { IsSearching claims.now pass.now search.old false }
+    ensures { OnOk result (IsSearching claims.now pass.now search.new false) }
 {
     let None = search.begin() else {
         return Err("an edge of the top segment had not begun".into());
@@ -158,8 +158,8 @@ pub(crate) fn release_ring(
     pass: Pass,
     mut search: Search,
 ) -> Result<Pass, Fail>
-    requires { IsRunning claims.now pass search false }
-    ensures { IfOk result (IsIdle claims.now) }
+    requires { IsSearching claims.now pass search false }
+    ensures { IfOk result (IsIdlePass claims.now) }
 {
     if !search.is_ripe() {
         return Err("the top segment is no group yet".into());
@@ -198,8 +198,8 @@ pub(crate) fn lead(
 ) -> Result<(), Fail>
     requires made { claims.now.lists ≡ graph.now.lists }
     requires nodes { 3 ≤ length claims.now.lists }
-    requires runs { IsRunning claims.now pass.old search.old false }
-    ensures { OnOk result (IsRunning claims.now pass.new search.new false) }
+    requires runs { IsSearching claims.now pass.old search.old false }
+    ensures { OnOk result (IsSearching claims.now pass.new search.new false) }
 {
     claim_again(claims, pass, search, 0)?;
     look_unseen(claims, pass, search, 1)?;
@@ -213,9 +213,9 @@ pub(crate) fn lead(
 /// Finds two nodes finished, by a look at the one and a claim of the root, which the pass has seen
 /// then.
 pub(crate) fn see_done(claims: &Claims, pass: &mut Pass) -> Result<(), Fail>
-    requires idle { IsIdle claims.now pass.old }
+    requires idle { IsIdlePass claims.now pass.old }
     requires nodes { 2 ≤ length claims.now.lists }
-    ensures idle { OnOk result (IsIdle claims.now pass.new) }
+    ensures idle { OnOk result (IsIdlePass claims.now pass.new) }
     ensures seen { OnOk result (0 < times 0 pass.new.view.seen) }
 {
     let Looked::Done = claims.look(pass, 1) else {
@@ -226,9 +226,9 @@ pub(crate) fn see_done(claims: &Claims, pass: &mut Pass) -> Result<(), Fail>
 
 /// Claims a node that is finished, which the pass has seen then.
 fn claim_done(claims: &Claims, pass: &mut Pass, node: u32) -> Result<(), Fail>
-    requires idle { IsIdle claims.now pass.old }
+    requires idle { IsIdlePass claims.now pass.old }
     requires below { node < length claims.now.lists }
-    ensures idle { OnOk result (IsIdle claims.now pass.new) }
+    ensures idle { OnOk result (IsIdlePass claims.now pass.new) }
     ensures seen { OnOk result (0 < times node pass.new.view.seen) }
 {
     let Claimed::Done = claims.claim(pass, node) else {

@@ -12,7 +12,7 @@ use Rattle.list_laws.proofs.Zips.{zip_at, zip_count}
 use Rattle.graph_law.specs.Classes.{group_at}
 use Rattle.graph_law.specs.Graph.{Calls}
 use Rattle.effect_flow.specs.declared.heights.TheConstants.{SIZE}
-use Rattle.effect_flow.specs.declared.firsts.Flow.{Flow}
+use Rattle.effect_flow.specs.declared.flows.Flow.{Flow}
 use Rattle.effect_flow.specs.Carriers.{IsFlow, flow_at}
 use Rattle.effect_flow.specs.Flows.{AreAdded, AreFound, ArePieces, IsPut, piece_of}
 use Rattle.effect_flow.specs.Seen.{see_flow, see_flows}

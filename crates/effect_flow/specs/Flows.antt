@@ -7,7 +7,7 @@ use Rattle.graph_law.specs.Classes.{GroupCalls, HasMember, group_at}
 use Rattle.graph_law.specs.Graph.{Calls, IsClosed}
 use Rattle.graph_law.specs.LegalOrder.{IsLegalOrder}
 use Rattle.effect_flow.specs.declared.heights.TheConstants.{SIZE}
-use Rattle.effect_flow.specs.declared.firsts.Flow.{Flow}
+use Rattle.effect_flow.specs.declared.flows.Flow.{Flow}
 use Rattle.effect_flow.specs.Carriers.{IsFlow, first_at, flow_at}
 use Rattle.effect_flow.specs.Seen.{see_flows}
 

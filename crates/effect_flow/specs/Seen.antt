@@ -1,6 +1,6 @@
 -- What is seen of flows.
 use Rattle.std.specs.Prelude.{ℕ, List, Option, map}
-use Rattle.effect_flow.specs.declared.firsts.Flow.{Flow}
+use Rattle.effect_flow.specs.declared.flows.Flow.{Flow}
 use Rattle.effect_flow.specs.Carriers.{see_node}
 
 -- for each kind its carrier

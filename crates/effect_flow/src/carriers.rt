@@ -6,7 +6,7 @@ ghost use Rattle.effect_flow.specs.Seen.{see_flow, see_flows};
 ghost use Rattle.effect_flow.specs.Flows.{AreFound, AreReady, IsNext, IsOfCallee};
 ghost use Rattle.effect_flow.specs.declared.kinds.TheConstants.{KINDS};
 
-use crate::firsts::Flow;
+use crate::flows::Flow;
 use crate::grouped::Grouped;
 use graph_law::Opener;
 use std::alloc::{AllocError, Global};

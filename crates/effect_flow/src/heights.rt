@@ -11,7 +11,7 @@ ghost use Rattle.effect_flow.specs.Seen.{see_flows};
 ghost use Rattle.effect_flow.specs.declared.heights.TheConstants.{SIZE};
 
 use crate::carriers::{flow_there, flows_in_turn, push_flows};
-use crate::firsts::Flow;
+use crate::flows::Flow;
 use crate::grouped::Grouped;
 use crate::height_order::{height_end, height_order};
 use graph_law::{Opener, group_places};

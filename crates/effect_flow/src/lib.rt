@@ -11,12 +11,12 @@
 #![tactic(auto)]
 
 mod carriers;
-mod firsts;
+mod flows;
 mod grouped;
 mod height_order;
 mod heights;
 mod kinds;
 
-pub use firsts::Flow;
+pub use flows::Flow;
 pub use heights::flow;
 pub use kinds::{KINDS, kinds_of};

@@ -8,7 +8,7 @@ mod graphs;
 #[cfg(test)]
 mod keeper;
 #[cfg(test)]
-mod level_tests;
+mod level_taker_tests;
 #[cfg(test)]
 mod memory_tests;
 #[cfg(test)]

@@ -4,8 +4,8 @@
 //! that schedule releases them.
 #![tactic(auto)]
 
+mod answers;
 mod graphs;
-mod told;
 
 use crate::graphs::Row;
 use std::io;
@@ -15,7 +15,7 @@ fn main(rt: HostRuntime) -> io::Result<()> {
     for line in rt.lines(alloc) {
         let text = match Row::read(alloc, line?.as_str())? {
             None => format!(in alloc; "no graph")?,
-            Some(row) => told::told(alloc, &row)?,
+            Some(row) => answers::line_of(alloc, &row)?,
         };
         println!(rt; "{text}")?;
     }

@@ -1,5 +1,5 @@
 -- What the feeder owes when it gives the turn back, and what it pushes.
-use Rattle.std.proofs.Common.{◌≡◌, inl, inr, ℕ, ◌<◌, ◌+◌, true, List, [], ◌∷◌, ◌++◌, length, take, drop, get_or, subst, sym, refl, ap, ◌∙◌, arith}
+use Rattle.std.proofs.Common.{◌≡◌, inl, inr, ℕ, ◌<◌, ◌+◌, true, List, [], ◌∷◌, ◌++◌, length, take, drop, get_or, subst, sym, refl, ap, arith}
 use Rattle.std.proofs.lemmas.Bool.{cases_lt}
 use Rattle.std.proofs.lemmas.List.{append-nil, get_or_append_left, length-append, take-append-drop, take_more}
 use Rattle.std.specs.Prelude.{Contains}
@@ -12,7 +12,7 @@ use Rattle.node_claims.specs.Steps.{MayGive}
 use Rattle.node_claims.specs.Views.{outline_of}
 use Rattle.node_claims.specs.declared.view.Taken.{Taken}
 use Rattle.node_claims.specs.declared.view.View.{View}
-use Rattle.group_feed.specs.Copying.{AreCopied, AreSeen, AreWithin}
+use Rattle.group_feed.specs.Copying.{AreCopied, AreNodesSeen, AreWithin}
 use Rattle.group_feed.specs.Ordered.{AreOrdered}
 use Rattle.group_feed.proofs.LineSteps.{first_ordered}
 
@@ -62,12 +62,12 @@ has_more old new p longer has =
     })
 
 -- what was seen finished is released in the book that was lent
-pub seen_within : (groups released : List (List ℕ)) (seen : List ℕ) → AreSeen groups seen → ((x : ℕ) → 0 < times x seen → 0 < times x (flat released))
+pub seen_within : (groups released : List (List ℕ)) (seen : List ℕ) → AreNodesSeen groups seen → ((x : ℕ) → 0 < times x seen → 0 < times x (flat released))
     → AreWithin groups released
 seen_within groups released seen are lent p has = from_flat released p (standing p (flat released) (lent p (are p has)))
 
 -- and what is released is seen when the turn is given
-pub within_seen : (groups released : List (List ℕ)) (seen : List ℕ) → AreWithin groups released → AreSeen groups (seen ++ flat released)
+pub within_seen : (groups released : List (List ℕ)) (seen : List ℕ) → AreWithin groups released → AreNodesSeen groups (seen ++ flat released)
 within_seen groups released seen within p has =
     let here : 0 < times p (flat released) = counted p (flat released) (in_flat released p (within p has)) in
     omega (arith, here, times-append p seen (flat released))

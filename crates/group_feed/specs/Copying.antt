@@ -13,8 +13,8 @@ abbrev pub AreCopiedUpTo : ℕ → List (List ℕ) → List (List ℕ) → Type 
 AreCopiedUpTo n groups copies = (i p : ℕ) → i < n → Contains (group_at groups i) p → HasMember copies p
 
 -- the pass saw each node of the groups finished
-abbrev pub AreSeen : List (List ℕ) → List ℕ → Type 0
-AreSeen groups seen = (p : ℕ) → HasMember groups p → 0 < times p seen
+abbrev pub AreNodesSeen : List (List ℕ) → List ℕ → Type 0
+AreNodesSeen groups seen = (p : ℕ) → HasMember groups p → 0 < times p seen
 
 -- each node that the pass saw finished is in one of the groups
 abbrev pub AreCopied : List ℕ → List (List ℕ) → Type 0

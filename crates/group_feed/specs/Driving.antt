@@ -5,8 +5,8 @@ use Rattle.crossbeam_queue.specs.declared.array_queue.Doing.{Doing}
 use Rattle.crossbeam_queue.specs.declared.array_queue.Slotted.{Slotted}
 use Rattle.graph_law.specs.LegalOrder.{IsComplete}
 use Rattle.node_claims.specs.Claims.{ClaimsValue}
-use Rattle.search_pool.specs.Driving.{IsIdle}
-use Rattle.group_feed.specs.declared.driving.Parts.{Parts}
+use Rattle.search_pool.specs.Driving.{IsIdlePass}
+use Rattle.group_feed.specs.declared.parts.Parts.{Parts}
 use Rattle.group_feed.specs.declared.line.Hand.{Hand}
 use Rattle.group_feed.specs.Feeder.{AreFed}
 use Rattle.group_feed.specs.Line.{feeding, newcomer}
@@ -22,9 +22,9 @@ HandPass = Pass (Option (List ℕ)) Hand
 module _ {Q A : Type 0} where
   -- the passes are of these claims and have no node, nothing is pushed, and nothing is copied
   pub record AreReady (claims : ClaimsValue) (lists : List (List ℕ)) (line : LineValue Q A) (parts : Parts) : Type 0 where
-    pub passes : All (IsIdle claims) parts.passes.items
-    pub spare : IsIdle claims parts.spare
-    pub feeder : IsIdle claims parts.feeder
+    pub passes : All (IsIdlePass claims) parts.passes.items
+    pub spare : IsIdlePass claims parts.spare
+    pub feeder : IsIdlePass claims parts.feeder
     pub hand : IsPassOf line parts.hand
     pub new : view parts.hand ≡ feeding newcomer
     pub none : parts.copies ≡ record { count = length lists; groups = [] }

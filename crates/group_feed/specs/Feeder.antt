@@ -4,7 +4,7 @@ use Rattle.graph_law.specs.Classes.{HasMember}
 use Rattle.graph_law.specs.Graph.{Calls}
 use Rattle.graph_law.specs.Reach.{IsReached}
 use Rattle.node_claims.specs.Claims.{ClaimsValue, PassValue}
-use Rattle.search_pool.specs.Driving.{IsIdle}
+use Rattle.search_pool.specs.Driving.{IsIdlePass}
 use Rattle.group_feed.specs.Ordered.{AreOrdered}
 
 -- the groups are in a legal order, and the roots reach all their nodes
@@ -14,4 +14,4 @@ pub record AreFed (claims : ClaimsValue) (groups : List (List ℕ)) : Type 0 whe
 
 -- the pass has no node, and has given back a book that had failed: every pass that takes the turn from then on finds it failed
 abbrev pub HasToldFailure : ClaimsValue → PassValue → Type 0
-HasToldFailure claims pass = IsIdle claims pass × (pass.view.told ≡ true)
+HasToldFailure claims pass = IsIdlePass claims pass × (pass.view.told ≡ true)

@@ -2,8 +2,8 @@ ghost use Rattle.std.specs.Prelude.{◌≡◌, true, false, [], OnOk};
 ghost use Rattle.crossbeam_queue.specs.Passes.{view, IsPassOf};
 ghost use Rattle.group_feed.specs.Driving.{HasTaken, HasTakenAll};
 
+use crate::ends::next;
 use crate::line::{Graph, Line, LinePass};
-use crate::passing::next;
 use crate::taker::Taker;
 use std::alloc::AllocError;
 use std::sync::Wait;

@@ -4,16 +4,16 @@ ghost use Rattle.list_laws.specs.Counts.{IsLonger};
 ghost use Rattle.graph_law.specs.Classes.{HasMember};
 ghost use Rattle.graph_law.specs.Graph.{Calls, lists_of};
 ghost use Rattle.graph_law.specs.Reach.{IsReached};
-ghost use Rattle.search_pool.specs.Driving.{IsIdle};
-ghost use Rattle.group_feed.specs.Copying.{AreCopied, AreSeen, AreWithin};
+ghost use Rattle.search_pool.specs.Driving.{IsIdlePass};
+ghost use Rattle.group_feed.specs.Copying.{AreCopied, AreNodesSeen, AreWithin};
 ghost use Rattle.group_feed.specs.Driving.{AreFound};
 ghost use Rattle.group_feed.specs.Feeder.{AreFed, HasToldFailure};
 ghost use Rattle.group_feed.specs.Line.{feeding, newcomer};
 ghost use Rattle.group_feed.specs.Ordered.{AreOrdered};
 
-use crate::copying::{copy_at, copy_new};
+use crate::copy::{copy_at, copy_new};
+use crate::ends::push;
 use crate::line::{Graph, Line, LinePass, Parcel};
-use crate::passing::push;
 use group_release::{Book, Released};
 use node_claims::{Claims, Pass};
 use search_pool::pause;
@@ -40,7 +40,7 @@ pub(crate) fn feed<N: Graph, R: Wait>(
 ) -> (LinePass, Result<Vec<Vec<u32>>, Pass>)
     requires made { claims.now.lists ≡ N.lists }
     requires roots { claims.now.roots ≡ roots.now }
-    requires idle { IsIdle claims.now pass }
+    requires idle { IsIdlePass claims.now pass }
     requires line { is_line_pass line.now hand }
     requires room { ruled_capacity line.now ≡ length N.lists + 1 }
     requires new { view hand ≡ feeding newcomer }
@@ -89,14 +89,14 @@ fn copy_turn(
     pass: Pass,
     copies: &mut Released,
 ) -> (Pass, bool)
-    requires idle { IsIdle claims.now pass }
+    requires idle { IsIdlePass claims.now pass }
     requires count { copies.old.count ≡ length claims.now.lists }
     requires ordered { AreOrdered claims.now.lists copies.old.groups }
-    requires seen { AreSeen copies.old.groups pass.view.seen }
-    ensures idle { IsIdle claims.now result.0 }
+    requires seen { AreNodesSeen copies.old.groups pass.view.seen }
+    ensures idle { IsIdlePass claims.now result.0 }
     ensures count { copies.new.count ≡ copies.old.count }
     ensures are { AreFed claims.now copies.new.groups }
-    ensures seen { AreSeen copies.new.groups result.0.view.seen }
+    ensures seen { AreNodesSeen copies.new.groups result.0.view.seen }
     ensures told { result.0.view.told ≡ not result.1 }
     ensures longer { IsLonger copies.old.groups copies.new.groups }
     ensures all { result.1 ≡ true → AreCopied result.0.view.seen copies.new.groups }
@@ -135,7 +135,7 @@ fn copy_or_fail(alloc: Global, book: &mut Book, copies: &mut Released) -> bool
 /// Marks the book as failed under the lock, so that the workers end too. The returned pass knows of
 /// it.
 pub(crate) fn fail_book(rt: &impl Wait, alloc: Global, claims: &Claims, pass: Pass) -> Pass
-    requires { IsIdle claims.now pass }
+    requires { IsIdlePass claims.now pass }
     ensures { HasToldFailure claims.now result }
 {
     let mut turn = claims.turn(rt, pass);

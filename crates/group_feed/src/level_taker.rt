@@ -5,7 +5,7 @@ ghost use Rattle.group_release.specs.Level.{AreLevels};
 use crate::taker::Taker;
 use crate::trail::Trail;
 use graph_law::{Opener, stamp};
-use group_release::{Level, raised};
+use group_release::{Level, raise_height};
 use std::alloc::{AllocError, Global};
 use std::marker::Model;
 
@@ -68,7 +68,7 @@ impl<'a, O: Opener> Taker for LevelTaker<'a, O> {
         for &member in group {
             self.callees.clear();
             self.opener.expand(member, &mut self.callees)?;
-            height = raised(height, &self.callees, &self.places, &self.levels);
+            height = raise_height(height, &self.callees, &self.places, &self.levels);
             recursive |= self.callees.contains(&member);
         }
         self.levels.push(Level { height, recursive })?;

@@ -13,17 +13,18 @@
 #![tactic(auto)]
 
 mod consumer;
-mod copying;
-mod driving;
+mod copy;
+mod drive;
+mod ends;
 mod feeder;
 mod level_taker;
 mod line;
-mod passing;
-mod searching;
+mod parts;
+mod search;
 mod taker;
 mod trail;
 
-pub use driving::drive_feed;
+pub use drive::drive_feed;
 pub use level_taker::LevelTaker;
 pub use line::Hand;
 pub use taker::Taker;

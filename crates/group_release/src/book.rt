@@ -8,7 +8,7 @@ ghost use Rattle.blocked_table.specs.Blocked.{HasReady, IsTable};
 ghost use Rattle.group_release.specs.Book.{IsGoodBook, released_of, table_of};
 ghost use Rattle.group_release.specs.Released.{AreReleased};
 
-use crate::graph_tag::Lists;
+use crate::lists::Lists;
 use crate::released::Released;
 use blocked_table::Blocked;
 use boxcar::tag::Tag;
@@ -16,7 +16,7 @@ use graph_law::Opener;
 use std::alloc::{AllocError, Global};
 use std::marker::Model;
 
-mod keeping;
+mod suspend;
 
 /// The shared registry of searches of one graph: released groups, and searches that are suspended
 /// (kept) until a node is finished.
@@ -105,14 +105,14 @@ impl Book {
     }
 
     /// The released groups.
-    pub fn released(&self) -> &Released
+    pub fn released_groups(&self) -> &Released
         ensures { result.now ≡ released_of self.now }
     {
         &self.released
     }
 
     /// The suspended searches.
-    pub fn blocked(&self) -> &Blocked
+    pub fn blocked_searches(&self) -> &Blocked
         ensures { result.now ≡ table_of self.now }
     {
         &self.blocked

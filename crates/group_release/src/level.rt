@@ -62,7 +62,7 @@ fn level_of<O: Opener>(
     for &member in group {
         callees.clear();
         opener.expand(member, callees)?;
-        height = raised(height, callees, places, levels);
+        height = raise_height(height, callees, places, levels);
         recursive |= callees.contains(&member);
     }
     Ok(Level { height, recursive })
@@ -70,7 +70,7 @@ fn level_of<O: Opener>(
 
 /// The height, raised above each callee's group that has a level already. The group itself has none
 /// yet, so its calls of itself raise nothing.
-pub fn raised(mut height: u32, callees: &[u32], places: &[usize], levels: &[Level]) -> u32
+pub fn raise_height(mut height: u32, callees: &[u32], places: &[usize], levels: &[Level]) -> u32
     requires nodes { All (λ callee. callee < length places.now) callees.now }
     requires known { All (λ callee. slice_index places.now callee ≤ length levels.now) callees.now }
     requires low { All (λ level. level.height < 4294967295) levels.now }

@@ -13,10 +13,10 @@
 #![tactic(auto)]
 
 mod book;
-mod graph_tag;
 mod level;
+mod lists;
 mod released;
 
 pub use book::Book;
-pub use level::{Level, levels, raised};
+pub use level::{Level, levels, raise_height};
 pub use released::Released;

@@ -4,7 +4,7 @@ use Rattle.search_stack.specs.Stack.{Stack}
 use Rattle.search_stack.specs.Search.{SearchValue, IsOn, joined, lowered}
 use Rattle.blocked_table.specs.declared.suspended.Suspended.TheVariants.{Kept, Moved}
 use Rattle.blocked_table.specs.Kept.{ComesTo, Ends, IsChain}
-use Rattle.blocked_table.specs.Paths.{IsPath, StepsAt}
+use Rattle.blocked_table.specs.Paths.{IsWaitPath, StepsAt}
 use Rattle.blocked_table.specs.Suspending.{IsPartMoved, IsSuspended, entries_of}
 use Rattle.blocked_table.specs.Transfer.{IsCutAway, IsTransfer}
 use Rattle.blocked_table.proofs.Along.{IsOnTheWay, cut_away}
@@ -16,10 +16,10 @@ use Rattle.search_machine.proofs.KeptEnds.{ends_from}
 use Rattle.laws.proofs.SearchCuts.{away_at}
 
 -- the places that a chain of wants goes over
-chain_path : (kept : List (Option SearchValue)) (v : ℕ) (xs : List ℕ) (w : ℕ) → IsChain kept v xs w → (places : List ℕ) × IsPath kept v places w
+chain_path : (kept : List (Option SearchValue)) (v : ℕ) (xs : List ℕ) (w : ℕ) → IsChain kept v xs w → (places : List ℕ) × IsWaitPath kept v places w
 chain_path kept v [] w chain = ([], chain)
 chain_path kept v (x ∷ xs) w chain =
-    let rest : (places : List ℕ) × IsPath kept x places w = chain_path kept x xs w chain.1 in
+    let rest : (places : List ℕ) × IsWaitPath kept x places w = chain_path kept x xs w chain.1 in
     (chain.0.place ∷ rest.0, (x, record { holds = chain.0.holds; wants = chain.0.wants }, rest.1))
 
 -- all has moved
@@ -61,7 +61,7 @@ module _ {lists : List (List ℕ)} {roots done : List ℕ} where
       (part_more p rest away.next (joined t away.donor.stack found.0) away.wants spare part moved (λ donor at. omega arith))
 
   transfer : (old : List (Option SearchValue)) (s : Stack) (on : ℕ) (places : List ℕ) (end : ℕ) → IsOnTheWay lists roots done old s on
-      → IsPath old on places end → IsOn s end → HasTransfer old s on
+      → IsWaitPath old on places end → IsOn s end → HasTransfer old s on
   transfer old s on places end way path back =
       let start : IsPartWay old s on old s on places end (entries_of old places) =
       part_start old s on places end (entries_of old places) path
@@ -80,7 +80,7 @@ module _ {lists : List (List ℕ)} {roots done : List ℕ} where
       → IsKeptSo old search on ⊎ IsMovedSo old search on
   suspended old search on way =
       let ends : Ends old on = ends_from way.ends on in
-      let path : (places : List ℕ) × IsPath old on places ends.end = chain_path old on ends.steps ends.end ends.chain in
+      let path : (places : List ℕ) × IsWaitPath old on places ends.end = chain_path old on ends.steps ends.end ends.chain in
       elim (on_or_off search.stack ends.end) [
         | inl back ↦
             let is : HasTransfer old search.stack on = transfer old search.stack on path.0 ends.end way path.1 back in

@@ -14,7 +14,7 @@ use Rattle.blocked_table.specs.Kept.{kept_at}
 use Rattle.blocked_table.proofs.Along.{IsOnTheWay}
 use Rattle.blocked_table.proofs.Chain.{none_is_not, on_or_off, place_within}
 use Rattle.blocked_table.proofs.MovedSteps.{way_of}
-use Rattle.search_machine.specs.Events.{skip, resume, back, pass, suspend, transfer, retreat, release, Asks, Begins, GoesOn, GoesOnWith, IsEvent, IsIdle, IsOther, Runs, stack_of}
+use Rattle.search_machine.specs.Events.{skip, resume, back, pass, suspend, transfer, retreat, release, Asks, Begins, GoesOn, GoesOnWith, IsEvent, IsIdle, IsOther, Runs, running_stack}
 use Rattle.search_machine.specs.Runs.{HasMore}
 use Rattle.search_machine.specs.State.{State, IsClaimed, IsGoodState, waiting_at}
 use Rattle.search_machine.proofs.Acting.{goes, puts}
@@ -67,7 +67,7 @@ module _ {lists : List (List ℕ)} {roots : List ℕ} {s : State} {place : ℕ} 
   opens : (v : ℕ) (between : State) → Asks s place v between → place < length between.running → waiting_at between place ≡ Some v
       → HasEvent lists s place
   opens v between asks inside waits =
-      let after : SearchValue = plain (pushed (stack_of (kept_at between.running place)) v (slice_index_or lists v [])) in
+      let after : SearchValue = plain (pushed (running_stack (kept_at between.running place)) v (slice_index_or lists v [])) in
       let t : State = record between { running = set between.running place (Some after); waiting = set between.waiting place None } in (
         t,
         inr (record {

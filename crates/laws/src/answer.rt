@@ -15,8 +15,8 @@ use crate::schedule::{levels_exist, order_exists, schedule_ends};
 use crate::word::lawful_or_not;
 use call_edges::roots_below;
 use group_words::settings_within;
-use loop_paths::some_shortest;
-use search_machine::schedules_answer;
+use loop_paths::laws::some_shortest;
+use search_machine::laws::schedules_answer;
 
 /// Arguments over files have an answer.
 pub fn some_answer()

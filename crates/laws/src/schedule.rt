@@ -10,7 +10,7 @@ ghost use Rattle.group_release.specs.Level.{AreLevels};
 ghost use Rattle.group_release.specs.declared.level.Level.{Level};
 ghost use Rattle.search_machine.specs.Schedule.{IsScheduled};
 
-use search_machine::schedules_answer;
+use search_machine::laws::schedules_answer;
 
 /// Each schedule comes to an end, and releases groups.
 pub fn schedule_ends()

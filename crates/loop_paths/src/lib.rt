@@ -16,10 +16,9 @@
 mod breadth;
 mod group_circuits;
 mod inner;
-mod laws;
+pub mod laws;
 mod paths;
 mod tree;
 
 pub use group_circuits::circuits;
-pub use laws::{one_shortest, recursive_goes_round, some_shortest};
 pub use paths::{circuit, shortest};

@@ -9,7 +9,7 @@ use Rattle.node_claims.specs.Steps.{IsLent}
 use Rattle.node_claims.specs.Views.{outline_of}
 
 -- the seat knows the book as it was taken, and the slot is empty
-pub record IsTaken (pass : PassValue) (seat : Seat Slot View) (book : BookValue) : Type 0 where
+pub record IsTurnTaken (pass : PassValue) (seat : Seat Slot View) (book : BookValue) : Type 0 where
   pub table : seat.table_id ≡ pass.table
   pub live : pass.view.live ≡ true
   pub free : pass.view.turn ≡ None

@@ -6,12 +6,12 @@ ghost use Rattle.graph_law.specs.Reach.{IsReached};
 ghost use Rattle.list_laws.specs.Counts.{times};
 ghost use Rattle.node_claims.specs.Claims.{ClaimsValue, IsPassOf, claim_number, look_number};
 ghost use Rattle.node_claims.specs.Steps.{IsLater, IsLent};
-ghost use Rattle.node_claims.specs.Taking.{IsTaken};
+ghost use Rattle.node_claims.specs.Taking.{IsTurnTaken};
 ghost use Rattle.node_claims.specs.Views.{both, claimed, fresh, looked, outline_of};
 
-use crate::bound::BoundBook;
+use crate::bound_book::BoundBook;
+use crate::claim_rule::{Claim, ClaimRule, Look, Part, Take, Whole};
 use crate::pass::Pass;
-use crate::rule::{Claim, ClaimRule, Look, Part, Take, Whole};
 use crate::turn::Turn;
 use crate::view::View;
 use atomic_table::{Refused, Seat, Table};
@@ -200,7 +200,7 @@ impl Claims {
     // Waits for the lock, and takes the book out of its slot.
     fn take(&self, rt: &impl Wait, pass: Pass) -> (Seat<Option<BoundBook>, View>, BoundBook)
         requires { pass.table ≡ self.now.table }
-        ensures { IsTaken pass result.0 result.1 }
+        ensures { IsTurnTaken pass result.0 result.1 }
     {
         let Pass { mut seat } = pass;
         let mut tries = 0;

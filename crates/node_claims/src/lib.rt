@@ -10,15 +10,14 @@
 //! consistent (`SeqCst`), so they have one total order. Nothing here states that a wait ends.
 #![tactic(auto)]
 
-mod bound;
+mod bound_book;
+mod claim_rule;
 mod claims;
-mod laws;
+pub mod laws;
 mod pass;
-mod rule;
 mod turn;
 mod view;
 
 pub use claims::{Claimed, Claims, Looked};
-pub use laws::{failure_stays, nodes_are_claimed_once};
 pub use pass::Pass;
 pub use turn::Turn;

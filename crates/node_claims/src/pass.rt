@@ -1,4 +1,4 @@
-use crate::bound::BoundBook;
+use crate::bound_book::BoundBook;
 use crate::view::View;
 use atomic_table::Seat;
 use std::marker::Model;

@@ -6,10 +6,10 @@ ghost use Rattle.node_claims.specs.Claims.{nodes_with};
 ghost use Rattle.node_claims.specs.Steps.{MayClose, MayGive};
 ghost use Rattle.node_claims.specs.Views.{outline_of};
 
-use crate::bound::BoundBook;
+use crate::bound_book::BoundBook;
+use crate::claim_rule::{Close, Give, Naming};
 use crate::claims::Claims;
 use crate::pass::Pass;
-use crate::rule::{Close, Give, Naming};
 use crate::view::View;
 use atomic_table::Seat;
 use group_release::Book;

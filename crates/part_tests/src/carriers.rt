@@ -4,7 +4,7 @@ ghost use Rattle.effect_flow.specs.declared.kinds.TheConstants.{KINDS};
 use crate::draws::Draws;
 use crate::graphs::nodes_in;
 use crate::paths::groups;
-use crate::walks::{alone, reached};
+use crate::walks::{alone, reach};
 use effect_flow::{Flow, KINDS, flow};
 use graph_law::{Graph, Opener};
 use group_release::levels;
@@ -70,7 +70,7 @@ pub fn carriers_agree<R: Threads + Sync>(
     }
     let flows = flow(rt, alloc, graph, &groups, &levels, &own)?;
     for (group, flow) in groups.iter().zip(&flows) {
-        let reached = reached(alloc, rows, set_of(group))?;
+        let reached = reach(alloc, rows, set_of(group))?;
         if !carriers_are(&own, reached, flow) {
             return Ok(false);
         }

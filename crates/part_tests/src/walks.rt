@@ -84,7 +84,7 @@ pub fn least_circuit(
 }
 
 /// The nodes that a set reaches.
-pub fn reached(alloc: Global, rows: &[u32], set: u32) -> Result<u32, AllocError> {
+pub fn reach(alloc: Global, rows: &[u32], set: u32) -> Result<u32, AllocError> {
     let mut found = set;
     for _ in 0..8 {
         for &node in &nodes_in(alloc, found)? {

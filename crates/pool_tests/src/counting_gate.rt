@@ -18,13 +18,13 @@ impl CountingGate {
     }
 
     /// How many nodes it was called for.
-    pub(crate) fn told(&self) -> u32 {
+    pub(crate) fn told_count(&self) -> u32 {
         self.told.load(Ordering::SeqCst)
     }
 }
 
 impl Gate for CountingGate {
-    fn opened(&self, _node: u32) {
+    fn on_expand(&self, _node: u32) {
         for _loop in 0..self.loops {
             hint::spin_loop();
         }

@@ -14,6 +14,10 @@ mod expect;
 #[cfg(test)]
 mod graphs;
 #[cfg(test)]
+mod keeping_gate;
+#[cfg(test)]
+mod keeping_gate_tests;
+#[cfg(test)]
 mod many_tests;
 #[cfg(test)]
 mod meeting;
@@ -25,10 +29,6 @@ mod star_gate;
 mod starved;
 #[cfg(test)]
 mod starved_tests;
-#[cfg(test)]
-mod told;
-#[cfg(test)]
-mod told_tests;
 #[cfg(test)]
 mod turn_tests;
 #[cfg(test)]

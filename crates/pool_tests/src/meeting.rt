@@ -29,12 +29,12 @@ impl<'a> Meeting<'a> {
     }
 
     /// How many expansions have begun.
-    pub(crate) fn begun(&self) -> u32 {
+    pub(crate) fn begun_count(&self) -> u32 {
         self.begun.load(Ordering::SeqCst)
     }
 
     /// How many of them have seen that number begin.
-    pub(crate) fn met(&self) -> u32 {
+    pub(crate) fn met_count(&self) -> u32 {
         self.met.load(Ordering::SeqCst)
     }
 }

@@ -14,8 +14,8 @@ use Rattle.blocked_table.specs.Kept.{kept_at}
 use Rattle.blocked_table.proofs.Chain.{none_is_not, place_within, some_is}
 use Rattle.group_release.specs.Outline.{listed, nodes_of, nodes_on}
 use Rattle.group_release.proofs.Beside.{last_below}
-use Rattle.search_machine.specs.Events.{Asks, ClaimsNext, Opens, SetsAt, TakesRoot, stack_of}
-use Rattle.search_machine.specs.State.{State, IsClaimed, IsGoodState, IsRunning, WaitsFor, standing, waiting_at}
+use Rattle.search_machine.specs.Events.{Asks, ClaimsNext, Opens, SetsAt, TakesRoot, running_stack}
+use Rattle.search_machine.specs.State.{State, IsClaimed, IsGoodState, IsRunning, WaitsFor, times_standing, waiting_at}
 use Rattle.search_machine.proofs.Counts.{pushed_counted}
 use Rattle.search_machine.proofs.Good.{IsSettled, running_after, runs_settled, standing_change, waits_after}
 use Rattle.search_machine.proofs.Idle.{come_rest, given_rest}
@@ -54,25 +54,25 @@ module _ {lists : List (List ℕ)} {roots : List ℕ} {failed : Bool} {s : State
   places = written s.waiting place (Some v) None (omega (arith, within, good.places))
 
   module _ (nodes : (x : ℕ) → times x (nodes_of after) ≡ times x (nodes_of (kept_at s.running place))) where
-    one_more : (x : ℕ) → standing asked x ≡ standing s x + times x (v ∷ [])
+    one_more : (x : ℕ) → times_standing asked x ≡ times_standing s x + times x (v ∷ [])
     one_more x =
         let sums = standing_change good asked sets places.1 x in
         let none : times x (listed (waiting_at s place)) ≡ 0 = ap (λ o. times x (listed o)) free in
         let one : times x (listed (waiting_at asked place)) ≡ times x (v ∷ []) = ap (λ o. times x (listed o)) places.0 in
         omega (arith, sums, none, one, nodes x)
 
-    asked_once : (u : ℕ) → IsClaimed asked u → standing asked u ≡ 1
+    asked_once : (u : ℕ) → IsClaimed asked u → times_standing asked u ≡ 1
     asked_once u now =
-        elim (cases_eq u v) as (λ _. standing asked u ≡ 1) [
+        elim (cases_eq u v) as (λ _. times_standing asked u ≡ 1) [
           | inl is ↦
-              let here : standing asked v ≡ 1 = omega (arith, one_more v, good.never v unclaimed, times_here v) in
-              subst (λ k. standing asked k ≡ 1) (sym is) here
+              let here : times_standing asked v ≡ 1 = omega (arith, one_more v, good.never v unclaimed, times_here v) in
+              subst (λ k. times_standing asked k ≡ 1) (sym is) here
           | inr ne ↦
               let was : IsClaimed s u = sym (marks.1 u ne) ∙ now in
               omega (arith, one_more u, good.once u was, times_other u v (λ is. ne (sym is)))
         ]
 
-    asked_never : (u : ℕ) → (IsClaimed asked u → ⊥) → standing asked u ≡ 0
+    asked_never : (u : ℕ) → (IsClaimed asked u → ⊥) → times_standing asked u ≡ 0
     asked_never u isnt =
         let other : v ≡ u → ⊥ = λ is. isnt (subst (IsClaimed asked) is claims_it) in
         omega (arith, one_more u, good.never u (λ was. isnt (claims_more u was)), times_other u v other)
@@ -157,14 +157,14 @@ module _ {lists : List (List ℕ)} {roots : List ℕ} {s : State} (good : IsGood
 module _ {lists : List (List ℕ)} {roots : List ℕ} {failed : Bool} {s : State} (good : IsGoodState lists roots failed s) where
   -- what was at the place has the open edge, or is nothing
   pushed_good : (place v : ℕ) → waiting_at s place ≡ Some v → (o : Option SearchValue) → kept_at s.running place ≡ o
-      → IsGood lists roots (flat s.groups) false (pushed (stack_of o) v (get_or lists v []))
+      → IsGood lists roots (flat s.groups) false (pushed (running_stack o) v (get_or lists v []))
   pushed_good place v waits None at = first_good lists roots (flat s.groups) v ((good.waits place v waits).idle at)
   pushed_good place v waits (Some search) at =
       let was = good.running place search at in
       let opened : was.opened ≡ true = was.waits_open (ap is_some waits) in
       push_good (subst (λ b. IsGood lists roots (flat s.groups) b search.stack) opened was.good) ((good.waits place v waits).last search at)
 
-  stack_counted : (o : Option SearchValue) (x : ℕ) → times x (nodes_on (stack_of o)) ≡ times x (nodes_of o)
+  stack_counted : (o : Option SearchValue) (x : ℕ) → times x (nodes_on (running_stack o)) ≡ times x (nodes_of o)
   stack_counted None x = refl
   stack_counted (Some search) x = refl
 
@@ -178,21 +178,21 @@ module _ {lists : List (List ℕ)} {roots : List ℕ} {failed : Bool} {s : State
     opened_to = record s { running = t.running; waiting = set s.waiting place None }
 
     abbrev stack : Stack
-    stack = pushed (stack_of (kept_at s.running place)) v (get_or lists v [])
+    stack = pushed (running_stack (kept_at s.running place)) v (get_or lists v [])
 
     free : (waiting_at opened_to place ≡ None) × ((i : ℕ) → (i ≡ place → ⊥) → waiting_at opened_to i ≡ waiting_at s i)
     free = written s.waiting place None None (waits_within place v e.waits)
 
     settled : IsSettled lists roots s.groups e.goes_on.after
     settled = record {
-      some = omega (arith, ap size e.goes_on.stack_is, push_some (stack_of (kept_at s.running place)) v (get_or lists v []));
+      some = omega (arith, ap size e.goes_on.stack_is, push_some (running_stack (kept_at s.running place)) v (get_or lists v []));
       wants_nothing = e.goes_on.wants_nothing;
       good =
           subst (IsGood lists roots (flat s.groups) false) (sym e.goes_on.stack_is)
           (pushed_good place v e.waits (kept_at s.running place) refl);
     }
 
-    standing_same : (x : ℕ) → standing opened_to x ≡ standing s x
+    standing_same : (x : ℕ) → times_standing opened_to x ≡ times_standing s x
     standing_same x =
         let sums = standing_change good opened_to e.goes_on.sets free.1 x in
         let none : times x (listed (waiting_at opened_to place)) ≡ 0 = ap (λ o. times x (listed o)) free.0 in
@@ -204,7 +204,7 @@ module _ {lists : List (List ℕ)} {roots : List ℕ} {failed : Bool} {s : State
           none,
           one,
           here,
-          pushed_counted (stack_of (kept_at s.running place)) v (get_or lists v []) x,
+          pushed_counted (running_stack (kept_at s.running place)) v (get_or lists v []) x,
           stack_counted (kept_at s.running place) x,
         )
 

@@ -11,7 +11,7 @@ use Rattle.search_stack.specs.Search.{SearchValue, below_frame}
 use Rattle.blocked_table.specs.Kept.{kept_at}
 use Rattle.blocked_table.proofs.Chain.{none_is_not, place_within}
 use Rattle.group_release.proofs.Beside.{last_below}
-use Rattle.search_machine.specs.Events.{Asks, Begins, GoesBack, GoesOn, IsEvent, IsPlainEvent, skip, resume, back, pass, suspend, transfer, retreat, release, Opens, Passes, Releases, Resumes, Retreats, Runs, Skips, Suspends, Transfers, stack_of}
+use Rattle.search_machine.specs.Events.{Asks, Begins, GoesBack, GoesOn, IsEvent, IsPlainEvent, skip, resume, back, pass, suspend, transfer, retreat, release, Opens, Passes, Releases, Resumes, Retreats, Runs, Skips, Suspends, Transfers, running_stack}
 use Rattle.search_machine.specs.Runs.{IsRun, next_number, opening_state}
 use Rattle.search_machine.specs.State.{State, IsClaimed, IsGoodState, waiting_at}
 use Rattle.search_machine.proofs.Claiming.{written}
@@ -154,7 +154,7 @@ module _ {lists : List (List ℕ)} {roots : List ℕ} {s : State} (good : IsGood
       ∙ (written s.waiting place (Some v) None (omega (arith, within, good.places))).0
 
 -- and opened
-stack_there : (o : Option SearchValue) → stack_work (stack_of o) ≡ running_work o
+stack_there : (o : Option SearchValue) → stack_work (running_stack o) ≡ running_work o
 stack_there None = refl
 stack_there (Some search) = refl
 
@@ -179,7 +179,7 @@ opens_falls {lists} {s} {t} {place} {v} e =
       was,
       now,
       goes_work e.goes_on,
-      pushed_work (stack_of there) v (get_or lists v []),
+      pushed_work (running_stack there) v (get_or lists v []),
       stack_there there,
     )
 

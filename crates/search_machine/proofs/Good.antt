@@ -18,7 +18,7 @@ use Rattle.group_release.proofs.KeptCounts.{held_counted, kept_change}
 use Rattle.group_release.proofs.Nodes.{in_flat, on_counted}
 use Rattle.list_laws.proofs.Counting.{counted}
 use Rattle.search_machine.specs.Events.{SetsAt}
-use Rattle.search_machine.specs.State.{State, IsClaimed, IsGoodState, IsRunning, WaitsFor, standing, waiting_at}
+use Rattle.search_machine.specs.State.{State, IsClaimed, IsGoodState, IsRunning, WaitsFor, times_standing, waiting_at}
 use Rattle.search_machine.proofs.Counts.{apart_counted, distinct_counted, nodes_counted, waiting_change}
 
 module _ {lists : List (List ℕ)} {roots : List ℕ} {failed : Bool} {s : State} (good : IsGoodState lists roots failed s) where
@@ -28,12 +28,12 @@ module _ {lists : List (List ℕ)} {roots : List ℕ} {failed : Bool} {s : State
       [ inl is ↦ inl is | inr isnt ↦ inr (λ is. true≢false (sym is ∙ isnt)) ]
 
   -- each node stands once at most, and where it stands it is claimed
-  pub at_most_once : (v : ℕ) → standing s v ≤ 1
+  pub at_most_once : (v : ℕ) → times_standing s v ≤ 1
   at_most_once v =
-      elim (claimed_or_not v) as (λ _. standing s v ≤ 1)
+      elim (claimed_or_not v) as (λ _. times_standing s v ≤ 1)
       [ inl is ↦ let one = good.once v is in omega (arith, one) | inr isnt ↦ let none = good.never v isnt in omega (arith, none) ]
 
-  pub stands_claimed : (v : ℕ) → 0 < standing s v → IsClaimed s v
+  pub stands_claimed : (v : ℕ) → 0 < times_standing s v → IsClaimed s v
   stands_claimed v stands =
       elim (claimed_or_not v) as (λ _. IsClaimed s v)
       [ inl is ↦ is | inr isnt ↦ let none = good.never v isnt in absurd (omega (arith, none, stands)) ]
@@ -87,9 +87,9 @@ module _ {lists : List (List ℕ)} {roots : List ℕ} {failed : Bool} {s : State
     (same : (i : ℕ) → (i ≡ place → ⊥) → waiting_at t i ≡ waiting_at s i) where
   -- what the counts of the place and of the kept and released nodes add up to
   pub standing_change : (v : ℕ)
-      → standing t v + (times v (nodes_of (kept_at s.running place)) + times v (listed (waiting_at s place))
+      → times_standing t v + (times v (nodes_of (kept_at s.running place)) + times v (listed (waiting_at s place))
       + (times v (kept_nodes s.kept) + times v (flat s.groups)))
-      ≡ standing s v + (times v (nodes_of after) + times v (listed (waiting_at t place)) + (times v (kept_nodes t.kept) + times v (flat t.groups)))
+      ≡ times_standing s v + (times v (nodes_of after) + times v (listed (waiting_at t place)) + (times v (kept_nodes t.kept) + times v (flat t.groups)))
   standing_change v =
       let runs = kept_change v s.running t.running place sets.same in
       let here : times v (nodes_of (kept_at t.running place)) ≡ times v (nodes_of after) = ap (λ o. times v (nodes_of o)) sets.at in
@@ -162,7 +162,7 @@ module _ {lists : List (List ℕ)} {roots : List ℕ} {failed : Bool} {s : State
   abbrev changed : State
   changed = record s { running = running; kept = kept; groups = groups }
 
-  standing_same : IsPlain → (v : ℕ) → standing changed v ≡ standing s v
+  standing_same : IsPlain → (v : ℕ) → times_standing changed v ≡ times_standing s v
   standing_same plain v =
       let sums = standing_change good changed sets (λ i ne. refl) v in
       let these = plain.counted v in

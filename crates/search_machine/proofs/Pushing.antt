@@ -14,7 +14,7 @@ use Rattle.group_release.specs.Outline.{listed}
 use Rattle.group_release.proofs.Nodes.{on_counted}
 use Rattle.group_release.proofs.OnceCounts.{one_of}
 use Rattle.search_machine.specs.declared.machine.Machine.TheInside.{Inside}
-use Rattle.search_machine.specs.Events.{Opens, stack_of}
+use Rattle.search_machine.specs.Events.{Opens, running_stack}
 use Rattle.search_machine.specs.MachineFields.{IsMachine, state_of, value_of}
 use Rattle.search_machine.specs.State.{State, IsGoodState, waiting_at}
 use Rattle.search_machine.proofs.Acting.{goes, put_same, puts_back}
@@ -35,7 +35,7 @@ waited_counted waiting place v lt is =
 -- so it is on no search, and the last edge of the search at the place leads to it
 module _ {lists : List (List ℕ)} {roots : List ℕ} {failed : Bool} {s : State} (good : IsGoodState lists roots failed s) (place v : ℕ)
     (waits : waiting_at s place ≡ Some v) where
-  pub off_there : (o : Option SearchValue) → kept_at s.running place ≡ o → IsOn (stack_of o) v → ⊥
+  pub off_there : (o : Option SearchValue) → kept_at s.running place ≡ o → IsOn (running_stack o) v → ⊥
   off_there None at on = omega (arith, on.within, empty_size)
   off_there (Some one) at on =
       let once = at_most_once good v in
@@ -44,7 +44,7 @@ module _ {lists : List (List ℕ)} {roots : List ℕ} {failed : Bool} {s : State
       let waited = waited_counted s.waiting place v (waits_within good place v waits) waits in
       omega (arith, once, own, here, waited)
 
-  pub led_there : (o : Option SearchValue) → kept_at s.running place ≡ o → (size (stack_of o) ≡ 0) ⊎ IsLastBegun (stack_of o) v
+  pub led_there : (o : Option SearchValue) → kept_at s.running place ≡ o → (size (running_stack o) ≡ 0) ⊎ IsLastBegun (running_stack o) v
   led_there None at = inl empty_size
   led_there (Some one) at = inr ((good.waits place v waits).last one at)
 
@@ -75,10 +75,10 @@ waiting {fields} {place} {v} {now} {there} is waits read took = record {
 }
 
 module _ {fields : Inside} {place v : ℕ} {there : Option SearchValue} (is : IsWaiting fields place v there) where
-  pub fresh : {stack : Stack} → stack ≡ stack_of there → IsOn stack v → ⊥
+  pub fresh : {stack : Stack} → stack ≡ running_stack there → IsOn stack v → ⊥
   fresh {stack} stack_is on = off_there is.is.good place v is.waits there is.at (subst (λ s. IsOn s v) stack_is on)
 
-  pub led : {stack : Stack} → stack ≡ stack_of there → (size stack ≡ 0) ⊎ IsLastBegun stack v
+  pub led : {stack : Stack} → stack ≡ running_stack there → (size stack ≡ 0) ⊎ IsLastBegun stack v
   led {stack} stack_is =
       subst (λ s. (size s ≡ 0) ⊎ IsLastBegun s v) (sym stack_is) (led_there is.is.good place v is.waits there is.at)
 
@@ -86,7 +86,7 @@ module _ {fields : Inside} {place v : ℕ} {there : Option SearchValue} (is : Is
   wants_none {wanted} wanted_is = wanted_is ∙ wants_there is.is.good place v is.waits there is.at
 
   -- the node is pushed
-  pub opens_step : (gone : Option SearchValue) (before after : SearchValue) (list : List ℕ) → before.stack ≡ stack_of there
+  pub opens_step : (gone : Option SearchValue) (before after : SearchValue) (list : List ℕ) → before.stack ≡ running_stack there
       → after.stack ≡ pushed before.stack v list → list ≡ get_or fields.book.lists v [] → after.wanted ≡ None
       → Opens fields.book.lists (state_of fields) place v
       (record (state_of fields) {
@@ -94,8 +94,8 @@ module _ {fields : Inside} {place v : ℕ} {there : Option SearchValue} (is : Is
         waiting = set fields.waiting.items place None;
       })
   opens_step gone before after list was pushed_is list_is wants_nothing =
-      let stack_is : after.stack ≡ pushed (stack_of (kept_at fields.running.items place)) v (get_or fields.book.lists v []) =
-      pushed_is ∙ ap (λ s. pushed s v list) (was ∙ ap stack_of (sym is.at)) ∙ ap (pushed (stack_of (kept_at fields.running.items place)) v) list_is in
+      let stack_is : after.stack ≡ pushed (running_stack (kept_at fields.running.items place)) v (get_or fields.book.lists v []) =
+      pushed_is ∙ ap (λ s. pushed s v list) (was ∙ ap running_stack (sym is.at)) ∙ ap (pushed (running_stack (kept_at fields.running.items place)) v) list_is in
       record {
         waits = is.waits;
         goes_on = goes (puts_back fields.running.items place gone (Some after) is.within) stack_is wants_nothing;

@@ -10,7 +10,7 @@ use Rattle.blocked_table.proofs.Chain.{none_is_not}
 use Rattle.group_release.specs.Outline.{kept_nodes, listed, nodes_of}
 use Rattle.group_release.proofs.Books.{first_good}
 use Rattle.search_machine.specs.Runs.{opening_state}
-use Rattle.search_machine.specs.State.{IsGoodState, standing}
+use Rattle.search_machine.specs.State.{IsGoodState, times_standing}
 
 pub read_replicate : {X : Type 0} (d : X) (n i : ℕ) → get_or (replicate n d) i d ≡ d
 read_replicate d zero i = refl
@@ -26,7 +26,7 @@ nothing_listed g none (suc n) x =
 pub starts_good : (lists : List (List ℕ)) (roots : List ℕ) (places : ℕ) → IsClosed lists → All (λ root. root < length lists) roots
     → IsGoodState lists roots false (opening_state (length lists) roots places)
 starts_good lists roots places closed rooted =
-    let nothing : (v : ℕ) → standing (opening_state (length lists) roots places) v ≡ 0 = λ v.
+    let nothing : (v : ℕ) → times_standing (opening_state (length lists) roots places) v ≡ 0 = λ v.
     let running : times v (kept_nodes (replicate places None)) ≡ 0 = nothing_listed nodes_of refl places v in
     let waiting : times v (flat (map listed (replicate places None))) ≡ 0 = nothing_listed listed refl places v in
     omega (arith, running, waiting) in

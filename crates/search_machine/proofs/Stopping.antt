@@ -9,7 +9,7 @@ use Rattle.blocked_table.proofs.Chain.{none_is_not, some_is}
 use Rattle.group_release.specs.Outline.{nodes_of, nodes_on}
 use Rattle.search_machine.specs.Events.{SetsAt}
 use Rattle.search_machine.specs.Machine.{Stops}
-use Rattle.search_machine.specs.State.{State, IsGoodState, IsRunning, WaitsFor, standing, waiting_at}
+use Rattle.search_machine.specs.State.{State, IsGoodState, IsRunning, WaitsFor, times_standing, waiting_at}
 use Rattle.search_machine.proofs.Good.{running_after, standing_change, waits_after}
 use Rattle.search_machine.proofs.Turns.{HasBegun, has_begun}
 
@@ -50,7 +50,7 @@ put_keeps : {lists : List (List ℕ)} {roots : List ℕ} {failed : Bool} {s : St
     → IsGoodState lists roots failed (record s { running = running })
 put_keeps {lists} {roots} {failed} {s} {place} {after} {running} good sets here here_waits nodes =
     let t : State = record s { running = running } in
-    let same : (v : ℕ) → standing t v ≡ standing s v = λ v.
+    let same : (v : ℕ) → times_standing t v ≡ times_standing s v = λ v.
     let sums = standing_change good t sets (λ i ne. refl) v in
     omega (arith, sums, nodes v) in
     record {

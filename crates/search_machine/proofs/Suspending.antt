@@ -20,7 +20,7 @@ use Rattle.group_release.specs.Outline.{kept_nodes, newly_wanted, nodes_of, node
 use Rattle.group_release.proofs.Books.{IsWellSuspended, MaySuspend, suspended_well}
 use Rattle.group_release.proofs.KeptCounts.{at_wanted, wanted_at}
 use Rattle.search_machine.specs.Events.{Begins, IsOther, Suspends, Transfers}
-use Rattle.search_machine.specs.State.{State, IsClaimed, IsGoodState, book_of, standing}
+use Rattle.search_machine.specs.State.{State, IsClaimed, IsGoodState, book_of, times_standing}
 use Rattle.search_machine.proofs.Good.{IsPlain, IsSettled, plain_good, stands_claimed, table}
 use Rattle.search_machine.proofs.Counts.{place_counted}
 use Rattle.search_machine.proofs.KeptEnds.{ends_from, moved_some}
@@ -139,5 +139,5 @@ module _ {lists : List (List ℕ)} {roots : List ℕ} {s : State} (good : IsGood
       } in
       subst (IsGoodState lists roots false) (sym e.only) (plain_good good t.kept s.groups e.goes_on.sets e.begins.runs.free plain)
     where
-      stands : (w : ℕ) → 0 < times w (kept_nodes s.kept) + times w (nodes_of (kept_at s.running place)) → 0 < standing s w
+      stands : (w : ℕ) → 0 < times w (kept_nodes s.kept) + times w (nodes_of (kept_at s.running place)) → 0 < times_standing s w
       stands w some = omega (arith, some, place_counted s.running place w)

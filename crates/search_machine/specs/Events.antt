@@ -80,14 +80,14 @@ abbrev pub Asks : State → ℕ → ℕ → State → Type 0
 Asks s place v t = TakesRoot s place v t ⊎ ClaimsNext s place v t
 
 -- the stack at a place, which is empty where no search is there
-abbrev pub stack_of : Option SearchValue → Stack
-stack_of None = empty_stack
-stack_of (Some search) = search.stack
+abbrev pub running_stack : Option SearchValue → Stack
+running_stack None = empty_stack
+running_stack (Some search) = search.stack
 
 -- the node that the place waits for is opened: it is pushed with its successors
 pub record Opens (lists : List (List ℕ)) (s : State) (place v : ℕ) (t : State) : Type 0 where
   pub waits : waiting_at s place ≡ Some v
-  pub goes_on : GoesOn s.running t.running place (pushed (stack_of (kept_at s.running place)) v (slice_index_or lists v []))
+  pub goes_on : GoesOn s.running t.running place (pushed (running_stack (kept_at s.running place)) v (slice_index_or lists v []))
   pub only : t ≡ record s { running = t.running; waiting = slice_set s.waiting place None }
 
 -- an idle place takes a ready search

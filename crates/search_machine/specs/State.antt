@@ -28,8 +28,8 @@ abbrev pub waiting_at : State → ℕ → Option ℕ
 waiting_at s place = slice_index_or s.waiting place None
 
 -- how often the node stands on a search at a place or on a kept one, is waited for, or is released
-abbrev pub standing : State → ℕ → ℕ
-standing s v = times v (kept_nodes s.running) + times v (flat (map listed s.waiting)) + (times v (kept_nodes s.kept) + times v (flat s.groups))
+abbrev pub times_standing : State → ℕ → ℕ
+times_standing s v = times v (kept_nodes s.running) + times v (flat (map listed s.waiting)) + (times v (kept_nodes s.kept) + times v (flat s.groups))
 
 -- a search at a place isn't empty, wants nothing and is good for the released nodes. The last edge that its top has begun is open just
 -- where the place waits for an opening, and maybe in a state that has failed
@@ -65,8 +65,8 @@ pub record IsGoodState (lists : List (List ℕ)) (roots : List ℕ) (failed : Bo
   pub waits : (place v : ℕ) → waiting_at s place ≡ Some v → WaitsFor lists roots (kept_at s.running place) v
   pub wants : (place w : ℕ) (search : SearchValue) → kept_at s.kept place ≡ Some search → search.wanted ≡ Some w → IsClaimed s w
   -- each claimed node stands on one search, once, or is waited for or released; and no other node does
-  pub once : (v : ℕ) → IsClaimed s v → standing s v ≡ 1
-  pub never : (v : ℕ) → (IsClaimed s v → ⊥) → standing s v ≡ 0
+  pub once : (v : ℕ) → IsClaimed s v → times_standing s v ≡ 1
+  pub never : (v : ℕ) → (IsClaimed s v → ⊥) → times_standing s v ≡ 0
   -- the roots to come are roots, and each root is to come or claimed
   pub come : (v : ℕ) → Contains s.to_come v → Contains roots v
   pub given : (v : ℕ) → Contains roots v → Contains s.to_come v ⊎ IsClaimed s v

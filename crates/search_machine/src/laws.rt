@@ -11,6 +11,10 @@ ghost use Rattle.search_machine.specs.Events.{Asks, IsEvent, IsPlainEvent, Opens
 ghost use Rattle.search_machine.specs.Runs.{AreEvents, CanAct, IsRun, opening_state};
 ghost use Rattle.search_machine.specs.State.{State, IsGoodState, waiting_at};
 
+mod schedule;
+
+pub use schedule::{runs_end, schedules_answer};
+
 /// Each event keeps the invariant of a state, and so does each half of a claim.
 pub fn events_keep()
     ensures plain { (lists : List (List ℕ)) (roots : List ℕ) (place : ℕ) (s t : State) → IsGoodState lists roots false s

@@ -13,12 +13,11 @@
 //! them.
 #![tactic(auto)]
 
-mod laws;
+pub mod laws;
 mod machine;
 mod schedule;
 mod step;
 
-pub use laws::{any_events_keep, events_keep, good_states, nothing_left, runs_keep};
 pub use machine::Machine;
-pub use schedule::{drive_many, runs_end, schedules_answer};
+pub use schedule::drive_many;
 pub use step::Step;

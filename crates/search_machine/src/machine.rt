@@ -11,8 +11,8 @@ use search_stack::Search;
 use std::alloc::{AllocError, Global};
 use std::marker::Model;
 
-mod acting;
-mod opening;
+mod act;
+mod open;
 
 /// Many searches of one graph, each at a place, which take turns on one thread.
 ///
@@ -123,10 +123,10 @@ impl Machine {
     }
 
     /// The released groups, in the order of their release.
-    pub fn released(&self) -> &Released
+    pub fn released_groups(&self) -> &Released
         ensures { result.now ≡ record { count = length self.now.lists; groups = self.now.state.groups } }
     {
-        self.book.released()
+        self.book.released_groups()
     }
 
     /// How many places there are.

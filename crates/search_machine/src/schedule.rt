@@ -4,7 +4,5 @@
 mod actors;
 mod draw;
 mod drive;
-mod laws;
 
 pub use drive::drive_many;
-pub use laws::{runs_end, schedules_answer};

@@ -22,7 +22,7 @@ use Rattle.node_claims.specs.declared.view.View.{View}
 use Rattle.node_claims.specs.Claims.{ClaimsValue, PassValue, IsPassOf}
 use Rattle.node_claims.specs.Steps.{IsLater}
 use Rattle.node_claims.specs.Views.{Noted, claimed}
-use Rattle.search_pool.specs.Worker.{HasNodes, IsRunning, IsWorking}
+use Rattle.search_pool.specs.Worker.{HasNodes, IsSearching, IsWorking}
 
 -- the nodes of a search stay where its stack has the same nodes
 pub same_nodes : {s t : Stack} → SameNodes s t → nodes_on t ≡ nodes_on s
@@ -51,9 +51,9 @@ pub has_alone : {claims : ClaimsValue} {pass : PassValue} {search : SearchValue}
 has_alone {claims} {pass} {search} has = has.nodes ∙ append-nil (nodes_on search.stack)
 
 -- the search goes on with the same nodes
-pub moves_on : {claims : ClaimsValue} {pass : PassValue} {old now : SearchValue} {opened : Bool} (after : Bool) → IsRunning claims pass old opened
+pub moves_on : {claims : ClaimsValue} {pass : PassValue} {old now : SearchValue} {opened : Bool} (after : Bool) → IsSearching claims pass old opened
     → SameNodes old.stack now.stack → now.wanted ≡ None → IsGood claims.lists claims.roots pass.view.seen after now.stack
-    → IsRunning claims pass now after
+    → IsSearching claims pass now after
 moves_on {claims} {pass} {old} {now} {opened} after runs same wants good = record {
   working =
       record {
@@ -69,8 +69,8 @@ moves_on {claims} {pass} {old} {now} {opened} after runs same wants good = recor
 }
 
 -- there is more room, and nothing else is new
-pub has_room : {claims : ClaimsValue} {pass : PassValue} {old now : SearchValue} → IsRunning claims pass old false → now.stack ≡ old.stack
-    → now.wanted ≡ old.wanted → IsRunning claims pass now false
+pub has_room : {claims : ClaimsValue} {pass : PassValue} {old now : SearchValue} → IsSearching claims pass old false → now.stack ≡ old.stack
+    → now.wanted ≡ old.wanted → IsSearching claims pass now false
 has_room {claims} {pass} {old} {now} runs same wants = record {
   working =
       record {
@@ -86,17 +86,17 @@ has_room {claims} {pass} {old} {now} runs same wants = record {
 }
 
 -- the top begins an edge
-pub begins_on : {claims : ClaimsValue} {pass : PassValue} {old now : SearchValue} (v : ℕ) → IsRunning claims pass old false
+pub begins_on : {claims : ClaimsValue} {pass : PassValue} {old now : SearchValue} (v : ℕ) → IsSearching claims pass old false
     → next_successor old.stack ≡ Some v
     → now ≡ record old { stack = one_more_begun old.stack (position old.stack (top old.stack)) }
-    → IsGood claims.lists claims.roots pass.view.seen true now.stack → IsRunning claims pass now true
+    → IsGood claims.lists claims.roots pass.view.seen true now.stack → IsSearching claims pass now true
 begins_on {claims} {pass} {old} {now} v runs next is good =
     let begun = begun_from old now v next is in
     moves_on true runs begun.keeps.nodes (begun.wanted_is ∙ runs.working.wants_nothing) good
 
 -- the last edge leads to a node of the graph
 pub leads_within : {claims : ClaimsValue} {pass : PassValue} {search : SearchValue} {lists : List (List ℕ)} (v : ℕ)
-    → IsRunning claims pass search true → claims.lists ≡ lists → IsClosed lists → IsLastBegun search.stack v → v < length claims.lists
+    → IsSearching claims pass search true → claims.lists ≡ lists → IsClosed lists → IsLastBegun search.stack v → v < length claims.lists
 leads_within {claims} {pass} {search} {lists} v runs made closed last = last_below runs.working.good last (subst IsClosed (sym made) closed)
 
 -- the top segment joins the one below
@@ -104,9 +104,9 @@ pub unripe_two : (search : SearchValue) (ripe : Bool) → IsShaped search.stack 
     → ripe ≡ false → 2 ≤ height search.stack
 unripe_two search ripe shaped done is isnt = two_frames shaped done (λ so. both_ways ripe isnt (is so))
 
-pub retreats_on : {claims : ClaimsValue} {pass : PassValue} {old now : SearchValue} → IsRunning claims pass old false → 2 ≤ height old.stack
+pub retreats_on : {claims : ClaimsValue} {pass : PassValue} {old now : SearchValue} → IsSearching claims pass old false → 2 ≤ height old.stack
     → now ≡ record old { stack = retreated old.stack } → IsGood claims.lists claims.roots pass.view.seen false now.stack
-    → IsRunning claims pass now false
+    → IsSearching claims pass now false
 retreats_on {claims} {pass} {old} {now} runs two is good =
     let after = retreated_from old now two is in
     moves_on false runs after.nodes (ap (λ (value : SearchValue). value.wanted) is ∙ runs.working.wants_nothing) good
@@ -114,7 +114,7 @@ retreats_on {claims} {pass} {old} {now} runs two is good =
 -- the node that the pass has won is on the search
 pub opens_it : {claims : ClaimsValue} {pass : PassValue} {old now : SearchValue} {v : ℕ} (list : List ℕ) → IsWorking claims pass old (Some v) true
     → now.stack ≡ pushed old.stack v list → now.wanted ≡ None → IsGood claims.lists claims.roots pass.view.seen false now.stack
-    → IsRunning claims pass now false
+    → IsSearching claims pass now false
 opens_it {claims} {pass} {old} {now} {v} list works is wants good = record {
   working =
       record {
@@ -130,7 +130,7 @@ opens_it {claims} {pass} {old} {now} {v} list works is wants good = record {
 }
 
 -- a node of the search is never found unseen
-pub away_from : {claims : ClaimsValue} {pass : PassValue} {search : SearchValue} {opened : Bool} {v : ℕ} → IsRunning claims pass search opened
+pub away_from : {claims : ClaimsValue} {pass : PassValue} {search : SearchValue} {opened : Bool} {v : ℕ} → IsSearching claims pass search opened
     → IsLater v pass.view 0 → IsOn search.stack v → ⊥
 away_from {claims} {pass} {search} {opened} {v} runs later on =
     let here : times v pass.view.nodes ≡ times v (nodes_on search.stack) = ap (times v) (has_alone runs.working.has) in
@@ -138,9 +138,9 @@ away_from {claims} {pass} {search} {opened} {v} runs later on =
     omega (arith, none)
 
 -- the pass knows more, and has the same nodes
-pub knows_more : {claims : ClaimsValue} {pass after : PassValue} {search : SearchValue} {opened : Bool} → IsRunning claims pass search opened
+pub knows_more : {claims : ClaimsValue} {pass after : PassValue} {search : SearchValue} {opened : Bool} → IsSearching claims pass search opened
     → IsPassOf claims after → after.view.nodes ≡ pass.view.nodes → ((u : ℕ) → Contains pass.view.seen u → Contains after.view.seen u)
-    → IsRunning claims after search opened
+    → IsSearching claims after search opened
 knows_more {claims} {pass} {after} {search} {opened} runs of same grows = record {
   working =
       record {
@@ -152,9 +152,9 @@ knows_more {claims} {pass} {after} {search} {opened} runs of same grows = record
 }
 
 -- a node was found held
-module _ {claims : ClaimsValue} {pass after : PassValue} {search : SearchValue} (v : ℕ) (runs : IsRunning claims pass search true)
+module _ {claims : ClaimsValue} {pass after : PassValue} {search : SearchValue} (v : ℕ) (runs : IsSearching claims pass search true)
     (of : IsPassOf claims after) (view : after.view ≡ claimed v 1 pass.view) where
-  pub held_runs : IsRunning claims after search true
+  pub held_runs : IsSearching claims after search true
   held_runs =
       let seen : after.view.seen ≡ pass.view.seen = ap (λ (w : View). w.seen) view in
       knows_more runs of (ap (λ (w : View). w.nodes) view) (λ u has. subst (λ (l : List ℕ). Contains l u) (sym seen) has)
@@ -165,12 +165,12 @@ module _ {claims : ClaimsValue} {pass after : PassValue} {search : SearchValue} 
       subst (λ (l : List (ℕ × ℕ)). Noted v 1 l) (sym looks) (noted_last v 1 pass.view.looks)
 
 -- a node was found finished
-module _ {claims : ClaimsValue} {pass after : PassValue} {search : SearchValue} (v : ℕ) (runs : IsRunning claims pass search true)
+module _ {claims : ClaimsValue} {pass after : PassValue} {search : SearchValue} (v : ℕ) (runs : IsSearching claims pass search true)
     (of : IsPassOf claims after) (view : after.view ≡ claimed v 2 pass.view) where
   seen_is : after.view.seen ≡ pass.view.seen ++ v ∷ []
   seen_is = ap (λ (w : View). w.seen) view
 
-  pub done_runs : IsRunning claims after search true
+  pub done_runs : IsSearching claims after search true
   done_runs =
       knows_more runs of (ap (λ (w : View). w.nodes) view)
       (λ u has. subst (λ (l : List ℕ). Contains l u) (sym seen_is) (Contains-append_left pass.view.seen (v ∷ []) u has))

@@ -7,12 +7,12 @@ use Rattle.search_stack.specs.Search.{SearchValue}
 use Rattle.search_stack.proofs.Edges.{good_more}
 use Rattle.node_claims.specs.Claims.{ClaimsValue, PassValue, TurnValue, nodes_with}
 use Rattle.node_claims.specs.declared.view.View.{View}
-use Rattle.search_pool.specs.Working.{AreRootsOf, GoesOnWith, IsAtWork}
+use Rattle.search_pool.specs.Working.{AreRootsOf, ContinuesWith, IsAtWork}
 use Rattle.search_pool.specs.declared.worker.stretch.Stretch.{Stretch}
 
 pub is_at_work : (turn : TurnValue) (pass : PassValue) (search : SearchValue) (stretch : Stretch) (n : ℕ) → pass.table ≡ turn.table
     → pass.view ≡ record turn.view { nodes = nodes_with search None; seen = turn.view.seen ++ flat turn.book.groups; told = turn.book.failed }
-    → (claims : ClaimsValue) (opened : Bool) → GoesOnWith claims turn search n opened → AreRootsOf claims stretch.roots.items
+    → (claims : ClaimsValue) (opened : Bool) → ContinuesWith claims turn search n opened → AreRootsOf claims stretch.roots.items
     → IsAtWork claims (record { pass = pass; search = search; stretch = stretch; seen_roots = n; waits = 0; vain = 0; awaited = 0 }) opened
 is_at_work turn pass search stretch n table view claims opened on handed =
     let seen : pass.view.seen ≡ turn.view.seen ++ flat turn.book.groups = ap (λ (v : View). v.seen) view in

@@ -16,9 +16,9 @@ use Rattle.node_claims.specs.Claims.{ClaimsValue, PassValue, TurnValue, nodes_wi
 use Rattle.node_claims.specs.Steps.{MayGive}
 use Rattle.node_claims.specs.Views.{outline_of}
 use Rattle.search_pool.specs.declared.ended.Ended.TheVariants.{Finished}
-use Rattle.search_pool.specs.declared.worker.went.Worker.{Worker}
+use Rattle.search_pool.specs.declared.worker.outcome.Worker.{Worker}
 use Rattle.search_pool.specs.Worker.{EndsWell, IsWorking}
-use Rattle.search_pool.specs.Working.{AreRootsOf, GoesOnWith, IsAtWork}
+use Rattle.search_pool.specs.Working.{AreRootsOf, ContinuesWith, IsAtWork}
 use Rattle.search_pool.proofs.TurnLaws.{TookTurn, good_released, is_turn_of, lists_are, may_shift, released_more, roots_are}
 
 no_nodes : (es : List Entry) → length es ≡ 0 → map (λ entry. entry.node) es ≡ []
@@ -123,7 +123,7 @@ module _ {claims : ClaimsValue} {pass : PassValue} {search : SearchValue} (work 
 
   -- so many roots are released
   pub counted_on : (n : ℕ) → n ≤ length book.roots → All (HasMember book.groups) (take n book.roots)
-      → GoesOnWith claims (record turn { book = book }) search n false
+      → ContinuesWith claims (record turn { book = book }) search n false
   counted_on n within each = record {
     of = is_turn_of work took;
     wants_nothing = work.wants_nothing;

@@ -20,7 +20,7 @@ use Rattle.node_claims.specs.declared.view.Outline.{Outline}
 use Rattle.node_claims.specs.declared.view.Taken.{Taken}
 use Rattle.node_claims.specs.declared.view.View.{View}
 use Rattle.search_pool.specs.Worker.{IsWorking}
-use Rattle.search_pool.specs.Working.{GoesOnWith, IsTurnOf}
+use Rattle.search_pool.specs.Working.{ContinuesWith, IsTurnOf}
 
 -- the nodes of a search with nothing unopened
 pub plain_counted : (search : SearchValue) (x : ℕ) → times x (nodes_with search None) ≡ times x (nodes_on search.stack)
@@ -130,7 +130,7 @@ module _ {claims : ClaimsValue} {pass : PassValue} {search : SearchValue} {opene
 
   pub goes_on : {now : BookValue} {after : SearchValue} {still : Bool} (n : ℕ) → n ≤ length claims.roots
       → All (λ root. 0 < times root pass.view.seen) (take n claims.roots) → after.wanted ≡ None
-      → IsGood claims.lists claims.roots (flat now.groups) still after.stack → GoesOnWith claims (record turn { book = now }) after n still
+      → IsGood claims.lists claims.roots (flat now.groups) still after.stack → ContinuesWith claims (record turn { book = now }) after n still
   goes_on {now} {after} {still} n within each wants good = record {
     of = is_turn_of;
     wants_nothing = wants;
@@ -141,7 +141,7 @@ module _ {claims : ClaimsValue} {pass : PassValue} {search : SearchValue} {opene
 
   -- and where no group is new, with the search that it has
   pub stays_on : {now : BookValue} (n : ℕ) → n ≤ length claims.roots → All (λ root. 0 < times root pass.view.seen) (take n claims.roots)
-      → now.groups ≡ book.groups → GoesOnWith claims (record turn { book = now }) search n opened
+      → now.groups ≡ book.groups → ContinuesWith claims (record turn { book = now }) search n opened
   stays_on {now} n within each same =
       goes_on n within each work.wants_nothing
       (subst (λ groups. IsGood claims.lists claims.roots (flat groups) opened search.stack) (sym same) good_released)

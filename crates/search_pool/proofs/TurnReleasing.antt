@@ -23,7 +23,7 @@ use Rattle.node_claims.specs.Views.{outline_of}
 use Rattle.node_claims.specs.declared.view.Taken.{Taken}
 use Rattle.node_claims.specs.declared.view.View.{View}
 use Rattle.search_pool.specs.Worker.{IsWorking}
-use Rattle.search_pool.specs.Working.{GoesOnWith, HasTurn, MayCloseAll, last_group, with_closed}
+use Rattle.search_pool.specs.Working.{ContinuesWith, HasTurn, MayCloseAll, last_group, with_closed}
 use Rattle.search_pool.proofs.TurnLaws.{TookTurn, good_released, is_turn_of, lists_are, may_stay, plain_counted, roots_are, seen_more}
 
 -- what taking the top segment off promises
@@ -199,7 +199,7 @@ has_turn {claims} {pass} {search} work {turn} {book} took n within seen =
     }
 
 -- and goes on once it has given it back
-pub goes_on_with : {claims : ClaimsValue} {turn : TurnValue} {search : SearchValue} {n : ℕ} → HasTurn claims turn search n → GoesOnWith claims turn search n false
+pub goes_on_with : {claims : ClaimsValue} {turn : TurnValue} {search : SearchValue} {n : ℕ} → HasTurn claims turn search n → ContinuesWith claims turn search n false
 goes_on_with {claims} {turn} {search} {n} has = record {
   of = has.of;
   wants_nothing = has.wants_nothing;

@@ -12,11 +12,11 @@ use Rattle.group_release.specs.Outline.{nodes_on}
 use Rattle.node_claims.specs.Claims.{ClaimsValue, PassValue, IsPassOf}
 use Rattle.node_claims.specs.Views.{Noted, claimed}
 use Rattle.node_claims.specs.declared.view.View.{View}
-use Rattle.search_pool.specs.declared.worker.went.Worker.{Worker}
-use Rattle.search_pool.specs.Worker.{IsRunning, IsWorking}
+use Rattle.search_pool.specs.declared.worker.outcome.Worker.{Worker}
+use Rattle.search_pool.specs.Worker.{IsSearching, IsWorking}
 use Rattle.search_pool.specs.declared.worker.stretch.Stretch.{Stretch}
-use Rattle.search_pool.specs.declared.worker.went.Went.{Went}
-use Rattle.search_pool.specs.declared.worker.went.Went.TheVariants.{On, Ended as ended_as}
+use Rattle.search_pool.specs.declared.worker.outcome.Outcome.{Outcome}
+use Rattle.search_pool.specs.declared.worker.outcome.Outcome.TheVariants.{On, Ended as ended_as}
 use Rattle.search_pool.specs.Working.{ClaimsOn, HasClaimedOn, HasWon, IsAtWork, StaysWith}
 use Rattle.search_pool.proofs.EdgesKept.{noted_last}
 use Rattle.search_pool.proofs.TurnLaws.{seen_more}
@@ -60,7 +60,7 @@ module _ {claims : ClaimsValue} {worker : Worker} (work : IsAtWork claims worker
 
 -- a root that was won is opened
 pub opened_at_work : {claims : ClaimsValue} {worker : Worker} {root : ℕ} → HasWon claims worker root → {search : SearchValue}
-    → IsRunning claims worker.pass search false → IsAtWork claims (record worker { search = search }) false
+    → IsSearching claims worker.pass search false → IsAtWork claims (record worker { search = search }) false
 opened_at_work won running = record { working = running.working; handed = won.handed; within = won.within; seen = won.seen }
 
 -- and there is room for it
@@ -114,7 +114,7 @@ claims_more {before} {stretch} {after} {pass} {now} on is noted stay =
     }
 
 -- a worker that goes on so has claimed one root more
-pub stays_claimed : {stretch now : Stretch} {pass : PassValue} (went : Went) → ClaimsOn stretch now pass → stretch.next < now.next → StaysWith pass now went
+pub stays_claimed : {stretch now : Stretch} {pass : PassValue} (went : Outcome) → ClaimsOn stretch now pass → stretch.next < now.next → StaysWith pass now went
     → HasClaimedOn stretch went
 stays_claimed {stretch} {now} {pass} (On worker) on further stays = (
   subst (λ (p : PassValue). ClaimsOn stretch worker.stretch p) (sym stays.0) (subst (λ (s : Stretch). ClaimsOn stretch s pass) (sym stays.1) on),

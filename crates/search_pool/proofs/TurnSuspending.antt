@@ -17,7 +17,7 @@ use Rattle.group_release.proofs.Nodes.{in_flat}
 use Rattle.node_claims.specs.Claims.{ClaimsValue, PassValue, TurnValue, nodes_with}
 use Rattle.node_claims.specs.Steps.{MayGive}
 use Rattle.node_claims.specs.Views.{Noted, outline_of}
-use Rattle.search_pool.specs.declared.worker.went.Worker.{Worker}
+use Rattle.search_pool.specs.declared.worker.outcome.Worker.{Worker}
 use Rattle.search_pool.specs.Worker.{IsWorking}
 use Rattle.search_pool.specs.Working.{IsAtWork}
 use Rattle.search_pool.proofs.TurnLaws.{TookTurn, lists_are, may_shift, roots_are}

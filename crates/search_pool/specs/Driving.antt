@@ -5,8 +5,8 @@ use Rattle.search_pool.specs.Worker.{EndsWell}
 use Rattle.search_pool.specs.declared.ended.Ended.TheVariants.{Finished}
 
 -- the pass is of these claims, and has no node
-abbrev pub IsIdle : ClaimsValue → PassValue → Type 0
-IsIdle claims pass = IsPassOf claims pass × (pass.view.nodes ≡ [])
+abbrev pub IsIdlePass : ClaimsValue → PassValue → Type 0
+IsIdlePass claims pass = IsPassOf claims pass × (pass.view.nodes ≡ [])
 
 -- and it has seen each root finished
 abbrev pub IsThrough : ClaimsValue → PassValue → Type 0

@@ -23,7 +23,7 @@ pub record IsWorking (claims : ClaimsValue) (pass : PassValue) (search : SearchV
   pub good : IsGood claims.lists claims.roots pass.view.seen opened search.stack
 
 -- and it isn't empty, and all that the pass has is on it
-pub record IsRunning (claims : ClaimsValue) (pass : PassValue) (search : SearchValue) (opened : Bool) : Type 0 where
+pub record IsSearching (claims : ClaimsValue) (pass : PassValue) (search : SearchValue) (opened : Bool) : Type 0 where
   pub working : IsWorking claims pass search None opened
   pub some : 0 < size search.stack
 
@@ -35,8 +35,8 @@ pub record IsElsewhere (pass : PassValue) (search : SearchValue) (node : ℕ) : 
 
 -- what a search comes to that runs without the turn
 abbrev pub StopsAt : ClaimsValue → PassValue → SearchValue → Stopped → Type 0
-StopsAt claims pass search Ripe = IsRunning claims pass search false × IsRipe search.stack
-StopsAt claims pass search (Wants node) = IsRunning claims pass search true × IsElsewhere pass search node
+StopsAt claims pass search Ripe = IsSearching claims pass search false × IsRipe search.stack
+StopsAt claims pass search (Wants node) = IsSearching claims pass search true × IsElsewhere pass search node
 StopsAt claims pass search (Unopened node) = HasNodes claims pass search (Some node)
 StopsAt claims pass search NoRoom = HasNodes claims pass search None
 

@@ -10,9 +10,9 @@ use Rattle.node_claims.specs.Steps.{MayGive}
 use Rattle.node_claims.specs.Views.{Noted, outline_of}
 use Rattle.search_pool.specs.Worker.{EndsWell, IsWorking}
 use Rattle.search_pool.specs.declared.worker.stretch.Stretch.{Stretch}
-use Rattle.search_pool.specs.declared.worker.went.Worker.{Worker}
-use Rattle.search_pool.specs.declared.worker.went.Went.{Went}
-use Rattle.search_pool.specs.declared.worker.went.Went.TheVariants.{On, Ended as ended_as}
+use Rattle.search_pool.specs.declared.worker.outcome.Worker.{Worker}
+use Rattle.search_pool.specs.declared.worker.outcome.Outcome.{Outcome}
+use Rattle.search_pool.specs.declared.worker.outcome.Outcome.TheVariants.{On, Ended as ended_as}
 
 -- each of these is one of the roots, and a node of the graph
 abbrev pub AreRootsOf : ClaimsValue → List ℕ → Type 0
@@ -27,7 +27,7 @@ pub record IsAtWork (claims : ClaimsValue) (worker : Worker) (opened : Bool) : T
   pub seen : All (λ root. 0 < times root worker.pass.view.seen) (take worker.seen_roots claims.roots)
 
 -- it goes on with its last edge settled, or has ended well
-abbrev pub GoesWell : ClaimsValue → Went → Type 0
+abbrev pub GoesWell : ClaimsValue → Outcome → Type 0
 GoesWell claims (On worker) = IsAtWork claims worker false
 GoesWell claims (ended_as ended) = EndsWell claims ended
 
@@ -47,12 +47,12 @@ pub record ClaimsOn (before after : Stretch) (pass : PassValue) : Type 0 where
   pub claimed : (k : ℕ) → before.next ≤ k → k < after.next → (found : ℕ) × Noted (slice_index before.roots.items k) found pass.view.looks
 
 -- it has claimed one root more of the stretch, or several, in their order, or has ended
-abbrev pub HasClaimedOn : Stretch → Went → Type 0
+abbrev pub HasClaimedOn : Stretch → Outcome → Type 0
 HasClaimedOn stretch (On worker) = ClaimsOn stretch worker.stretch worker.pass × (stretch.next < worker.stretch.next)
 HasClaimedOn stretch (ended_as ended) = ⊤
 
 -- it goes on with this pass and these roots, or has ended
-abbrev pub StaysWith : PassValue → Stretch → Went → Type 0
+abbrev pub StaysWith : PassValue → Stretch → Outcome → Type 0
 StaysWith pass stretch (On worker) = (worker.pass ≡ pass) × (worker.stretch ≡ stretch)
 StaysWith pass stretch (ended_as ended) = ⊤
 
@@ -61,7 +61,7 @@ abbrev pub IsTurnOf : ClaimsValue → TurnValue → Type 0
 IsTurnOf claims turn = (turn.table ≡ claims.table) × ((turn.view.lists ≡ claims.lists) × (turn.view.roots ≡ claims.roots))
 
 -- with the turn given back, a worker goes on with this search, which is good for what is released; and so many roots are released or were seen
-pub record GoesOnWith (claims : ClaimsValue) (turn : TurnValue) (search : SearchValue) (seen_roots : ℕ) (opened : Bool) : Type 0 where
+pub record ContinuesWith (claims : ClaimsValue) (turn : TurnValue) (search : SearchValue) (seen_roots : ℕ) (opened : Bool) : Type 0 where
   pub of : IsTurnOf claims turn
   pub wants_nothing : search.wanted ≡ None
   pub within : seen_roots ≤ length claims.roots

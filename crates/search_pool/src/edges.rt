@@ -4,8 +4,8 @@ ghost use Rattle.graph_law.specs.Reach.{IsReached};
 ghost use Rattle.search_stack.specs.Search.{IsLastBegun, IsOn};
 ghost use Rattle.search_stack.specs.Stack.{size};
 ghost use Rattle.list_laws.specs.Counts.{times};
-ghost use Rattle.search_pool.specs.Edges.{GoesOn};
-ghost use Rattle.search_pool.specs.Worker.{IsRunning, IsWorking, StopsAt};
+ghost use Rattle.search_pool.specs.Edges.{SettlesEdge};
+ghost use Rattle.search_pool.specs.Worker.{IsSearching, IsWorking, StopsAt};
 
 use crate::crew::Crew;
 use crate::gate::Gate;
@@ -35,7 +35,7 @@ pub(crate) fn run_free<O: Opener, G: Gate>(
     crew: &Crew,
 ) -> Stopped
     requires made { claims.now.lists ≡ O.lists opener.now }
-    requires running { IsRunning claims.now pass.old search.old false }
+    requires running { IsSearching claims.now pass.old search.old false }
     ensures stops { StopsAt claims.now pass.new search.new result }
     ensures seen { (x : ℕ) → 0 < times x pass.old.view.seen → 0 < times x pass.new.view.seen }
 {
@@ -88,10 +88,10 @@ fn settle<O: Opener, G: Gate>(
 ) -> Option<Stopped>
     requires made { claims.now.lists ≡ O.lists opener.now }
     requires below { node < length claims.now.lists }
-    requires running { IsRunning claims.now pass.old search.old true }
+    requires running { IsSearching claims.now pass.old search.old true }
     requires room { 0 < search.old.spare }
     requires last { IsLastBegun search.old.stack node }
-    ensures goes_on { GoesOn claims.now pass.new search.new result }
+    ensures goes_on { SettlesEdge claims.now pass.new search.new result }
     ensures seen { (x : ℕ) → 0 < times x pass.old.view.seen → 0 < times x pass.new.view.seen }
 {
     match claims.claim(pass, node) {
@@ -131,12 +131,12 @@ pub(crate) fn open_node<O: Opener, G: Gate>(
     requires away { IsOn search.old.stack node → ⊥ }
     requires led { (size search.old.stack ≡ 0) ⊎ IsLastBegun search.old.stack node }
     requires reached { size search.old.stack ≡ 0 → IsReached (Calls claims.now.lists) claims.now.roots node }
-    ensures running { IfOk result (λ _. IsRunning claims.now pass.now search.new false) }
+    ensures running { IfOk result (λ _. IsSearching claims.now pass.now search.new false) }
     ensures unchanged { IfErr result (λ _. search.new ≡ search.old) }
 {
     let mut succs = Vec::new(alloc);
     crew.step();
-    gate.opened(node);
+    gate.on_expand(node);
     opener.expand(node, &mut succs)?;
     crew.step();
     search.push(Opening { node, succs });

@@ -12,20 +12,20 @@ use search_stack::Search;
 use std::alloc::Global;
 use std::sync::Wait;
 
-mod closing;
-mod giving;
-mod idling;
-mod releasing;
-mod rooting;
-mod running;
-mod stopping;
+mod close;
+mod give;
+mod idle;
+mod outcome;
+mod release;
+mod roots;
+mod run;
+mod stop;
 mod stretch;
-mod suspending;
-mod went;
+mod suspend;
 
-use running::go_on;
+use outcome::{Outcome, Worker};
+use run::go_on;
 use stretch::Stretch;
-use went::{Went, Worker};
 
 /// Works until the pass has seen each root finished, or memory runs out, here or at another worker.
 /// For each node that it wins it calls the gate and then the opener, without the lock. The contract
@@ -78,8 +78,8 @@ pub(crate) fn work_in<O: Opener, G: Gate>(
     };
     'turns: for _ in rt.forever() {
         match go_on(rt, alloc, claims, worker, opener, gate, crew) {
-            Went::On(after) => worker = after,
-            Went::Ended(ended) => return ended,
+            Outcome::On(after) => worker = after,
+            Outcome::Ended(ended) => return ended,
         }
     }
     unreachable!()

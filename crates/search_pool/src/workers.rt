@@ -3,7 +3,7 @@ ghost use Rattle.graph_law.specs.Classes.{HasMember};
 ghost use Rattle.graph_law.specs.Graph.{Calls, lists_of};
 ghost use Rattle.graph_law.specs.LegalOrder.{IsComplete, IsLegalOrder};
 ghost use Rattle.graph_law.specs.Reach.{IsReached};
-ghost use Rattle.search_pool.specs.Driving.{IsIdle, IsThrough};
+ghost use Rattle.search_pool.specs.Driving.{IsIdlePass, IsThrough};
 ghost use Rattle.search_pool.specs.Worker.{EndsWell};
 
 use crate::crew::Crew;
@@ -54,10 +54,10 @@ pub fn split_for(
     pass: Pass,
     jobs: u32,
 ) -> Result<Vec<Pass>, AllocError>
-    requires idle { IsIdle claims.now pass }
+    requires idle { IsIdlePass claims.now pass }
     requires some { 0 < jobs }
     ensures count { IfOk result (λ passes. length passes.items ≡ jobs) }
-    ensures idle { IfOk result (λ passes. All (IsIdle claims.now) passes.items) }
+    ensures idle { IfOk result (λ passes. All (IsIdlePass claims.now) passes.items) }
 {
     let mut passes = Vec::with_capacity(alloc, jobs as usize)?;
     let mut pass = pass;
@@ -82,7 +82,7 @@ pub fn run_all<R: Threads + Wait + Sync, O: Opener, G: Gate>(
     gate: &G,
 ) -> Result<Vec<Ended>, AllocError>
     requires made { claims.now.lists ≡ O.lists opener.now }
-    requires idle { All (IsIdle claims.now) passes.items }
+    requires idle { All (IsIdlePass claims.now) passes.items }
     ensures count { IfOk result (λ ended. length ended.items ≡ length passes.items) }
     ensures ended { IfOk result (λ ended. All (EndsWell claims.now) ended.items) }
 {
@@ -100,7 +100,7 @@ fn run_crew<R: Threads + Wait + Sync, O: Opener, G: Gate>(
     crew: &Crew,
 ) -> Result<Vec<Ended>, AllocError>
     requires made { claims.now.lists ≡ O.lists opener.now }
-    requires idle { All (IsIdle claims.now) passes.items }
+    requires idle { All (IsIdlePass claims.now) passes.items }
     ensures count { IfOk result (λ ended. length ended.items ≡ length passes.items) }
     ensures ended { IfOk result (λ ended. All (EndsWell claims.now) ended.items) }
 {
@@ -108,7 +108,7 @@ fn run_crew<R: Threads + Wait + Sync, O: Opener, G: Gate>(
         rt,
         passes,
         &|pass: Pass| -> Ended
-            requires { (claims.now.lists ≡ O.lists opener.now) × IsIdle claims.now pass }
+            requires { (claims.now.lists ≡ O.lists opener.now) × IsIdlePass claims.now pass }
             ensures { EndsWell claims.entry.now result }
         {
             // One more than there are nodes, so that the search never grows.

@@ -1,5 +1,5 @@
 use crate::graphs::{graph_of_lists, tailed_ring};
-use crate::shown::levels_shown;
+use crate::text::levels_shown;
 use graph_law::{Graph, Opener, is_recursive};
 use search_stack::groups_plain;
 use std::alloc::Global;
@@ -34,19 +34,19 @@ fn releases_callees_first_with_their_levels(rt: HostRuntime) -> Result<(), Fail>
     let alloc = rt.alloc();
     let ring = tailed_ring(alloc)?;
     assert_eq!(rt;
-        searched(alloc, &ring)?.as_str(),
+        search_text(alloc, &ring)?.as_str(),
         "[[2], [0, 1], [3]] [(0, false), (1, true), (2, false)]"
     );
     let called = graph_of_lists(alloc, &[&[2], &[2], &[3], &[1, 0], &[1]], &[4, 0])?;
     assert_eq!(rt;
-        searched(alloc, &called)?.as_str(),
+        search_text(alloc, &called)?.as_str(),
         "[[0, 1, 2, 3], [4]] [(0, true), (1, false)]"
     );
     Ok(())
 }
 
 /// The groups that one search finds, and their levels.
-fn searched(alloc: Global, graph: &Graph) -> Result<String, Fail> {
+fn search_text(alloc: Global, graph: &Graph) -> Result<String, Fail> {
     let groups = groups_plain(alloc, graph, graph.roots())?;
     let levels = levels_shown(alloc, graph, &groups)?;
     Ok(format!(in alloc; "{groups:?} {levels}")?)

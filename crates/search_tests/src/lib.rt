@@ -3,22 +3,22 @@
 #![tactic(auto)]
 
 #[cfg(test)]
+mod blocked_tests;
+#[cfg(test)]
 mod book_tests;
 #[cfg(test)]
 mod class_tests;
 #[cfg(test)]
 mod graphs;
 #[cfg(test)]
-mod led;
+mod lead;
 #[cfg(test)]
 mod machine_tests;
 #[cfg(test)]
 mod memory_tests;
 #[cfg(test)]
-mod shown;
-#[cfg(test)]
 mod step_tests;
 #[cfg(test)]
-mod table_tests;
+mod text;
 #[cfg(test)]
 mod trace_tests;

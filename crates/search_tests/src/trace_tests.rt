@@ -4,8 +4,8 @@
 ghost use Rattle.std.specs.Prelude.{◌≡◌, OnOk};
 
 use crate::graphs::graph_of_lists;
-use crate::led::{next_search, take_step};
-use crate::shown::{book_shown, stack_shown};
+use crate::lead::{next_search, take_step};
+use crate::text::{book_shown, stack_shown};
 use graph_law::Graph;
 use group_release::Book;
 use std::alloc::Global;

@@ -5,21 +5,14 @@ ghost use Rattle.blocked_table.specs.declared.suspended.Suspended.TheVariants.{M
 ghost use Rattle.blocked_table.specs.Transfer.{IsTransfer};
 ghost use Rattle.blocked_table.specs.Blocked.{IsTable};
 ghost use Rattle.blocked_table.specs.Kept.{kept_at, Holds, ComesTo};
-ghost use Rattle.blocked_table.specs.Paths.{StepsAt, IsPath};
+ghost use Rattle.blocked_table.specs.Paths.{StepsAt, IsWaitPath};
 ghost use Rattle.blocked_table.specs.Suspending.{AreGood, AreGoodForSome, CanWait, IsPartOnTop, StaysGood, entries_of};
 
 use super::Blocked;
+use crate::way::Way;
 use crate::words::write_words;
 use search_stack::Search;
 use std::alloc::AllocError;
-
-/// A cycle that a search would close: the node of the search that is waited for at its end, and how
-/// many entries the other searches on it have.
-#[derive(Clone, Copy)]
-pub(crate) struct Way {
-    pub(crate) end: u32,
-    pub(crate) entries: u32,
-}
 
 impl Blocked {
     /// Follows what searches wait for, from a node to a node of the search, and pushes the slots of
@@ -33,7 +26,7 @@ impl Blocked {
     ) -> Result<Option<Way>, AllocError>
         requires empty { places.old.items ≡ [] }
         requires apart { (place v : ℕ) → Holds self.now.kept place v → IsOn search.now.stack v → ⊥ }
-        ensures path { IfOk result (λ found. IfSome found (λ way. IsPath self.now.kept on places.new.items way.end)) }
+        ensures path { IfOk result (λ found. IfSome found (λ way. IsWaitPath self.now.kept on places.new.items way.end)) }
         ensures back { IfOk result (λ found. IfSome found (λ way. IsOn search.now.stack way.end)) }
         ensures entries { IfOk result (λ found. IfSome found (λ way. way.entries ≡ entries_of self.now.kept places.new.items)) }
         ensures never { IfOk result (λ found. IfNone found (ComesTo self.now.kept search.now.stack on → ⊥)) }
@@ -95,7 +88,7 @@ impl Blocked {
     /// and treats the edge at the end as a back edge.
     pub(crate) fn transfer(&mut self, search: &mut Search, on: u32, places: &[u32], end: u32)
         requires table { IsTable self.old }
-        requires path { IsPath self.old.kept on places.now end }
+        requires path { IsWaitPath self.old.kept on places.now end }
         requires back { IsOn search.old.stack end }
         requires room { entries_of self.old.kept places.now ≤ search.old.spare }
         requires can_wait { CanWait self.old.kept search.old on }

@@ -11,7 +11,7 @@ pub(crate) fn number_after(number: u64) -> u64
 }
 
 /// The place that the number selects.
-pub(crate) fn picked(places: &[u32], number: u64) -> u32
+pub(crate) fn pick(places: &[u32], number: u64) -> u32
     requires { 0 < length places.now }
     ensures { slice_get places.now (drawn number % length places.now) ≡ Some result }
 {

@@ -8,9 +8,9 @@ ghost use Rattle.search_machine.specs.Runs.{CanAct};
 ghost use Rattle.search_machine.specs.Schedule.{IsScheduled};
 ghost use Rattle.search_machine.specs.Work.{work};
 
+use crate::laws::schedules_answer;
 use crate::schedule::actors::list_actors;
-use crate::schedule::draw::{number_after, picked};
-use crate::schedule::laws::schedules_answer;
+use crate::schedule::draw::{number_after, pick};
 use crate::{Machine, Step};
 use graph_law::Opener;
 use search_stack::Opening;
@@ -48,7 +48,7 @@ pub fn drive_many<O: Opener>(
             return Ok(machine.into_groups());
         }
         number = number_after(number);
-        let place = picked(&places, number);
+        let place = pick(&places, number);
         take_turn(alloc, opener, &mut machine, place)?;
     }
 }
@@ -74,7 +74,7 @@ fn take_turn<O: Opener>(
     };
     let mut succs = Vec::new(alloc);
     opener.expand(node, &mut succs)?;
-    match machine.opened(alloc, place, Opening { node, succs }) {
+    match machine.push_opening(alloc, place, Opening { node, succs }) {
         Ok(()) => Ok(()),
         Err((error, _opening)) => Err(error),
     }

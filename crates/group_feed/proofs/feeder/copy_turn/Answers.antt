@@ -8,7 +8,7 @@ use Rattle.node_claims.specs.Claims.{nodes_with}
 use Rattle.node_claims.specs.Steps.{MayGive}
 use Rattle.node_claims.specs.Views.{outline_of}
 use Rattle.node_claims.specs.declared.view.View.{View}
-use Rattle.group_feed.specs.Copying.{AreCopied, AreSeen, AreWithin}
+use Rattle.group_feed.specs.Copying.{AreCopied, AreNodesSeen, AreWithin}
 use Rattle.group_feed.specs.Ordered.{AreOrdered}
 use Rattle.group_feed.proofs.FeedSteps.{may_rest, seen_copied, seen_within, within_seen}
 use Rattle.group_feed.proofs.feeder.copy_turn.Goals as goal
@@ -37,7 +37,7 @@ returns-clause-seen g c =
     let within : AreWithin copies now.groups =
     subst (AreWithin copies) (sym (ap (λ (b : BookValue). b.groups) c.copy_or_fail-goes_on.ensures.book)) c.copy_or_fail-goes_on.ensures.within in
     let seen : c.give-2.result.view.seen ≡ c.turn-turn.result.view.seen ++ flat now.groups = ap (λ (v : View). v.seen) c.give-2.ensures.view in
-    subst (AreSeen copies) (sym seen) (within_seen copies now.groups c.turn-turn.result.view.seen within)
+    subst (AreNodesSeen copies) (sym seen) (within_seen copies now.groups c.turn-turn.result.view.seen within)
 
 pub returns-clause-are : goal.returns-clause-are
 returns-clause-are g c =

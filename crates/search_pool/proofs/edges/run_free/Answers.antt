@@ -1,7 +1,7 @@
 use Rattle.std.proofs.Common.{sym, subst}
 use Rattle.std.specs.Prelude.{false}
 use Rattle.search_stack.specs.Search.{SearchValue}
-use Rattle.search_pool.specs.Worker.{IsRunning}
+use Rattle.search_pool.specs.Worker.{IsSearching}
 use Rattle.search_pool.proofs.EdgesKept.{begins_on, has_room, leads_within, retreats_on, unripe_two}
 use Rattle.search_pool.proofs.edges.run_free.Goals as goal
 
@@ -10,7 +10,7 @@ edges-preserved-in_default g c =
     let roomy = has_room c.edges.invariant.2 c.reserve.ensures.stack c.reserve.ensures.wanted in
     let same = rw c.in_default.is at c.begin.ensures.unchanged in
     let done = rw c.in_default.is at c.begin.ensures.done in
-    let running : SearchValue → Type 0 = λ s. IsRunning c.args.claims.now c.edges.pass s false in
+    let running : SearchValue → Type 0 = λ s. IsSearching c.args.claims.now c.edges.pass s false in
     let runs = subst running (sym same) roomy in
     let two = unripe_two c.begin.new.self c.is_ripe.result c.is_ripe.ensures.shaped done c.is_ripe.ensures.ripe.1 c.if-is_ripe.false in (
       tt,

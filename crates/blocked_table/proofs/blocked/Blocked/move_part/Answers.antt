@@ -1,4 +1,4 @@
-use Rattle.std.proofs.Common.{◌≡◌, ◌<◌, ◌+◌, ◌∙◌, length, set, None, Some, refl, ap, sym, subst, arith, get_or-set_same, get_or-set_other, length-set}
+use Rattle.std.proofs.Common.{◌+◌, ◌∙◌, length, set, None, Some, refl, ap, sym, subst, arith, get_or-set_same, get_or-set_other, length-set}
 use Rattle.search_stack.specs.Stack.{size}
 use Rattle.blocked_table.specs.BlockedFields.{wait_word}
 use Rattle.blocked_table.specs.Waiters.{WaitersValue}

@@ -38,16 +38,16 @@ expand-requires-clause-below g c =
     new_below (g.O.Opener.lists c.loop-member.self-inside.opener.now) c.loop-member.self-inside.trail c.args.group.now
     c.loop-member.invariant.midway.ordered c.loop-member.member-index 0 c.loop-member-test.true
 
-pub raised-height-requires-clause-nodes : goal.raised-height-requires-clause-nodes
-raised-height-requires-clause-nodes g c =
+pub raise_height-height-requires-clause-nodes : goal.raise_height-height-requires-clause-nodes
+raise_height-height-requires-clause-nodes g c =
     let lists : List (List ℕ) = g.O.Opener.lists c.loop-member.self-inside.opener.now in
     let is : c.deref.result.now ≡ get_or lists (get_or c.args.group.now c.loop-member.member-index 0) [] = c.deref.ensures.value ∙ c.in_ok-expand.ensures.ok in
     let closed : IsClosed lists = subst (λ b. IsClosed (g.O.Opener.lists b.now)) (sym c.loop-member.invariant.opener) c.count.ensures.closed in
     all_below_from_closed lists (get_or c.args.group.now c.loop-member.member-index 0) (length c.deref-in-loop-member.result.now) c.deref.result.now is
     (ap length c.deref-in-loop-member.ensures.value ∙ c.loop-member.invariant.midway.placed.each) closed
 
-pub raised-height-requires-clause-known : goal.raised-height-requires-clause-known
-raised-height-requires-clause-known g c = λ k d lt.
+pub raise_height-height-requires-clause-known : goal.raise_height-height-requires-clause-known
+raise_height-height-requires-clause-known g c = λ k d lt.
     let lists : List (List ℕ) = g.O.Opener.lists c.loop-member.self-inside.opener.now in
     let taken : List (List ℕ) = c.loop-member.self-inside.trail in
     let n : ℕ = c.loop-member.member-index in
@@ -61,8 +61,8 @@ raised-height-requires-clause-known g c = λ k d lt.
     (get_or c.deref.result.now k d) (Contains-get_or c.args.group.now n 0 c.loop-member-test.true) call in
     rw (c.deref-in-loop-member.ensures.value, c.deref-in-loop-member-2.ensures.value, c.loop-member.invariant.midway.are.each) low
 
-pub raised-height-requires-clause-low : goal.raised-height-requires-clause-low
-raised-height-requires-clause-low g c =
+pub raise_height-height-requires-clause-low : goal.raise_height-height-requires-clause-low
+raise_height-height-requires-clause-low g c =
     let lists : List (List ℕ) = g.O.Opener.lists c.loop-member.self-inside.opener.now in
     let same : length lists ≡ length (g.O.Opener.lists c.self.inside.opener.now) = ap (λ b. length (g.O.Opener.lists b.now)) c.loop-member.invariant.opener in
     rw c.deref-in-loop-member-2.ensures.value
@@ -83,8 +83,8 @@ loop-member-preserved g c =
       opener = c.loop-member.invariant.opener;
       trail = c.loop-member.invariant.trail;
       midway = c.loop-member.invariant.midway;
-      seen = seen_more c.raised-height.result c.contains-recursive.result c.loop-member.invariant.seen c.loop-member-test.true
-          (rw (is, c.deref-in-loop-member.ensures.value, c.deref-in-loop-member-2.ensures.value) at c.raised-height.ensures) (rw also at own);
+      seen = seen_more c.raise_height-height.result c.contains-recursive.result c.loop-member.invariant.seen c.loop-member-test.true
+          (rw (is, c.deref-in-loop-member.ensures.value, c.deref-in-loop-member-2.ensures.value) at c.raise_height-height.ensures) (rw also at own);
     }
 
 pub invariant_of-self : goal.invariant_of-self

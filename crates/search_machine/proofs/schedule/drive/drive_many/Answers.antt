@@ -40,13 +40,13 @@ returns-then-is_empty-clause-legal g c =
 
 pub take_turn-requires-clause-can : goal.take_turn-requires-clause-can
 take_turn-requires-clause-can g c κs within =
-    let picked = rw c.deref.ensures.value at c.picked-place.ensures in
-    c.in_ok-list_actors.ensures.can c.picked-place.result
-    (picked_in c.list_actors.new.places.items _ c.picked-place.result picked)
+    let picked = rw c.deref.ensures.value at c.pick-place.ensures in
+    c.in_ok-list_actors.ensures.can c.pick-place.result
+    (picked_in c.list_actors.new.places.items _ c.pick-place.result picked)
 
 pub turns-preserved : goal.turns-preserved
 turns-preserved g c =
-    let picked = rw c.deref.ensures.value at c.picked-place.ensures in
-    let some : 0 < length c.list_actors.new.places.items = picked_some c.list_actors.new.places.items _ c.picked-place.result picked in
-    next_driven c.turns.invariant c.number_after-number.result c.picked-place.result c.list_actors.new.places.items c.take_turn.new.machine
+    let picked = rw c.deref.ensures.value at c.pick-place.ensures in
+    let some : 0 < length c.list_actors.new.places.items = picked_some c.list_actors.new.places.items _ c.pick-place.result picked in
+    next_driven c.turns.invariant c.number_after-number.result c.pick-place.result c.list_actors.new.places.items c.take_turn.new.machine
     c.number_after-number.ensures c.in_ok-list_actors.ensures some picked c.in_ok-take_turn.ensures.event c.in_ok-take_turn.ensures.only

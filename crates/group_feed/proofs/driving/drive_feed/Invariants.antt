@@ -1,4 +1,0 @@
-use Rattle.group_feed.proofs.driving.drive_feed.Given as goal
-
-abbrev pub ghosts-drive_named : goal.ghosts-drive_named
-ghosts-drive_named g a = record { lists = g.O.Opener.lists a.opener.now }
