@@ -92,7 +92,7 @@ def told_calls(output):
             names[said["id"]] = f"{said['module']}:{said['name']}/{said['arity']}"
             if said["group"] is not None:
                 reached.add(names[said["id"]])
-        elif said["is"] == "call" and said["callee"] is not None:
+        elif said["is"] == "call" and None not in (said["caller"], said["callee"]):
             pairs.add((names[said["caller"]], names[said["callee"]]))
     return pairs, reached
 
@@ -192,7 +192,7 @@ def try_undefined(folder):
         words = [CALLS_BRIDGE, "--undefined", "--unreached", "main.pl"]
         told = subprocess.run(words, cwd=room, stdin=subprocess.DEVNULL, capture_output=True, text=True, timeout=MOST_SECONDS).stdout
     theirs = {plain(line) for line in done.stdout.splitlines()}
-    calls = [said for said in map(json.loads, told.splitlines()) if said["is"] == "call"]
+    calls = [said for said in map(json.loads, told.splitlines()) if said["is"] == "call" and said["caller"] is not None]
     ours = {f"{said['module']}:{said['name']}/{said['arity']}" for said in calls if said["callee"] is None}
     return "" if ours == theirs else f"{folder.name}: undefined by list_undefined {sorted(theirs)}, by calls-swi {sorted(ours)}"
 
@@ -369,7 +369,7 @@ def lines_of(words, path):
             names[said["id"]] = f"{said['module']}:{said['name']}/{said['arity']}"
         elif said["is"] in ("clause", "call") and os.path.basename(said["file"]) == path.name:
             goal = (said["module"], said["name"], said["arity"]) if said["is"] == "call" else ()
-            lines.add((names[said.get("caller", said.get("predicate"))], goal, said["line"], said["column"]))
+            lines.add((names.get(said.get("caller", said.get("predicate"))), goal, said["line"], said["column"]))
     return lines
 
 

@@ -36,7 +36,7 @@ def told_by_bridge(main):
             names[said["id"]] = f"{said['module']}:{said['name']}/{said['arity']}"
         elif said["is"] == "clause":
             files[os.path.abspath(said["file"])] = True
-        elif said["is"] == "call" and said["callee"] is not None:
+        elif said["is"] == "call" and None not in (said["caller"], said["callee"]):
             pairs.setdefault((names[said["caller"]], names[said["callee"]]), f"{said['file']}:{said['line']}")
     return pairs, set(names.values()), list(files)
 

@@ -5,7 +5,8 @@ The examples and two hundred random programs are told, with names of any charact
 groups and heights are those of the report of `groups`, the clauses and the calls of a random program are those that it was made of, each at its
 place, and the graph has a node for each predicate and an edge for each pair of a caller and a callee. Its clusters are the recursive groups. The
 condensed graph has a node for each group and an edge for each pair of groups between which a call leads. Names with each code point are told
-and read back. The cases of checks/rows/calls/ are held against answers that are written by hand. Needs `calls` and `groups`; where `dot` isn't installed it says so, and reads no graph back. Ends with status 1 at the first difference.
+and read back. Of two hundred programs of checks/random_programs.py, what is marked at predicates is what the reader of checks/evaluator.py finds: whether
+a module file exports them, their declarations, and why reach begins there, also with `--roots`. So are the calls of directives. The cases of checks/rows/calls/ are held against answers that are written by hand. Needs `calls` and `groups`; where `dot` isn't installed it says so, and reads no graph back. Ends with status 1 at the first difference.
 
 --xref N takes each Nth `.pl` file of the Prolog packages that are installed, and sets the pairs of a caller and a callee inside its module beside
 those that SWI-Prolog's prolog_xref tells, where `calls` reads it: how many are told by both, and each that is told by one alone (docs/calls.md has the
@@ -15,6 +16,7 @@ reasons). Needs `swipl` too.
 import argparse
 import collections
 import json
+import os
 import pathlib
 import random
 import re
@@ -24,6 +26,8 @@ import sys
 import tempfile
 
 import bridge
+import evaluator
+import random_programs
 import real_programs
 import rows
 
@@ -103,6 +107,11 @@ def dot_label(line):
     return text.replace("\\", "\\\\").replace('"', '\\"').replace("\n", "\\n")
 
 
+def pairs_of(calls):
+    """The pairs of caller and callee; a call of a directive has no caller."""
+    return {(line["caller"], line["callee"]) for line in calls if None not in (line["caller"], line["callee"])}
+
+
 def beside_graph(words, folder, predicates, calls):
     """The graph has the nodes and the edges of the lines, and a cluster for each recursive group."""
     text = output([CALLS, "--dot", *words], folder)
@@ -111,7 +120,7 @@ def beside_graph(words, folder, predicates, calls):
     nodes, edges, clusters = read_graph(text)
     if nodes != {f"n{line['id']}" for line in predicates}:
         sys.exit(f"{words}: the graph has other nodes")
-    if edges != {(f"n{line['caller']}", f"n{line['callee']}") for line in calls if line["callee"] is not None}:
+    if edges != {(f"n{one}", f"n{other}") for one, other in pairs_of(calls)}:
         sys.exit(f"{words}: the graph has other edges")
     if clusters != {str(line["group"]) for line in predicates if line["recursive"]}:
         sys.exit(f"{words}: the graph has other clusters")
@@ -125,8 +134,7 @@ def beside_condensed(words, folder, predicates, calls):
     labels = collections.defaultdict(list)
     for line in predicates:
         labels[nodes[line["id"]]].append(dot_label(line))
-    pairs = {(line["caller"], line["callee"]) for line in calls if line["callee"] is not None}
-    edges = {(nodes[one], nodes[other]) for one, other in pairs if nodes[one] != nodes[other]}
+    edges = {(nodes[one], nodes[other]) for one, other in pairs_of(calls) if nodes[one] != nodes[other]}
     lines = [f'  {names[node]} [label="' + "\\n".join(labels[node]) + '"];' for node in sorted(labels)]
     lines += [f"{names[one]} -> {names[other]};" for one, other in sorted(edges)]
     if text != "".join(f"{line}\n" for line in ["digraph calls {", *lines, "}"]):
@@ -160,6 +168,96 @@ def one_random(number, folder):
         predicates, _, _, goals = told(words, folder)
         beside_graph(words, folder, predicates, goals)
         beside_condensed(words, folder, predicates, goals)
+
+
+def marked(program, roots):
+    """What the line of each predicate of the program says of it: whether it is exported, its declaration, and why reach begins there."""
+    exported, declared = set(), {}
+    for source in program.in_order():
+        if source.module_position is not None:
+            exported.update((source.module, *key) for key in source.keys())
+        for key, arguments in source.declarations:
+            declared.setdefault(key, list(arguments))
+    by_export, by_file = set(), set()
+    for source in map(program.sources.get, program.named):
+        if source.module_position is not None:
+            by_export.update((source.module, *key) for key in source.keys())
+        else:
+            by_file.update([clause.key for clause in source.clauses] + source.dynamic)
+    reasons = {"export": by_export, "directive": program.started, "file": by_file} if roots is None else {"roots": roots}
+    return {key: (key in exported, declared.get(key), [word for word, keys in reasons.items() if key in keys]) for key in program.predicates}
+
+
+class Program(evaluator.Program):
+    """A program that notes each call of a goal of a directive: its file, line and column, its module, name and number of arguments, and what it means."""
+
+    def __init__(self, names, read):
+        self.met = []
+        super().__init__(names, read)
+
+    def call(self, goal, module, added, stack):
+        answer = super().call(goal, module, added, stack)
+        self.met.append((goal.position, module, *answer))
+        return answer
+
+    def directives(self):
+        found = set()
+        for source in self.in_order():
+            for goal in source.goals:
+                self.met = []
+                list(self.calls(source, goal, False, []))
+                for position, module, name, arity, meant in self.met:
+                    _, line, column, _ = source.line(position, "")[len(source.name):].split(":")
+                    found.add((source.name, int(line), int(column), module, name, arity, meant))
+        return found
+
+
+def directives_told(calls, keys):
+    """The same as `calls` tells it; its lines come by file and position, each once."""
+    lines = [it for it in calls if it["caller"] is None]
+    if any(it.get("directive") is not True for it in lines) or any("directive" in it for it in calls if it["caller"] is not None):
+        sys.exit(f"calls without a caller are those of directives: {calls}")
+    told = [(it["file"], it["line"], it["column"], it["module"], it["name"], it["arity"], keys.get(it["callee"])) for it in lines]
+    if len(set(told)) != len(told) or [it[:3] for it in told] != sorted(it[:3] for it in told):
+        sys.exit(f"calls of directives out of order: {told}")
+    return set(told)
+
+
+def marks_beside_reader(made, source, folder):
+    """How many predicates the program has, if it has no errors: their lines, and the calls of directives, say what the reader of evaluator.py finds."""
+    for name, data in made.files.items():
+        (folder / name).parent.mkdir(parents=True, exist_ok=True)
+        (folder / name).write_bytes(data)
+    files = [it for it in made.arguments if it in made.files] or sorted(made.files)
+    try:
+        program = Program(files, lambda name: evaluator.read_file(os.path.join(folder, name)))
+    except evaluator.Refusal:
+        return 0
+    plain = [key for key in sorted(program.predicates) if all(re.fullmatch("[a-z][a-z0-9]*", name) for name in key[:2])]
+    given = set(source.sample(plain, min(2, len(plain))))
+    for roots in (None, given) if given else (None,):
+        words = ["--roots", ",".join(f"{key[0]}:{key[1]}/{key[2]}" for key in sorted(given))] if roots else []
+        predicates, _, _, calls = told([*words, "--unreached", *files], folder)
+        lines = {(it["module"], it["name"], it["arity"]): (it["exported"], it["meta"], it["root"]) for it in predicates}
+        if lines != marked(program, roots):
+            sys.exit(f"{words} {files} {made.files}: {lines} beside {marked(program, roots)}")
+        keys = {it["id"]: (it["module"], it["name"], it["arity"]) for it in predicates}
+        if directives_told(calls, keys) != program.directives():
+            sys.exit(f"{words} {files} {made.files}: {directives_told(calls, keys)} beside {program.directives()}")
+    return len(program.predicates)
+
+
+def random_marks(wanted):
+    """Compares what is marked in so many random programs without errors. How many predicates they have."""
+    count, number, found = 0, 0, 0
+    while count < wanted:
+        number += 1
+        made = random_programs.made(7, number)
+        with tempfile.TemporaryDirectory() as name:
+            here = marks_beside_reader(made, random.Random(number), pathlib.Path(name))
+        count += here > 0
+        found += here
+    return found
 
 
 def all_code_points(folder):
@@ -236,6 +334,7 @@ def main():
         folder = pathlib.Path(name)
         for number in range(200):
             one_random(number, folder)
+        found = random_marks(200)
         all_code_points(folder)
         examples = sorted((ROOT / "examples").glob("*.pl"))
         for path in examples:
@@ -245,7 +344,7 @@ def main():
             beside_condensed([path.name], path.parent, predicates, goals)
     if not HAS_DOT:
         print("dot isn't installed: no graph is read back")
-    print(f"{by_hand} runs by hand, 200 random programs, each code point and {len(examples)} examples are read back")
+    print(f"{by_hand} runs by hand, 200 random programs, {found} predicates of 200 more, each code point and {len(examples)} examples are read back")
 
 
 if __name__ == "__main__":

@@ -221,7 +221,7 @@ class Calls:
         self.names = {at: f"{it['module']}:{it['name']}/{it['arity']}" for at, it in self.predicates.items()}
         self.ids = {name: at for at, name in self.names.items()}
         self.to, self.by = collections.defaultdict(set), collections.defaultdict(set)
-        self.calls = [it for it in lines if it["is"] == "call"]
+        self.calls = [it for it in lines if it["is"] == "call" and it["caller"] is not None]
         for it in self.calls:
             if it["callee"] is not None:
                 self.to[it["caller"]].add(it["callee"])

@@ -30,7 +30,7 @@ graph=$(printf '%s\n' "$lines" | jq -rs --arg wanted "$wanted" --argjson steps "
             | [$seen + $new, $new, .[2] + 1]) | .[0];
     def rows($from; $to): group_by(.[$from]) | map({key: .[0][$from], value: map(.[$to])}) | from_entries;
     map(select(.is == "predicate")) as $predicates
-    | (map(select(.is == "call" and .callee != null) | ["\(.caller)", "\(.callee)"]) | unique) as $calls
+    | (map(select(.is == "call" and .caller != null and .callee != null) | ["\(.caller)", "\(.callee)"]) | unique) as $calls
     | ($predicates | map(select("\(.module):\(.name)/\(.arity)" == $wanted) | {key: "\(.id)", value: true})
         | from_entries) as $start
     | if $start == {} then "around.sh: no predicate \($wanted)\n" | halt_error(2) else . end

@@ -15,7 +15,7 @@ graph=$(printf '%s\n' "$lines" | jq -rs '
     | ($predicates | map({key: "\(.id)", value: .module}) | from_entries) as $module_of
     | ($predicates | group_by(.module) | to_entries) as $modules
     | ($modules | map({key: .value[0].module, value: .key}) | from_entries) as $number
-    | map(select(.is == "call" and .callee != null) | [$number[$module_of["\(.caller)"]], $number[$module_of["\(.callee)"]]])
+    | map(select(.is == "call" and .caller != null and .callee != null) | [$number[$module_of["\(.caller)"]], $number[$module_of["\(.callee)"]]])
     | "digraph modules {", "node [shape=box];",
       ($modules[] | "m\(.key) [label=\("\(.value[0].module[:200]) (\(.value | length))" | text)];"),
       (map(select(.[0] != .[1])) | group_by(.)[] | "m\(.[0][0]) -> m\(.[0][1]) [label=\(length)];"),

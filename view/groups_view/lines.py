@@ -103,7 +103,7 @@ def parse(text):
             if kind == "predicate":
                 program.predicates.append(it)
                 continue
-            if kind not in ("clause", "call"):
+            if kind not in ("clause", "call") or it.get("directive"):
                 continue
             place = (program.files.setdefault(it["file"], len(program.files)), it["line"], it["column"])
             if kind == "clause":

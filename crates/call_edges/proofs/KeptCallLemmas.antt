@@ -25,7 +25,7 @@ use Rattle.call_edges.proofs.PlacedCallLemmas.{kept_call, call_kept, call_as, sa
 -- the list of the calls of a predicate has just its calls
 
 module _ (seen : Seen) (caller : ℕ) where
-  body_calls_are : (body : Body) (c : CallAt) → Contains (body_calls seen caller body) c ↔ IsCalledIn seen caller body c
+  pub body_calls_are : (body : Body) (c : CallAt) → Contains (body_calls seen caller body) c ↔ IsCalledIn seen caller body c
   body_calls_are body c =
       let mets = body_mets (rows_of seen) body in
       let Met_in : Met → Type 0 = IsMetInBody (rows_of seen) body in

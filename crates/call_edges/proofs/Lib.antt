@@ -26,6 +26,7 @@ pub mod LaidOutLemmas
 pub mod LightLemmas
 pub mod RootLemmas
 pub mod PlainRoots
+pub mod RootReasons
 pub mod FaultLemmas
 pub mod OffsetLemmas
 pub mod GoalLemmas
@@ -36,5 +37,6 @@ pub mod UnresolvedLemmas
 pub mod PlacedCallLemmas
 pub mod KeptCallLemmas
 pub mod CallOffsets
+pub mod DirectiveCallLemmas
 pub mod SpreadLemmas
 pub mod FileOrderLemmas

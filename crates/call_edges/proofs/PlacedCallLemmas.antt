@@ -1,6 +1,6 @@
 -- Calls of bodies and of predicates, in order and each once.
 use Rattle.std.proofs.Common.{◌≡◌, ◌↔◌, ℕ, nat_eq, ◌&&◌, Bool, true, false, List, [], Option, Some, None, map, get_or, ◌++◌, ap, sym, ◌∙◌, subst, refl, arith}
-use Rattle.std.specs.Prelude.{Contains}
+use Rattle.std.specs.Prelude.{AllPairs, Contains}
 use Rattle.std.specs.List.{dedup}
 use Rattle.std.specs.List.Retain.{IsFiltered, DiffersFromLast}
 use Rattle.std.specs.List.Sorted.{IsSorted, IsPermutation}
@@ -228,6 +228,45 @@ all_calls seen callers calls sorted kept told moved in_order filtered =
             (told c).0 ((map_has see_call calls c).1 (record { one = one.one; has = there one.one one.has; is = one.is })),
         λ is_among.
             let one = (map_has see_call calls c).0 ((told c).1 is_among) in
+            let found_one = Any-dedup (on_equiv see_call call_equiv) sorted one.one (Contains-permutation calls sorted one.one moved one.has) in
+            let same : see_call one.one ≡ see_call found_one.1 = same_call_parts (see_call one.one) (see_call found_one.1) found_one.4 in
+            (map_has see_call once c).1 (record { one = found_one.1; has = (found_one.0, found_one.2, found_one.3); is = sym same ∙ one.is }),
+      );
+    })
+
+-- the same of calls of which something else is true, and each of which has what its name means
+
+pub record AreOnce (Q : CallAt → Type 0) (calls : List CallAt) : Type 0 where
+  pub ordered : AllPairs (λ a b. call_cmp a b ≡ Less) calls
+  pub each : (c : CallAt) → Contains calls c ↔ Q c
+
+pub all_once : (seen : Seen) (Q : CallAt → Type 0) (calls sorted kept : List PlacedCall)
+    → ((c : CallAt) → Q c → c.means ≡ found seen c.callee.module c.callee.name c.callee.arity) → ((c : CallAt) → Contains (see_calls calls) c ↔ Q c)
+    → IsPermutation calls sorted → IsSorted kept_cmp sorted → IsFiltered (DiffersFromLast kept_eq) [] sorted kept → AreOnce Q (see_calls kept)
+all_once seen Q calls sorted kept means told moved in_order filtered =
+    let is = dedup_is kept_eq sorted kept filtered in
+    let once = dedup kept_eq sorted in
+    let rises = IsStrictlySortedBy-dedup (on_total see_call whole_cmp_total) (λ a b. same_call_ties (see_call a) (see_call b)) sorted in_order in
+    let there : (c : PlacedCall) → Contains once c → Contains calls c =
+    λ c has. Contains-permutation sorted calls c (IsPermutation-sym calls sorted moved) (Contains-from_dedup kept_eq sorted c has) in
+    let among : (c : PlacedCall) → Contains once c → Q (see_call c) =
+    λ c has. (told (see_call c)).0 ((map_has see_call calls (see_call c)).1 (record { one = c; has = there c has; is = refl })) in
+    subst (AreOnce Q) (sym (ap (map see_call) is))
+    (record {
+      ordered =
+          all_pairs_map (λ a b. call_cmp a b ≡ Less) see_call once
+          (λ i j d before lt.
+          let a = get_or once i d in
+          let b = get_or once j d in
+          let first = among a (stands_in once i a (slice_get-get_or once i d (omega (arith, before, lt)))) in
+          let second = among b (stands_in once j b (slice_get-get_or once j d lt)) in
+          names_rise seen (see_call a) (see_call b) (means (see_call a) first) (means (see_call b) second) (Less-from_sorted kept_cmp once i j d rises before lt));
+      each = λ c. (
+        λ has.
+            let one = (map_has see_call once c).0 has in
+            (told c).0 ((map_has see_call calls c).1 (record { one = one.one; has = there one.one one.has; is = one.is })),
+        λ holds.
+            let one = (map_has see_call calls c).0 ((told c).1 holds) in
             let found_one = Any-dedup (on_equiv see_call call_equiv) sorted one.one (Contains-permutation calls sorted one.one moved one.has) in
             let same : see_call one.one ≡ see_call found_one.1 = same_call_parts (see_call one.one) (see_call found_one.1) found_one.4 in
             (map_has see_call once c).1 (record { one = found_one.1; has = (found_one.0, found_one.2, found_one.3); is = sym same ∙ one.is }),

@@ -97,7 +97,7 @@ goals_met T files m =
           flat.1 (record { one = (file.0, among.one); has = numbered files file.0 among.one file.1; is = (file_goals T (file.0, among.one) m).1 among.is }),
     )
 
-goals_go : (seen : Seen) (q : ℕ) → GoesTo seen (IsAmong (IsMetInBody (rows_of seen)) (goals_in seen.loaded.files)) q ↔ IsAmong (IsCalledByGoal seen) seen.loaded.files q
+pub goals_go : (seen : Seen) (q : ℕ) → GoesTo seen (IsAmong (IsMetInBody (rows_of seen)) (goals_in seen.loaded.files)) q ↔ IsAmong (IsCalledByGoal seen) seen.loaded.files q
 goals_go seen q = (
   λ goes.
       let among = (goals_met (rows_of seen) seen.loaded.files goes.met).0 goes.is in

@@ -11,10 +11,12 @@ pub mod Successors
 pub mod GoalFaults
 pub mod FaultPlaces
 pub mod Roots
+pub mod RootReasons
 pub mod Unresolved
 pub mod Called
 pub mod CallLists
 pub mod CallPlaces
+pub mod DirectiveCalls
 pub mod PlacedSeen
 pub mod KeptCalls
 pub mod OpenedPieces

@@ -12,8 +12,11 @@
 //!
 //! - `check_goals` only reports the goals that aren't callable.
 //! - `placed_call_lists` also returns the calls, each with the position of its goal and with what
-//!   its name means. `calls_of` selects those of some predicates.
-//! - `roots_of` returns the predicates at which reachability begins.
+//!   its name means. `calls_of` selects those of some predicates. `directive_calls` returns those of
+//!   directives.
+//! - `roots_of` returns the predicates at which reachability begins. `roots_by_export`,
+//!   `roots_by_directive` and `roots_by_file` return those of each reason. `exported_of` returns
+//!   what modules export.
 //! - `met_in` returns the goals in the clauses of one predicate, by the names that are written
 //!   there. `unresolved_of` returns those of the names that mean no predicate.
 //!
@@ -29,6 +32,7 @@ mod body;
 mod by_number;
 mod calls;
 mod check;
+mod directives;
 mod faults;
 mod file_order;
 mod found;
@@ -44,6 +48,7 @@ mod placed;
 mod placed_calls;
 mod placed_lists;
 mod role;
+mod root_reasons;
 mod roots;
 mod table;
 mod unresolved;
@@ -53,6 +58,7 @@ mod walking;
 
 pub use calls::Calls;
 pub use check::{call_lists, check_goals, placed_call_lists};
+pub use directives::directive_calls;
 pub use file_order::in_file_order;
 pub use goal_stop::GoalStop;
 pub use laid_out::CallLists;
@@ -61,5 +67,6 @@ pub use met::met_in;
 pub use placed_calls::{NamedCall, PlacedCall, calls_of};
 pub use placed_lists::PlacedCallLists;
 pub use role::{Meant, Met};
+pub use root_reasons::{exported_of, roots_by_directive, roots_by_export, roots_by_file};
 pub use roots::roots_of;
 pub use unresolved::unresolved_of;

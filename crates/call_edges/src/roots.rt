@@ -16,7 +16,7 @@ use prolog_tokens::Text;
 use std::alloc::{AllocError, Global};
 
 /// Adds the predicates of a module that it exports.
-fn push_exports(
+pub fn push_exports(
     program: &Program,
     owner: &str,
     exports: &[Indicator],
@@ -42,7 +42,7 @@ fn is_among(names: &[Text], name: &Text) -> bool
 }
 
 /// Adds the exports of the root files that are module files.
-fn push_all_exports(program: &Program, roots: &mut Vec<u32>) -> Result<(), AllocError>
+pub fn push_all_exports(program: &Program, roots: &mut Vec<u32>) -> Result<(), AllocError>
     ensures { OnOk result (Adds (IsAmong (IsExportedByRoot program.now) program.now.loaded.files) roots.old.items roots.new.items) }
 {
     program.is_known();
@@ -71,7 +71,7 @@ fn is_plain_root(roots: &[Text], file: &FileFacts) -> bool
 }
 
 /// For each file, whether it is a root file and no module file.
-fn plain_roots(alloc: Global, program: &Program) -> Result<Vec<bool>, AllocError>
+pub fn plain_roots(alloc: Global, program: &Program) -> Result<Vec<bool>, AllocError>
     ensures { IfOk result (λ marks. AreMarked program.now marks.items) }
 {
     program.is_known();
@@ -98,7 +98,11 @@ fn is_marked(marks: &[bool], places: &[(u32, u32)]) -> bool
 
 /// Adds the predicates that marked files define. They are found by their definitions, so no name is
 /// looked up.
-fn push_marked(program: &Program, marks: &[bool], roots: &mut Vec<u32>) -> Result<(), AllocError>
+pub fn push_marked(
+    program: &Program,
+    marks: &[bool],
+    roots: &mut Vec<u32>,
+) -> Result<(), AllocError>
     requires { AreMarked program.now marks.now }
     ensures { OnOk result (Adds (IsAmong (IsDefinedByRoot program.now) program.now.loaded.files) roots.old.items roots.new.items) }
 {

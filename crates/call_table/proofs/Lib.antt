@@ -3,3 +3,4 @@ pub mod ClauseLemmas
 pub mod MembershipLemmas
 pub mod ReachedLemmas
 pub mod OrderLemmas
+pub mod MarkLemmas

@@ -1,5 +1,5 @@
 -- Clauses and calls in order stand in order.
-use Rattle.std.proofs.Common.{◌≡◌, ◌⊎◌, inl, inr, ℕ, ◌<◌, ◌≤◌, List, All, map, get_or, refl, arith}
+use Rattle.std.proofs.Common.{◌≡◌, ◌⊎◌, inl, inr, ℕ, ◌<◌, ◌≤◌, List, All, AllPairs, map, get_or, refl, arith}
 use Rattle.std.specs.Ordering.{ordering_then, nat_cmp}
 use Rattle.std.specs.declared.cmp.Ordering.{Ordering}
 use Rattle.std.specs.declared.cmp.Ordering.TheVariants.{Less, Equal, Greater}
@@ -9,7 +9,7 @@ use Rattle.import_rules.specs.Names.{pred_cmp}
 use Rattle.import_rules.specs.Program.{Seen}
 use Rattle.import_rules.proofs.Lists.{all_pairs_map}
 use Rattle.file_library.specs.Spots.{StandsInText}
-use Rattle.call_edges.specs.CallPlaces.{CallAt, AreCallsOf}
+use Rattle.call_edges.specs.CallPlaces.{CallAt, AreCallsOf, call_cmp}
 use Rattle.call_table.specs.declared.clauses.ClauseAt.{ClauseAt}
 use Rattle.call_table.specs.Clauses.{AreClausesOf}
 use Rattle.file_library.specs.Spots.{IsUpto, AreSpots}
@@ -44,5 +44,17 @@ calls_are_spots seen nodes calls are stand = record {
       let a = get_or calls i d in
       let b = get_or calls j d in
       upto_by (nat_cmp a.file b.file) a.file b.file a.offset b.offset (ordering_then (nat_cmp a.caller b.caller) (pred_cmp a.callee b.callee)) refl (are.ordered i j d before lt));
+  stand = All-map (λ (s : ℕ × ℕ). StandsInText seen.loaded.texts s.0 s.1) call_spot calls stand;
+}
+
+-- and so do any calls in order
+pub ordered_are_spots : (seen : Seen) (calls : List CallAt) → AllPairs (λ a b. call_cmp a b ≡ Less) calls
+    → All (λ (c : CallAt). StandsInText seen.loaded.texts c.file c.offset) calls → AreSpots seen.loaded.texts (map call_spot calls)
+ordered_are_spots seen calls ordered stand = record {
+  ordered = all_pairs_map IsUpto call_spot calls
+      (λ i j d before lt.
+      let a = get_or calls i d in
+      let b = get_or calls j d in
+      upto_by (nat_cmp a.file b.file) a.file b.file a.offset b.offset (ordering_then (nat_cmp a.caller b.caller) (pred_cmp a.callee b.callee)) refl (ordered i j d before lt));
   stand = All-map (λ (s : ℕ × ℕ). StandsInText seen.loaded.texts s.0 s.1) call_spot calls stand;
 }

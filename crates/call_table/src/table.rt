@@ -39,7 +39,11 @@ fn clause_spots(alloc: Global, clauses: &[ClauseAt]) -> Result<Vec<(u32, u32)>, 
         .collect(alloc)
 }
 
-fn call_spots(alloc: Global, calls: &[PlacedCall<'_>]) -> Result<Vec<(u32, u32)>, AllocError>
+/// Where the goals of these calls start: the index of the file, and the offset.
+pub(crate) fn call_spots(
+    alloc: Global,
+    calls: &[PlacedCall<'_>],
+) -> Result<Vec<(u32, u32)>, AllocError>
     ensures { IfOk result (λ spots. spots.items ≡ map kept_spot calls.now) }
 {
     calls

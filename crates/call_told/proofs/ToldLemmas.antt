@@ -1,10 +1,13 @@
 -- What is told of a program has its places.
-use Rattle.std.proofs.Common.{◌≡◌, ◌<◌, ◌≤◌, ℕ, zero, suc, ◌+◌, ◌==◌, ◌||◌, Bool, true, false, not, cond, List, [], ◌∷◌, ◌++◌, length, filter, slice_index, ap, sym, subst, ◌∙◌, append-nil, arith}
+use Rattle.std.proofs.Common.{◌≡◌, ◌<◌, ◌≤◌, ℕ, zero, suc, ◌+◌, ◌==◌, ◌||◌, Bool, true, false, not, cond, List, [], ◌∷◌, ◌++◌, Option, Some, None, length, filter, slice_index, ap, sym, subst, refl, ◌∙◌, append-nil, arith}
+use Rattle.std.specs.Prelude.{is_some}
 use Rattle.std.specs.List.{range_with_len}
+use Rattle.std.specs.Option.{option_map}
 use Rattle.std.proofs.lemmas.List.Elements.{filter-append}
 use Rattle.import_rules.specs.Program.{Seen}
 use Rattle.call_edges.specs.Successors.{successor_lists}
 use Rattle.call_edges.proofs.SuccessorLemmas.{lists_count}
+use Rattle.call_table.specs.Marks.{AreEach, AreMarked, ProgramMarks}
 use Rattle.call_table.specs.Memberships.{AreGroupsOf, IsGroupOf}
 use Rattle.import_rules.proofs.Ranges.{range_more}
 use Rattle.call_told.specs.Told.{told_nodes}
@@ -35,3 +38,23 @@ told_skip n places all none =
 
 pub told_more : (n : ℕ) (places : List ℕ) (all : Bool) → (all || not (slice_index places n == 0)) ≡ true → told_nodes (n + 1) places all ≡ told_nodes n places all ++ n ∷ []
 told_more n places all is = told_step n places all ∙ ap (λ b. told_nodes n places all ++ cond b (n ∷ []) []) is
+
+-- whether there is a list of roots, whatever it is seen as
+pub map_some : {X Y : Type 0} (f : X → Y) (o : Option X) → is_some o ≡ is_some (option_map f o)
+map_some f None = refl
+map_some f (Some x) = refl
+
+-- marks of each predicate
+
+pub each_marked : (listed : Bool) (seen : Seen) (roots : List ℕ) (marks : ProgramMarks) → AreMarked listed seen roots marks
+    → AreEach (length seen.predicates) marks
+each_marked listed seen roots marks are = record {
+  roots = are.roots_are.each;
+  exported = are.exported_are.each;
+  by_export = are.by_export_are.each;
+  by_directive = are.by_directive_are.each;
+  by_file = are.by_file_are.each;
+}
+
+pub each_as : (count : ℕ) (marks : ProgramMarks) → AreEach count marks → AreEach (length marks.roots) marks
+each_as count marks each = subst (λ (n : ℕ). AreEach n marks) (sym each.roots) each

@@ -14,6 +14,7 @@
 #![tactic(auto)]
 
 mod condensed;
+mod directives;
 mod node_texts;
 mod stretches;
 mod text;

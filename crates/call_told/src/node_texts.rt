@@ -1,9 +1,11 @@
 //! Lines of predicates and of their groups, which are written in parallel.
 
-ghost use Rattle.std.specs.Prelude.{◌≡◌, ◌<◌, ◌++◌, All, IfOk, OnOk, length};
+ghost use Rattle.std.specs.Prelude.{◌≡◌, ◌<◌, ◌≤◌, ◌++◌, All, IfOk, OnOk, length};
 ghost use Rattle.std.specs.String.{string_bytes};
+ghost use Rattle.call_table.specs.Marks.{marks_at, see_marks};
 ghost use Rattle.call_told.specs.Told.{IsTold, joined, node_line, node_lines, told_lines};
 ghost use Rattle.call_told.specs.declared.node_texts.NodeLines.TheVariants.{Predicates, Groups};
+ghost use Rattle.call_writer.specs.Lines.{predicate_line_of};
 ghost use Rattle.graph_law.specs.Graph.{lists_of};
 
 use crate::told::Told;
@@ -22,7 +24,7 @@ const FEWEST: usize = 1;
 const BY_ONE: usize = usize::MAX;
 
 /// The initial capacity of a text in bytes for each line of a predicate. Few are longer.
-const PREDICATE_ROOM: usize = 144;
+const PREDICATE_ROOM: usize = 192;
 
 /// The same for each line of a group.
 const GROUP_ROOM: usize = 96;
@@ -35,6 +37,32 @@ pub enum NodeLines {
     Groups,
 }
 
+/// Adds the line of a predicate. `place` is one more than the index of its group, or 0.
+fn push_predicate(
+    text: &mut String,
+    told: &Told<'_>,
+    node: u32,
+    place: usize,
+) -> Result<(), AllocError>
+    requires told { IsTold told.now }
+    requires below { node < length told.now.program.now.predicates }
+    requires within { place ≤ length told.now.groups.items }
+    ensures { OnOk result (string_bytes text.new ≡ string_bytes text.old
+        ++ predicate_line_of told.now.program.now (lists_of told.now.groups.items) told.now.levels.items node place
+        (marks_at (see_marks told.now.marks) node)) }
+{
+    let marks = told.marks.at(node);
+    push_predicate_line(
+        text,
+        told.program,
+        &told.groups,
+        &told.levels,
+        node,
+        place,
+        marks,
+    )
+}
+
 /// Adds the line that there is of a predicate, if there is one.
 fn push_told(
     text: &mut String,
@@ -45,13 +73,12 @@ fn push_told(
     requires told { IsTold told.now }
     requires below { node < length told.now.program.now.predicates }
     ensures { OnOk result (string_bytes text.new ≡ string_bytes text.old
-        ++ node_line lines told.now.program.now (lists_of told.now.groups.items) told.now.levels.items told.now.places.items node) }
+        ++ node_line lines told.now.program.now (lists_of told.now.groups.items) told.now.levels.items told.now.places.items (see_marks told.now.marks)
+        node) }
 {
     let place = told.places[node as usize];
     match lines {
-        NodeLines::Predicates => {
-            push_predicate_line(text, told.program, &told.groups, &told.levels, node, place)
-        }
+        NodeLines::Predicates => push_predicate(text, told, node, place),
         NodeLines::Groups => push_group_line(text, &told.groups, &told.levels, node, place),
     }
 }
@@ -66,7 +93,8 @@ fn push_nodes(
     requires told { IsTold told.now }
     requires below { All (λ p. p < length told.now.program.now.predicates) nodes.now }
     ensures { OnOk result (string_bytes text.new ≡ string_bytes text.old
-        ++ node_lines lines told.now.program.now (lists_of told.now.groups.items) told.now.levels.items told.now.places.items nodes.now) }
+        ++ node_lines lines told.now.program.now (lists_of told.now.groups.items) told.now.levels.items told.now.places.items (see_marks told.now.marks)
+        nodes.now) }
 {
     for node in nodes {
         push_told(text, told, lines, *node)?;
@@ -94,7 +122,8 @@ fn node_text(
     requires told { IsTold told.now }
     requires below { All (λ p. p < length told.now.program.now.predicates) nodes.now }
     ensures { IfOk result (λ text. string_bytes text
-        ≡ node_lines lines told.now.program.now (lists_of told.now.groups.items) told.now.levels.items told.now.places.items nodes.now) }
+        ≡ node_lines lines told.now.program.now (lists_of told.now.groups.items) told.now.levels.items told.now.places.items (see_marks told.now.marks)
+        nodes.now) }
 {
     let mut text = String::with_capacity(alloc, room_of(lines, nodes.len()))?;
     push_nodes(&mut text, told, lines, nodes)?;
@@ -113,7 +142,8 @@ fn node_pieces<R: Threads + Sync>(
     requires told { IsTold told.now }
     requires below { All (λ p. p < length told.now.program.now.predicates) nodes.now }
     ensures { IfOk result (λ texts. joined texts.items
-        ≡ node_lines lines told.now.program.now (lists_of told.now.groups.items) told.now.levels.items told.now.places.items nodes.now) }
+        ≡ node_lines lines told.now.program.now (lists_of told.now.groups.items) told.now.levels.items told.now.places.items (see_marks told.now.marks)
+        nodes.now) }
 {
     nodes
         .par_chunks(SIZE)
@@ -124,7 +154,7 @@ fn node_pieces<R: Threads + Sync>(
                 requires below { All (λ p. p < length told.now.program.now.predicates) part.now }
                 ensures { IfOk result (λ text. string_bytes text
                     ≡ node_lines lines told.entry.now.program.now (lists_of told.entry.now.groups.items) told.entry.now.levels.items
-                    told.entry.now.places.items part.now) }
+                    told.entry.now.places.items (see_marks told.entry.now.marks) part.now) }
             { node_text(alloc, told, lines, part) },
         )
         .collect::<Result<Vec<String>, AllocError>>(rt, alloc)?
@@ -142,7 +172,8 @@ fn each_text<R: Threads + Sync>(
     requires told { IsTold told.now }
     requires below { All (λ p. p < length told.now.program.now.predicates) nodes.now }
     ensures { IfOk result (λ texts. joined texts.items
-        ≡ node_lines lines told.now.program.now (lists_of told.now.groups.items) told.now.levels.items told.now.places.items nodes.now) }
+        ≡ node_lines lines told.now.program.now (lists_of told.now.groups.items) told.now.levels.items told.now.places.items (see_marks told.now.marks)
+        nodes.now) }
 {
     match node_pieces(rt, alloc, told, lines, nodes, FEWEST) {
         Ok(texts) => Ok(texts),
@@ -161,7 +192,8 @@ pub(crate) fn node_texts<R: Threads + Sync>(
     requires told { IsTold told.now }
     requires below { All (λ p. p < length told.now.program.now.predicates) nodes.now }
     ensures { IfOk result (λ texts. joined texts.items
-        ≡ told_lines told.now.program.now (lists_of told.now.groups.items) told.now.levels.items told.now.places.items nodes.now) }
+        ≡ told_lines told.now.program.now (lists_of told.now.groups.items) told.now.levels.items told.now.places.items (see_marks told.now.marks)
+        nodes.now) }
 {
     let mut texts = each_text(rt, alloc, told, NodeLines::Predicates, nodes)?;
     let mut groups = each_text(rt, alloc, told, NodeLines::Groups, nodes)?;

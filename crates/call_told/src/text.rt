@@ -4,9 +4,10 @@ ghost use Rattle.std.specs.Prelude.{◌≡◌, ◌<◌, ◌++◌, [], All, IfOk,
 ghost use Rattle.std.specs.List.{flat_map};
 ghost use Rattle.std.specs.String.{string_bytes};
 ghost use Rattle.call_edges.specs.Successors.{successor_lists};
+ghost use Rattle.call_table.specs.Marks.{see_marks};
 ghost use Rattle.call_table.specs.Table.{IsTable};
 ghost use Rattle.call_writer.specs.Dot.{edge_line, group_nodes};
-ghost use Rattle.call_told.specs.Told.{IsTold, TellsForm, TellsFrom, dot_graph, grouped_nodes, joined, told_lines, ungrouped_line};
+ghost use Rattle.call_told.specs.Told.{IsTold, TellsForm, TellsFrom, TellsTable, all_lines, dot_graph, grouped_nodes, joined, told_lines, ungrouped_line};
 ghost use Rattle.call_told.specs.Wanted.{see_wanted};
 ghost use Rattle.call_told.specs.declared.words.Form.TheVariants.{Lines, Undefined, Condensed};
 ghost use Rattle.graph_law.specs.Classes.{group_at};
@@ -14,6 +15,7 @@ ghost use Rattle.graph_law.specs.Graph.{lists_of};
 ghost use Rattle.group_release.specs.Level.{level_at};
 
 use crate::condensed::condensed_text;
+use crate::directives::push_directives;
 use crate::node_texts::node_texts;
 use crate::stretches::{call_texts, clause_texts};
 use crate::told::{Told, make_told};
@@ -50,7 +52,7 @@ fn told_predicates<R: Threads + Sync>(
 ) -> Result<Vec<String>, AllocError>
     requires { IsTold told.now }
     ensures { IfOk result (λ texts. joined texts.items
-        ≡ told_lines told.now.program.now (lists_of told.now.groups.items) told.now.levels.items told.now.places.items
+        ≡ told_lines told.now.program.now (lists_of told.now.groups.items) told.now.levels.items told.now.places.items (see_marks told.now.marks)
         told.now.nodes.items) }
 {
     node_texts(rt, alloc, told, &told.nodes)
@@ -68,7 +70,7 @@ fn table_beside_predicates<'a, R: Threads + Sync>(
     requires calls { calls.now ≡ told.now.program.now }
     ensures table { IfOk result (λ found. IsTable told.now.program.now told.now.nodes.items (lists_of told.now.groups.items) found.0) }
     ensures lines { IfOk result (λ found. joined found.1.items
-        ≡ told_lines told.now.program.now (lists_of told.now.groups.items) told.now.levels.items told.now.places.items
+        ≡ told_lines told.now.program.now (lists_of told.now.groups.items) told.now.levels.items told.now.places.items (see_marks told.now.marks)
         told.now.nodes.items) }
 {
     let (texts, table) = thread::join_mut(
@@ -77,7 +79,7 @@ fn table_beside_predicates<'a, R: Threads + Sync>(
             requires { IsTold told.now }
             ensures { IfOk result (λ texts. joined texts.items
                 ≡ told_lines told.entry.now.program.now (lists_of told.entry.now.groups.items) told.entry.now.levels.items
-                told.entry.now.places.items told.entry.now.nodes.items) }
+                told.entry.now.places.items (see_marks told.entry.now.marks) told.entry.now.nodes.items) }
         { told_predicates(rt, alloc, told) },
         &mut || -> Result<CallTable<'_>, AllocError>
             requires { IsTold told.now × (calls.now ≡ told.now.program.now) }
@@ -95,7 +97,30 @@ fn table_beside_predicates<'a, R: Threads + Sync>(
     Ok((table, texts))
 }
 
-/// All lines, of predicates, groups, clauses and calls, in texts one after the other.
+/// The lines of predicates, groups, clauses and their calls, in texts one after the other.
+fn table_texts<R: Threads + Sync>(
+    rt: &R,
+    alloc: Global,
+    told: &Told<'_>,
+    calls: &PlacedCallLists<'_>,
+) -> Result<Vec<String>, AllocError>
+    requires told { IsTold told.now }
+    requires calls { calls.now ≡ told.now.program.now }
+    ensures { IfOk result (λ texts. TellsTable told.now.program.now (lists_of told.now.groups.items) told.now.nodes.items
+        (all_lines told.now.program.now (lists_of told.now.groups.items) told.now.levels.items told.now.places.items
+        (see_marks told.now.marks) told.now.nodes.items) (joined texts.items)) }
+{
+    let (table, mut texts) = table_beside_predicates(rt, alloc, told, calls)?;
+    let mut clauses = clause_texts(rt, alloc, told.program, &table)?;
+    let mut lines = call_texts(rt, alloc, told.program, &table, false)?;
+    texts.append(&mut clauses)?;
+    texts.append(&mut lines)?;
+    forget(table);
+    Ok(texts)
+}
+
+/// All lines, of predicates, groups, clauses and calls, in texts one after the other. Calls of
+/// directives come last.
 fn lines_texts<R: Threads + Sync>(
     rt: &R,
     alloc: Global,
@@ -105,14 +130,10 @@ fn lines_texts<R: Threads + Sync>(
     requires told { IsTold told.now }
     requires calls { calls.now ≡ told.now.program.now }
     ensures { IfOk result (λ texts. TellsForm Lines told.now.program.now (lists_of told.now.groups.items) told.now.levels.items
-        told.now.places.items told.now.nodes.items (joined texts.items)) }
+        told.now.places.items (see_marks told.now.marks) told.now.nodes.items (joined texts.items)) }
 {
-    let (table, mut texts) = table_beside_predicates(rt, alloc, told, calls)?;
-    let mut clauses = clause_texts(rt, alloc, told.program, &table)?;
-    let mut lines = call_texts(rt, alloc, told.program, &table, false)?;
-    texts.append(&mut clauses)?;
-    texts.append(&mut lines)?;
-    forget(table);
+    let mut texts = table_texts(rt, alloc, told, calls)?;
+    push_directives(alloc, told.program, false, &mut texts)?;
     Ok(texts)
 }
 
@@ -126,10 +147,11 @@ fn undefined_texts<R: Threads + Sync>(
     requires told { IsTold told.now }
     requires calls { calls.now ≡ told.now.program.now }
     ensures { IfOk result (λ texts. TellsForm Undefined told.now.program.now (lists_of told.now.groups.items) told.now.levels.items
-        told.now.places.items told.now.nodes.items (joined texts.items)) }
+        told.now.places.items (see_marks told.now.marks) told.now.nodes.items (joined texts.items)) }
 {
     let table = table_of(rt, alloc, told, calls)?;
-    let texts = call_texts(rt, alloc, told.program, &table, true)?;
+    let mut texts = call_texts(rt, alloc, told.program, &table, true)?;
+    push_directives(alloc, told.program, true, &mut texts)?;
     forget(table);
     Ok(texts)
 }
@@ -262,7 +284,7 @@ fn condensed_texts(
     requires told { IsTold told.now }
     requires calls { calls.now ≡ told.now.program.now }
     ensures { IfOk result (λ texts. TellsForm Condensed told.now.program.now (lists_of told.now.groups.items) told.now.levels.items
-        told.now.places.items told.now.nodes.items (joined texts.items)) }
+        told.now.places.items (see_marks told.now.marks) told.now.nodes.items (joined texts.items)) }
 {
     let text = condensed_text(alloc, told, calls)?;
     let mut texts = Vec::new(alloc);
@@ -281,7 +303,7 @@ fn texts_of<R: Threads + Sync>(
     requires told { IsTold told.now }
     requires calls { calls.now ≡ told.now.program.now }
     ensures { IfOk result (λ texts. TellsForm form told.now.program.now (lists_of told.now.groups.items) told.now.levels.items
-        told.now.places.items told.now.nodes.items (joined texts.items)) }
+        told.now.places.items (see_marks told.now.marks) told.now.nodes.items (joined texts.items)) }
 {
     match form {
         Form::Lines => lines_texts(rt, alloc, told, calls),

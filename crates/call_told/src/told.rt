@@ -1,25 +1,26 @@
 //! What is listed of a program, except its clauses and calls: predicates, and the groups of what
 //! the roots reach.
 
-ghost use Rattle.std.specs.Prelude.{◌≡◌, ◌<◌, ◌==◌, ◌||◌, All, IfOk, length, not};
+ghost use Rattle.std.specs.Prelude.{◌≡◌, ◌<◌, ◌==◌, ◌||◌, All, IfOk, is_some, length, not};
 ghost use Rattle.call_edges.specs.Successors.{successor_lists};
+ghost use Rattle.call_table.specs.Marks.{AreMarked, see_marks};
 ghost use Rattle.call_table.specs.Reached.{AreNodes};
 ghost use Rattle.loop_report.specs.Reportable.{AreLeveled};
-ghost use Rattle.call_told.specs.Told.{IsTold, ToldIs, told_nodes};
+ghost use Rattle.call_told.specs.Told.{IsTold, MarkedIs, ToldIs, told_nodes};
 ghost use Rattle.call_told.specs.Wanted.{see_wanted};
 ghost use Rattle.call_told.specs.declared.told.Told.{Told as ToldHere};
 ghost use Rattle.graph_law.specs.Graph.{Calls as ListCalls, lists_of};
 
 use crate::words::Wanted;
 use call_edges::CallLists;
-use call_table::{Reached, groups_from, groups_of};
+use call_table::{Marks, Reached, groups_from, groups_of, make_marks};
 use group_release::Level;
 use import_rules::Program;
 use std::alloc::{AllocError, Global};
 
 /// The predicates that are listed, ascending; the groups of what the roots reach, with their
-/// levels; and for each predicate of the program one more than the index of its group, or 0 if it
-/// is in none.
+/// levels; for each predicate of the program one more than the index of its group, or 0 if it is in
+/// none; and what is marked at it.
 #[derive(Drop)]
 pub struct Told<'a> {
     pub program: &'a Program,
@@ -27,6 +28,7 @@ pub struct Told<'a> {
     pub groups: Vec<Vec<u32>>,
     pub levels: Vec<Level>,
     pub places: Vec<usize>,
+    pub marks: Marks,
 }
 
 /// Whether a predicate is listed: it is in a group, or all are asked for.
@@ -73,13 +75,15 @@ pub fn make_told<'a>(
     ensures told { IfOk result IsTold }
     ensures same { IfOk result (λ (told : ToldHere). told.program.now ≡ program.now) }
     ensures is { IfOk result (ToldIs (see_wanted wanted.now) roots.now) }
+    ensures marked { IfOk result (MarkedIs (see_wanted wanted.now) roots.now) }
 {
     let found = groups_from(alloc, program, calls, roots)?;
-    let told = told_of(alloc, wanted, program, roots, found)?;
+    let marks = make_marks(alloc, program, wanted.options.roots.is_some(), roots)?;
+    let told = told_of(alloc, wanted, program, roots, found, marks)?;
     Ok(told)
 }
 
-/// What is listed of a program with these groups. If all predicates are asked for, those in no
+/// What is listed of a program with these groups and marks. If all predicates are asked for, those in no
 /// group are listed too.
 fn told_of<'a>(
     alloc: Global,
@@ -87,13 +91,16 @@ fn told_of<'a>(
     program: &'a Program,
     roots: &[u32],
     found: Reached,
+    marks: Marks,
 ) -> Result<Told<'a>, AllocError>
     requires leveled { AreLeveled (ListCalls (successor_lists program.now)) roots.now (lists_of found.groups.items) found.levels.items }
     requires nodes { AreNodes (length program.now.predicates) (lists_of found.groups.items) }
     requires levels { length found.levels.items ≡ length found.groups.items }
+    requires marks { AreMarked (is_some (see_wanted wanted.now).settings.roots) program.now roots.now (see_marks marks) }
     ensures told { IfOk result IsTold }
     ensures same { IfOk result (λ (told : ToldHere). told.program.now ≡ program.now) }
     ensures is { IfOk result (ToldIs (see_wanted wanted.now) roots.now) }
+    ensures marked { IfOk result (MarkedIs (see_wanted wanted.now) roots.now) }
 {
     let _roots = roots;
     let Reached { groups, levels } = found;
@@ -105,5 +112,6 @@ fn told_of<'a>(
         groups,
         levels,
         places,
+        marks,
     })
 }

@@ -1,5 +1,5 @@
--- Strings of JSON (RFC 8259, section 7).
-use Rattle.std.specs.Prelude.{ℕ, ◌+◌, ◌/◌, ◌%◌, List, [], ◌∷◌, ◌++◌, ◌==◌, nat_lt, chars, if◌then◌else◌, codes}
+-- Strings and truth values of JSON (RFC 8259, sections 3 and 7).
+use Rattle.std.specs.Prelude.{ℕ, ◌+◌, ◌/◌, ◌%◌, List, [], ◌∷◌, ◌++◌, Bool, true, false, ◌==◌, nat_lt, chars, if◌then◌else◌, codes}
 use Rattle.std.specs.Char.{encode_utf8}
 use Rattle.std.specs.List.{flat_map}
 
@@ -18,3 +18,7 @@ json_char c =
 -- a text as a string
 abbrev pub json_string : List ℕ → List ℕ
 json_string text = codes "\"" ++ (flat_map json_char (chars text) ++ codes "\"")
+
+abbrev pub truth : Bool → List ℕ
+truth true = codes "true"
+truth false = codes "false"

@@ -1,3 +1,4 @@
 pub mod Json
+pub mod Marks
 pub mod Lines
 pub mod Dot

@@ -8,10 +8,13 @@ use Rattle.graph_law.specs.Classes.{group_at, least_member}
 use Rattle.group_release.specs.declared.level.Level.{Level}
 use Rattle.group_release.specs.Level.{level_at}
 use Rattle.import_rules.specs.declared.names.PredName.{PredName}
-use Rattle.import_rules.specs.Program.{Seen}
+use Rattle.import_rules.specs.Program.{Seen, meta_in}
+use Rattle.module_table.specs.declared.goal_arg.GoalArg.{GoalArg}
 use Rattle.call_edges.specs.CallPlaces.{CallAt}
 use Rattle.call_table.specs.declared.clauses.ClauseAt.{ClauseAt}
-use Rattle.call_writer.specs.Json.{json_string}
+use Rattle.call_table.specs.declared.marks.NodeMarks.{NodeMarks}
+use Rattle.call_writer.specs.Json.{json_string, truth}
+use Rattle.call_writer.specs.Marks.{mark_fields}
 
 -- the name of a file, and the line and the column there
 abbrev pub file_name : Option NamedText → List ℕ
@@ -59,14 +62,25 @@ abbrev pub call_line_if : Bool → Seen → CallAt → Place → List ℕ
 call_line_if undefined seen c place =
     if undefined && is_some c.means then [] else call_line seen c place
 
+-- `{"is":"call","caller":null,"callee":1`
+abbrev pub directive_head : Option ℕ → List ℕ
+directive_head callee = codes "{\"is\":\"call\",\"caller\":null,\"callee\":" ++ number_or_null callee
+
+-- the line of a call of a directive, which has no caller, as
+-- `{"is":"call","caller":null,"callee":1,"module":"user","name":"q","arity":0,"file":"f.pl","line":1,"column":4,"directive":true}`
+abbrev pub directive_line : Seen → CallAt → Place → List ℕ
+directive_line seen c place =
+    directive_head c.means
+    ++ (codes "," ++ (name_fields c.callee ++ (codes "," ++ (spot_fields seen c.file place ++ codes ",\"directive\":true}\n"))))
+
+-- such a call has a line where another one has
+abbrev pub directive_line_if : Bool → Seen → CallAt → Place → List ℕ
+directive_line_if undefined seen c place = if undefined && is_some c.means then [] else directive_line seen c place
+
 -- `{"is":"clause","predicate":0,"file":"f.pl","line":1,"column":1}`
 abbrev pub clause_line : Seen → ClauseAt → Place → List ℕ
 clause_line seen c place =
     codes "{\"is\":\"clause\",\"predicate\":" ++ (decimal c.node ++ (codes "," ++ (spot_fields seen c.file place ++ codes "}\n")))
-
-abbrev pub truth : Bool → List ℕ
-truth true = codes "true"
-truth false = codes "false"
 
 -- the least number of a group, the group's height, and whether it is recursive
 abbrev pub level_fields : ℕ → Level → List ℕ
@@ -83,14 +97,15 @@ group_fields groups levels place =
 abbrev pub predicate_head : ℕ → PredName → List ℕ
 predicate_head node name = codes "{\"is\":\"predicate\",\"id\":" ++ (decimal node ++ (codes "," ++ name_fields name))
 
--- `{"is":"predicate","id":0,"module":"user","name":"p","arity":0,"group":0,"height":1,"recursive":true}`
-abbrev pub predicate_line : List (List ℕ) → List Level → ℕ → PredName → ℕ → List ℕ
-predicate_line groups levels node name place = predicate_head node name ++ (codes "," ++ (group_fields groups levels place ++ codes "}\n"))
+-- `{"is":"predicate","id":0,"module":"user","name":"p","arity":0,"group":0,"height":1,"recursive":true,"exported":false,"meta":null,"root":["file"]}`
+abbrev pub predicate_line : List (List ℕ) → List Level → ℕ → PredName → ℕ → NodeMarks → List GoalArg → List ℕ
+predicate_line groups levels node name place marks args =
+    predicate_head node name ++ (codes "," ++ (group_fields groups levels place ++ (mark_fields marks args ++ codes "}\n")))
 
 -- that of the predicate of that number, and nothing where there is none
-abbrev pub predicate_line_of : List PredName → List (List ℕ) → List Level → ℕ → ℕ → List ℕ
-predicate_line_of predicates groups levels node place =
-    elim (slice_get predicates node) [ Some name ↦ predicate_line groups levels node name place | None ↦ [] ]
+abbrev pub predicate_line_of : Seen → List (List ℕ) → List Level → ℕ → ℕ → NodeMarks → List ℕ
+predicate_line_of seen groups levels node place marks =
+    elim (slice_get seen.predicates node) [ Some name ↦ predicate_line groups levels node name place marks (meta_in seen node) | None ↦ [] ]
 
 -- numbers with commas between them
 abbrev pub after_comma : ℕ → List ℕ

@@ -1,15 +1,15 @@
 //! The lines of groups, as JSON.
 
-ghost use Rattle.std.specs.Prelude.{◌≡◌, ◌<◌, ◌≤◌, ◌++◌, All, OnOk, codes, length};
+ghost use Rattle.std.specs.Prelude.{◌≡◌, ◌<◌, ◌≤◌, ◌++◌, All, OnOk, length};
 ghost use Rattle.std.specs.List.{flat_map};
 ghost use Rattle.std.specs.String.{string_bytes};
-ghost use Rattle.call_writer.specs.Lines.{after_comma, group_head, group_line, group_line_at, line_at_least, listed, truth};
+ghost use Rattle.call_writer.specs.Lines.{after_comma, group_head, group_line, group_line_at, line_at_least, listed};
 ghost use Rattle.graph_law.specs.Classes.{group_at};
 ghost use Rattle.graph_law.specs.Graph.{lists_of};
 ghost use Rattle.group_release.specs.Level.{level_at};
 
 use crate::json::push_number;
-use crate::lines::least_at;
+use crate::lines::{least_at, recursive_field};
 use group_release::Level;
 use std::alloc::AllocError;
 
@@ -42,17 +42,6 @@ fn push_listed(text: &mut String, members: &[u32]) -> Result<(), AllocError>
     push_number(text, u64::from(*first))?;
     push_others(text, others)?;
     Ok(())
-}
-
-/// What follows the height of a group, before its members.
-fn recursive_field(recursive: bool) -> &'static str
-    ensures { result.now ≡ codes ",\"recursive\":" ++ truth recursive }
-{
-    if recursive {
-        ",\"recursive\":true"
-    } else {
-        ",\"recursive\":false"
-    }
 }
 
 /// Adds the beginning of the line of a group: what kind of line it is, its number and its level.

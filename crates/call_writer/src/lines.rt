@@ -5,9 +5,9 @@ ghost use Rattle.std.specs.Fmt.{decimal};
 ghost use Rattle.std.specs.List.{flat_map, zip};
 ghost use Rattle.std.specs.String.{string_bytes};
 ghost use Rattle.call_edges.specs.PlacedSeen.{see_call, see_calls};
+ghost use Rattle.call_writer.specs.Json.{truth};
 ghost use Rattle.call_writer.specs.Lines.{call_head, call_line, call_line_if, clause_line, group_fields, level_fields};
-ghost use Rattle.call_writer.specs.Lines.{name_fields, number_or_null, predicate_head, predicate_line, predicate_line_of};
-ghost use Rattle.call_writer.specs.Lines.{spot_fields, truth};
+ghost use Rattle.call_writer.specs.Lines.{name_fields, number_or_null, predicate_head, predicate_line_of, spot_fields};
 ghost use Rattle.graph_law.specs.Classes.{group_at, least_member};
 ghost use Rattle.graph_law.specs.Graph.{lists_of};
 ghost use Rattle.import_rules.specs.Names.{pred_name};
@@ -15,15 +15,16 @@ ghost use Rattle.import_rules.specs.Parts.{see_name};
 
 use crate::json::{push_inner, push_number};
 use crate::last::{Last, LastFile, LastModule};
+use crate::marks::push_marks;
 use call_edges::PlacedCall;
-use call_table::ClauseAt;
+use call_table::{ClauseAt, NodeMarks};
 use group_release::Level;
 use import_rules::{NameView, Program};
 use prolog_tokens::Place;
 use std::alloc::{AllocError, Global};
 
 /// Adds a comma, and a line and a column of the file at the index. The file is the last one then.
-fn push_spot(
+pub(crate) fn push_spot(
     text: &mut String,
     last: &mut LastFile<'_>,
     file: u32,
@@ -83,7 +84,7 @@ fn push_name(text: &mut String, owner: &str, name: &str, arity: u32) -> Result<(
 }
 
 /// Adds a comma and a name in a module. The module is the last one then.
-fn push_name_after<'a>(
+pub(crate) fn push_name_after<'a>(
     text: &mut String,
     last: &mut LastModule<'a>,
     owner: &'a str,
@@ -100,7 +101,7 @@ fn push_name_after<'a>(
 }
 
 /// Adds the number, or `null` if there is none.
-fn push_callee(text: &mut String, callee: Option<u32>) -> Result<(), AllocError>
+pub(crate) fn push_callee(text: &mut String, callee: Option<u32>) -> Result<(), AllocError>
     ensures { OnOk result (string_bytes text.new ≡ string_bytes text.old ++ number_or_null callee) }
 {
     match callee {
@@ -110,7 +111,7 @@ fn push_callee(text: &mut String, callee: Option<u32>) -> Result<(), AllocError>
 }
 
 /// Whether a call has no line: only undefined names are asked for, and it means a predicate.
-fn is_hidden(undefined: bool, callee: Option<u32>) -> bool
+pub(crate) fn is_hidden(undefined: bool, callee: Option<u32>) -> bool
     ensures { result ≡ (undefined && is_some callee) }
 {
     if undefined {
@@ -231,13 +232,13 @@ pub fn push_clause_lines(
 }
 
 /// What follows the height of a group in a line.
-fn line_end(recursive: bool) -> &'static str
-    ensures { result.now ≡ codes ",\"recursive\":" ++ (truth recursive ++ codes "}\n") }
+pub(crate) fn recursive_field(recursive: bool) -> &'static str
+    ensures { result.now ≡ codes ",\"recursive\":" ++ truth recursive }
 {
     if recursive {
-        ",\"recursive\":true}\n"
+        ",\"recursive\":true"
     } else {
-        ",\"recursive\":false}\n"
+        ",\"recursive\":false"
     }
 }
 
@@ -250,20 +251,20 @@ pub(crate) fn least_at(groups: &[Vec<u32>], place: usize) -> u32
     groups[place][0]
 }
 
-/// Adds a comma, the least member of a group and the group's level, and ends the line.
+/// Adds a comma, the least member of a group and the group's level.
 fn push_level(text: &mut String, least: u32, level: Level) -> Result<(), AllocError>
-    ensures { OnOk result (string_bytes text.new ≡ string_bytes text.old ++ (codes "," ++ (level_fields least level ++ codes "}\n"))) }
+    ensures { OnOk result (string_bytes text.new ≡ string_bytes text.old ++ (codes "," ++ level_fields least level)) }
 {
     text.push_str(",\"group\":")?;
     push_number(text, u64::from(least))?;
     text.push_str(",\"height\":")?;
     push_number(text, u64::from(level.height))?;
-    text.push_str(line_end(level.recursive))?;
+    text.push_str(recursive_field(level.recursive))?;
     Ok(())
 }
 
-/// Adds a comma and the group of a predicate, and ends the line. `place` is one more than the
-/// group's index, or 0 if there is none.
+/// Adds a comma and the group of a predicate. `place` is one more than the group's index, or 0 if
+/// there is none.
 fn push_group(
     text: &mut String,
     groups: &[Vec<u32>],
@@ -274,10 +275,10 @@ fn push_group(
     requires inhabited { All (λ members. 0 < length members) (lists_of groups.now) }
     requires within { place ≤ length groups.now }
     ensures { OnOk result (string_bytes text.new
-        ≡ string_bytes text.old ++ (codes "," ++ (group_fields (lists_of groups.now) levels.now place ++ codes "}\n"))) }
+        ≡ string_bytes text.old ++ (codes "," ++ group_fields (lists_of groups.now) levels.now place)) }
 {
     if place == 0 {
-        text.push_str(",\"group\":null,\"height\":null,\"recursive\":null}\n")?;
+        text.push_str(",\"group\":null,\"height\":null,\"recursive\":null")?;
         return Ok(());
     }
     let least = least_at(groups, place - 1);
@@ -294,7 +295,7 @@ fn push_predicate_head(text: &mut String, node: u32, name: NameView<'_>) -> Resu
     Ok(())
 }
 
-/// Adds the line of the predicate with that number and name.
+/// Adds the line of the predicate with that number up to its group.
 fn push_named(
     text: &mut String,
     groups: &[Vec<u32>],
@@ -306,15 +307,16 @@ fn push_named(
     requires one_level_each { length levels.now ≡ length groups.now }
     requires inhabited { All (λ members. 0 < length members) (lists_of groups.now) }
     requires within { place ≤ length groups.now }
-    ensures { OnOk result (string_bytes text.new ≡ string_bytes text.old ++ predicate_line (lists_of groups.now) levels.now node (see_name name.entry) place) }
+    ensures { OnOk result (string_bytes text.new ≡ string_bytes text.old
+        ++ (predicate_head node (see_name name.entry) ++ (codes "," ++ group_fields (lists_of groups.now) levels.now place))) }
 {
     push_predicate_head(text, node, name)?;
     push_group(text, groups, levels, place)?;
     Ok(())
 }
 
-/// Adds the line of the predicate with that number. Its group has the index `place` - 1, and it has
-/// none if `place` is 0.
+/// Adds the line of the predicate with that number, at which this is marked. Its group has the index
+/// `place` - 1, and it has none if `place` is 0.
 pub fn push_predicate_line(
     text: &mut String,
     program: &Program,
@@ -322,14 +324,16 @@ pub fn push_predicate_line(
     levels: &[Level],
     node: u32,
     place: usize,
+    marks: NodeMarks,
 ) -> Result<(), AllocError>
     requires node { node < length program.now.predicates }
     requires one_level_each { length levels.now ≡ length groups.now }
     requires inhabited { All (λ members. 0 < length members) (lists_of groups.now) }
     requires within { place ≤ length groups.now }
     ensures { OnOk result (string_bytes text.new
-        ≡ string_bytes text.old ++ predicate_line_of program.now.predicates (lists_of groups.now) levels.now node place) }
+        ≡ string_bytes text.old ++ predicate_line_of program.now (lists_of groups.now) levels.now node place marks) }
 {
     push_named(text, groups, levels, node, program.name_of(node), place)?;
+    push_marks(text, marks, program.meta_of(node))?;
     Ok(())
 }

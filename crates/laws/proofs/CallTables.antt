@@ -30,10 +30,10 @@ spot_place texts s stands =
     (place.0, record { text = stands.text; is = stands.is; stands = place.1 })
 
 -- of what stands at them
-abbrev HavePlaces : {X : Type 0} → (X → ℕ × ℕ) → List NamedText → List X → Type 0
+abbrev pub HavePlaces : {X : Type 0} → (X → ℕ × ℕ) → List NamedText → List X → Type 0
 HavePlaces spot texts xs = (places : List Place) × AllZip (IsSpotPlace texts) (map spot xs) places
 
-each_place : {X : Type 0} (spot : X → ℕ × ℕ) (texts : List NamedText) (xs : List X) → All (λ x. StandsInText texts (spot x).0 (spot x).1) xs
+pub each_place : {X : Type 0} (spot : X → ℕ × ℕ) (texts : List NamedText) (xs : List X) → All (λ x. StandsInText texts (spot x).0 (spot x).1) xs
     → HavePlaces spot texts xs
 each_place spot texts [] stand = ([], tt)
 each_place {X = X} spot texts (x ∷ xs) stand =

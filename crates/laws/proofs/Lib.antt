@@ -81,9 +81,11 @@ mod MemoryLists
 mod KeptCalls
 mod OrderedClauses
 mod CallTables
+mod NodeMarks
+mod OneTable
+mod PlacedDirectives
 mod ToldBytes
 mod ToldEnds
 mod SameGroups
-mod OneTable
 mod OneTold
 mod OneToldEnd

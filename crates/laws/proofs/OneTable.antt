@@ -36,7 +36,7 @@ same_place texts s p q is also =
     let text : is.text ≡ also.text = same_Some is.text also.text (sym is.is ∙ also.is) in
     place_once also.text.1 s.1 p q (subst (λ (t : NamedText). IsPlace t.1 s.1 p) text is.stands) also.stands
 
-same_places : (texts : List NamedText) (spots : List (ℕ × ℕ)) (ps qs : List Place) → AllZip (IsSpotPlace texts) spots ps
+pub same_places : (texts : List NamedText) (spots : List (ℕ × ℕ)) (ps qs : List Place) → AllZip (IsSpotPlace texts) spots ps
     → AllZip (IsSpotPlace texts) spots qs → ps ≡ qs
 same_places texts [] [] [] are also = refl
 same_places texts [] [] (q ∷ qs) are also = absurd also

@@ -12,9 +12,12 @@ use Rattle.import_rules.specs.Names.{pred_cmp}
 use Rattle.import_rules.specs.Program.{Seen, found}
 use Rattle.import_rules.proofs.Lists.{all_pairs_map}
 use Rattle.import_rules.proofs.NameOrder.{pred_cmp_total, same_parts, same_ties}
-use Rattle.call_edges.specs.CallPlaces.{AreCallsOf, CallAt, IsCallOf, call_cmp}
-use Rattle.call_edges.specs.KeptCalls.{calls_in}
+use Rattle.call_edges.specs.CallPlaces.{AreCallsOf, CallAt, IsCallOf, IsCalledIn, call_cmp}
+use Rattle.call_edges.specs.Bodies.{goals_in}
+use Rattle.call_edges.specs.DirectiveCalls.{AreDirectiveCalls, no_caller}
+use Rattle.call_edges.specs.KeptCalls.{body_calls, calls_in}
 use Rattle.call_edges.proofs.AmongLemmas.{flat_has}
+use Rattle.call_edges.proofs.KeptCallLemmas.{body_calls_are}
 use Rattle.call_table.specs.declared.clauses.ClauseAt.{ClauseAt}
 use Rattle.call_table.specs.Clauses.{AreClausesOf, clause_cmp, clauses_in}
 use Rattle.call_table.proofs.ClauseLemmas.{clause_cmp_total}
@@ -148,3 +151,30 @@ has_calls seen callers =
       };
       fewer = omega (arith, ordered.fewer, length-map all named_at, length-map ordered.once (meant seen));
     }
+
+-- those of directives
+
+pub has_directives : (seen : Seen) → (calls : List CallAt) × AreDirectiveCalls seen calls
+has_directives seen =
+    let bodies = goals_in seen.loaded.files in
+    let all = flat_map (body_calls seen no_caller) bodies in
+    let among = given_has (body_calls seen no_caller) (IsCalledIn seen no_caller) (body_calls_are seen no_caller) bodies in
+    let ordered : HasOnce named_cmp named_cmp_total (map named_at all) = has_once named_cmp named_cmp_total same_named (map named_at all) in
+    let calls : List CallAt = map (meant seen) ordered.once in (
+      calls,
+      record {
+        ordered = all_pairs_map (λ a b. call_cmp a b ≡ Less) (meant seen) ordered.once ordered.rising;
+        each = λ c. (
+          λ has.
+              let named = map_from (meant seen) ordered.once c has in
+              let one = map_from named_at all named.0 ((ordered.each named.0).0 named.1) in
+              let is = (among one.0).0 one.1 in
+              let same : one.0 ≡ c = sym (meant_itself seen one.0 is.is.means_is) ∙ ap (meant seen) one.2 ∙ named.2 in
+              (among c).0 (subst (Contains all) same one.1),
+          λ is.
+              let has = map_has named_at all c ((among c).1 is) in
+              subst (Contains calls) (meant_itself seen c is.is.means_is)
+              (map_has (meant seen) ordered.once (named_at c) ((ordered.each (named_at c)).1 has)),
+        );
+      },
+    )

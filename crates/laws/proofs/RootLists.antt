@@ -32,11 +32,11 @@ one_there (Some n) q = (
 
 -- what a file gives
 
-abbrev given_by : Seen → Facts → Bool → List ℕ
+abbrev pub given_by : Seen → Facts → Bool → List ℕ
 given_by seen file true = flat_map (λ (i : Indicator). option_to_list (found seen file.module_ i.name i.arity)) file.exports
 given_by seen file false = flat_map (λ (p : Predicate). option_to_list (found seen p.module_ p.name p.arity)) file.defined
 
-given_are : (seen : Seen) (file : Facts) (b : Bool) (q : ℕ) → Contains (given_by seen file b) q ↔ Gives seen file b q
+pub given_are : (seen : Seen) (file : Facts) (b : Bool) (q : ℕ) → Contains (given_by seen file b) q ↔ Gives seen file b q
 given_are seen file true q =
     given_has (λ (i : Indicator). option_to_list (found seen file.module_ i.name i.arity)) (λ (i : Indicator) n. found seen file.module_ i.name i.arity ≡ Some n)
     (λ i n. one_there (found seen file.module_ i.name i.arity) n) file.exports q
@@ -46,16 +46,16 @@ given_are seen file false q =
 
 -- what it gives where it is a root file
 
-abbrev is_root : Seen → Facts → Bool
+abbrev pub is_root : Seen → Facts → Bool
 is_root seen file = list_any (bytes_eq file.file) seen.loaded.roots
 
-root_is : (seen : Seen) (file : Facts) → is_root seen file ≡ true → Contains seen.loaded.roots file.file
+pub root_is : (seen : Seen) (file : Facts) → is_root seen file ≡ true → Contains seen.loaded.roots file.file
 root_is seen file is =
     let some = any_from (bytes_eq file.file) seen.loaded.roots is in
     let same : file.file ≡ some.0 = (bytes_eq-Decides file.file some.0).0 some.2 in
     subst (Contains seen.loaded.roots) (sym same) some.1
 
-is_the_root : (seen : Seen) (file : Facts) → Contains seen.loaded.roots file.file → is_root seen file ≡ true
+pub is_the_root : (seen : Seen) (file : Facts) → Contains seen.loaded.roots file.file → is_root seen file ≡ true
 is_the_root seen file has = any_there (bytes_eq file.file) seen.loaded.roots file.file has ((bytes_eq-Decides file.file file.file).1 refl)
 
 abbrev root_gives : Seen → Facts → List ℕ
@@ -78,10 +78,10 @@ root_given seen file q = (
 
 -- what its goals call
 
-abbrev goals_call : Seen → Facts → List ℕ
+abbrev pub goals_call : Seen → Facts → List ℕ
 goals_call seen file = flat_map (λ m. option_to_list (target seen m)) (goal_mets (rows_of seen) file)
 
-called_are : (seen : Seen) (file : Facts) (q : ℕ) → Contains (goals_call seen file) q ↔ IsCalledByGoal seen file q
+pub called_are : (seen : Seen) (file : Facts) (q : ℕ) → Contains (goals_call seen file) q ↔ IsCalledByGoal seen file q
 called_are seen file q =
     let flat = given_has (λ m. option_to_list (target seen m)) (λ m n. target seen m ≡ Some n) (λ m n. one_there (target seen m) n) (goal_mets (rows_of seen) file) q in (
       λ has. let among = flat.0 has in record { met = among.one; is = (goals_have (rows_of seen) file among.one).0 among.has; goes = among.is },

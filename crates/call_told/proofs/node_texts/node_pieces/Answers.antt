@@ -8,6 +8,7 @@ use Rattle.rayon.specs.Lists.{chunks_of, chunks_size, chunks_slice, min_len_base
 use Rattle.rayon.proofs.ToStd.{slice-AllZip, chunks_of-concat}
 use Rattle.graph_law.specs.Graph.{lists_of}
 use Rattle.call_edges.proofs.SpreadLemmas.{all_in_parts}
+use Rattle.call_table.specs.Marks.{see_marks}
 use Rattle.call_told.specs.Told.{joined, node_line, node_lines}
 use Rattle.call_told.proofs.StretchLemmas.{parts_lines, texts_found}
 use Rattle.call_told.proofs.node_texts.node_pieces.Goals as goal
@@ -17,7 +18,7 @@ returns g c =
     let told = c.args.told.now in
     let nodes = c.args.nodes.now in
     let parts = chunks_of 2048 nodes in
-    let lines : List ℕ → List ℕ = node_lines c.args.lines told.program.now (lists_of told.groups.items) told.levels.items told.places.items in
+    let lines : List ℕ → List ℕ = node_lines c.args.lines told.program.now (lists_of told.groups.items) told.levels.items told.places.items (see_marks told.marks) in
     let h = c.in_ok-collect.ensures in
     let chain = h.1 in
     let shown : map (λ z. z.now) chain.0 ≡ parts =
@@ -28,9 +29,9 @@ returns g c =
     let made =
     subst
     (λ f. AllZip (λ (part : Bor (List ℕ)) (one : Result (String Global) AllocError). IfOk one
-    (λ text. string_bytes text ≡ node_lines (f.2.now) (f.1.now.program.now) (lists_of f.1.now.groups.items) f.1.now.levels.items f.1.now.places.items part.now)) chain.0 h.0)
+    (λ text. string_bytes text ≡ node_lines (f.2.now) (f.1.now.program.now) (lists_of f.1.now.groups.items) f.1.now.levels.items f.1.now.places.items (see_marks f.1.now.marks) part.now)) chain.0 h.0)
     c.map.ensures.f chain.2 in
-    let line : ℕ → List ℕ = node_line c.args.lines told.program.now (lists_of told.groups.items) told.levels.items told.places.items in
+    let line : ℕ → List ℕ = node_line c.args.lines told.program.now (lists_of told.groups.items) told.levels.items told.places.items (see_marks told.marks) in
     let whole = parts_lines line parts ∙ ap (flat_map line) (chunks_of-concat 2048 nodes (omega arith)) in
     subst (λ bytes. IfOk c.in_ok-collect.field-0 (λ v. joined v.items ≡ bytes)) whole
     (texts_found (λ v. v.items) lines parts h.0 c.in_ok-collect.field-0

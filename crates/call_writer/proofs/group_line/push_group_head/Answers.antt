@@ -1,7 +1,7 @@
 use Rattle.std.proofs.Common.{◌++◌, ap, ◌∙◌, codes}
 use Rattle.std.specs.Fmt.{decimal}
 use Rattle.std.specs.String.{string_bytes}
-use Rattle.call_writer.specs.Lines.{truth}
+use Rattle.call_writer.specs.Json.{truth}
 use Rattle.call_writer.proofs.Appended.{five}
 use Rattle.call_writer.proofs.group_line.push_group_head.Goals as goal
 

@@ -7,8 +7,8 @@ use Rattle.call_writer.proofs.lines.push_group.Goals as goal
 
 -- what is told of a predicate that is in no group
 ungrouped : (groups : List (List ℕ)) (levels : List Level) (place : ℕ) → place ≡ 0
-    → codes ",\"group\":null,\"height\":null,\"recursive\":null}\n" ≡ codes "," ++ (group_fields groups levels place ++ codes "}\n")
-ungrouped groups levels place is = ap (λ p. codes "," ++ (group_fields groups levels p ++ codes "}\n")) (sym is)
+    → codes ",\"group\":null,\"height\":null,\"recursive\":null" ≡ codes "," ++ group_fields groups levels place
+ungrouped groups levels place is = ap (λ p. codes "," ++ group_fields groups levels p) (sym is)
 
 pub returns-then-place-eq0 : goal.returns-then-place-eq0
 returns-then-place-eq0 c =
