@@ -15,7 +15,7 @@ use crate::body::{Body, goals_of};
 use crate::calls::target;
 use crate::placed_calls::{PlacedCall, push_call};
 use crate::role::Met;
-use crate::walking::walk;
+use crate::walk_body::walk_body;
 use import_rules::Program;
 use std::alloc::{AllocError, Global};
 
@@ -51,7 +51,7 @@ fn push_calls_in<'a>(
     let mut met = Vec::new(alloc);
     for body in goals {
         met.clear();
-        walk(alloc, program, &body.term, body.owner, body.role, &mut met)?;
+        walk_body(alloc, program, body, &mut met)?;
         push_calls_met(program, body.file, &met, calls)?;
     }
     Ok(())

@@ -14,8 +14,8 @@ use Rattle.call_edges.proofs.KeptMeanings.{none_meant}
 use Rattle.call_edges.proofs.PlacedCallLemmas.{body_called}
 use Rattle.call_edges.proofs.directives.push_calls_in.Goals as goal
 
-pub walk-requires : goal.walk-requires
-walk-requires c =
+pub walk_body-requires : goal.walk_body-requires
+walk_body-requires c =
     let goals = c.args.goals.now in
     let k = c.loop-body.body-index in
     let body = c.body-item.result in
@@ -26,7 +26,7 @@ walk-requires c =
 pub push_calls_met-requires : goal.push_calls_met-requires
 push_calls_met-requires c =
     let seen = c.args.program.now in
-    subst (AreMeant seen) (sym c.deref.ensures.value) (c.in_ok-walk.ensures.meant (none_meant seen c.clear.new.self.items c.clear.ensures.items))
+    subst (AreMeant seen) (sym c.deref.ensures.value) (c.in_ok-walk_body.ensures.meant (none_meant seen c.clear.new.self.items c.clear.ensures.items))
 
 pub loop-body-preserved : goal.loop-body-preserved
 loop-body-preserved c =
@@ -37,8 +37,8 @@ loop-body-preserved c =
     let Placed : BodyKept → CallAt → Type 0 = λ one. IsCalledIn seen no_caller (see_body one) in
     among_more Placed c.args.goals.now c.loop-body.body-index body (see_calls c.args.calls.now.items) calls new c.loop-body-test.true c.body-item.is
     c.loop-body.invariant
-    (body_called seen no_caller (see_body body) c.walk.new.met.items (see_mets c.clear.new.self.items) calls new (ap see_mets c.clear.ensures.items)
-    c.in_ok-walk.ensures.met (rw c.deref.ensures.value at c.in_ok-push_calls_met.ensures))
+    (body_called seen no_caller (see_body body) c.walk_body.new.met.items (see_mets c.clear.new.self.items) calls new (ap see_mets c.clear.ensures.items)
+    c.in_ok-walk_body.ensures.met (rw c.deref.ensures.value at c.in_ok-push_calls_met.ensures))
 
 pub returns : goal.returns
 returns c =
