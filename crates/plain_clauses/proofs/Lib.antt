@@ -1,8 +1,6 @@
 pub mod Examples
-pub mod PlainForms
+pub mod FormHeads
 pub mod WrittenForms
-pub mod PlainWeights
-pub mod PlainOffsets
 pub mod PlainSaid
 pub mod WholeFacts
 pub mod WholeTexts

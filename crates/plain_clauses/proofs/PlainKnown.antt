@@ -16,9 +16,8 @@ use Rattle.kept_clauses.specs.Plain.{plain}
 use Rattle.plain_clauses.specs.PlainFacts.{plain_predicate, plain_facts}
 use Rattle.plain_clauses.specs.PlainProgram.{plain_seen}
 use Rattle.plain_clauses.proofs.PlainImports.{numbers_same}
-use Rattle.plain_clauses.proofs.PlainWeights.{plain_light}
-use Rattle.plain_clauses.proofs.PlainOffsets.{plain_stands}
-use Rattle.plain_clauses.proofs.PlainWeights.{plain_light}
+use Rattle.clause_text.proofs.PlainOffsets.{plain_stands}
+use Rattle.clause_text.proofs.PlainWeights.{plain_light}
 
 -- what a plain tree keeps of its tree holds of the clauses of all plain predicates
 clauses_keep : (P : Tree → Type 0) → ((tree : Tree) → P tree → P (plain tree)) → (predicates : List Predicate) → All (λ (p : Predicate). All P p.clauses) predicates

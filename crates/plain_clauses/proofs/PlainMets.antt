@@ -15,7 +15,8 @@ use Rattle.call_edges.specs.Goals.{Met, Place, Rows, no_goals, way}
 use Rattle.call_edges.specs.Listed.{mets_in, mets_among}
 use Rattle.call_edges.proofs.GoalMets.{call_mets, met_by, goal_mets, goals_mets, body_mets}
 use Rattle.call_edges.proofs.ListedMets.{mets_are}
-use Rattle.plain_clauses.proofs.PlainForms.{rule_or_fact, fact_no_grammar}
+use Rattle.clause_text.proofs.PlainForms.{rule_or_fact}
+use Rattle.plain_clauses.proofs.FormHeads.{fact_no_grammar}
 use Rattle.plain_clauses.proofs.WrittenForms.{same_by_form}
 
 no_more : {X : Type 0} (xs : List X) → xs ≡ xs ++ []

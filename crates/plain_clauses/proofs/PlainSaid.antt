@@ -19,7 +19,8 @@ use Rattle.module_table.specs.Said.{Said, Part, Refusal, declares, loads, define
 use Rattle.module_table.proofs.DirectiveParts.{IsOfDirective, OfDirective, directive_of as directive_parts}
 use Rattle.kept_clauses.specs.Plain.{PlainClause, clause_span, plain}
 use Rattle.plain_clauses.specs.PlainFacts.{plain_predicate, plain_facts, plain_defines, plain_part, plain_said}
-use Rattle.plain_clauses.proofs.PlainForms.{directive_none, head_is, span_is}
+use Rattle.clause_text.proofs.PlainForms.{directive_none}
+use Rattle.plain_clauses.proofs.FormHeads.{head_is, span_is}
 use Rattle.plain_clauses.proofs.WrittenForms.{same_by_form}
 
 pub directive_same : (tree : Tree) → directive_of (plain tree) ≡ directive_of tree

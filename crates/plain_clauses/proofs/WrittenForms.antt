@@ -11,7 +11,7 @@ use Rattle.kept_clauses.proofs.FreeNames.{both_true, plain_free, not_negation}
 use Rattle.module_table.proofs.PlainHeads.{no_control}
 use Rattle.module_table.proofs.PlainHeads.{count_variables, named_back, named_span, named_binary, no_rule}
 use Rattle.call_edges.proofs.GoalMets.{silent_variables}
-use Rattle.plain_clauses.proofs.PlainForms.{rule_or_fact}
+use Rattle.clause_text.proofs.PlainForms.{rule_or_fact}
 
 -- goals that are read again as themselves
 

@@ -1,5 +1,6 @@
 use Rattle.plain_clauses.proofs.FormMets.{body_met, form_met, silent_unmet}
-use Rattle.plain_clauses.proofs.PlainForms.{directive_none, head_is, span_is}
+use Rattle.clause_text.proofs.PlainForms.{directive_none}
+use Rattle.plain_clauses.proofs.FormHeads.{head_is, span_is}
 use Rattle.plain_clauses.proofs.laws.plain_forms.Goals as goal
 
 pub returns-clause-directive : goal.returns-clause-directive

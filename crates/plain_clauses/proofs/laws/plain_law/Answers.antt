@@ -1,7 +1,7 @@
 use Rattle.plain_clauses.proofs.PlainMets.{plain_met}
-use Rattle.plain_clauses.proofs.PlainOffsets.{plain_stands}
+use Rattle.clause_text.proofs.PlainOffsets.{plain_stands}
 use Rattle.plain_clauses.proofs.PlainSaid.{directive_same, head_same, span_same, start_same}
-use Rattle.plain_clauses.proofs.PlainWeights.{plain_light}
+use Rattle.clause_text.proofs.PlainWeights.{plain_light}
 use Rattle.plain_clauses.proofs.WrittenForms.{form_same, plain_once}
 use Rattle.plain_clauses.proofs.laws.plain_law.Goals as goal
 
