@@ -3,7 +3,7 @@ use denote.Param.Send.{IsSync, sendable}
 use Rattle.std.proofs.Crossing.{crosses}
 use Rattle.prolog_tokens.proofs.text.Text.TheSendSync as text
 use Rattle.prolog_names.proofs.names.Names.TheSendSync as text_names
-use Rattle.prolog_terms.proofs.node_list.NodeList.TheSendSync as nodes
+use Rattle.kept_clauses.proofs.kept_list.KeptList.TheSendSync as kept_list
 use Rattle.clause_text.specs.contracts.text_clauses.Clause as of_clause
 use Rattle.module_table.proofs.indicator.Indicator.TheSendSync as indicator
 use Rattle.module_table.proofs.load.Load.TheSendSync as load
@@ -20,13 +20,13 @@ use Rattle.import_rules.specs.contracts.shared_names.SharedNames as of_exporters
 use Rattle.import_rules.specs.contracts.taken_modules.TakenModules as of_taken
 
 clause_shared : IsSync of_clause.the_field.row
-clause_shared = search (sendable, crosses, nodes.the_send, nodes.the_sync) depth 20
+clause_shared = search (sendable, crosses, kept_list.the_send, kept_list.the_sync) depth 20
 
 defined_shared : IsSync of_defined.the_field.row
 defined_shared = let clause = clause_shared in search (sendable, crosses, text.the_sync) depth 20
 
 goals_shared : IsSync of_goals.the_field.row
-goals_shared = search (sendable, crosses, nodes.the_send, nodes.the_sync) depth 20
+goals_shared = search (sendable, crosses, kept_list.the_send, kept_list.the_sync) depth 20
 
 facts_shared : IsSync of_facts.the_field.row
 facts_shared =
