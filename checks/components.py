@@ -32,7 +32,7 @@ import program
 
 ROOT = pathlib.Path(__file__).resolve().parent.parent
 # What the program doesn't have yet: options of this list have to be refused as unknown ones.
-LATER = ("--jobs", "--roots", "--loops", "--json", "--from-json")
+LATER = reference.LATER
 MOST_SECONDS = 120
 GIB = 1_073_741_824
 
@@ -99,6 +99,8 @@ ROWS = (
     ("roots", "--roots b", b"a b\nb c\n", 0, b"nodes 2 groups 2 recursive 0 levels 2\n0 plain c\n1 plain b\n", b""),
     ("two roots, one of them twice", "--roots=e --roots b --roots e", b"a b\nb c\nd\ne\n", 0, b"nodes 3 groups 3 recursive 0 levels 2\n0 plain c\n0 plain e\n1 plain b\n", b""),
     ("a root that isn't there", "--roots b --roots y --roots x", b"a b\n", 2, b"", b"components: no node y\n"),
+    ("a root that begins with a dash", "--roots=-x", b"-x a\nb\n", 0, b"nodes 2 groups 2 recursive 0 levels 2\n0 plain a\n1 plain -x\n", b""),
+    ("options end", "-- none", b"", 4, b"", b"components: cannot read none\n"),
     ("an error goes before a root", "--roots x", LONG + b"n", 3, b"", b"-:1:1: name is longer than 65536 bytes\n"),
     ("the search's order", "--order", b"a b\nb c\n", 0, b"nodes 3 groups 3 recursive 0 levels 3\n0 plain c\n1 plain b\n2 plain a\n", b""),
     ("threads", "--jobs 4", RING, 0, b"nodes 4 groups 2 recursive 1 levels 2\n0 plain d\n1 recursive a b c\n", b""),
@@ -108,7 +110,7 @@ ROWS = (
     ("a folder", "/", b"", 4, b"", b"components: cannot read /\n"),
     *((f"wrong arguments: {words}", words, b"a\n", 2, b"", USAGE) for words in (
         "--jobs", "--jobs 0", "--jobs 65", "--jobs 1x", "--jobs=", "--jobs -1", "--jobs 1 --jobs 1", "--jobs 000000000000000000001", "--roots", "--roots=",
-        "--roots -x", "--roots=-x", "--order --order", "--order=1", "--ord", "-o", "--help", "--searches 2", "f f", "- -", "-- f", "f --order", "--stream")),
+        "--roots -x", "--order --order", "--order=1", "--ord", "-o", "--help", "--searches 2", "f f", "- -", "-- f f", "--stream")),
     ("loops", "--loops", b"a b\nb c\nc a b\nd d\ne d\n", 0, b"nodes 5 groups 3 recursive 2 levels 2\n0 recursive a b c\n0 recursive d\n1 plain e\nloop a b c\nloop d\n", b""),
     ("a shortest cycle, with the least names", "--loops", b"a y b z\nb c\nc a\ny x\nx a\nz z\n", 0, b"nodes 6 groups 2 recursive 2 levels 2\n0 recursive z\n1 recursive a b c x y\nloop z\nloop a b c\n", b""),
     ("JSON", "--json", b'a b\nb a "\xc3\xa9\\\n', 0, b'{"nodes":3,"groups":2,"recursive":1,"levels":2}\n{"height":0,"recursive":false,"members":["\\"\xc3\xa9\\\\"]}\n{"height":1,"recursive":true,"members":["a","b"]}\n', b""),

@@ -36,8 +36,8 @@ class Ended(Exception):
 
 # Arguments.
 
-# The program has few of them yet.
-FEW = True
+# Those that the program doesn't have yet: it refuses them as unknown ones.
+LATER = ("--jobs", "--loops", "--json", "--from-json")
 
 
 class Wanted:
@@ -48,25 +48,15 @@ class Wanted:
 
 
 def value_of(word, rest):
-    """The value of an option: after `=` in the word, or the next word. It isn't empty, and doesn't begin with `-`."""
+    """The value of an option: after `=` in the word, or the next word. It isn't empty, and the next word doesn't begin with `-`."""
     name, equals, value = word.partition("=")
     if not equals:
         if not rest:
             raise Ended(2, usage_line())
         value = rest.pop(0)
-    if not value or value.startswith("-"):
+    if not value or not equals and value.startswith("-"):
         raise Ended(2, usage_line())
     return name, value
-
-
-def few(found, rest):
-    """What is asked for as long as `--order` is the only option: it comes first, and then a file or none."""
-    if rest[:1] == ["--order"]:
-        found.flags.add(rest.pop(0))
-    if len(rest) > 1 or rest and (not rest[0] or rest[0].startswith("-") and rest[0] != "-"):
-        raise Ended(2, usage_line())
-    found.file = rest[0].encode() if rest and rest[0] != "-" else None
-    return found
 
 
 def parsed(words):
@@ -76,8 +66,6 @@ def parsed(words):
             rest.append(word.decode())
         except UnicodeDecodeError:
             raise Ended(2, usage_line()) from None
-    if FEW:
-        return few(found, rest)
     only_files = False
     while rest:
         word = rest.pop(0)
@@ -86,6 +74,8 @@ def parsed(words):
             files.append(word)
         elif word == "--":
             only_files = True
+        elif name in LATER:
+            raise Ended(2, usage_line())
         elif name == "--roots":
             found.roots.append(value_of(word, rest)[1].encode())
         elif name == "--jobs" and name not in seen:

@@ -1,13 +1,14 @@
-# Completion of bash for prolog-components(1): options that aren't given yet, and files.
+# Completion of bash for prolog-components(1): options that may still be given, and files.
 _prolog_components() {
     local word=${COMP_WORDS[COMP_CWORD]} last=${COMP_WORDS[COMP_CWORD - 1]} it
-    local options=(--order)
+    local options=(--order --roots)
     COMPREPLY=()
+    case $last in --roots | =) return ;; esac
     [[ $word != = ]] || return 0
     local given=" ${COMP_WORDS[*]:1:COMP_CWORD-1} "
     if [[ $word == -* && $given != *" -- "* ]]; then
         for it in "${options[@]}"; do
-            [[ $it != "$word"* || $given == *" $it "* ]] || COMPREPLY+=("$it ")
+            [[ $it != "$word"* || ( $it != --roots && $given == *" $it "* ) ]] || COMPREPLY+=("$it ")
         done
         compopt -o nospace 2>/dev/null
         return 0

@@ -2,4 +2,5 @@
 # Completion of zsh for prolog-components(1): options that aren't given yet, and files.
 _arguments -S \
     '--order[groups in the order in which they were found]' \
+    '*--roots[only what this node reaches]:node:' \
     '1:text of edges:_files'

@@ -1,1 +1,3 @@
-mod Nodes
+pub mod NamedNodes
+pub mod Nodes
+pub mod OneNames

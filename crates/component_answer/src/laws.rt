@@ -6,9 +6,11 @@ ghost use Rattle.component_answer.specs.Answers.{IsTextReport};
 use component_report::one_report;
 use edge_text::one_edge_graph;
 
-/// A text has at most one report with the lines in order of height and least member.
+/// A text has at most one report on what the roots reach with the lines in order of height and least
+/// member.
 pub fn one_text_report()
-    ensures { (text bytes other : List ℕ) → IsTextReport text false bytes → IsTextReport text false other → bytes ≡ other }
+    ensures { (text : List ℕ) (roots : List (List ℕ)) (bytes other : List ℕ)
+        → IsTextReport text roots false bytes → IsTextReport text roots false other → bytes ≡ other }
 {
     one_edge_graph();
     one_report();

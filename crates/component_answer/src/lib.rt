@@ -1,11 +1,12 @@
-//! What is right to report of a text of edges: the groups of its graph, its first fault, or the limit
-//! that it is past.
+//! What is right to report of a text of edges: the groups of its graph or of what
+//! some of its nodes reach, its first fault, the limit that it is past, or a root that is no node.
 //!
 //! It knows no files and no command line.
 #![tactic(auto)]
 
 mod answer;
 mod laws;
+mod starts;
 
 pub use answer::{Answer, answer_text};
 pub use laws::one_text_report;

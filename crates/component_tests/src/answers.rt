@@ -14,7 +14,7 @@ fn report_in(answer: Answer) -> Option<Vec<u8>> {
 fn lines_are_in_order_of_heights_and_names(rt: HostRuntime) -> Result<(), Fail> {
     let alloc = rt.alloc();
     let text = b"main parse run\nparse term\r\n# a comment\n\tterm parse parse\nrun";
-    let bytes = report_in(answer_text(alloc, text, false)?).ok_or("no report")?;
+    let bytes = report_in(answer_text(alloc, text, &[], false)?).ok_or("no report")?;
     assert_eq!(rt;
         bytes.as_slice(),
         b"nodes 4 groups 3 recursive 1 levels 2\n0 recursive parse term\n0 plain run\n1 plain main\n".as_slice()
@@ -25,7 +25,7 @@ fn lines_are_in_order_of_heights_and_names(rt: HostRuntime) -> Result<(), Fail> 
 #[test]
 fn groups_come_as_they_are_found(rt: HostRuntime) -> Result<(), Fail> {
     let alloc = rt.alloc();
-    let bytes = report_in(answer_text(alloc, b"c b\nb b\na", true)?).ok_or("no report")?;
+    let bytes = report_in(answer_text(alloc, b"c b\nb b\na", &[], true)?).ok_or("no report")?;
     assert_eq!(rt;
         bytes.as_slice(),
         b"nodes 3 groups 3 recursive 1 levels 2\n0 plain a\n0 recursive b\n1 plain c\n".as_slice()
@@ -36,7 +36,7 @@ fn groups_come_as_they_are_found(rt: HostRuntime) -> Result<(), Fail> {
 #[test]
 fn an_empty_text_has_no_nodes(rt: HostRuntime) -> Result<(), Fail> {
     let alloc = rt.alloc();
-    let bytes = report_in(answer_text(alloc, b"", false)?).ok_or("no report")?;
+    let bytes = report_in(answer_text(alloc, b"", &[], false)?).ok_or("no report")?;
     assert_eq!(rt;
         bytes.as_slice(),
         b"nodes 0 groups 0 recursive 0 levels 0\n".as_slice()
@@ -45,9 +45,25 @@ fn an_empty_text_has_no_nodes(rt: HostRuntime) -> Result<(), Fail> {
 }
 
 #[test]
+fn roots_may_have_any_bytes(rt: HostRuntime) -> Result<(), Fail> {
+    let alloc = rt.alloc();
+    let roots: [&[u8]; 2] = [b"\xff", b"b"];
+    let bytes = report_in(answer_text(alloc, b"a b\n\xff\xfe\nb\n\xff b", &roots, false)?).ok_or(
+        "no report",
+    )?;
+    assert_eq!(rt;
+        bytes.as_slice(),
+        b"nodes 2 groups 2 recursive 0 levels 2\n0 plain b\n1 plain \xff\n".as_slice()
+    );
+    let missing = answer_text(alloc, b"a b", &roots, false)?;
+    assert!(rt; matches!(missing, Answer::NoNode(0)));
+    Ok(())
+}
+
+#[test]
 fn a_name_may_have_any_bytes(rt: HostRuntime) -> Result<(), Fail> {
     let alloc = rt.alloc();
-    let bytes = report_in(answer_text(alloc, b"\xff\x00 \xff", false)?).ok_or("no report")?;
+    let bytes = report_in(answer_text(alloc, b"\xff\x00 \xff", &[], false)?).ok_or("no report")?;
     assert_eq!(rt;
         bytes.as_slice(),
         b"nodes 2 groups 2 recursive 0 levels 2\n0 plain \xff\n1 plain \xff\x00\n".as_slice()

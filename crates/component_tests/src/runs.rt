@@ -18,9 +18,9 @@ type Run = (
     &'static str,
 );
 
-const USAGE: &str = "usage: components [--order] [FILE]\n";
+const USAGE: &str = "usage: components [--roots NAME].. [--order] [FILE]\n";
 
-static RUNS: [Run; 10] = [
+static RUNS: [Run; 19] = [
     (
         &[],
         "-",
@@ -56,9 +56,53 @@ static RUNS: [Run; 10] = [
     (&["f"], "-", "", 4, "", "components: cannot read f\n"),
     (&[], "f", "", 4, "", "components: cannot read -\n"),
     (&["f", "g"], "f", "", 2, "", USAGE),
-    (&["f", "--order"], "f", "", 2, "", USAGE),
+    (&["--order", "--order"], "-", "", 2, "", USAGE),
     (&["--loops"], "-", "", 2, "", USAGE),
+    (&["--roots"], "-", "", 2, "", USAGE),
+    (&["--roots", "-x"], "-", "", 2, "", USAGE),
+    (&["--roots="], "-", "", 2, "", USAGE),
     (&[""], "-", "", 2, "", USAGE),
+    (
+        &["f", "--order"],
+        "f",
+        "",
+        0,
+        "nodes 0 groups 0 recursive 0 levels 0\n",
+        "",
+    ),
+    (
+        &["--", "--order"],
+        "--order",
+        "a\n",
+        0,
+        "nodes 1 groups 1 recursive 0 levels 1\n0 plain a\n",
+        "",
+    ),
+    (
+        &["--roots", "b", "f", "--roots=-x"],
+        "f",
+        "a b\nb c\nd\n-x c\n",
+        0,
+        "nodes 3 groups 3 recursive 0 levels 2\n0 plain c\n1 plain -x\n1 plain b\n",
+        "",
+    ),
+    (
+        &["--roots", "b", "--roots", "y", "--roots", "x"],
+        "-",
+        "a b\n",
+        2,
+        "",
+        "components: no node y\n",
+    ),
+    (
+        &["--roots", "a", "--roots", "a"],
+        "-",
+        "a b\nc a\n",
+        0,
+        "nodes 2 groups 2 recursive 0 levels 2\n0 plain b\n1 plain a\n",
+        "",
+    ),
+    (&["--roots", "d"], "-", "", 2, "", "components: no node d\n"),
 ];
 
 /// The bytes that the sink has taken as text, or no text.

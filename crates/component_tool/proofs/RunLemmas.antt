@@ -5,11 +5,10 @@ use Rattle.file_library.specs.Library.{Files, map_of}
 use Rattle.import_rules.proofs.FileNames.{name_itself}
 use Rattle.tool_run.specs.Run.{IsWritten, Taking}
 use Rattle.tool_run.proofs.Writing.{TookBoth, TookSome, err_said, more_none, out_said}
-use Rattle.component_tool.specs.declared.settings.Settings.{Settings}
-use Rattle.component_tool.specs.End.{End, usage, unread, too_large, faulty, too_many_edges, too_many_nodes, output, no_memory, status_of, out_of, err_of}
+use Rattle.component_tool.specs.End.{End, usage, unread, too_large, faulty, too_many_edges, too_many_nodes, no_node, output, no_memory, status_of, out_of, err_of}
 use Rattle.component_tool.specs.Keeps.{IsStatus, RunKeeps, SaysAnswer, SaysHandedOver, SaysNoMemory}
 use Rattle.component_tool.specs.Run.{EndIs, EndsBy, IsLawfulEnd, IsReadEnd, IsRun, IsTextEnd, IsUsageEnd, PutsEnd}
-use Rattle.component_tool.specs.Settings.{AreLawful, IsUnlawful}
+use Rattle.component_words.specs.Settings.{AreLawful, IsUnlawful, Settings}
 use Rattle.component_tool.specs.Source.{Asking, answered}
 
 -- a sink failed
@@ -41,6 +40,7 @@ has_ended (too_large file) result out err written = on_err (err_of (too_large fi
 has_ended (faulty file fault) result out err written = on_err (err_of (faulty file fault)) 3 result out err written
 has_ended too_many_edges result out err written = on_err (err_of too_many_edges) 6 result out err written
 has_ended too_many_nodes result out err written = on_err (err_of too_many_nodes) 6 result out err written
+has_ended (no_node root) result out err written = on_err (err_of (no_node root)) 2 result out err written
 has_ended (output bytes) result out err written = elim (out_said bytes 0 result out err written) [
   | inl both ↦ inl both
   | inr some ↦ inr (cut_out bytes result out err some)
@@ -54,6 +54,7 @@ status_is (too_large file) = inr (inr (inr (inr (inr (inl refl)))))
 status_is (faulty file fault) = inr (inr (inl refl))
 status_is too_many_edges = inr (inr (inr (inr (inr (inl refl)))))
 status_is too_many_nodes = inr (inr (inr (inr (inr (inl refl)))))
+status_is (no_node root) = inr (inl refl)
 status_is (output bytes) = inl refl
 status_is no_memory = inr (inr (inr (inr (inr (inr refl)))))
 

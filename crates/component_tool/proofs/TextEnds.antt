@@ -2,7 +2,7 @@
 use Rattle.std.proofs.Common.{◌≡◌, ℕ, ◌+◌, ◌<◌, ◌≤◌, List, Some, length, take, ap, sym, subst, ◌∙◌, refl, inl, inr, arith, length-take}
 use Rattle.std.proofs.lemmas.List.{take_all}
 use Rattle.edge_text.specs.declared.limits.TheConstants.{MOST_BYTES}
-use Rattle.component_tool.specs.declared.settings.Settings.{Settings}
+use Rattle.component_words.specs.Settings.{Settings}
 use Rattle.component_tool.specs.declared.source.SourceRead.TheVariants.{Found}
 use Rattle.component_tool.specs.End.{End, too_large}
 use Rattle.component_tool.specs.Run.{IsAnswered, IsReadEnd, IsTextEnd}
@@ -32,7 +32,7 @@ read_large settings before after room read given past = record {
 }
 
 pub read_answered : (settings : Settings) (before after : SourceSeen) (room : List ℕ) (end : End) → SourceReadIs before settings.file room Found
-    → GivenIs before after settings.file room Found → length room ≤ MOST_BYTES → IsAnswered settings.file room settings.order end
+    → GivenIs before after settings.file room Found → length room ≤ MOST_BYTES → IsAnswered settings room end
     → IsReadEnd settings (before, after) end
 read_answered settings before after room end read given within answered = record {
   text = Some room;
@@ -43,5 +43,5 @@ read_answered settings before after room end read given within answered = record
       let found = read.1 files told in
       subst (λ text. IsTextEnd settings text end) (sym found.has)
       (inr
-      (subst (λ text. IsAnswered settings.file text settings.order end) (read_whole found.bytes room MOST_BYTES found.is within) answered));
+      (subst (λ text. IsAnswered settings text end) (read_whole found.bytes room MOST_BYTES found.is within) answered));
 }

@@ -7,7 +7,7 @@ use Rattle.tool_run.specs.Run.{Taking, TookJust, TookNone}
 use Rattle.component_tool.specs.End.{End, status_of, out_of, err_of}
 use Rattle.component_tool.specs.Lines.{program_name}
 use Rattle.component_tool.specs.Run.{IsAnswer, IsRun}
-use Rattle.component_tool.specs.Settings.{IsUnlawful}
+use Rattle.component_words.specs.Settings.{IsUnlawful}
 use Rattle.component_tool.specs.Source.{Asking}
 
 -- the sinks have taken the bytes of the right answer, and nothing else

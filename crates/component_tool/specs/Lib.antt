@@ -1,6 +1,5 @@
 pub mod Source
 pub mod MemorySource
-pub mod Settings
 pub mod Lines
 pub mod End
 pub mod Run

@@ -7,7 +7,7 @@ abbrev pub program_name : List ℕ
 program_name = codes "components"
 
 abbrev pub usage_line : List ℕ
-usage_line = codes "usage: components [--order] [FILE]\n"
+usage_line = codes "usage: components [--roots NAME].. [--order] [FILE]\n"
 
 abbrev pub large_line : List ℕ → List ℕ
 large_line file = codes "components: " ++ (file ++ codes " is larger than 1073741824 bytes\n")
@@ -25,3 +25,6 @@ edges_line = codes "components: more than 33554432 edges\n"
 
 abbrev pub nodes_line : List ℕ
 nodes_line = codes "components: more than 8388608 nodes\n"
+
+abbrev pub missing_line : List ℕ → List ℕ
+missing_line root = codes "components: no node " ++ (root ++ codes "\n")

@@ -1,14 +1,12 @@
 -- How a run ends, and what its sinks have taken.
-use Rattle.std.specs.Prelude.{◌≡◌, ℕ, ◌<◌, ◌≤◌, ◌⊎◌, Bool, List, Option, Some, None, length}
-use Rattle.edge_text.specs.declared.limits.TheConstants.{MOST_BYTES, MOST_NODES}
-use Rattle.edge_text.specs.EdgeGraph.{AreNames}
+use Rattle.std.specs.Prelude.{◌≡◌, ℕ, ◌<◌, ◌≤◌, ◌⊎◌, List, Option, Some, None, length}
+use Rattle.edge_text.specs.declared.limits.TheConstants.{MOST_BYTES}
 use Rattle.file_library.specs.Library.{Files}
 use Rattle.component_answer.specs.declared.answer.Answer.{Answer}
 use Rattle.component_answer.specs.Answers.{IsAnswer as IsTextAnswer}
 use Rattle.tool_run.specs.Run.{Taking, IsWritten}
-use Rattle.component_tool.specs.declared.settings.Settings.{Settings}
+use Rattle.component_words.specs.Settings.{AreLawful, IsUnlawful, Settings}
 use Rattle.component_tool.specs.End.{End, usage, unread, too_large, output, no_memory, status_of, err_of, end_of_answer}
-use Rattle.component_tool.specs.Settings.{AreLawful, IsUnlawful}
 use Rattle.component_tool.specs.Source.{Asking, HandedOver}
 
 -- what is right to say
@@ -19,26 +17,22 @@ pub record IsTooLarge (file text : List ℕ) (end : End) : Type 0 where
   pub is : end ≡ too_large file
 
 -- or it is answered with this
-pub record IsAnswered (file text : List ℕ) (order : Bool) (end : End) : Type 0 where
+pub record IsAnswered (settings : Settings) (text : List ℕ) (end : End) : Type 0 where
   pub within : length text ≤ MOST_BYTES
   pub answer : Answer
-  pub right : IsTextAnswer text order answer
-  pub is : end ≡ end_of_answer file answer
+  pub right : IsTextAnswer text settings.roots settings.order answer
+  pub is : end ≡ end_of_answer settings.file settings.roots answer
 
 -- of a text, or where there is none to be read
 abbrev pub IsTextEnd : Settings → Option (List ℕ) → End → Type 0
 IsTextEnd settings None end = end ≡ unread settings.file
-IsTextEnd settings (Some text) end = IsTooLarge settings.file text end ⊎ IsAnswered settings.file text settings.order end
+IsTextEnd settings (Some text) end = IsTooLarge settings.file text end ⊎ IsAnswered settings text end
 
 -- lawful words ask for what is right to say of the text that they name
 pub record IsLawfulAnswer (words : List (List ℕ)) (files : Files) (end : End) : Type 0 where
   pub settings : Settings
   pub lawful : AreLawful words settings
   pub right : IsTextEnd settings (files settings.file) end
-
--- a text is within the limit of nodes
-abbrev pub HasFewNodes : List ℕ → Type 0
-HasFewNodes text = (names : List (List ℕ)) → AreNames text names → length names ≤ MOST_NODES
 
 -- the answer to words over a map of texts
 abbrev pub IsAnswer : List (List ℕ) → Files → End → Type 0

@@ -4,8 +4,8 @@ ghost use Rattle.edge_text.specs.declared.limits.TheConstants.{MOST_BYTES};
 ghost use Rattle.file_library.specs.Notes.{noted};
 ghost use Rattle.component_tool.specs.Source.{source_seen};
 
-use crate::settings::STANDARD_INPUT;
 use crate::source::{Source, SourceRead};
+use component_words::STANDARD_INPUT;
 use edge_text::MOST_BYTES;
 use file_library::{Note, note_absent, note_found};
 use prolog_tokens::Text;

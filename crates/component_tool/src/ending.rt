@@ -9,7 +9,7 @@ ghost use Rattle.component_tool.specs.End.{end_of, end_of_stop, err_of, status_o
 ghost use Rattle.component_tool.specs.Lines.{program_name};
 ghost use Rattle.component_tool.specs.Run.{PutsEnd};
 
-use crate::lines::{EDGES, MEMORY, NODES, PROGRAM, fault_line, large_line};
+use crate::lines::{EDGES, MEMORY, NODES, PROGRAM, fault_line, large_line, missing_line};
 use crate::stop::Stop;
 use prolog_tokens::Text;
 use std::alloc::{AllocError, Global};
@@ -38,6 +38,7 @@ fn say_stop<S: Sink>(alloc: Global, file: &Text, stop: Stop, sink: &mut S) -> u8
         Stop::Fault(fault) => say_line(sink, fault_line(alloc, file, fault), 3),
         Stop::TooManyEdges => say_with(sink, EDGES.as_bytes(), 6),
         Stop::TooManyNodes => say_with(sink, NODES.as_bytes(), 6),
+        Stop::NoNode(root) => say_line(sink, missing_line(alloc, &root), 2),
         Stop::NoMemory => say_with(sink, MEMORY.as_bytes(), 7),
     }
 }

@@ -6,7 +6,8 @@
 //! - that the text can't be read, or is too large;
 //! - the place of the first name that is too long;
 //! - the limit of edges or of nodes, if the text is past it;
-//! - the report: the groups, callees first.
+//! - the first root in the arguments that is no node;
+//! - the report: the groups, callees first; if there are roots, of what these reach.
 //!
 //! For standard input with the text `p q` on one line and `q p` on the next the report is
 //!
@@ -27,14 +28,12 @@ mod laws;
 mod lines;
 mod memory_source;
 mod run;
-mod settings;
 mod source;
 mod stop;
 mod telling;
 
 pub use disk_source::DiskSource;
-pub use laws::{one_answer, one_setting};
+pub use laws::one_answer;
 pub use memory_source::MemorySource;
 pub use run::run_components;
-pub use settings::{Settings, parse_words};
 pub use source::{Source, SourceRead};

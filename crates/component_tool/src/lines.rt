@@ -3,7 +3,7 @@
 ghost use Rattle.std.specs.Prelude.{◌≡◌, ◌++◌, IfOk, OnOk};
 ghost use Rattle.std.specs.Fmt.{decimal};
 ghost use Rattle.std.specs.String.{string_bytes};
-ghost use Rattle.component_tool.specs.Lines.{fault_line, large_line, place_text};
+ghost use Rattle.component_tool.specs.Lines.{fault_line, large_line, missing_line, place_text};
 
 use edge_text::Fault;
 use prolog_tokens::Text;
@@ -12,7 +12,7 @@ use std::alloc::{AllocError, Global};
 /// The name that lines begin with.
 pub const PROGRAM: &str = "components";
 /// The line that lists the arguments.
-pub const USAGE: &str = "usage: components [--order] [FILE]\n";
+pub const USAGE: &str = "usage: components [--roots NAME].. [--order] [FILE]\n";
 /// The line that reports that memory ran out.
 pub const MEMORY: &str = "components: out of memory\n";
 /// The line that reports too many edges.
@@ -55,5 +55,15 @@ pub fn large_line(alloc: Global, file: &Text) -> Result<String, AllocError>
     let mut text = String::from_str(alloc, "components: ")?;
     text.push_str(file.as_str())?;
     text.push_str(" is larger than 1073741824 bytes\n")?;
+    Ok(text)
+}
+
+/// The line that reports a root that is no node.
+pub fn missing_line(alloc: Global, root: &Text) -> Result<String, AllocError>
+    ensures { IfOk result (λ text. string_bytes text ≡ missing_line root.now) }
+{
+    let mut text = String::from_str(alloc, "components: no node ")?;
+    text.push_str(root.as_str())?;
+    text.push_str("\n")?;
     Ok(text)
 }

@@ -2,15 +2,15 @@
 
 ghost use Rattle.component_tool.specs.Keeps.{RunKeeps};
 ghost use Rattle.component_tool.specs.Run.{IsRun};
-ghost use Rattle.component_tool.specs.Settings.{AreLawful};
+ghost use Rattle.component_words.specs.Settings.{AreLawful, see_settings};
 ghost use Rattle.tool_run.specs.Keeps.{LeavesOther};
 ghost use Rattle.std.specs.Prelude.{ℕ, List};
 
 use crate::ending::put_end;
 use crate::lines::{MEMORY, USAGE};
-use crate::settings::{Settings, parse_words};
 use crate::source::Source;
 use crate::telling::tell;
+use component_words::{Settings, parse_words};
 use prolog_tokens::Text;
 use std::alloc::Global;
 use tool_run::{Sink, say_with};
@@ -23,7 +23,7 @@ fn run_settings<S: Source, O: Sink, E: Sink>(
     out: &mut O,
     err: &mut E,
 ) -> u8
-    ensures run { (words : List (List ℕ)) → AreLawful words settings.now
+    ensures run { (words : List (List ℕ)) → AreLawful words (see_settings settings.now)
         → IsRun words (S.seen source.old, S.seen source.new) (O.seen out.old, O.seen out.new) (E.seen err.old, E.seen err.new) result }
     ensures left { LeavesOther (out.old, out.new) (err.old, err.new) result }
 {
@@ -35,7 +35,7 @@ fn run_settings<S: Source, O: Sink, E: Sink>(
 /// why there is none. Returns the exit status:
 ///
 /// - 0: the report is written;
-/// - 2: the arguments aren't valid;
+/// - 2: the arguments aren't valid, or a root is no node of the graph;
 /// - 3: a name in the text is too long;
 /// - 4: the text can't be read;
 /// - 5: a sink failed;

@@ -3,10 +3,11 @@
 ghost use Rattle.std.specs.Prelude.{◌≡◌};
 
 use edge_text::Fault;
+use prolog_tokens::Text;
 use std::alloc::AllocError;
 
 /// Why a text has no report.
-#[derive(Clone, Copy, Drop)]
+#[derive(Drop)]
 pub enum Stop {
     /// It can't be read.
     Unread,
@@ -16,6 +17,8 @@ pub enum Stop {
     Fault(Fault),
     TooManyEdges,
     TooManyNodes,
+    /// The root of that name is no node.
+    NoNode(Text),
     NoMemory,
 }
 

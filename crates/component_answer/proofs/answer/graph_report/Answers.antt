@@ -1,54 +1,39 @@
-use Rattle.std.proofs.Common.{◌≡◌, ℕ, ◌<◌, true, false, List, length, All, sym, subst, ◌∙◌}
-use Rattle.std.specs.List.{range_with_len}
-use Rattle.std.proofs.lemmas.List.{length-map}
+use Rattle.std.proofs.Common.{true, false, length, sym, subst}
 use Rattle.graph_law.specs.Graph.{Calls, lists_of}
-use Rattle.graph_law.specs.LegalOrder.{IsComplete, IsLegalOrder}
-use Rattle.graph_law.specs.Reach.{IsReached}
+use Rattle.graph_law.specs.LegalOrder.{IsLegalOrder}
 use Rattle.graph_law.specs.Classes.{HasMember}
 use Rattle.group_release.specs.Level.{AreLevels}
 use Rattle.byte_names.specs.Names.{names_of}
 use Rattle.component_report.specs.Reportable.{AreLeveled, AreReportable}
-use Rattle.component_answer.specs.Answers.{IsGraphReport, IsReportBy}
-use Rattle.component_answer.proofs.Nodes.{members_are_nodes, reportable, starts_within}
+use Rattle.component_answer.specs.Answers.{IsReachReport, IsReportBy}
+use Rattle.component_answer.proofs.Nodes.{members_are_nodes, reportable}
 use Rattle.component_answer.proofs.answer.graph_report.Goals as goal
-use denote.Ref.{Bor}
-
-pub groups_plain-requires-after_bounds : goal.groups_plain-requires-after_bounds
-groups_plain-requires-after_bounds c κs =
-    let lists = c.args.graph.now in
-    let given : c.deref.result.now ≡ range_with_len 0 c.count.result = c.deref.ensures.value ∙ c.in_ok-roots.ensures in
-    subst (All (λ root. root < length lists)) (sym given) (starts_within lists c.count.result c.count.ensures.count)
 
 pub levels-requires-clause-legal : goal.levels-requires-clause-legal
 levels-requires-clause-legal c κs =
-    subst (λ gs. IsLegalOrder (Calls c.args.graph.now) (lists_of gs)) (sym c.deref-2.ensures.value) c.in_ok-groups.ensures.legal
+    subst (λ gs. IsLegalOrder (Calls c.args.graph.now) (lists_of gs)) (sym c.deref.ensures.value) c.in_ok-groups.ensures.legal
 
 pub levels-requires-clause-nodes : goal.levels-requires-clause-nodes
 levels-requires-clause-nodes c κs p has =
-    let lists = c.args.graph.now in
-    let given : c.deref.result.now ≡ range_with_len 0 c.count.result = c.deref.ensures.value ∙ c.in_ok-roots.ensures in
-    members_are_nodes lists c.deref.result.now (lists_of c.in_ok-groups.groups.items) c.count.ensures.closed
-    (subst (All (λ root. root < length lists)) (sym given) (starts_within lists c.count.result c.count.ensures.count)) c.in_ok-groups.ensures.reached p
-    (subst (λ gs. HasMember (lists_of gs) p) c.deref-2.ensures.value has)
+    members_are_nodes c.args.graph.now c.args.starts.now (lists_of c.in_ok-groups.groups.items) c.count-count.ensures.closed c.requires.within
+    c.in_ok-groups.ensures.reached p (subst (λ gs. HasMember (lists_of gs) p) c.deref.ensures.value has)
 
 pub order_report-requires : goal.order_report-requires
 order_report-requires c =
     let lists = c.args.graph.now in
-    let count = c.count.result in
-    let starts = range_with_len 0 count in
+    let starts = c.args.starts.now in
     let groups = lists_of c.in_ok-groups.groups.items in
     let levels = c.in_ok-marks.marks.items in
-    let given : c.deref.result.now ≡ starts = c.deref.ensures.value ∙ c.in_ok-roots.ensures in
     let leveled : AreLeveled (Calls lists) starts groups levels = record {
       are = record {
         legal = c.in_ok-groups.ensures.legal;
-        complete = subst (λ roots. IsComplete roots groups) given c.in_ok-groups.ensures.complete;
-        reached = λ p has. subst (λ roots. IsReached (Calls lists) roots p) given (c.in_ok-groups.ensures.reached p has);
+        complete = c.in_ok-groups.ensures.complete;
+        reached = c.in_ok-groups.ensures.reached;
       };
-      leveled = subst (λ gs. AreLevels (Calls lists) (lists_of gs) levels) c.deref-2.ensures.value c.in_ok-marks.ensures;
+      leveled = subst (λ gs. AreLevels (Calls lists) (lists_of gs) levels) c.deref.ensures.value c.in_ok-marks.ensures;
     } in
     let can : AreReportable (length c.args.names.now) groups levels =
-    reportable lists starts groups levels (length c.args.names.now) c.count.ensures.closed (starts_within lists count c.count.ensures.count) leveled
+    reportable lists starts groups levels (length c.args.names.now) c.count-count.ensures.closed c.requires.within leveled
     c.requires.each in
     record {
       few = c.requires.few;
@@ -60,83 +45,73 @@ order_report-requires c =
 pub report-requires : goal.report-requires
 report-requires c =
     let lists = c.args.graph.now in
-    let count = c.count.result in
-    let starts = range_with_len 0 count in
+    let starts = c.args.starts.now in
     let groups = lists_of c.in_ok-groups.groups.items in
     let levels = c.in_ok-marks.marks.items in
-    let given : c.deref.result.now ≡ starts = c.deref.ensures.value ∙ c.in_ok-roots.ensures in
     let leveled : AreLeveled (Calls lists) starts groups levels = record {
       are = record {
         legal = c.in_ok-groups.ensures.legal;
-        complete = subst (λ roots. IsComplete roots groups) given c.in_ok-groups.ensures.complete;
-        reached = λ p has. subst (λ roots. IsReached (Calls lists) roots p) given (c.in_ok-groups.ensures.reached p has);
+        complete = c.in_ok-groups.ensures.complete;
+        reached = c.in_ok-groups.ensures.reached;
       };
-      leveled = subst (λ gs. AreLevels (Calls lists) (lists_of gs) levels) c.deref-2.ensures.value c.in_ok-marks.ensures;
+      leveled = subst (λ gs. AreLevels (Calls lists) (lists_of gs) levels) c.deref.ensures.value c.in_ok-marks.ensures;
     } in
     let can : AreReportable (length c.args.names.now) groups levels =
-    reportable lists starts groups levels (length c.args.names.now) c.count.ensures.closed (starts_within lists count c.count.ensures.count) leveled
+    reportable lists starts groups levels (length c.args.names.now) c.count-count.ensures.closed c.requires.within leveled
     c.requires.each in
     record {
       few = c.requires.few;
       groups =
-          subst (λ gs. AreReportable (length c.args.names.now) (lists_of gs) c.deref-4.result.now) (sym c.deref-3.ensures.value)
-          (subst (AreReportable (length c.args.names.now) groups) (sym c.deref-4.ensures.value) can);
+          subst (λ gs. AreReportable (length c.args.names.now) (lists_of gs) c.deref-3.result.now) (sym c.deref-2.ensures.value)
+          (subst (AreReportable (length c.args.names.now) groups) (sym c.deref-3.ensures.value) can);
     }
 
 pub returns-then-order : goal.returns-then-order
 returns-then-order c =
     let lists = c.args.graph.now in
-    let count = c.count.result in
-    let starts = range_with_len 0 count in
+    let starts = c.args.starts.now in
     let groups = lists_of c.in_ok-groups.groups.items in
     let levels = c.in_ok-marks.marks.items in
-    let given : c.deref.result.now ≡ starts = c.deref.ensures.value ∙ c.in_ok-roots.ensures in
     let leveled : AreLeveled (Calls lists) starts groups levels = record {
       are = record {
         legal = c.in_ok-groups.ensures.legal;
-        complete = subst (λ roots. IsComplete roots groups) given c.in_ok-groups.ensures.complete;
-        reached = λ p has. subst (λ roots. IsReached (Calls lists) roots p) given (c.in_ok-groups.ensures.reached p has);
+        complete = c.in_ok-groups.ensures.complete;
+        reached = c.in_ok-groups.ensures.reached;
       };
-      leveled = subst (λ gs. AreLevels (Calls lists) (lists_of gs) levels) c.deref-2.ensures.value c.in_ok-marks.ensures;
+      leveled = subst (λ gs. AreLevels (Calls lists) (lists_of gs) levels) c.deref.ensures.value c.in_ok-marks.ensures;
     } in
-    let all : count ≡ length (names_of c.args.names.now) =
-    c.count.ensures.count ∙ c.requires.each ∙ sym (length-map c.args.names.now (λ (name : Bor (List ℕ)). name.now)) in
     let report : IsReportBy true (names_of c.args.names.now) groups levels c.in_ok-bytes.bytes.items =
     subst (λ gs. IsReportBy true (names_of c.args.names.now) (lists_of gs) levels c.in_ok-bytes.bytes.items) c.deref-then-order.ensures.value
     (subst (λ ms. IsReportBy true (names_of c.args.names.now) (lists_of c.deref-then-order.result.now) ms c.in_ok-bytes.bytes.items) c.deref-then-order-2.ensures.value c.in_ok-bytes.ensures) in
-    subst (λ o. IsGraphReport (names_of c.args.names.now) lists o c.in_ok-bytes.bytes.items) (sym c.if-order.true)
+    subst (λ o. IsReachReport (names_of c.args.names.now) lists starts o c.in_ok-bytes.bytes.items) (sym c.if-order.true)
     (record {
       groups = groups;
       levels = levels;
-      leveled = subst (λ n. AreLeveled (Calls lists) (range_with_len 0 n) groups levels) all leveled;
+      leveled = leveled;
       report = report;
     })
 
 pub returns : goal.returns
 returns c =
     let lists = c.args.graph.now in
-    let count = c.count.result in
-    let starts = range_with_len 0 count in
+    let starts = c.args.starts.now in
     let groups = lists_of c.in_ok-groups.groups.items in
     let levels = c.in_ok-marks.marks.items in
-    let given : c.deref.result.now ≡ starts = c.deref.ensures.value ∙ c.in_ok-roots.ensures in
     let leveled : AreLeveled (Calls lists) starts groups levels = record {
       are = record {
         legal = c.in_ok-groups.ensures.legal;
-        complete = subst (λ roots. IsComplete roots groups) given c.in_ok-groups.ensures.complete;
-        reached = λ p has. subst (λ roots. IsReached (Calls lists) roots p) given (c.in_ok-groups.ensures.reached p has);
+        complete = c.in_ok-groups.ensures.complete;
+        reached = c.in_ok-groups.ensures.reached;
       };
-      leveled = subst (λ gs. AreLevels (Calls lists) (lists_of gs) levels) c.deref-2.ensures.value c.in_ok-marks.ensures;
+      leveled = subst (λ gs. AreLevels (Calls lists) (lists_of gs) levels) c.deref.ensures.value c.in_ok-marks.ensures;
     } in
-    let all : count ≡ length (names_of c.args.names.now) =
-    c.count.ensures.count ∙ c.requires.each ∙ sym (length-map c.args.names.now (λ (name : Bor (List ℕ)). name.now)) in
     let report : IsReportBy false (names_of c.args.names.now) groups levels c.in_ok-bytes-2.bytes.items =
-    subst (λ gs. IsReportBy false (names_of c.args.names.now) (lists_of gs) levels c.in_ok-bytes-2.bytes.items) c.deref-3.ensures.value
-    (subst (λ ms. IsReportBy false (names_of c.args.names.now) (lists_of c.deref-3.result.now) ms c.in_ok-bytes-2.bytes.items) c.deref-4.ensures.value c.in_ok-bytes-2.ensures) in
-    subst (λ o. IsGraphReport (names_of c.args.names.now) lists o c.in_ok-bytes-2.bytes.items) (sym c.if-order.false)
+    subst (λ gs. IsReportBy false (names_of c.args.names.now) (lists_of gs) levels c.in_ok-bytes-2.bytes.items) c.deref-2.ensures.value
+    (subst (λ ms. IsReportBy false (names_of c.args.names.now) (lists_of c.deref-2.result.now) ms c.in_ok-bytes-2.bytes.items) c.deref-3.ensures.value c.in_ok-bytes-2.ensures) in
+    subst (λ o. IsReachReport (names_of c.args.names.now) lists starts o c.in_ok-bytes-2.bytes.items) (sym c.if-order.false)
     (record {
       groups = groups;
       levels = levels;
-      leveled = subst (λ n. AreLeveled (Calls lists) (range_with_len 0 n) groups levels) all leveled;
+      leveled = leveled;
       report = report;
     })

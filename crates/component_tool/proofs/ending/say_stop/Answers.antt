@@ -3,7 +3,7 @@ use Rattle.std.specs.String.{string_bytes}
 use Rattle.tool_run.specs.Lines.{memory_line, unread_line}
 use Rattle.tool_run.specs.Run.{Taking, SaidWith}
 use Rattle.tool_run.proofs.Writing.{lines_or_wanting}
-use Rattle.component_tool.specs.Lines.{program_name, large_line}
+use Rattle.component_tool.specs.Lines.{program_name, large_line, missing_line}
 use Rattle.component_tool.proofs.ending.say_stop.Goals as goal
 
 pub returns-in-Unread : goal.returns-in-Unread
@@ -28,3 +28,10 @@ returns-in-TooManyNodes g c = rw c.in-TooManyNodes.is (inl (rw c.as_bytes-in-Too
 
 pub returns-in-NoMemory : goal.returns-in-NoMemory
 returns-in-NoMemory g c = rw c.in-NoMemory.is (inl (rw c.as_bytes-in-NoMemory.ensures.value at c.say_with-in-NoMemory.ensures))
+
+pub returns-in-NoNode : goal.returns-in-NoNode
+returns-in-NoNode g c =
+    let taking : Taking = (g.S.Sink.seen c.args.sink.now, g.S.Sink.seen c.say_line-in-NoNode.new.sink) in
+    rw c.in-NoNode.is
+    (lines_or_wanting c.missing_line.result string_bytes (missing_line c.in-NoNode.root) (λ bytes. SaidWith bytes 2 c.say_line-in-NoNode.result taking)
+    (SaidWith (memory_line program_name) 7 c.say_line-in-NoNode.result taking) c.missing_line.ensures c.say_line-in-NoNode.ensures)

@@ -1,0 +1,4 @@
+pub mod FirstParts
+pub mod GoesOn
+pub mod Once
+pub mod Taken

@@ -1,0 +1,3 @@
+pub mod Continue
+pub mod Settings
+pub mod Words

@@ -1,0 +1,82 @@
+-- The parts that words of a command line spell.
+use Rattle.std.specs.Prelude.{◌≡◌, ℕ, ◌==◌, Bool, true, false, not, List, [], ◌∷◌, ◌++◌, Option, Some, None, codes}
+use Rattle.std.specs.List.{list_any}
+use Rattle.std.specs.Str.{bytes_eq}
+use Rattle.component_words.specs.declared.flag.Flag.{Flag}
+use Rattle.component_words.specs.declared.flag.Flag.TheVariants.{Order}
+
+abbrev pub flag_word : Flag → List ℕ
+flag_word Order = codes "--order"
+
+abbrev pub same_flag : Flag → Flag → Bool
+same_flag a b = bytes_eq (flag_word a) (flag_word b)
+
+-- the flag is among these
+abbrev pub is_given : List Flag → Flag → Bool
+is_given flags flag = list_any (λ other. same_flag other flag) flags
+
+abbrev pub is_filled : List ℕ → Bool
+is_filled [] = false
+is_filled (b ∷ more) = true
+
+-- not empty, and not with a `-` first
+abbrev pub is_plain : List ℕ → Bool
+is_plain [] = false
+is_plain (b ∷ more) = not (b == 45)
+
+-- a file, or `-` for standard input
+abbrev pub is_operand : List ℕ → Bool
+is_operand [] = false
+is_operand (b ∷ []) = true
+is_operand (b ∷ c ∷ more) = not (b == 45)
+
+abbrev pub ends_word : List ℕ
+ends_word = codes "--"
+
+abbrev pub roots_word : List ℕ
+roots_word = codes "--roots"
+
+-- the name of a root in one word with the option
+abbrev pub joined_word : List ℕ → List ℕ
+joined_word name = codes "--roots=" ++ name
+
+-- the words that belong together: an operand; an option without a value; `--roots` with the name in the next word, or behind `=`
+pub data Part : Type 0 where
+  operand : List ℕ → Part
+  flag : Flag → Part
+  apart : List ℕ → Part
+  joined : List ℕ → Part
+
+abbrev pub part_words : Part → List (List ℕ)
+part_words (operand word) = word ∷ []
+part_words (flag own) = flag_word own ∷ []
+part_words (apart name) = roots_word ∷ name ∷ []
+part_words (joined name) = joined_word name ∷ []
+
+abbrev pub IsPart : Part → Type 0
+IsPart (operand word) = is_operand word ≡ true
+IsPart (flag own) = Unit {0}
+IsPart (apart name) = is_plain name ≡ true
+IsPart (joined name) = is_filled name ≡ true
+
+-- the `--` with the words behind it, where there is one
+abbrev pub rest_words : Option (List (List ℕ)) → List (List ℕ)
+rest_words None = []
+rest_words (Some words) = ends_word ∷ words
+
+abbrev pub rest_files : Option (List (List ℕ)) → List (List ℕ)
+rest_files None = []
+rest_files (Some words) = words
+
+abbrev pub part_flags : Part → List Flag
+part_flags (flag own) = own ∷ []
+part_flags part = []
+
+abbrev pub part_roots : Part → List (List ℕ)
+part_roots (apart name) = name ∷ []
+part_roots (joined name) = name ∷ []
+part_roots part = []
+
+abbrev pub part_files : Part → List (List ℕ)
+part_files (operand word) = word ∷ []
+part_files part = []

@@ -1,0 +1,16 @@
+use prolog_tokens::Text;
+
+/// The name of standard input.
+pub const STANDARD_INPUT: &str = "-";
+
+/// What valid arguments set.
+#[derive(Drop)]
+pub struct Settings {
+    /// Whether groups are reported in the order in which the search finds them.
+    pub order: bool,
+    /// The names of the nodes whose reach is reported, in the order of the arguments. If there is
+    /// none, all nodes are.
+    pub roots: Vec<Text>,
+    /// The name of the text that is read: a file, or `-` for standard input.
+    pub file: Text,
+}
