@@ -37,7 +37,7 @@ class Ended(Exception):
 # Arguments.
 
 # Those that the program doesn't have yet: it refuses them as unknown ones.
-LATER = ("--jobs", "--loops", "--json", "--from-json")
+LATER = ("--jobs", "--loops", "--from-json")
 
 
 class Wanted:
@@ -136,12 +136,10 @@ def lines_of_text(text, file, wanted):
         if line.startswith(b"#"):
             continue
         words = line.split()
-        if any(len(word) > MOST_NAME for word in words) or ("--json" in wanted.flags and not is_utf8(line)):
+        if any(len(word) > MOST_NAME for word in words):
             for word in re.finditer(rb"[^ \t\v\f\r]+", line):
                 if len(word[0]) > MOST_NAME:
                     raise fault(file, number, word.start() + 1, b"name is longer than %d bytes" % MOST_NAME)
-                if "--json" in wanted.flags and not is_utf8(word[0]):
-                    raise fault(file, number, word.start() + 1, b"name is not UTF-8")
         if words:
             yield words
 
@@ -276,16 +274,26 @@ def text_lines(names, groups, levels, cycles, order):
         yield b"loop " + b" ".join(names[it] for it in cycle) + b"\n"
 
 
+def as_json(value):
+    """A string with no escapes but those of `"`, `\\` and control characters, a list, a number or a truth."""
+    if isinstance(value, str):
+        return '"' + "".join(f"\\u{ord(it):04x}" if it < " " else "\\" + it if it in '"\\' else it for it in value) + '"'
+    if isinstance(value, list):
+        return "[" + ",".join(map(as_json, value)) + "]"
+    return str(value).lower()
+
+
 def json_lines(names, groups, levels, cycles, order):
     def line(**members):
-        return json.dumps(members, ensure_ascii=False, separators=(",", ":")).encode() + b"\n"
+        return ("{" + ",".join(f'"{key}":{as_json(value)}' for key, value in members.items()) + "}\n").encode()
 
+    shown = lambda name: name.decode() if is_utf8(name) else list(name)
     yield line(nodes=sum(map(len, groups)), groups=len(groups), recursive=sum(it for _, it in levels), levels=max((it + 1 for it, _ in levels), default=0))
-    for at in order:
+    for number, at in enumerate(order):
         height, recursive = levels[at]
-        yield line(height=height, recursive=recursive, members=[names[it].decode() for it in groups[at]])
+        yield line(id=number, height=height, recursive=recursive, members=[shown(names[it]) for it in groups[at]])
     for cycle in cycles:
-        yield line(loop=[names[it].decode() for it in cycle])
+        yield line(loop=[shown(names[it]) for it in cycle])
 
 
 def report(names, callees, wanted):

@@ -2,6 +2,7 @@
 
 ghost use Rattle.std.specs.Prelude.{◌≡◌, ℕ, List, false};
 ghost use Rattle.component_answer.specs.Answers.{IsTextReport};
+ghost use Rattle.component_answer.specs.declared.answer.Wanted.{Wanted};
 
 use component_report::one_report;
 use edge_text::one_edge_graph;
@@ -9,8 +10,8 @@ use edge_text::one_edge_graph;
 /// A text has at most one report on what the roots reach with the lines in order of height and least
 /// member.
 pub fn one_text_report()
-    ensures { (text : List ℕ) (roots : List (List ℕ)) (bytes other : List ℕ)
-        → IsTextReport text roots false bytes → IsTextReport text roots false other → bytes ≡ other }
+    ensures { (text : List ℕ) (roots : List (List ℕ)) (wanted : Wanted) (bytes other : List ℕ) → wanted.order ≡ false
+        → IsTextReport text roots wanted bytes → IsTextReport text roots wanted other → bytes ≡ other }
 {
     one_edge_graph();
     one_report();

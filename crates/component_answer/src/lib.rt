@@ -8,5 +8,6 @@ mod answer;
 mod laws;
 mod starts;
 
-pub use answer::{Answer, answer_text};
+pub use answer::{Answer, Wanted, answer_text};
+pub use component_report::Form;
 pub use laws::one_text_report;

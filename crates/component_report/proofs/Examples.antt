@@ -1,7 +1,11 @@
 -- What reports of small graphs are.
 use Rattle.std.proofs.Common.{◌≡◌, ℕ, true, false, List, [], ◌∷◌, ◌++◌, codes, refl}
 use Rattle.std.specs.Fmt.{digits}
+use Rattle.std.specs.Str.{chars, is_utf8}
+use lib.Utf8.{encode}
 use Rattle.group_release.specs.declared.level.Level.{Level}
+use Rattle.component_report.specs.declared.form.Form.TheVariants.{Lines, Json}
+use Rattle.component_report.specs.JsonLines.{json_group}
 use Rattle.component_report.specs.Report.{group_line, head_line, height_count, order_report, report_in}
 
 abbrev plain : ℕ → Level
@@ -12,7 +16,7 @@ ring height = record { height = height; recursive = true }
 
 -- no group
 
-empty : order_report [] [] [] ≡ codes "nodes 0 groups 0 recursive 0 levels 0\n"
+empty : order_report Lines [] [] [] ≡ codes "nodes 0 groups 0 recursive 0 levels 0\n"
 unfolding digits
 empty = refl
 
@@ -40,7 +44,21 @@ head = refl
 abbrev names : List (List ℕ)
 names = codes "a" ∷ codes "b" ∷ []
 
-turned_round : report_in names ((1 ∷ []) ∷ (0 ∷ []) ∷ []) (plain 0 ∷ plain 1 ∷ []) (1 ∷ 0 ∷ [])
+turned_round : report_in Lines names ((1 ∷ []) ∷ (0 ∷ []) ∷ []) (plain 0 ∷ plain 1 ∷ []) (1 ∷ 0 ∷ [])
     ≡ codes "nodes 2 groups 2 recursive 0 levels 2\n1 plain a\n0 plain b\n"
 unfolding digits
 turned_round = refl
+
+-- the same in JSON, where lines are numbered
+
+json_turned_round : report_in Json names ((1 ∷ []) ∷ (0 ∷ []) ∷ []) (plain 0 ∷ plain 1 ∷ []) (1 ∷ 0 ∷ [])
+    ≡ codes "{\"nodes\":2,\"groups\":2,\"recursive\":0,\"levels\":2}\n{\"id\":0,\"height\":1,\"recursive\":false,\"members\":[\"a\"]}\n{\"id\":1,\"height\":0,\"recursive\":false,\"members\":[\"b\"]}\n"
+unfolding digits is_utf8 chars encode
+json_turned_round = refl
+
+-- quotes and control characters are escapes, and a name that isn't UTF-8 is a list
+
+json_odd : json_group ((34 ∷ 10 ∷ []) ∷ (255 ∷ 7 ∷ []) ∷ []) 3 (0 ∷ 1 ∷ []) (ring 2)
+    ≡ codes "{\"id\":3,\"height\":2,\"recursive\":true,\"members\":[\"\\\"\\u000a\",[255,7]]}\n"
+unfolding digits is_utf8 chars encode
+json_odd = refl

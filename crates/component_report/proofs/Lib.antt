@@ -3,5 +3,7 @@ mod LineOrder
 mod OneHead
 mod OneLine
 mod OneReport
+mod NumberedLines
 mod Printable
+mod PutFive
 mod Ranges

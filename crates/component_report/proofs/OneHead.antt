@@ -9,6 +9,7 @@ use Rattle.std.proofs.lemmas.List.Sums.{sum_by-cons, sum_by-append}
 use Rattle.group_release.specs.declared.level.Level.{Level}
 use Rattle.group_release.specs.Level.{level_at}
 use Rattle.list_laws.proofs.OneOrder.{nothing_in, first_or_rest, in_first, in_rest, before_rest, rest_in_order, range_has, sum_by-map, sum_by_places, most_upto, most_each}
+use Rattle.component_report.specs.JsonLines.{json_head}
 use Rattle.component_report.specs.Reportable.{AreGroups, AreLeveled}
 use Rattle.component_report.specs.Report.{head_line, height_count}
 use Rattle.component_report.proofs.Printable.{one_each}
@@ -140,13 +141,36 @@ head_of predicates groups recursive levels =
     ++ (codes " recursive " ++ decimal recursive)
     ++ (codes " levels " ++ decimal levels) ++ codes "\n"
 
-pub same_head : {calls : ℕ → ℕ → Type 0} {starts : List ℕ} {groups others : List (List ℕ)} {levels marks : List Level} → AreLeveled calls starts groups levels
-    → AreLeveled calls starts others marks → head_line groups levels ≡ head_line others marks
-same_head {calls} {starts} {groups} {others} {levels} {marks} a b =
+abbrev json_of : ℕ → ℕ → ℕ → ℕ → List ℕ
+json_of nodes groups recursive levels =
+    (codes "{\"nodes\":" ++ decimal nodes) ++ (codes ",\"groups\":" ++ decimal groups)
+    ++ (codes ",\"recursive\":" ++ decimal recursive)
+    ++ (codes ",\"levels\":" ++ decimal levels) ++ codes "}\n"
+
+-- the four numbers are the same
+record AreAlike (groups others : List (List ℕ)) (levels marks : List Level) : Type 0 where
+  size : sum_by length groups ≡ sum_by length others
+  many : length groups ≡ length others
+  recursive : count_by (λ (level : Level). level.recursive) levels ≡ count_by (λ (level : Level). level.recursive) marks
+  heights : height_count levels ≡ height_count marks
+
+are_alike : {calls : ℕ → ℕ → Type 0} {starts : List ℕ} {groups others : List (List ℕ)} {levels marks : List Level} → AreLeveled calls starts groups levels
+    → AreLeveled calls starts others marks → AreAlike groups others levels marks
+are_alike {calls} {starts} {groups} {others} {levels} {marks} a b =
     let size : sum_by length groups ≡ sum_by length others = sizes groups levels ∙ (line_sums line_size a b ∙ sym (sizes others marks)) in
     let many : length groups ≡ length others =
     omega (arith, line_sums line_one a b, sum_ones (all_lines groups levels), sum_ones (all_lines others marks), how_many groups levels, how_many others marks) in
     let recursive : count_by (λ (level : Level). level.recursive) levels ≡ count_by (λ (level : Level). level.recursive) marks =
     marked groups levels (one_each a.leveled) ∙ (line_sums line_mark a b ∙ sym (marked others marks (one_each b.leveled))) in
     let heights : height_count levels ≡ height_count marks = omega (arith, counts_le a b, counts_le b a) in
-    λ i. head_of (size i) (many i) (recursive i) (heights i)
+    record { size = size; many = many; recursive = recursive; heights = heights }
+
+pub same_head : {calls : ℕ → ℕ → Type 0} {starts : List ℕ} {groups others : List (List ℕ)} {levels marks : List Level} → AreLeveled calls starts groups levels
+    → AreLeveled calls starts others marks → head_line groups levels ≡ head_line others marks
+same_head {calls} {starts} {groups} {others} {levels} {marks} a b =
+    let alike = are_alike a b in λ i. head_of (alike.size i) (alike.many i) (alike.recursive i) (alike.heights i)
+
+pub same_json_head : {calls : ℕ → ℕ → Type 0} {starts : List ℕ} {groups others : List (List ℕ)} {levels marks : List Level}
+    → AreLeveled calls starts groups levels → AreLeveled calls starts others marks → json_head groups levels ≡ json_head others marks
+same_json_head {calls} {starts} {groups} {others} {levels} {marks} a b =
+    let alike = are_alike a b in λ i. json_of (alike.size i) (alike.many i) (alike.recursive i) (alike.heights i)

@@ -1,3 +1,6 @@
+pub mod Heights
+pub mod Json
+pub mod JsonLines
 pub mod Lines
 pub mod Report
 pub mod Reportable

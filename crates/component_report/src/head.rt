@@ -36,7 +36,7 @@ pub(crate) fn push_text(text: &mut Vec<u8>, word: &str) -> Result<(), AllocError
     text.extend_from_slice(word.as_bytes())
 }
 
-fn push_count(text: &mut Vec<u8>, word: &str, count: u64) -> Result<(), AllocError>
+pub(crate) fn push_count(text: &mut Vec<u8>, word: &str, count: u64) -> Result<(), AllocError>
     ensures { OnOk result (text.new.items ≡ text.old.items ++ (word.now ++ decimal count)) }
 {
     push_text(text, word)?;
@@ -44,7 +44,7 @@ fn push_count(text: &mut Vec<u8>, word: &str, count: u64) -> Result<(), AllocErr
 }
 
 /// The members of all groups together.
-fn member_count(groups: &[Vec<u32>]) -> u64
+pub(crate) fn member_count(groups: &[Vec<u32>]) -> u64
     requires few { length groups.now < 2 ^ 32 }
     requires short { All (λ members. length members < 2 ^ 32) (lists_of groups.now) }
     ensures { result ≡ sum_by length (lists_of groups.now) }
@@ -56,13 +56,13 @@ fn member_count(groups: &[Vec<u32>]) -> u64
     count
 }
 
-fn recursive_count(levels: &[Level]) -> u64
+pub(crate) fn recursive_count(levels: &[Level]) -> u64
     ensures { result ≡ count_by (λ level. level.recursive) levels.now }
 {
     levels.iter().filter(|level| level.recursive).count() as u64
 }
 
-fn height_count(levels: &[Level]) -> u64
+pub(crate) fn height_count(levels: &[Level]) -> u64
     ensures { result ≡ height_count levels.now }
 {
     let mut count = 0;

@@ -4,11 +4,12 @@ ghost use Rattle.std.specs.Prelude.{◌≡◌, ℕ, List};
 ghost use Rattle.graph_law.specs.Graph.{Calls};
 ghost use Rattle.group_release.specs.declared.level.Level.{Level};
 ghost use Rattle.component_report.specs.Report.{IsReport};
+ghost use Rattle.component_report.specs.declared.form.Form.{Form};
 ghost use Rattle.component_report.specs.Reportable.{AreLeveled};
 
-/// Groups have at most one report, in whatever reverse topological order they are given.
+/// Groups have at most one report of each form, in whatever reverse topological order they are given.
 pub fn one_report()
-    ensures { (names : List (List ℕ)) (lists : List (List ℕ)) (roots : List ℕ) (groups others : List (List ℕ)) (levels marks : List Level)
+    ensures { (form : Form) (names : List (List ℕ)) (lists : List (List ℕ)) (roots : List ℕ) (groups others : List (List ℕ)) (levels marks : List Level)
         (bytes other : List ℕ) → AreLeveled (Calls lists) roots groups levels → AreLeveled (Calls lists) roots others marks
-        → IsReport names groups levels bytes → IsReport names others marks other → bytes ≡ other }
+        → IsReport form names groups levels bytes → IsReport form names others marks other → bytes ≡ other }
 {}

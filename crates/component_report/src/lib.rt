@@ -4,15 +4,22 @@
 //! `plain` or `recursive`, and its members in the order of their bytes. `report` has the lines in
 //! order of height and least member, and `order_report` in the order of the groups.
 //!
+//! As JSON Lines each of these lines is an object, of the same order. A name that isn't UTF-8 is a
+//! list of its bytes there.
+//!
 //! It knows no texts of edges, and finds no groups.
 #![tactic(auto)]
 
+mod form;
 mod head;
+mod json;
+mod json_lines;
 mod laws;
 mod line_order;
 mod lines;
 mod number;
 mod whole;
 
+pub use form::Form;
 pub use laws::one_report;
 pub use whole::{order_report, report};

@@ -6,7 +6,9 @@ ghost use Rattle.byte_names.specs.Names.{names_of};
 ghost use Rattle.component_report.specs.Report.{IsReport, order_report, report_in};
 ghost use Rattle.component_report.specs.Reportable.{ArePrintable, AreReportable};
 
+use crate::form::Form;
 use crate::head::push_head;
+use crate::json_lines::{push_json_groups, push_json_head};
 use crate::line_order::{order_given, sorted_order};
 use crate::lines::push_groups;
 use group_release::Level;
@@ -25,13 +27,14 @@ pub fn report(
     names: &[&[u8]],
     groups: &[Vec<u32>],
     levels: &[Level],
+    form: Form,
 ) -> Result<Vec<u8>, AllocError>
     requires few { length names.now < 2 ^ 32 }
     requires groups { AreReportable (length names.now) (lists_of groups.now) levels.now }
-    ensures { IfOk result (λ bytes. IsReport (names_of names.now) (lists_of groups.now) levels.now bytes.items) }
+    ensures { IfOk result (λ bytes. IsReport form (names_of names.now) (lists_of groups.now) levels.now bytes.items) }
 {
     let order = sorted_order(alloc, groups, levels)?;
-    let bytes = written(alloc, names, groups, levels, &order)?;
+    let bytes = written(alloc, names, groups, levels, &order, form)?;
     Ok(bytes)
 }
 
@@ -41,13 +44,14 @@ pub fn order_report(
     names: &[&[u8]],
     groups: &[Vec<u32>],
     levels: &[Level],
+    form: Form,
 ) -> Result<Vec<u8>, AllocError>
     requires few { length names.now < 2 ^ 32 }
     requires groups { AreReportable (length names.now) (lists_of groups.now) levels.now }
-    ensures { IfOk result (λ bytes. bytes.items ≡ order_report (names_of names.now) (lists_of groups.now) levels.now) }
+    ensures { IfOk result (λ bytes. bytes.items ≡ order_report form (names_of names.now) (lists_of groups.now) levels.now) }
 {
     let order = order_given(alloc, groups.len() as u32)?;
-    let bytes = written(alloc, names, groups, levels, &order)?;
+    let bytes = written(alloc, names, groups, levels, &order, form)?;
     Ok(bytes)
 }
 
@@ -58,14 +62,24 @@ fn written(
     groups: &[Vec<u32>],
     levels: &[Level],
     order: &[u32],
+    form: Form,
 ) -> Result<Vec<u8>, AllocError>
     requires few { length names.now < 2 ^ 32 }
     requires printable { ArePrintable (length names.now) (lists_of groups.now) levels.now }
     requires places { All (λ place. place < length groups.now) order.now }
-    ensures { IfOk result (λ bytes. bytes.items ≡ report_in (names_of names.now) (lists_of groups.now) levels.now order.now) }
+    ensures { IfOk result (λ bytes. bytes.items ≡ report_in form (names_of names.now) (lists_of groups.now) levels.now order.now) }
 {
     let mut text = Vec::with_capacity(alloc, order.len().saturating_mul(LINE_BYTES))?;
-    push_head(&mut text, groups, levels)?;
-    push_groups(&mut text, names, groups, levels, order)?;
-    Ok(text)
+    match form {
+        Form::Lines => {
+            push_head(&mut text, groups, levels)?;
+            push_groups(&mut text, names, groups, levels, order)?;
+            Ok(text)
+        }
+        Form::Json => {
+            push_json_head(&mut text, groups, levels)?;
+            push_json_groups(&mut text, names, groups, levels, order)?;
+            Ok(text)
+        }
+    }
 }

@@ -1,6 +1,21 @@
-use component_answer::{Answer, answer_text};
+use component_answer::{Answer, Form, Wanted, answer_text};
 use edge_text::{Fault, MOST_BYTES, first_fault};
 use std::test::Fail;
+
+const LINES: Wanted = Wanted {
+    order: false,
+    form: Form::Lines,
+};
+
+const ORDERED: Wanted = Wanted {
+    order: true,
+    form: Form::Lines,
+};
+
+const JSON: Wanted = Wanted {
+    order: false,
+    form: Form::Json,
+};
 
 /// The bytes of a report.
 fn report_in(answer: Answer) -> Option<Vec<u8>> {
@@ -14,7 +29,7 @@ fn report_in(answer: Answer) -> Option<Vec<u8>> {
 fn lines_are_in_order_of_heights_and_names(rt: HostRuntime) -> Result<(), Fail> {
     let alloc = rt.alloc();
     let text = b"main parse run\nparse term\r\n# a comment\n\tterm parse parse\nrun";
-    let bytes = report_in(answer_text(alloc, text, &[], false)?).ok_or("no report")?;
+    let bytes = report_in(answer_text(alloc, text, &[], LINES)?).ok_or("no report")?;
     assert_eq!(rt;
         bytes.as_slice(),
         b"nodes 4 groups 3 recursive 1 levels 2\n0 recursive parse term\n0 plain run\n1 plain main\n".as_slice()
@@ -25,7 +40,7 @@ fn lines_are_in_order_of_heights_and_names(rt: HostRuntime) -> Result<(), Fail> 
 #[test]
 fn groups_come_as_they_are_found(rt: HostRuntime) -> Result<(), Fail> {
     let alloc = rt.alloc();
-    let bytes = report_in(answer_text(alloc, b"c b\nb b\na", &[], true)?).ok_or("no report")?;
+    let bytes = report_in(answer_text(alloc, b"c b\nb b\na", &[], ORDERED)?).ok_or("no report")?;
     assert_eq!(rt;
         bytes.as_slice(),
         b"nodes 3 groups 3 recursive 1 levels 2\n0 plain a\n0 recursive b\n1 plain c\n".as_slice()
@@ -36,7 +51,7 @@ fn groups_come_as_they_are_found(rt: HostRuntime) -> Result<(), Fail> {
 #[test]
 fn an_empty_text_has_no_nodes(rt: HostRuntime) -> Result<(), Fail> {
     let alloc = rt.alloc();
-    let bytes = report_in(answer_text(alloc, b"", &[], false)?).ok_or("no report")?;
+    let bytes = report_in(answer_text(alloc, b"", &[], LINES)?).ok_or("no report")?;
     assert_eq!(rt;
         bytes.as_slice(),
         b"nodes 0 groups 0 recursive 0 levels 0\n".as_slice()
@@ -45,17 +60,42 @@ fn an_empty_text_has_no_nodes(rt: HostRuntime) -> Result<(), Fail> {
 }
 
 #[test]
+fn json_has_a_list_for_a_name_that_is_no_text(rt: HostRuntime) -> Result<(), Fail> {
+    let alloc = rt.alloc();
+    let bytes = report_in(answer_text(alloc, b"\xff\x07", &[], JSON)?).ok_or("no report")?;
+    assert!(rt;
+        bytes.ends_with(b"{\"id\":0,\"height\":0,\"recursive\":false,\"members\":[[255,7]]}\n")
+    );
+    Ok(())
+}
+
+#[test]
+fn json_escapes_quotes_and_control_characters(rt: HostRuntime) -> Result<(), Fail> {
+    let alloc = rt.alloc();
+    let bytes = report_in(answer_text(alloc, b"\"\\\x01\xc3\xa9 b\nb b", &[], JSON)?).ok_or(
+        "no report",
+    )?;
+    assert!(rt; bytes.starts_with(b"{\"nodes\":2,\"groups\":2,\"recursive\":1,\"levels\":2}\n"));
+    assert!(rt;
+        bytes.ends_with(
+            b"{\"id\":1,\"height\":1,\"recursive\":false,\"members\":[\"\\\"\\\\\\u0001\xc3\xa9\"]}\n"
+        )
+    );
+    Ok(())
+}
+
+#[test]
 fn roots_may_have_any_bytes(rt: HostRuntime) -> Result<(), Fail> {
     let alloc = rt.alloc();
     let roots: [&[u8]; 2] = [b"\xff", b"b"];
-    let bytes = report_in(answer_text(alloc, b"a b\n\xff\xfe\nb\n\xff b", &roots, false)?).ok_or(
+    let bytes = report_in(answer_text(alloc, b"a b\n\xff\xfe\nb\n\xff b", &roots, LINES)?).ok_or(
         "no report",
     )?;
     assert_eq!(rt;
         bytes.as_slice(),
         b"nodes 2 groups 2 recursive 0 levels 2\n0 plain b\n1 plain \xff\n".as_slice()
     );
-    let missing = answer_text(alloc, b"a b", &roots, false)?;
+    let missing = answer_text(alloc, b"a b", &roots, LINES)?;
     assert!(rt; matches!(missing, Answer::NoNode(0)));
     Ok(())
 }
@@ -63,7 +103,7 @@ fn roots_may_have_any_bytes(rt: HostRuntime) -> Result<(), Fail> {
 #[test]
 fn a_name_may_have_any_bytes(rt: HostRuntime) -> Result<(), Fail> {
     let alloc = rt.alloc();
-    let bytes = report_in(answer_text(alloc, b"\xff\x00 \xff", &[], false)?).ok_or("no report")?;
+    let bytes = report_in(answer_text(alloc, b"\xff\x00 \xff", &[], LINES)?).ok_or("no report")?;
     assert_eq!(rt;
         bytes.as_slice(),
         b"nodes 2 groups 2 recursive 0 levels 2\n0 plain \xff\n1 plain \xff\x00\n".as_slice()

@@ -18,9 +18,9 @@ type Run = (
     &'static str,
 );
 
-const USAGE: &str = "usage: components [--roots NAME].. [--order] [FILE]\n";
+const USAGE: &str = "usage: components [--roots NAME].. [--order] [--json] [FILE]\n";
 
-static RUNS: [Run; 19] = [
+static RUNS: [Run; 20] = [
     (
         &[],
         "-",
@@ -100,6 +100,14 @@ static RUNS: [Run; 19] = [
         "a b\nc a\n",
         0,
         "nodes 2 groups 2 recursive 0 levels 2\n0 plain b\n1 plain a\n",
+        "",
+    ),
+    (
+        &["--json", "--roots", "b"],
+        "-",
+        "a b\n",
+        0,
+        "{\"nodes\":1,\"groups\":1,\"recursive\":0,\"levels\":1}\n{\"id\":0,\"height\":0,\"recursive\":false,\"members\":[\"b\"]}\n",
         "",
     ),
     (&["--roots", "d"], "-", "", 2, "", "components: no node d\n"),

@@ -4,6 +4,7 @@ use Rattle.edge_text.specs.declared.fault.Fault.{Fault}
 use Rattle.edge_text.specs.Faults.{IsFirstFault}
 use Rattle.file_library.specs.Library.{Files}
 use Rattle.component_answer.specs.declared.answer.Answer.{Answer}
+use Rattle.component_answer.specs.declared.answer.Wanted.{Wanted}
 use Rattle.component_answer.specs.declared.answer.Answer.TheVariants as of_answer
 use Rattle.component_answer.specs.Answers.{HasManyNodes, HasNoNode, IsAnswer as IsTextAnswer, IsTextReport}
 use Rattle.component_answer.specs.Starts.{IsFirstMissing}
@@ -12,7 +13,7 @@ use Rattle.byte_names.specs.Names.{name_at}
 use Rattle.edge_text.specs.declared.limits.TheConstants.{MOST_NODES}
 use Rattle.edge_text.specs.EdgeGraph.{AreNames}
 use Rattle.component_tool.specs.End.{End, end_of_answer, faulty, no_node, output}
-use Rattle.component_tool.specs.Run.{IsAnswer, IsAnswered, IsLawfulAnswer, IsTextEnd}
+use Rattle.component_tool.specs.Run.{wanted_of, IsAnswer, IsAnswered, IsLawfulAnswer, IsTextEnd}
 use Rattle.component_words.specs.Settings.{AreLawful, Settings}
 
 abbrev OneFault : Type 0
@@ -20,18 +21,19 @@ OneFault = (text : List ℕ) (fault other : Fault) → IsFirstFault text fault �
 
 abbrev OneReport : Type 0
 OneReport =
-    (text : List ℕ) (roots : List (List ℕ)) (bytes other : List ℕ) → IsTextReport text roots false bytes → IsTextReport text roots false other → bytes ≡ other
+    (text : List ℕ) (roots : List (List ℕ)) (wanted : Wanted) (bytes other : List ℕ) → wanted.order ≡ false → IsTextReport text roots wanted bytes
+    → IsTextReport text roots wanted other → bytes ≡ other
 
 abbrev OneSetting : Type 0
 OneSetting = (words : List (List ℕ)) (settings other : Settings) → AreLawful words settings → AreLawful words other → settings ≡ other
 
-module _ (one_fault : OneFault) (one_report : OneReport) (file text : List ℕ) (roots : List (List ℕ)) where
+module _ (one_fault : OneFault) (one_report : OneReport) (file text : List ℕ) (roots : List (List ℕ)) (wanted : Wanted) (plain : wanted.order ≡ false) where
   -- a text past the limit of nodes has no names within it
   few_nodes : (names : List (List ℕ)) → AreNames text names → length names ≤ MOST_NODES → HasManyNodes text → ⊥
   few_nodes names are few many =
       let same : length names ≡ length many.names = ap length (one_names text names many.names are many.are) in omega (arith, few, many.many, same)
 
-  no_missing : (place : ℕ) (bytes : List ℕ) → HasNoNode text roots place → IsTextReport text roots false bytes → ⊥
+  no_missing : (place : ℕ) (bytes : List ℕ) → HasNoNode text roots place → IsTextReport text roots wanted bytes → ⊥
   no_missing place bytes missing report =
       none_missing report.names roots report.starts place report.are_starts
       (subst (λ names. IsFirstMissing names roots place) (one_names text missing.names report.names missing.are report.graph.nodes) missing.first)
@@ -42,7 +44,7 @@ module _ (one_fault : OneFault) (one_report : OneReport) (file text : List ℕ) 
       (subst (λ names. IsFirstMissing names roots place) (one_names text is.names also.names is.are also.are) is.first) also.first
 
   -- a text has one answer
-  one_said : (a b : Answer) → IsTextAnswer text roots false a → IsTextAnswer text roots false b → end_of_answer file roots a ≡ end_of_answer file roots b
+  one_said : (a b : Answer) → IsTextAnswer text roots wanted a → IsTextAnswer text roots wanted b → end_of_answer file roots a ≡ end_of_answer file roots b
   one_said (of_answer.Fault f) (of_answer.Fault g) p q = ap (faulty file) (one_fault text f g p q)
   one_said (of_answer.Fault f) of_answer.TooManyEdges p q = absurd (q.0 f p.is)
   one_said (of_answer.Fault f) of_answer.TooManyNodes p q = absurd (q.0 f p.is)
@@ -67,15 +69,13 @@ module _ (one_fault : OneFault) (one_report : OneReport) (file text : List ℕ) 
   one_said (of_answer.Report bytes) of_answer.TooManyEdges p q = let none : ⊥ = omega (arith, p.1, q.1) in absurd none
   one_said (of_answer.Report bytes) of_answer.TooManyNodes p q = absurd (few_nodes p.2.names p.2.graph.nodes p.2.few q.2)
   one_said (of_answer.Report bytes) (of_answer.NoNode other) p q = absurd (no_missing other bytes.items q.2 p.2)
-  one_said (of_answer.Report bytes) (of_answer.Report more) p q = ap output (one_report text roots bytes.items more.items p.2 q.2)
+  one_said (of_answer.Report bytes) (of_answer.Report more) p q = ap output (one_report text roots wanted bytes.items more.items plain p.2 q.2)
 
 one_answered : OneFault → OneReport → (settings : Settings) (text : List ℕ) (end other : End) → settings.order ≡ false → IsAnswered settings text end
     → IsAnswered settings text other → end ≡ other
 one_answered one_fault one_report settings text end other plain is also =
     is.is
-    ∙ (one_said one_fault one_report settings.file text settings.roots is.answer also.answer
-    (subst (λ o. IsTextAnswer text settings.roots o is.answer) plain is.right) (subst (λ o. IsTextAnswer text settings.roots o also.answer) plain also.right)
-    ∙ sym also.is)
+    ∙ (one_said one_fault one_report settings.file text settings.roots (wanted_of settings) plain is.answer also.answer is.right also.right ∙ sym also.is)
 
 one_text_end : OneFault → OneReport → (settings : Settings) (text : Option (List ℕ)) (end other : End) → settings.order ≡ false
     → IsTextEnd settings text end → IsTextEnd settings text other → end ≡ other

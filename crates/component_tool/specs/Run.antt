@@ -1,8 +1,10 @@
 -- How a run ends, and what its sinks have taken.
-use Rattle.std.specs.Prelude.{◌≡◌, ℕ, ◌<◌, ◌≤◌, ◌⊎◌, List, Option, Some, None, length}
+use Rattle.std.specs.Prelude.{◌≡◌, ℕ, ◌<◌, ◌≤◌, ◌⊎◌, List, Option, Some, None, length, if◌then◌else◌}
 use Rattle.edge_text.specs.declared.limits.TheConstants.{MOST_BYTES}
 use Rattle.file_library.specs.Library.{Files}
+use Rattle.component_report.specs.declared.form.Form.TheVariants.{Lines, Json}
 use Rattle.component_answer.specs.declared.answer.Answer.{Answer}
+use Rattle.component_answer.specs.declared.answer.Wanted.{Wanted}
 use Rattle.component_answer.specs.Answers.{IsAnswer as IsTextAnswer}
 use Rattle.tool_run.specs.Run.{Taking, IsWritten}
 use Rattle.component_words.specs.Settings.{AreLawful, IsUnlawful, Settings}
@@ -16,11 +18,15 @@ pub record IsTooLarge (file text : List ℕ) (end : End) : Type 0 where
   pub large : MOST_BYTES < length text
   pub is : end ≡ too_large file
 
+-- what is wanted of the report
+abbrev pub wanted_of : Settings → Wanted
+wanted_of settings = record { order = settings.order; form = if settings.json then Json else Lines }
+
 -- or it is answered with this
 pub record IsAnswered (settings : Settings) (text : List ℕ) (end : End) : Type 0 where
   pub within : length text ≤ MOST_BYTES
   pub answer : Answer
-  pub right : IsTextAnswer text settings.roots settings.order answer
+  pub right : IsTextAnswer text settings.roots (wanted_of settings) answer
   pub is : end ≡ end_of_answer settings.file settings.roots answer
 
 -- of a text, or where there is none to be read

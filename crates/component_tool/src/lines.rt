@@ -12,7 +12,7 @@ use std::alloc::{AllocError, Global};
 /// The name that lines begin with.
 pub const PROGRAM: &str = "components";
 /// The line that lists the arguments.
-pub const USAGE: &str = "usage: components [--roots NAME].. [--order] [FILE]\n";
+pub const USAGE: &str = "usage: components [--roots NAME].. [--order] [--json] [FILE]\n";
 /// The line that reports that memory ran out.
 pub const MEMORY: &str = "components: out of memory\n";
 /// The line that reports too many edges.

@@ -5,11 +5,11 @@ ghost use Rattle.byte_names.specs.Names.{names_of};
 ghost use Rattle.component_words.specs.Settings.{see_settings};
 ghost use Rattle.edge_text.specs.declared.limits.TheConstants.{MOST_BYTES};
 ghost use Rattle.component_tool.specs.End.{end_of, end_of_stop, no_memory, no_node};
-ghost use Rattle.component_tool.specs.Run.{IsAnswered, IsReadEnd};
+ghost use Rattle.component_tool.specs.Run.{IsAnswered, IsReadEnd, wanted_of};
 
 use crate::source::{Source, SourceRead};
 use crate::stop::Stop;
-use component_answer::{Answer, answer_text};
+use component_answer::{Answer, Form, Wanted, answer_text};
 use component_words::Settings;
 use edge_text::MOST_BYTES;
 use prolog_tokens::Text;
@@ -26,6 +26,23 @@ fn lent_names<'a>(alloc: Global, names: &'a [Text]) -> Result<Vec<&'a [u8]>, All
     Ok(lent)
 }
 
+/// What the settings want of the report.
+fn wanted_of(settings: &Settings) -> Wanted
+    ensures { result ≡ wanted_of (see_settings settings.now) }
+{
+    let order = settings.order;
+    if settings.json {
+        return Wanted {
+            order,
+            form: Form::Json,
+        };
+    }
+    Wanted {
+        order,
+        form: Form::Lines,
+    }
+}
+
 /// The report that the settings ask for on a text within the limit of bytes, or why there is none.
 fn tell_text(alloc: Global, text: &[u8], settings: &Settings) -> Result<Vec<u8>, Stop>
     requires { length text.now ≤ MOST_BYTES }
@@ -33,7 +50,7 @@ fn tell_text(alloc: Global, text: &[u8], settings: &Settings) -> Result<Vec<u8>,
         ⊎ IsAnswered (see_settings settings.now) text.now (end_of settings.now.file result) }
 {
     let roots = lent_names(alloc, &settings.roots)?;
-    match answer_text(alloc, text, &roots, settings.order)? {
+    match answer_text(alloc, text, &roots, wanted_of(settings))? {
         Answer::Report(bytes) => Ok(bytes),
         Answer::Fault(fault) => Err(Stop::Fault(fault)),
         Answer::TooManyEdges => Err(Stop::TooManyEdges),

@@ -2,18 +2,19 @@
 use Rattle.std.specs.Prelude.{◌≡◌, ℕ, ◌⊎◌, List, [], ◌∷◌, ◌++◌, Option, Bool, true, false, All, AllPairs, codes}
 use Rattle.std.specs.List.{flat_map}
 use Rattle.component_words.specs.declared.flag.Flag.{Flag}
-use Rattle.component_words.specs.declared.flag.Flag.TheVariants.{Order}
+use Rattle.component_words.specs.declared.flag.Flag.TheVariants.{Order, Json}
 use Rattle.component_words.specs.declared.settings.Settings.{Settings as SettingsOf}
 use Rattle.component_words.specs.Words.{Part, IsPart, is_filled, is_given, part_files, part_flags, part_roots, part_words, rest_files, rest_words, same_flag}
 
 -- what words set
 pub record Settings : Type 0 where
   pub order : Bool
+  pub json : Bool
   pub roots : List (List ℕ)
   pub file : List ℕ
 
 abbrev pub see_settings : SettingsOf → Settings
-see_settings settings = record { order = settings.order; roots = settings.roots.items; file = settings.file }
+see_settings settings = record { order = settings.order; json = settings.json; roots = settings.roots.items; file = settings.file }
 
 -- no operand is standard input, and one operand is the name of a file
 abbrev pub AreFile : List (List ℕ) → List ℕ → Type 0
@@ -36,6 +37,7 @@ nothing_given = record { flags = []; roots = []; operands = [] }
 pub record AreSettings (given : Given) (settings : Settings) : Type 0 where
   pub once : IsOnce given.flags
   pub order : settings.order ≡ is_given given.flags Order
+  pub json : settings.json ≡ is_given given.flags Json
   pub roots : settings.roots ≡ given.roots
   pub file : AreFile given.operands settings.file
 

@@ -11,6 +11,8 @@ ghost use Rattle.component_words.specs.declared.flag.Flag.{Flag as FlagOf};
 pub enum Flag {
     /// `--order`: groups in the order in which the search finds them.
     Order,
+    /// `--json`: the report as JSON Lines.
+    Json,
 }
 
 impl Flag {
@@ -20,6 +22,7 @@ impl Flag {
     {
         match self {
             Flag::Order => "--order",
+            Flag::Json => "--json",
         }
     }
 }
@@ -30,6 +33,9 @@ pub(crate) fn flag_named(word: &str) -> Option<Flag>
 {
     if word == "--order" {
         return Some(Flag::Order);
+    }
+    if word == "--json" {
+        return Some(Flag::Json);
     }
     None
 }

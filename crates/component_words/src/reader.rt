@@ -162,6 +162,7 @@ impl Reader {
         ensures { IfOk result (λ settings. AreSettings (given_of self) (see_settings settings)) }
     {
         let order = is_given(&self.flags, Flag::Order);
+        let json = is_given(&self.flags, Flag::Json);
         let Reader {
             alloc,
             roots,
@@ -169,7 +170,12 @@ impl Reader {
             ..
         } = self;
         let file = file_of(alloc, file)?;
-        Ok(Settings { order, roots, file })
+        Ok(Settings {
+            order,
+            json,
+            roots,
+            file,
+        })
     }
 
     /// What the arguments set if there are no more of them, or None if they aren't valid.

@@ -8,6 +8,8 @@ pub const STANDARD_INPUT: &str = "-";
 pub struct Settings {
     /// Whether groups are reported in the order in which the search finds them.
     pub order: bool,
+    /// Whether the report is JSON Lines.
+    pub json: bool,
     /// The names of the nodes whose reach is reported, in the order of the arguments. If there is
     /// none, all nodes are.
     pub roots: Vec<Text>,

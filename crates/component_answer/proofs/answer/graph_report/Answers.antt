@@ -80,15 +80,14 @@ returns-then-order c =
       };
       leveled = subst (λ gs. AreLevels (Calls lists) (lists_of gs) levels) c.deref.ensures.value c.in_ok-marks.ensures;
     } in
-    let report : IsReportBy true (names_of c.args.names.now) groups levels c.in_ok-bytes.bytes.items =
-    subst (λ gs. IsReportBy true (names_of c.args.names.now) (lists_of gs) levels c.in_ok-bytes.bytes.items) c.deref-then-order.ensures.value
-    (subst (λ ms. IsReportBy true (names_of c.args.names.now) (lists_of c.deref-then-order.result.now) ms c.in_ok-bytes.bytes.items) c.deref-then-order-2.ensures.value c.in_ok-bytes.ensures) in
-    subst (λ o. IsReachReport (names_of c.args.names.now) lists starts o c.in_ok-bytes.bytes.items) (sym c.if-order.true)
+    let report : IsReportBy true c.args.wanted.form (names_of c.args.names.now) groups levels c.in_ok-bytes.bytes.items =
+    subst (λ gs. IsReportBy true c.args.wanted.form (names_of c.args.names.now) (lists_of gs) levels c.in_ok-bytes.bytes.items) c.deref-then-order.ensures.value
+    (subst (λ ms. IsReportBy true c.args.wanted.form (names_of c.args.names.now) (lists_of c.deref-then-order.result.now) ms c.in_ok-bytes.bytes.items) c.deref-then-order-2.ensures.value c.in_ok-bytes.ensures) in
     (record {
       groups = groups;
       levels = levels;
       leveled = leveled;
-      report = report;
+      report = subst (λ o. IsReportBy o c.args.wanted.form (names_of c.args.names.now) groups levels c.in_ok-bytes.bytes.items) (sym c.if-order.true) report;
     })
 
 pub returns : goal.returns
@@ -105,13 +104,12 @@ returns c =
       };
       leveled = subst (λ gs. AreLevels (Calls lists) (lists_of gs) levels) c.deref.ensures.value c.in_ok-marks.ensures;
     } in
-    let report : IsReportBy false (names_of c.args.names.now) groups levels c.in_ok-bytes-2.bytes.items =
-    subst (λ gs. IsReportBy false (names_of c.args.names.now) (lists_of gs) levels c.in_ok-bytes-2.bytes.items) c.deref-2.ensures.value
-    (subst (λ ms. IsReportBy false (names_of c.args.names.now) (lists_of c.deref-2.result.now) ms c.in_ok-bytes-2.bytes.items) c.deref-3.ensures.value c.in_ok-bytes-2.ensures) in
-    subst (λ o. IsReachReport (names_of c.args.names.now) lists starts o c.in_ok-bytes-2.bytes.items) (sym c.if-order.false)
+    let report : IsReportBy false c.args.wanted.form (names_of c.args.names.now) groups levels c.in_ok-bytes-2.bytes.items =
+    subst (λ gs. IsReportBy false c.args.wanted.form (names_of c.args.names.now) (lists_of gs) levels c.in_ok-bytes-2.bytes.items) c.deref-2.ensures.value
+    (subst (λ ms. IsReportBy false c.args.wanted.form (names_of c.args.names.now) (lists_of c.deref-2.result.now) ms c.in_ok-bytes-2.bytes.items) c.deref-3.ensures.value c.in_ok-bytes-2.ensures) in
     (record {
       groups = groups;
       levels = levels;
       leveled = leveled;
-      report = report;
+      report = subst (λ o. IsReportBy o c.args.wanted.form (names_of c.args.names.now) groups levels c.in_ok-bytes-2.bytes.items) (sym c.if-order.false) report;
     })

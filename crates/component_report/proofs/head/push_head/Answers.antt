@@ -1,15 +1,11 @@
-use Rattle.std.proofs.Common.{◌≡◌, ℕ, List, length, ◌++◌, sum_by, count_by, sym, ap, ◌∙◌, append_assoc, codes}
+use Rattle.std.proofs.Common.{◌≡◌, ℕ, List, length, ◌++◌, sum_by, count_by, sym, ap, ◌∙◌, codes}
 use Rattle.std.specs.Fmt.{decimal}
 use Rattle.graph_law.specs.Graph.{lists_of}
 use Rattle.graph_law.proofs.GraphLaws.{length-lists_of}
 use Rattle.group_release.specs.declared.level.Level.{Level}
 use Rattle.component_report.specs.Report.{head_line, height_count}
+use Rattle.component_report.proofs.PutFive.{put_five}
 use Rattle.component_report.proofs.head.push_head.Goals as goal
-
--- five texts, put one after another
-put_five : (old one two three four last a b c d e : List ℕ) → one ≡ old ++ a → two ≡ one ++ b → three ≡ two ++ c → four ≡ three ++ d
-    → last ≡ four ++ e → last ≡ old ++ (a ++ b ++ c ++ d ++ e)
-put_five old one two three four last a b c d e p q r s t = rw (t, s, r, q, p) (simp append_assoc)
 
 -- the numbers of a head line
 abbrev counted : ℕ → ℕ → ℕ → ℕ → List ℕ

@@ -23,6 +23,6 @@ written-requires c =
 
 pub returns : goal.returns
 returns c =
-    let report = report_in (names_of c.args.names.now) (lists_of c.args.groups.now) c.args.levels.now in
+    let report = report_in c.args.form (names_of c.args.names.now) (lists_of c.args.groups.now) c.args.levels.now in
     c.in_ok-bytes.ensures
     ∙ ap report (c.deref.ensures.value ∙ c.in_ok-order.ensures ∙ ap (range_with_len 0) (sym (length-lists_of c.args.groups.now)))

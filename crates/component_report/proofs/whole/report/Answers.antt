@@ -33,5 +33,5 @@ pub returns : goal.returns
 returns c = record {
   order = c.in_ok-order.order.items;
   in_order = c.in_ok-order.ensures;
-  is = c.in_ok-bytes.ensures ∙ ap (report_in (names_of c.args.names.now) (lists_of c.args.groups.now) c.args.levels.now) c.deref.ensures.value;
+  is = c.in_ok-bytes.ensures ∙ ap (report_in c.args.form (names_of c.args.names.now) (lists_of c.args.groups.now) c.args.levels.now) c.deref.ensures.value;
 }

@@ -3,6 +3,8 @@ use Rattle.std.proofs.lemmas.List.{get_or_default}
 use Rattle.byte_names.specs.Names.{name_at, names_of}
 use Rattle.component_answer.specs.Answers.{IsAnswer}
 use Rattle.component_answer.specs.declared.answer.Answer.TheVariants.{NoNode}
+use Rattle.component_words.specs.Settings.{see_settings}
+use Rattle.component_tool.specs.Run.{wanted_of}
 use Rattle.component_tool.specs.End.{no_node}
 use Rattle.component_tool.proofs.telling.tell_text.Goals as goal
 
@@ -10,12 +12,13 @@ pub returns : goal.returns
 returns c =
     let text = c.args.text.now in
     let roots : List (List ℕ) = c.args.settings.now.roots.items in
-    let order = c.args.settings.now.order in
+    let wanted = wanted_of (see_settings c.args.settings.now) in
     let place = c.in-NoNode.place in
     let same : names_of c.deref-2.result.now ≡ roots = ap names_of c.deref-2.ensures.value ∙ c.in_ok-roots.ensures ∙ c.deref.ensures.value in
-    let right : IsAnswer text roots order (NoNode place) =
-    subst (λ rs. IsAnswer text rs order (NoNode place)) same
-    (subst (IsAnswer text (names_of c.deref-2.result.now) order) c.in-NoNode.is c.in_ok-bytes.ensures) in
+    let right : IsAnswer text roots wanted (NoNode place) =
+    subst (λ rs. IsAnswer text rs wanted (NoNode place)) same
+    (subst (λ w. IsAnswer text (names_of c.deref-2.result.now) w (NoNode place)) c.wanted_of.ensures
+    (subst (IsAnswer text (names_of c.deref-2.result.now) c.wanted_of.result) c.in-NoNode.is c.in_ok-bytes.ensures)) in
     let within : place < length roots = right.2.first.within in
     elim (c.no_node.ensures c.args.settings.now.file) [
       | inl none ↦ inl none

@@ -1,0 +1,33 @@
+use Rattle.std.proofs.Common.{◌≡◌, ℕ, List, length, ◌++◌, sum_by, count_by, sym, ap, ◌∙◌, codes}
+use Rattle.std.specs.Fmt.{decimal}
+use Rattle.graph_law.specs.Graph.{lists_of}
+use Rattle.graph_law.proofs.GraphLaws.{length-lists_of}
+use Rattle.group_release.specs.declared.level.Level.{Level}
+use Rattle.component_report.specs.Heights.{height_count}
+use Rattle.component_report.specs.JsonLines.{json_head}
+use Rattle.component_report.proofs.PutFive.{put_five}
+use Rattle.component_report.proofs.json_lines.push_json_head.Goals as goal
+
+-- the numbers of a head line
+abbrev counted : ℕ → ℕ → ℕ → ℕ → List ℕ
+counted members groups recursive heights =
+    (codes "{\"nodes\":" ++ decimal members) ++ (codes ",\"groups\":" ++ decimal groups) ++ (codes ",\"recursive\":" ++ decimal recursive)
+    ++ (codes ",\"levels\":" ++ decimal heights) ++ codes "}\n"
+
+counted_head : (groups : List (List ℕ)) (levels : List Level) (m g r h : ℕ) → m ≡ sum_by length groups → g ≡ length groups
+    → r ≡ count_by (λ (level : Level). level.recursive) levels → h ≡ height_count levels → counted m g r h ≡ json_head groups levels
+counted_head groups levels m g r h p q s t = λ i. counted (p i) (q i) (s i) (t i)
+
+pub returns : goal.returns
+returns c =
+    let m = c.member_count.result in
+    let g = length c.args.groups.now in
+    let r = c.recursive_count.result in
+    let h = c.height_count.result in
+    put_five (c.args.text.now.items) (c.push_count.new.text.items) (c.push_count-2.new.text.items) (c.push_count-3.new.text.items)
+    (c.push_count-4.new.text.items) (c.push_text.new.text.items) (codes "{\"nodes\":" ++ decimal m) (codes ",\"groups\":" ++ decimal g)
+    (codes ",\"recursive\":" ++ decimal r) (codes ",\"levels\":" ++ decimal h) (codes "}\n") c.in_ok-push_count.ensures c.in_ok-push_count-2.ensures
+    c.in_ok-push_count-3.ensures c.in_ok-push_count-4.ensures c.in_ok-push_text.ensures
+    ∙ ap (λ line. c.args.text.now.items ++ line)
+    (counted_head (lists_of c.args.groups.now) c.args.levels.now m g r h c.member_count.ensures (sym (length-lists_of c.args.groups.now))
+    c.recursive_count.ensures c.height_count.ensures)
