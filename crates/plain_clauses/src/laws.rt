@@ -74,7 +74,8 @@ pub fn same_facts()
         ↔ ((whole : Facts) × HasWholeFacts name text whole × (facts ≡ plain_facts whole)) }
     ensures texts { (texts : List NamedText) (files : List Facts)
         → AllZip (λ (text : NamedText) (facts : Facts). HasFacts text.0 text.1 facts) texts files
-        → (whole : List Facts) × AllZip (λ (text : NamedText) (facts : Facts). HasWholeFacts text.0 text.1 facts) texts whole × (files ≡ map plain_facts whole) }
+        → (whole : List Facts) × AllZip (λ (text : NamedText) (facts : Facts). HasWholeFacts text.0 text.1 facts) texts whole
+        × (files ≡ map plain_facts whole) }
     ensures refusal { (user : List ℕ) (trees : List Tree) (refusal : Refusal)
         → (file_said user (map plain trees) ≡ Err refusal) ↔ (file_said user trees ≡ Err refusal) }
 {}
