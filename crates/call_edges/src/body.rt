@@ -11,8 +11,8 @@ ghost use Rattle.call_edges.specs.Calls.{body_of};
 ghost use Rattle.call_edges.specs.Bodies.{IsAtHome, IsHomeOf, content_at, names_in, see_body, clause_bodies, bodies_in, goal_body, goals_of_file, goals_in};
 
 use clause_text::Clause;
-use kept_clauses::{KeptClause, KeptGoals, PlainForm};
 use import_rules::{Home, Program};
+use kept_clauses::{KeptClause, KeptGoals, PlainForm};
 use module_table::{DirectiveGoals, FileFacts, GoalArg};
 use prolog_names::Names;
 use prolog_terms::{Term, binary};

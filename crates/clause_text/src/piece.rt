@@ -272,11 +272,7 @@ fn push_last(
 }
 
 /// The clauses that begin at these indices of the list, which they share.
-fn sharing(
-    alloc: Global,
-    list: &Arc<KeptList>,
-    begins: &[usize],
-) -> Result<Vec<Clause>, AllocError>
+fn sharing(alloc: Global, list: &Arc<KeptList>, begins: &[usize]) -> Result<Vec<Clause>, AllocError>
     ensures { IfOk result (λ clauses. (names : List (List ℕ)) → clause_trees names clauses.items ≡ map (kept_tree names (arc_value list.now)) begins.now) }
 {
     let mut clauses = Vec::with_capacity(alloc, begins.len())?;
@@ -301,12 +297,7 @@ fn piece_end(list: Arc<KeptList>, at: usize, end: ReadEnd) -> PieceEnd
 
 /// What was read of a stretch up to the token `to`, as clauses that share their list. The list has
 /// no spare capacity.
-fn shared(
-    alloc: Global,
-    names: &Names,
-    read: ReadStretch,
-    to: usize,
-) -> Result<Piece, AllocError>
+fn shared(alloc: Global, names: &Names, read: ReadStretch, to: usize) -> Result<Piece, AllocError>
     ensures { IfOk result (λ piece. (table : Ops) (text : List ℕ) (ts : List TokenOf) (from : ℕ)
         → IsRead names.now table text ts from to read → IsPiece names.now table text ts from to piece) }
 {
