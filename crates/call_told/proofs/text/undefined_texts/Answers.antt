@@ -1,3 +1,4 @@
+use Rattle.std.proofs.Common.{true}
 use Rattle.graph_law.specs.Graph.{lists_of}
 use Rattle.call_told.specs.Told.{TellsTable, call_lines}
 use Rattle.call_told.proofs.StretchLemmas.{calls_even}
