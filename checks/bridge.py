@@ -359,7 +359,8 @@ def run(words, path):
 
 
 def lines_of(words, path):
-    """What `calls` tells of a file, as tuples without its numbers, or nothing if it gives no answer."""
+    """The clauses and their calls that `calls` tells of a file, as tuples without its numbers, or nothing if it gives no answer. Calls of directives aren't among
+    them: a directive that says something to SWI-Prolog alone, as `autoload/2`, isn't handed over by the bridge."""
     status, out, _ = run([*words, "--unreached"], path)
     if status not in (0, 8):
         return None
@@ -367,9 +368,9 @@ def lines_of(words, path):
     for said in map(json.loads, out.splitlines()):
         if said["is"] == "predicate":
             names[said["id"]] = f"{said['module']}:{said['name']}/{said['arity']}"
-        elif said["is"] in ("clause", "call") and os.path.basename(said["file"]) == path.name:
+        elif said["is"] in ("clause", "call") and said.get("caller", 0) is not None and os.path.basename(said["file"]) == path.name:
             goal = (said["module"], said["name"], said["arity"]) if said["is"] == "call" else ()
-            lines.add((names.get(said.get("caller", said.get("predicate"))), goal, said["line"], said["column"]))
+            lines.add((names[said.get("caller", said.get("predicate"))], goal, said["line"], said["column"]))
     return lines
 
 
