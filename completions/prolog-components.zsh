@@ -3,5 +3,5 @@
 _arguments -S \
     '--order[groups in the order in which they were found]' \
     '--json[JSON Lines]' \
-    '*--roots[only what this node reaches]:node:' \
+    '*--roots=[only what this node reaches]:node:' \
     '1:text of edges:_files'
