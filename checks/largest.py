@@ -103,7 +103,9 @@ def many_files(folder):
 
 
 def predicate_line(number, name, group, height, recursive):
-    return f'{{"is":"predicate","id":{number},"module":"user","name":"{name}","arity":0,"group":{group},"height":{height},"recursive":{recursive}}}\n'
+    """Of a predicate that a file of the command line defines which is no module file."""
+    own = f'{{"is":"predicate","id":{number},"module":"user","name":"{name}","arity":0,"group":{group},"height":{height},"recursive":{recursive}'
+    return own + ',"exported":false,"meta":null,"root":["file"]}\n'
 
 
 def group_line(least, height, recursive, members):
