@@ -119,7 +119,18 @@ ROWS = (
     ("JSON of a name that isn't UTF-8", "--json", b"a\x01\nb \xff\x07\n", 0, b'{"nodes":3,"groups":3,"recursive":0,"levels":2}\n{"id":0,"height":0,"recursive":false,"members":["a\\u0001"]}\n{"id":1,"height":0,"recursive":false,"members":[[255,7]]}\n{"id":2,"height":1,"recursive":false,"members":["b"]}\n', b""),
     ("from JSON", "--from-json", b'{"from":"a","to":"b"}\n\n{"to":"a","from":"b"}\n{ "from" : "c" }\n', 0, b"nodes 3 groups 2 recursive 1 levels 1\n0 recursive a b\n0 plain c\n", b""),
     ("from JSON, to JSON", "--from-json --json", b'{"from":"a b","to":"\\u00e9\\n"}', 0, '{{"nodes":2,"groups":2,"recursive":0,"levels":2}}\n{{"id":0,"height":0,"recursive":false,"members":["é\\u000a"]}}\n{{"id":1,"height":1,"recursive":false,"members":["a b"]}}\n'.replace("{{", "{").replace("}}", "}").encode(), b""),
-    ("from JSON: bytes that aren't UTF-8", "--from-json", b'{"from":"a"}\n{"from":"\xff"}\n', 3, b"", b"-:2:10: byte is not UTF-8\n"),
+    ("from JSON: other members", "--from-json", b'{"line":[1,{"to":2}],"to":"b","weight":-0.5e3,"from":"a","x":null}\n', 0, b"nodes 2 groups 2 recursive 0 levels 2\n0 plain b\n1 plain a\n", b""),
+    ("from JSON: the last of two members", "--from-json", b'{"from":"a","to":1,"from":"b","to":"c"}', 0, b"nodes 2 groups 2 recursive 0 levels 2\n0 plain c\n1 plain b\n", b""),
+    ("from JSON: blank lines", "--from-json", b' \t\r\n{"from":"a"}\r\n\n', 0, b"nodes 1 groups 1 recursive 0 levels 1\n0 plain a\n", b""),
+    ("from JSON: escapes", "--from-json --json", b'{"from":"\\u0041\\ud834\\udd1e\\"\\\\\\/\\b\\f\\n\\r\\t","to":""}', 0,
+     b'{"nodes":2,"groups":2,"recursive":0,"levels":2}\n{"id":0,"height":0,"recursive":false,"members":[""]}\n{"id":1,"height":1,"recursive":false,"members":["A\xf0\x9d\x84\x9e\\"\\\\/\\u0008\\u000c\\u000a\\u000d\\u0009"]}\n', b""),
+    ("from JSON: a root", "--from-json --loops --roots a", b'{"from":"a","to":"a"}\n{"from":"b","to":"a"}', 0, b"nodes 1 groups 1 recursive 1 levels 1\n0 recursive a\nloop a\n", b""),
+    ("from JSON: a name that is too long", "--from-json", b'{"from":"b"}\n{"from":"a","to":"' + LONG + b'n"}', 3, b"", b"-:2:1: name is longer than 65536 bytes\n"),
+    ("from JSON: the longest name", "--from-json", b'{"from":"' + LONG + b'"}', 0, b"nodes 1 groups 1 recursive 0 levels 1\n0 plain " + LONG + b"\n", b""),
+    *((f"from JSON: no edge: {line[:40]}", "--from-json", b'{"from":"b"}\n \n' + line + b'\n{"from":1}', 3, b"", b"-:3:1: line is not an edge\n") for line in (
+        b"a b", b"[]", b"{}", b'{"to":"a"}', b'{"from":1}', b'{"from":null,"to":"a"}', b'{"from":"a","to":null}', b'{"from":"a","to":["b"]}', b'"from"', b'{"from":"a"',
+        b'{"from":"a"}{"from":"b"}', b'{"from":"a"} x', b'{"from":"a",}', b"{'from':'a'}", b'{"from":"\xff"}', b'{"from":"\xc3"}', b'{"from":"\\ud800"}', b'{"from":"\\udc00a"}',
+        b'{"from":"\\x41"}', b'{"from":"a\tb"}', b'{"from":"a\0"}', b'{"from":"a","x":01}', b'{"from":"a","x":NaN}', b'{"from":"a","x":"\\ud800"}', b"\v", b"\xef\xbb\xbf{}", b"#", b'{"From":"a"}')),
 )
 
 
@@ -195,9 +206,38 @@ def as_text(source, edges, names):
     return end.join(parts) + (end if source.random() < 0.8 else b"")
 
 
+def escaped(source, name):
+    """A string of JSON that means the name, with escapes of all kinds."""
+    shorts = {'"': '\\"', "\\": "\\\\", "/": "\\/", "\b": "\\b", "\f": "\\f", "\n": "\\n", "\r": "\\r", "\t": "\\t"}
+    parts = []
+    for letter in name.decode():
+        units = letter.encode("utf-16-be")
+        long = "".join(source.choice(("\\u%04x", "\\u%04X")) % int.from_bytes(units[at : at + 2]) for at in range(0, len(units), 2))
+        plain = letter if letter >= " " and letter not in '"\\' else long
+        parts.append(source.choice((plain, plain, plain, long, shorts.get(letter, plain))))
+    return '"' + "".join(parts) + '"'
+
+
+def as_json_text(source, edges, names):
+    """JSON Lines that say these edges and names."""
+    gap = lambda: source.choice(("", "", "", " ", "\t", " \r "))
+    lines = [(names[a], names[b]) for a, b in edges] + [(name,) for name in names if source.random() < 0.9]
+    lines += [source.choice(lines) for _ in range(source.randrange(4)) if lines]
+    source.shuffle(lines)
+    parts = []
+    for line in lines:
+        members = [(key, escaped(source, name)) for key, name in zip(("from", "to"), line)]
+        members += [(source.choice(("x", "line", "From")), source.choice(("1", "-2.5e3", "true", "null", '"to"', '{"from":1}', "[1,[]]"))) for _ in range(source.randrange(3))]
+        source.shuffle(members)
+        parts.append(gap() + "{" + gap() + ",".join(f'{gap()}"{key}"{gap()}:{gap()}{value}{gap()}' for key, value in members) + "}" + gap())
+        if source.random() < 0.1:
+            parts.append(gap())
+    return "\n".join(parts).encode()
+
+
 def random_words(source):
     words = []
-    for option, often in ((["--order"], 0.3), (["--jobs", str(source.randint(1, 8))], 0.4), (["--loops"], 0.2), (["--json"], 0.15)):
+    for option, often in ((["--order"], 0.3), (["--jobs", str(source.randint(1, 8))], 0.4), (["--loops"], 0.35), (["--json"], 0.15)):
         if source.random() < often and option[0] not in LATER:
             words += option
     return words
@@ -239,6 +279,15 @@ def random_graphs(folder, seed, count):
                     words += ["--roots", root]
             given = [it if isinstance(it, bytes) else it.encode() for it in words]
             right = reference.answer(given, lambda _: text)
+            if source.random() < 0.4 and all(map(reference.is_utf8, names)):
+                # The same graph as JSON Lines has the same report. With `--order` only its lines have to be the same.
+                data = as_json_text(source, edges, names)
+                again = reference.answer([b"--from-json", *given], lambda _: data)
+                said = [{name for line in read(it, None, reference.Wanted()) for name in line} for read, it in ((reference.lines_of_text, text), (reference.lines_of_json, data))]
+                if said[0] == said[1]:
+                    expect(f"random graph {seed}/{number - 1} as JSON, by the reference, {words}", again, right)
+                same = (lambda it: (it[0], sorted(re.sub(rb'"id":\d+,', b"", it[1]).split(b"\n")), it[2])) if "--order" in words else lambda it: it
+                expect(f"random graph {seed}/{number - 1} as JSON, {words} {data[:200]}", same(run(["--from-json", *words], data, folder)), same(again))
             found = run(words, text, folder)
             if "--order" in words and "--json" not in words and right[0] == found[0] == 0:
                 if found[2] or not is_order_of(text, found[1], right[1]):

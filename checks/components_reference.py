@@ -37,7 +37,7 @@ class Ended(Exception):
 # Arguments.
 
 # Those that the program doesn't have yet: it refuses them as unknown ones.
-LATER = ("--jobs", "--loops", "--from-json")
+LATER = ("--jobs",)
 
 
 class Wanted:
@@ -144,30 +144,31 @@ def lines_of_text(text, file, wanted):
             yield words
 
 
+def no_number(word):
+    """Python reads `NaN` and `Infinity`, which are no JSON."""
+    raise ValueError(word)
+
+
+def names_of_json(line):
+    """The two names, or the one, of an object with strings `from` and perhaps `to`."""
+    whole = json.loads(line.decode(), parse_constant=no_number)
+    names = [whole[key] for key in ("from", "to") if key == "from" or key in whole] if isinstance(whole, dict) else [None]
+    if not all(isinstance(it, str) for it in names):
+        raise ValueError("a name is no string")
+    return [it.encode() for it in names]
+
+
 def lines_of_json(text, file, wanted):
-    """The two names, or the one, of each object. The first line that isn't such an object ends the run."""
+    """The names of each object. The first line that isn't such an object ends the run."""
     for number, line in enumerate(text.split(b"\n"), 1):
-        if not line.strip():
+        if not line.strip(b" \t\r"):
             continue
         try:
-            whole = json.loads(line.decode())
-        except UnicodeDecodeError as error:
-            raise fault(file, number, error.start + 1, b"byte is not UTF-8") from None
-        except ValueError:
+            names = names_of_json(line)
+        except (ValueError, KeyError):
             raise fault(file, number, 1, b"line is not an edge") from None
-        names = [whole.get("from"), whole.get("to")] if isinstance(whole, dict) and set(whole) <= {"from", "to"} else [None]
-        names = names[:1] if len(names) == 2 and "to" not in whole else names
-        if not all(isinstance(it, str) for it in names):
-            raise fault(file, number, 1, b"line is not an edge")
-        try:
-            names = [it.encode() for it in names]
-        except UnicodeEncodeError:
-            raise fault(file, number, 1, b"name is not UTF-8") from None
-        for name in names:
-            if len(name) > MOST_NAME:
-                raise fault(file, number, 1, b"name is longer than %d bytes" % MOST_NAME)
-            if "--json" not in wanted.flags and (not name or name.split() != [name]):
-                raise fault(file, number, 1, b"name has white space or is empty")
+        if any(len(name) > MOST_NAME for name in names):
+            raise fault(file, number, 1, b"name is longer than %d bytes" % MOST_NAME)
         yield names
 
 

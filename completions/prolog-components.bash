@@ -1,7 +1,7 @@
 # Completion of bash for prolog-components(1): options that may still be given, and files.
 _prolog_components() {
     local word=${COMP_WORDS[COMP_CWORD]} last=${COMP_WORDS[COMP_CWORD - 1]} it
-    local options=(--order --json --roots)
+    local options=(--order --json --loops --from-json --roots)
     COMPREPLY=()
     case $last in --roots | =) return ;; esac
     [[ $word != = ]] || return 0

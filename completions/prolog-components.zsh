@@ -3,5 +3,7 @@
 _arguments -S \
     '--order[groups in the order in which they were found]' \
     '--json[JSON Lines]' \
+    '--loops[a cycle of each recursive group]' \
+    '--from-json[edges as JSON Lines]' \
     '*--roots=[only what this node reaches]:node:' \
     '1:text of edges:_files'

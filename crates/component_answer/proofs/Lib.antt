@@ -1,3 +1,5 @@
+pub mod Loops
 pub mod NamedNodes
 pub mod Nodes
 pub mod OneNames
+mod SaidAnswer

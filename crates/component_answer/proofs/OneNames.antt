@@ -1,4 +1,4 @@
--- What is said of a text by its names is said by one list of them.
+-- What is said has one list of names, and what is told of it goes by that.
 use Rattle.std.proofs.Common.{◌≡◌, ℕ, ◌<◌, List, [], ◌∷◌, length, get_or, map, All, Contains, refl, sym, subst, ap, ◌∙◌, inl, inr, arith}
 use Rattle.std.specs.Ordering.{nat_cmp}
 use Rattle.std.specs.Cmp.Lexicographic.{slice_cmp}
@@ -9,19 +9,19 @@ use Rattle.std.proofs.lemmas.List.Elements.{All-contains, All-head, All-tail, Co
 use Rattle.std.proofs.lemmas.List.{get_or-map, length-map}
 use Rattle.list_laws.proofs.OneOrder.{less_strict, same_order}
 use Rattle.byte_names.specs.Names.{AreInOrder, name_at}
-use Rattle.edge_text.specs.EdgeGraph.{AreNames, names_said}
+use Rattle.edge_text.specs.EdgeGraph.{AreNames, Said}
 use Rattle.component_answer.specs.Starts.{AreStarts, IsFirstMissing}
 
-names_there : (text : List ℕ) (names others : List (List ℕ)) → AreNames text names → AreNames text others → (name : List ℕ) → Contains names name
+names_there : (said : Said) (names others : List (List ℕ)) → AreNames said names → AreNames said others → (name : List ℕ) → Contains names name
     → Contains others name
-names_there text names others are also name has =
-    All-contains (Contains others) (names_said text) name also.all (All-contains (Contains (names_said text)) names name are.only has)
+names_there said names others are also name has =
+    All-contains (Contains others) said.names name also.all (All-contains (Contains said.names) names name are.only has)
 
--- a text has one list of names
-pub one_names : (text : List ℕ) (names others : List (List ℕ)) → AreNames text names → AreNames text others → names ≡ others
-one_names text names others are also =
+-- what is said has one list of names
+pub one_names : (said : Said) (names others : List (List ℕ)) → AreNames said names → AreNames said others → names ≡ others
+one_names said names others are also =
     same_order (λ a b. slice_cmp nat_cmp a b ≡ Less) (less_strict (slice_cmp nat_cmp) nat_list_cmp_total) names others are.in_order also.in_order
-    (names_there text names others are also) (names_there text others names also are)
+    (names_there said names others are also) (names_there said others names also are)
 
 -- and two nodes of one name are one
 one_node : (names : List (List ℕ)) (a b : ℕ) → AreInOrder names → a < length names → b < length names → name_at names a ≡ name_at names b → a ≡ b

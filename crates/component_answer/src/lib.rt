@@ -8,6 +8,7 @@ mod answer;
 mod laws;
 mod starts;
 
-pub use answer::{Answer, Wanted, answer_text};
+pub use answer::{Answer, TextFault, Wanted, answer_text};
 pub use component_report::Form;
-pub use laws::one_text_report;
+pub use edge_json::Cause;
+pub use laws::one_said_report;

@@ -1,10 +1,11 @@
 -- What reports of small graphs are.
-use Rattle.std.proofs.Common.{◌≡◌, ℕ, true, false, List, [], ◌∷◌, ◌++◌, codes, refl}
+use Rattle.std.proofs.Common.{◌≡◌, ℕ, true, false, List, [], ◌∷◌, ◌++◌, Some, None, codes, refl}
 use Rattle.std.specs.Fmt.{digits}
 use Rattle.std.specs.Str.{chars, is_utf8}
 use lib.Utf8.{encode}
 use Rattle.group_release.specs.declared.level.Level.{Level}
 use Rattle.component_report.specs.declared.form.Form.TheVariants.{Lines, Json}
+use Rattle.component_report.specs.Cycles.{cycle_line}
 use Rattle.component_report.specs.JsonLines.{json_group}
 use Rattle.component_report.specs.Report.{group_line, head_line, height_count, order_report, report_in}
 
@@ -62,3 +63,15 @@ json_odd : json_group ((34 ∷ 10 ∷ []) ∷ (255 ∷ 7 ∷ []) ∷ []) 3 (0 �
     ≡ codes "{\"id\":3,\"height\":2,\"recursive\":true,\"members\":[\"\\\"\\u000a\",[255,7]]}\n"
 unfolding digits is_utf8 chars encode
 json_odd = refl
+
+-- a cycle, in both forms, and no cycle
+
+cycle : cycle_line Lines names (Some (0 ∷ 1 ∷ [])) ≡ codes "loop a b\n"
+cycle = refl
+
+json_cycle : cycle_line Json names (Some (0 ∷ [])) ≡ codes "{\"loop\":[\"a\"]}\n"
+unfolding is_utf8 chars encode
+json_cycle = refl
+
+no_cycle : cycle_line Lines names None ≡ []
+no_cycle = refl

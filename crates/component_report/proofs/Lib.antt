@@ -1,7 +1,7 @@
 pub mod Examples
-mod LineOrder
+pub mod LineOrder
 mod OneHead
-mod OneLine
+pub mod OneLine
 mod OneReport
 mod NumberedLines
 mod Printable

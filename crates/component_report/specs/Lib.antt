@@ -1,3 +1,4 @@
+pub mod Cycles
 pub mod Heights
 pub mod Json
 pub mod JsonLines

@@ -4,8 +4,10 @@ ghost use Rattle.std.specs.Prelude.{◌≡◌, ◌<◌, ◌^◌, ◌++◌, OnOk,
 ghost use Rattle.std.specs.List.{flat_map};
 ghost use Rattle.graph_law.specs.Graph.{lists_of};
 ghost use Rattle.byte_names.specs.Names.{names_of};
+ghost use Rattle.component_report.specs.Cycles.{loop_line};
 ghost use Rattle.component_report.specs.Json.{with_commas};
 ghost use Rattle.component_report.specs.JsonLines.{json_group, json_head, json_lines, json_member, truth_of};
+ghost use Rattle.component_report.specs.declared.form.Form.TheVariants.{Json};
 
 use crate::head::{height_count, member_count, push_count, push_text, recursive_count};
 use crate::json::push_json_name;
@@ -68,6 +70,21 @@ fn push_members(text: &mut Vec<u8>, names: &[&[u8]], members: &[u32]) -> Result<
     };
     push_member(text, names, *first)?;
     push_more_members(text, names, rest)
+}
+
+/// Adds the line of a cycle of these nodes: `{"loop":["NAME","NAME"]}`.
+pub(crate) fn push_json_loop(
+    text: &mut Vec<u8>,
+    names: &[&[u8]],
+    nodes: &[u32],
+) -> Result<(), AllocError>
+    requires { All (λ node. node < length names.now) nodes.now }
+    ensures { OnOk result (text.new.items ≡ text.old.items ++ loop_line Json (names_of names.now) nodes.now) }
+{
+    push_text(text, "{\"loop\":[")?;
+    push_members(text, names, nodes)?;
+    push_text(text, "]}\n")?;
+    Ok(())
 }
 
 /// Adds the line of a group with this number:

@@ -4,7 +4,9 @@ ghost use Rattle.std.specs.Prelude.{◌≡◌, ◌<◌, ◌++◌, OnOk, All, len
 ghost use Rattle.std.specs.List.{flat_map};
 ghost use Rattle.graph_law.specs.Graph.{lists_of};
 ghost use Rattle.byte_names.specs.Names.{names_of};
+ghost use Rattle.component_report.specs.Cycles.{loop_line};
 ghost use Rattle.component_report.specs.Report.{group_line, kind_of, member_text, place_line};
+ghost use Rattle.component_report.specs.declared.form.Form.TheVariants.{Lines};
 
 use crate::head::push_text;
 use crate::number::push_number;
@@ -52,6 +54,21 @@ fn push_group(
     push_number(text, u64::from(level.height))?;
     push_text(text, kind_name(level.recursive))?;
     push_members(text, names, members)?;
+    push_text(text, "\n")?;
+    Ok(())
+}
+
+/// Adds the line of a cycle of these nodes: `loop NAME NAME ..`.
+pub(crate) fn push_loop(
+    text: &mut Vec<u8>,
+    names: &[&[u8]],
+    nodes: &[u32],
+) -> Result<(), AllocError>
+    requires { All (λ node. node < length names.now) nodes.now }
+    ensures { OnOk result (text.new.items ≡ text.old.items ++ loop_line Lines (names_of names.now) nodes.now) }
+{
+    push_text(text, "loop")?;
+    push_members(text, names, nodes)?;
     push_text(text, "\n")?;
     Ok(())
 }

@@ -5,16 +5,29 @@ use std::test::Fail;
 const LINES: Wanted = Wanted {
     order: false,
     form: Form::Lines,
+    loops: false,
+    from_json: false,
 };
 
 const ORDERED: Wanted = Wanted {
     order: true,
     form: Form::Lines,
+    loops: false,
+    from_json: false,
 };
 
 const JSON: Wanted = Wanted {
     order: false,
     form: Form::Json,
+    loops: false,
+    from_json: false,
+};
+
+const LOOPS: Wanted = Wanted {
+    order: true,
+    form: Form::Lines,
+    loops: true,
+    from_json: false,
 };
 
 /// The bytes of a report.
@@ -81,6 +94,19 @@ fn json_escapes_quotes_and_control_characters(rt: HostRuntime) -> Result<(), Fai
             b"{\"id\":1,\"height\":1,\"recursive\":false,\"members\":[\"\\\"\\\\\\u0001\xc3\xa9\"]}\n"
         )
     );
+    Ok(())
+}
+
+#[test]
+fn cycles_are_shortest_and_least(rt: HostRuntime) -> Result<(), Fail> {
+    let alloc = rt.alloc();
+    let text = b"z a y\na y b z\nb c\nc a\ny x\nx a\nz z\ny y\n";
+    let bytes = report_in(answer_text(alloc, text, &[b"a"], LOOPS)?).ok_or("no report")?;
+    assert!(rt; bytes.ends_with(b"recursive a b c x y z\nloop a z\n"));
+    let bytes = report_in(answer_text(alloc, b"z y\ny z\na b\nb\nz a\n", &[], LOOPS)?).ok_or(
+        "no report",
+    )?;
+    assert!(rt; bytes.ends_with(b"recursive y z\nloop y z\n"));
     Ok(())
 }
 

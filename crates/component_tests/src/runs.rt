@@ -18,9 +18,10 @@ type Run = (
     &'static str,
 );
 
-const USAGE: &str = "usage: components [--roots NAME].. [--order] [--json] [FILE]\n";
+const USAGE: &str =
+    "usage: components [--roots NAME].. [--order] [--json] [--loops] [--from-json] [FILE]\n";
 
-static RUNS: [Run; 20] = [
+static RUNS: [Run; 26] = [
     (
         &[],
         "-",
@@ -57,7 +58,23 @@ static RUNS: [Run; 20] = [
     (&[], "f", "", 4, "", "components: cannot read -\n"),
     (&["f", "g"], "f", "", 2, "", USAGE),
     (&["--order", "--order"], "-", "", 2, "", USAGE),
-    (&["--loops"], "-", "", 2, "", USAGE),
+    (&["--loops", "--loops"], "-", "", 2, "", USAGE),
+    (
+        &["--loops"],
+        "-",
+        "a b\nb c\nc a b\nd d\ne d\n",
+        0,
+        "nodes 5 groups 3 recursive 2 levels 2\n0 recursive a b c\n0 recursive d\n1 plain e\nloop a b c\nloop d\n",
+        "",
+    ),
+    (
+        &["--json", "--loops", "--roots=a", "--order"],
+        "-",
+        "a b\nb a\nc c\n",
+        0,
+        "{\"nodes\":2,\"groups\":1,\"recursive\":1,\"levels\":1}\n{\"id\":0,\"height\":0,\"recursive\":true,\"members\":[\"a\",\"b\"]}\n{\"loop\":[\"a\",\"b\"]}\n",
+        "",
+    ),
     (&["--roots"], "-", "", 2, "", USAGE),
     (&["--roots", "-x"], "-", "", 2, "", USAGE),
     (&["--roots="], "-", "", 2, "", USAGE),
@@ -109,6 +126,38 @@ static RUNS: [Run; 20] = [
         0,
         "{\"nodes\":1,\"groups\":1,\"recursive\":0,\"levels\":1}\n{\"id\":0,\"height\":0,\"recursive\":false,\"members\":[\"b\"]}\n",
         "",
+    ),
+    (
+        &["--from-json"],
+        "-",
+        "{\"from\":\"a\",\"to\":\"b\"}\n\n{\"to\":\"a\",\"from\":\"b\"}\n{ \"from\" : \"c\", \"weight\": 1.5 }\n",
+        0,
+        "nodes 3 groups 2 recursive 1 levels 1\n0 recursive a b\n0 plain c\n",
+        "",
+    ),
+    (
+        &["--from-json", "--json"],
+        "-",
+        "{\"from\":\"a b\",\"to\":\"\\u00e9\\n\"}",
+        0,
+        "{\"nodes\":2,\"groups\":2,\"recursive\":0,\"levels\":2}\n{\"id\":0,\"height\":0,\"recursive\":false,\"members\":[\"é\\u000a\"]}\n{\"id\":1,\"height\":1,\"recursive\":false,\"members\":[\"a b\"]}\n",
+        "",
+    ),
+    (
+        &["--from-json"],
+        "-",
+        "{\"from\":\"a\"}\n{\"from\":1}\n",
+        3,
+        "",
+        "-:2:1: line is not an edge\n",
+    ),
+    (
+        &["f", "--from-json"],
+        "f",
+        "a b\n",
+        3,
+        "",
+        "f:1:1: line is not an edge\n",
     ),
     (&["--roots", "d"], "-", "", 2, "", "components: no node d\n"),
 ];

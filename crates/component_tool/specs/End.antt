@@ -2,7 +2,7 @@
 use Rattle.std.specs.Prelude.{ℕ, List, [], Result, Ok, Err, Vec}
 use Rattle.std.specs.declared.alloc.Global.{Global}
 use Rattle.byte_names.specs.Names.{name_at}
-use Rattle.edge_text.specs.declared.fault.Fault.{Fault}
+use Rattle.component_answer.specs.declared.answer.TextFault.{TextFault}
 use Rattle.component_answer.specs.declared.answer.Answer.{Answer}
 use Rattle.component_answer.specs.declared.answer.Answer.TheVariants as of_answer
 use Rattle.tool_run.specs.Lines.{unread_line, memory_line}
@@ -14,7 +14,7 @@ pub data End : Type 0 where
   usage : End
   unread : List ℕ → End
   too_large : List ℕ → End
-  faulty : List ℕ → Fault → End
+  faulty : List ℕ → TextFault → End
   too_many_edges : End
   too_many_nodes : End
   no_node : List ℕ → End

@@ -20,7 +20,7 @@ pub record IsTooLarge (file text : List ℕ) (end : End) : Type 0 where
 
 -- what is wanted of the report
 abbrev pub wanted_of : Settings → Wanted
-wanted_of settings = record { order = settings.order; form = if settings.json then Json else Lines }
+wanted_of settings = record { order = settings.order; form = if settings.json then Json else Lines; loops = settings.loops; from_json = settings.from_json }
 
 -- or it is answered with this
 pub record IsAnswered (settings : Settings) (text : List ℕ) (end : End) : Type 0 where

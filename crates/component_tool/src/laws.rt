@@ -7,8 +7,9 @@ ghost use Rattle.component_tool.specs.End.{End};
 ghost use Rattle.component_tool.specs.Run.{IsAnswer};
 ghost use Rattle.component_words.specs.Settings.{AreLawful, Settings};
 
-use component_answer::one_text_report;
+use component_answer::one_said_report;
 use component_words::one_setting;
+use edge_json::one_line_fault;
 use edge_text::one_first_fault;
 
 /// Arguments over a map of texts have at most one outcome, unless the groups are asked for in the
@@ -18,6 +19,7 @@ pub fn one_answer()
         → IsAnswer words files answer → IsAnswer words files other → answer ≡ other }
 {
     one_setting();
-    one_text_report();
+    one_said_report();
     one_first_fault();
+    one_line_fault();
 }

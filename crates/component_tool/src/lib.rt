@@ -1,10 +1,10 @@
-//! The program `components`: `run_components` reads a text of edges, finds the strongly connected
+//! The program `components`: `run_components` reads a text of edges or JSON Lines, finds the strongly connected
 //! components (SCCs, groups) of its graph, and writes what is right to one of two sinks. That is one
 //! of these:
 //!
 //! - the usage line;
 //! - that the text can't be read, or is too large;
-//! - the place of the first name that is too long;
+//! - the place of what is wrong first: a name that is too long, or a line of JSON that is no edge;
 //! - the limit of edges or of nodes, if the text is past it;
 //! - the first root in the arguments that is no node;
 //! - the report: the groups, callees first; if there are roots, of what these reach.

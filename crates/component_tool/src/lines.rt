@@ -3,16 +3,17 @@
 ghost use Rattle.std.specs.Prelude.{◌≡◌, ◌++◌, IfOk, OnOk};
 ghost use Rattle.std.specs.Fmt.{decimal};
 ghost use Rattle.std.specs.String.{string_bytes};
-ghost use Rattle.component_tool.specs.Lines.{fault_line, large_line, missing_line, place_text};
+ghost use Rattle.component_tool.specs.Lines.{cause_text, fault_line, large_line, missing_line, place_text};
 
-use edge_text::Fault;
+use component_answer::{Cause, TextFault};
 use prolog_tokens::Text;
 use std::alloc::{AllocError, Global};
 
 /// The name that lines begin with.
 pub const PROGRAM: &str = "components";
 /// The line that lists the arguments.
-pub const USAGE: &str = "usage: components [--roots NAME].. [--order] [--json] [FILE]\n";
+pub const USAGE: &str =
+    "usage: components [--roots NAME].. [--order] [--json] [--loops] [--from-json] [FILE]\n";
 /// The line that reports that memory ran out.
 pub const MEMORY: &str = "components: out of memory\n";
 /// The line that reports too many edges.
@@ -29,7 +30,7 @@ fn push_number(alloc: Global, text: &mut String, number: u32) -> Result<(), Allo
 }
 
 /// Adds `:LINE:COLUMN`.
-fn push_place(alloc: Global, text: &mut String, fault: Fault) -> Result<(), AllocError>
+fn push_place(alloc: Global, text: &mut String, fault: TextFault) -> Result<(), AllocError>
     ensures { OnOk result (string_bytes text.new ≡ string_bytes text.old ++ place_text fault) }
 {
     text.push_str(":")?;
@@ -38,13 +39,22 @@ fn push_place(alloc: Global, text: &mut String, fault: Fault) -> Result<(), Allo
     push_number(alloc, text, fault.column)
 }
 
-/// The line that reports a name that is too long: `FILE:LINE:COLUMN: ` and what is wrong there.
-pub fn fault_line(alloc: Global, file: &Text, fault: Fault) -> Result<String, AllocError>
+fn cause_text(cause: Cause) -> &'static str
+    ensures { result.now ≡ cause_text cause }
+{
+    match cause {
+        Cause::NotEdge => ": line is not an edge\n",
+        Cause::LongName => ": name is longer than 65536 bytes\n",
+    }
+}
+
+/// The line that reports what is wrong with a text: `FILE:LINE:COLUMN: ` and what is wrong there.
+pub fn fault_line(alloc: Global, file: &Text, fault: TextFault) -> Result<String, AllocError>
     ensures { IfOk result (λ text. string_bytes text ≡ fault_line file.now fault) }
 {
     let mut text = String::from_str(alloc, file.as_str())?;
     push_place(alloc, &mut text, fault)?;
-    text.push_str(": name is longer than 65536 bytes\n")?;
+    text.push_str(cause_text(fault.cause))?;
     Ok(text)
 }
 

@@ -2,7 +2,7 @@
 
 ghost use Rattle.std.specs.Prelude.{◌≡◌};
 
-use edge_text::Fault;
+use component_answer::TextFault;
 use prolog_tokens::Text;
 use std::alloc::AllocError;
 
@@ -13,8 +13,8 @@ pub enum Stop {
     Unread,
     /// It has more than 1,073,741,824 bytes.
     TooLarge,
-    /// A name in it is too long.
-    Fault(Fault),
+    /// Something is wrong with it.
+    Fault(TextFault),
     TooManyEdges,
     TooManyNodes,
     /// The root of that name is no node.

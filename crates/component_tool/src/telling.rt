@@ -31,15 +31,21 @@ fn wanted_of(settings: &Settings) -> Wanted
     ensures { result ≡ wanted_of (see_settings settings.now) }
 {
     let order = settings.order;
+    let loops = settings.loops;
+    let from_json = settings.from_json;
     if settings.json {
         return Wanted {
             order,
             form: Form::Json,
+            loops,
+            from_json,
         };
     }
     Wanted {
         order,
         form: Form::Lines,
+        loops,
+        from_json,
     }
 }
 

@@ -3,7 +3,7 @@ use Rattle.std.proofs.Common.{◌≡◌, ℕ, List, [], ◌∷◌, ◌++◌, Boo
 use Rattle.std.specs.List.{flat_map}
 use Rattle.std.proofs.lemmas.List.Elements.{All-head, All-tail}
 use Rattle.component_words.specs.declared.flag.Flag.{Flag}
-use Rattle.component_words.specs.declared.flag.Flag.TheVariants.{Order, Json}
+use Rattle.component_words.specs.declared.flag.Flag.TheVariants.{Order, Json, Loops, FromJson}
 use Rattle.component_words.specs.Words.{IsPart, Part, apart, ends_word, flag, flag_word, is_operand, joined, joined_word, operand, part_words, rest_words, roots_word}
 
 abbrev pub spelled : List Part → Option (List (List ℕ)) → List (List ℕ)
@@ -29,7 +29,11 @@ behind (a ∷ more) (b ∷ bs) = if nat_eq a b then behind more bs else None
 
 abbrev flag_kind : List ℕ → Kind
 flag_kind word =
-    if same word (flag_word Order) then whole (flag Order) else if same word (flag_word Json) then whole (flag Json) else nothing
+    if same word (flag_word Order) then whole (flag Order)
+    else if same word (flag_word Json) then whole (flag Json)
+    else if same word (flag_word Loops) then whole (flag Loops)
+    else if same word (flag_word FromJson) then whole (flag FromJson)
+    else nothing
 
 abbrev name_kind : Option (List ℕ) → List ℕ → Kind
 name_kind (Some name) word = whole (joined name)
@@ -48,6 +52,8 @@ operand_kind word is = ap (λ b. if b then whole (operand word) else option_kind
 pub flag_is : (own : Flag) → kind_of (flag_word own) ≡ whole (flag own)
 flag_is Order = refl
 flag_is Json = refl
+flag_is Loops = refl
+flag_is FromJson = refl
 
 pub joined_is : (name : List ℕ) → kind_of (joined_word name) ≡ whole (joined name)
 joined_is name = refl

@@ -188,8 +188,9 @@ no_word before word rest settings no_operand no_end no_roots not_joined no_flag 
 
 -- one setting
 
-abbrev setting_of : Bool → Bool → List (List ℕ) → List ℕ → Settings
-setting_of order json roots file = record { order = order; json = json; roots = roots; file = file }
+abbrev setting_of : Bool → Bool → Bool → Bool → List (List ℕ) → List ℕ → Settings
+setting_of order json loops from_json roots file =
+    record { order = order; json = json; loops = loops; from_json = from_json; roots = roots; file = file }
 
 one_file : (operands : List (List ℕ)) (a b : List ℕ) → AreFile operands a → AreFile operands b → a ≡ b
 one_file operands a b (inl none) (inl also) = none.1 ∙ sym also.1
@@ -199,9 +200,12 @@ one_file operands a b (inr one) (inr also) = let both : a ∷ [] ≡ b ∷ [] = 
 
 pub one_set : (given : Given) (a b : Settings) → AreSettings given a → AreSettings given b → a ≡ b
 one_set given a b is also =
-    ap (λ o. setting_of o a.json a.roots a.file) (is.order ∙ sym also.order)
-    ∙ ap (λ j. setting_of b.order j a.roots a.file) (is.json ∙ sym also.json)
-    ∙ ap (λ rs. setting_of b.order b.json rs a.file) (is.roots ∙ sym also.roots) ∙ ap (setting_of b.order b.json b.roots) (one_file given.operands a.file b.file is.file also.file)
+    ap (λ o. setting_of o a.json a.loops a.from_json a.roots a.file) (is.order ∙ sym also.order)
+    ∙ ap (λ j. setting_of b.order j a.loops a.from_json a.roots a.file) (is.json ∙ sym also.json)
+    ∙ ap (λ l. setting_of b.order b.json l a.from_json a.roots a.file) (is.loops ∙ sym also.loops)
+    ∙ ap (λ f. setting_of b.order b.json b.loops f a.roots a.file) (is.from_json ∙ sym also.from_json)
+    ∙ ap (λ rs. setting_of b.order b.json b.loops b.from_json rs a.file) (is.roots ∙ sym also.roots)
+    ∙ ap (setting_of b.order b.json b.loops b.from_json b.roots) (one_file given.operands a.file b.file is.file also.file)
 
 pub one_lawful : (words : List (List ℕ)) (a b : Settings) → AreLawful words a → AreLawful words b → a ≡ b
 one_lawful words a b is also =

@@ -2,7 +2,7 @@
 use Rattle.std.specs.Prelude.{◌≡◌, ℕ, ◌⊎◌, List, [], ◌∷◌, ◌++◌, Option, Bool, true, false, All, AllPairs, codes}
 use Rattle.std.specs.List.{flat_map}
 use Rattle.component_words.specs.declared.flag.Flag.{Flag}
-use Rattle.component_words.specs.declared.flag.Flag.TheVariants.{Order, Json}
+use Rattle.component_words.specs.declared.flag.Flag.TheVariants.{Order, Json, Loops, FromJson}
 use Rattle.component_words.specs.declared.settings.Settings.{Settings as SettingsOf}
 use Rattle.component_words.specs.Words.{Part, IsPart, is_filled, is_given, part_files, part_flags, part_roots, part_words, rest_files, rest_words, same_flag}
 
@@ -10,11 +10,20 @@ use Rattle.component_words.specs.Words.{Part, IsPart, is_filled, is_given, part_
 pub record Settings : Type 0 where
   pub order : Bool
   pub json : Bool
+  pub loops : Bool
+  pub from_json : Bool
   pub roots : List (List ℕ)
   pub file : List ℕ
 
 abbrev pub see_settings : SettingsOf → Settings
-see_settings settings = record { order = settings.order; json = settings.json; roots = settings.roots.items; file = settings.file }
+see_settings settings = record {
+  order = settings.order;
+  json = settings.json;
+  loops = settings.loops;
+  from_json = settings.from_json;
+  roots = settings.roots.items;
+  file = settings.file;
+}
 
 -- no operand is standard input, and one operand is the name of a file
 abbrev pub AreFile : List (List ℕ) → List ℕ → Type 0
@@ -38,6 +47,8 @@ pub record AreSettings (given : Given) (settings : Settings) : Type 0 where
   pub once : IsOnce given.flags
   pub order : settings.order ≡ is_given given.flags Order
   pub json : settings.json ≡ is_given given.flags Json
+  pub loops : settings.loops ≡ is_given given.flags Loops
+  pub from_json : settings.from_json ≡ is_given given.flags FromJson
   pub roots : settings.roots ≡ given.roots
   pub file : AreFile given.operands settings.file
 

@@ -3,11 +3,13 @@ use Rattle.std.specs.Prelude.{◌≡◌, ℕ, ◌==◌, Bool, true, false, not, 
 use Rattle.std.specs.List.{list_any}
 use Rattle.std.specs.Str.{bytes_eq}
 use Rattle.component_words.specs.declared.flag.Flag.{Flag}
-use Rattle.component_words.specs.declared.flag.Flag.TheVariants.{Order, Json}
+use Rattle.component_words.specs.declared.flag.Flag.TheVariants.{Order, Json, Loops, FromJson}
 
 abbrev pub flag_word : Flag → List ℕ
 flag_word Order = codes "--order"
 flag_word Json = codes "--json"
+flag_word Loops = codes "--loops"
+flag_word FromJson = codes "--from-json"
 
 abbrev pub same_flag : Flag → Flag → Bool
 same_flag a b = bytes_eq (flag_word a) (flag_word b)

@@ -13,6 +13,10 @@ pub enum Flag {
     Order,
     /// `--json`: the report as JSON Lines.
     Json,
+    /// `--loops`: a shortest cycle of each recursive group too.
+    Loops,
+    /// `--from-json`: edges are read as JSON Lines.
+    FromJson,
 }
 
 impl Flag {
@@ -23,6 +27,8 @@ impl Flag {
         match self {
             Flag::Order => "--order",
             Flag::Json => "--json",
+            Flag::Loops => "--loops",
+            Flag::FromJson => "--from-json",
         }
     }
 }
@@ -36,6 +42,12 @@ pub(crate) fn flag_named(word: &str) -> Option<Flag>
     }
     if word == "--json" {
         return Some(Flag::Json);
+    }
+    if word == "--loops" {
+        return Some(Flag::Loops);
+    }
+    if word == "--from-json" {
+        return Some(Flag::FromJson);
     }
     None
 }

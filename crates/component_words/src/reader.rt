@@ -163,6 +163,8 @@ impl Reader {
     {
         let order = is_given(&self.flags, Flag::Order);
         let json = is_given(&self.flags, Flag::Json);
+        let loops = is_given(&self.flags, Flag::Loops);
+        let from_json = is_given(&self.flags, Flag::FromJson);
         let Reader {
             alloc,
             roots,
@@ -173,6 +175,8 @@ impl Reader {
         Ok(Settings {
             order,
             json,
+            loops,
+            from_json,
             roots,
             file,
         })

@@ -10,6 +10,10 @@ pub struct Settings {
     pub order: bool,
     /// Whether the report is JSON Lines.
     pub json: bool,
+    /// Whether a shortest cycle of each recursive group is reported.
+    pub loops: bool,
+    /// Whether the text is JSON Lines.
+    pub from_json: bool,
     /// The names of the nodes whose reach is reported, in the order of the arguments. If there is
     /// none, all nodes are.
     pub roots: Vec<Text>,

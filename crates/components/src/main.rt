@@ -1,5 +1,5 @@
-//! The command `components [--roots NAME].. [--order] [--json] [FILE]`: runs `run_components` with
-//! the arguments, the disk and the standard streams, and exits with its status.
+//! The command `components [--roots NAME].. [--order] [--json] [--loops] [--from-json] [FILE]`: runs
+//! `run_components` with the arguments, the disk and the standard streams, and exits with its status.
 #![tactic(auto)]
 
 use component_tool::{DiskSource, run_components};

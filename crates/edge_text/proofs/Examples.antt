@@ -7,7 +7,7 @@ use Rattle.std.specs.declared.cmp.Ordering.TheVariants.{Less}
 use Rattle.std.proofs.lemmas.List.Elements.{All-cons, All-nil}
 use Rattle.std.proofs.lemmas.List.Kept.{AllPairs-cons}
 use Rattle.byte_names.specs.Names.{AreInOrder}
-use Rattle.edge_text.specs.EdgeGraph.{call_of, calls_of, calls_said, names_said, AreNames}
+use Rattle.edge_text.specs.EdgeGraph.{call_of, calls_of, calls_said, names_said, said_in, AreNames}
 use Rattle.edge_text.specs.Lines.{is_separator, lines_of, said_by, words_of}
 use Rattle.edge_text.specs.Words.{IsWordAt}
 
@@ -106,7 +106,7 @@ graph_lists = [] ∷ (0 ∷ []) ∷ []
 none_in_order : AreInOrder []
 none_in_order i j d lt within = absurd (let no : j < 0 = within in omega (arith, no))
 
-graph_nodes : AreNames two_lines graph_names
+graph_nodes : AreNames (said_in two_lines) graph_names
 graph_nodes = record {
   in_order =
       AllPairs-cons (λ a b. slice_cmp nat_cmp a b ≡ Less) (codes "a") (codes "b" ∷ [])
@@ -123,7 +123,7 @@ graph_nodes = record {
 different_letters : codes "a" ≡ codes "b" → ⊥
 different_letters same = let heads : 97 ≡ 98 = ap (λ xs. slice_index xs 0) same in omega (arith, heads)
 
-no_other_names : AreNames two_lines (codes "a" ∷ []) → ⊥
+no_other_names : AreNames (said_in two_lines) (codes "a" ∷ []) → ⊥
 no_other_names are = let (k, lt, is) = are.all 0 [] (omega arith) in only_a k lt is
   where
     only_a : (k : ℕ) → k < 1 → get_or (codes "a" ∷ []) k (codes "b") ≡ codes "b" → ⊥

@@ -1,4 +1,4 @@
-mod Added
+pub mod Added
 mod CalleeSteps
 pub mod Examples
 mod FirstFaults
@@ -7,7 +7,7 @@ mod LineParts
 mod LongNames
 mod OneGraph
 mod RankedEdges
-mod Rests
+pub mod Rests
 mod SomeGraph
 mod TextParts
 mod WordParts

@@ -1,4 +1,4 @@
--- Each text has a graph.
+-- What is said has a graph.
 use Rattle.std.proofs.Common.{◌≡◌, ◌⊎◌, ℕ, ◌+◌, ◌<◌, Bool, true, false, ◌&&◌, List, [], ◌∷◌, length, map, filter, get_or, Contains, refl, sym, ap, subst, ◌∙◌, inl, inr, arith}
 use Rattle.std.specs.List.{list_any, range_with_len}
 use Rattle.std.specs.List.Sorted.{IsStrictlyIncreasing}
@@ -16,7 +16,7 @@ use Rattle.list_laws.proofs.Members.{all_by, any_from, any_there, kept_in, kept_
 use Rattle.list_laws.proofs.OneOrder.{before_rest, first_or_rest, in_first, in_rest, nothing_in, range_below, range_has, rest_in_order}
 use Rattle.graph_law.specs.Graph.{Calls}
 use Rattle.byte_names.specs.Names.{name_at, AreInOrder}
-use Rattle.edge_text.specs.EdgeGraph.{Call, call_of, calls_said, names_said, AreCallees, AreNames, IsEdgeGraph}
+use Rattle.edge_text.specs.EdgeGraph.{Call, call_of, AreCallees, AreNames, IsEdgeGraph, Said}
 
 abbrev IsBefore : List ℕ → List ℕ → Type 0
 IsBefore a b = slice_cmp nat_cmp a b ≡ Less
@@ -111,13 +111,13 @@ order_has (x ∷ xs) z has = elim (first_or_rest x z xs has) [
   | inr later ↦ put_keeps x (in_order xs) z (order_has xs z later)
 ]
 
-some_names : (text : List ℕ) → AreNames text (in_order (names_said text))
-some_names text =
-    let said = names_said text in
+some_names : (said : Said) → AreNames said (in_order said.names)
+some_names said =
+    let named = said.names in
     record {
-      in_order = order_is said;
-      only = all_by (Contains said) (in_order said) (order_from said);
-      all = all_by (Contains (in_order said)) said (order_has said);
+      in_order = order_is named;
+      only = all_by (Contains named) (in_order named) (order_from named);
+      all = all_by (Contains (in_order named)) named (order_has named);
     }
 
 -- whether a call is from one name to another
@@ -155,9 +155,9 @@ range_rises n k lt =
 kept_passes : {X : Type 0} (p : X → Bool) (xs : List X) (x : X) → Contains (filter p xs) x → p x ≡ true
 kept_passes p xs x has = All-contains (λ y. p y ≡ true) (filter p xs) x (filter_passes p xs) has
 
-some_callees : (text : List ℕ) (names : List (List ℕ)) → AreCallees text names (lists (calls_said text) names)
-some_callees text names =
-    let calls = calls_said text in
+some_callees : (said : Said) (names : List (List ℕ)) → AreCallees said names (lists (said.calls) names)
+some_callees said names =
+    let calls = said.calls in
     let n = length names in
     let all = range_with_len 0 n in
     let read : (p : ℕ) → p < n → get_or (lists calls names) p [] ≡ callees calls names p =
@@ -187,7 +187,7 @@ some_callees text names =
           subst (λ xs. Contains xs q) (sym (read p within)) (kept_in (says calls names p) all q (range_has n q inside) passes);
     }
 
-pub some_graph : (text : List ℕ) → (names : List (List ℕ)) × (lists : List (List ℕ)) × IsEdgeGraph text names lists
-some_graph text =
-    let names = in_order (names_said text) in
-    (names, lists (calls_said text) names, record { nodes = some_names text; callees = some_callees text names })
+pub some_graph : (said : Said) → (names : List (List ℕ)) × (lists : List (List ℕ)) × IsEdgeGraph said names lists
+some_graph said =
+    let names = in_order said.names in
+    (names, lists (said.calls) names, record { nodes = some_names said; callees = some_callees said names })

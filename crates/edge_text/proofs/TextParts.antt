@@ -1,12 +1,12 @@
 -- A text as it is read, line by line.
-use Rattle.std.proofs.Common.{◌≡◌, ℕ, ◌+◌, ◌<◌, ◌≤◌, ◌++◌, List, [], ◌∷◌, length, refl, sym, ap, subst, ◌∙◌, inl, inr, arith}
+use Rattle.std.proofs.Common.{◌≡◌, true, ℕ, ◌+◌, ◌<◌, ◌≤◌, ◌++◌, List, [], ◌∷◌, length, refl, sym, ap, subst, ◌∙◌, inl, inr, arith}
 use Rattle.std.specs.Prelude.{slice_range}
 use Rattle.std.proofs.lemmas.List.{append-nil, append_assoc, length-append}
 use Rattle.list_laws.specs.Counts.{IsLonger}
 use Rattle.edge_text.specs.declared.limits.TheConstants.{MOST_EDGES}
 use Rattle.edge_text.specs.EdgeGraph.{calls_in, calls_of, calls_said, names_in}
 use Rattle.edge_text.specs.Lines.{lines_of, said_by}
-use Rattle.edge_text.specs.Read.{AreAdded, IsLineRead, IsWholeRead, Read}
+use Rattle.edge_text.specs.Read.{AreAdded, IsLineRead, IsTextRead, Read}
 use Rattle.edge_text.proofs.Added.{more_added, none_added}
 use Rattle.edge_text.proofs.Rests.{AreRest, IsNextRest}
 
@@ -107,7 +107,7 @@ lines_more text at now more few fewer = record {
   fewer = fewer;
 }
 
-pub text_read : (text : List ℕ) (at : ℕ) (now : Read) → AreLinesRead text at now → length text < at → IsWholeRead text now
+pub text_read : (text : List ℕ) (at : ℕ) (now : Read) → AreLinesRead text at now → length text < at → IsTextRead text now true
 text_read text at now read past =
     let none : read.rest ≡ [] = elim read.are [
       | inl some ↦ absurd (let upto : at ≤ length text = some.0 in omega (arith, upto, past))
@@ -117,10 +117,11 @@ text_read text at now read past =
     let end : at ≡ length text + 1 = elim read.are [
       | inl some ↦ absurd (let upto : at ≤ length text = some.0 in omega (arith, upto, past))
       | inr e ↦ e.0
-    ] in
-    record {
-      names = subst (λ ls. AreAdded (names_in ls) [] now.names) all read.names;
-      calls = read.calls ∙ ap calls_in all;
-      few = read.few;
-      fewer = omega (arith, read.fewer, end);
-    }
+    ] in (
+      record {
+        names = subst (λ ls. AreAdded (names_in ls) [] now.names) all read.names;
+        calls = read.calls ∙ ap calls_in all;
+        few = read.few;
+      },
+      omega (arith, read.fewer, end),
+    )

@@ -1,4 +1,4 @@
--- The graph that a text says.
+-- The graph that names and calls are, as a text says them.
 use Rattle.std.specs.Prelude.{◌≡◌, ℕ, ◌<◌, List, [], ◌∷◌, length, map, All, Contains}
 use Rattle.std.specs.List.{flat_map}
 use Rattle.std.specs.List.Sorted.{IsStrictlyIncreasing}
@@ -32,25 +32,34 @@ names_said text = names_in (lines_of text)
 abbrev pub calls_said : List ℕ → List Call
 calls_said text = calls_in (lines_of text)
 
--- the different names of a text, in the order of their bytes
-pub record AreNames (text : List ℕ) (names : List (List ℕ)) : Type 0 where
+-- what is said: names of nodes, and calls between them
+pub record Said : Type 0 where
+  pub names : List (List ℕ)
+  pub calls : List Call
+
+-- what a text says
+abbrev pub said_in : List ℕ → Said
+said_in text = record { names = names_said text; calls = calls_said text }
+
+-- the different names, in the order of their bytes
+pub record AreNames (said : Said) (names : List (List ℕ)) : Type 0 where
   pub in_order : AreInOrder names
-  pub only : All (Contains (names_said text)) names
-  pub all : All (Contains names) (names_said text)
+  pub only : All (Contains said.names) names
+  pub all : All (Contains names) said.names
 
 -- one name calls the other, by their numbers
-abbrev pub SaysCall : List ℕ → List (List ℕ) → ℕ → ℕ → Type 0
-SaysCall text names p q = Contains (calls_said text) (call_of (name_at names p) (name_at names q))
+abbrev pub SaysCall : Said → List (List ℕ) → ℕ → ℕ → Type 0
+SaysCall said names p q = Contains said.calls (call_of (name_at names p) (name_at names q))
 
 -- for each of the names the numbers of those that it calls, strictly ascending; the number of a name is its index
-pub record AreCallees (text : List ℕ) (names lists : List (List ℕ)) : Type 0 where
+pub record AreCallees (said : Said) (names lists : List (List ℕ)) : Type 0 where
   pub each : length lists ≡ length names
   pub ascending : All IsStrictlyIncreasing lists
   pub below : (p q : ℕ) → p < length names → Calls lists p q → q < length names
-  pub only : (p q : ℕ) → p < length names → Calls lists p q → SaysCall text names p q
-  pub all : (p q : ℕ) → p < length names → q < length names → SaysCall text names p q → Calls lists p q
+  pub only : (p q : ℕ) → p < length names → Calls lists p q → SaysCall said names p q
+  pub all : (p q : ℕ) → p < length names → q < length names → SaysCall said names p q → Calls lists p q
 
--- the graph of a text: its names, and the lists of their callees
-pub record IsEdgeGraph (text : List ℕ) (names lists : List (List ℕ)) : Type 0 where
-  pub nodes : AreNames text names
-  pub callees : AreCallees text names lists
+-- the graph of what is said: its names, and the lists of their callees
+pub record IsEdgeGraph (said : Said) (names lists : List (List ℕ)) : Type 0 where
+  pub nodes : AreNames said names
+  pub callees : AreCallees said names lists

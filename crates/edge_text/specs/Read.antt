@@ -4,7 +4,7 @@ use Rattle.flat_graph.specs.declared.edge.Edge.{Edge}
 use Rattle.list_laws.specs.Counts.{IsLonger}
 use Rattle.byte_names.specs.Names.{name_at}
 use Rattle.edge_text.specs.declared.limits.TheConstants.{MOST_EDGES}
-use Rattle.edge_text.specs.EdgeGraph.{Call, call_of, calls_of, calls_said, names_said}
+use Rattle.edge_text.specs.EdgeGraph.{Call, call_of, calls_of, calls_said, Said, said_in}
 use Rattle.edge_text.specs.Lines.{said_by}
 
 -- the names, some of them perhaps more than once, and the calls between them
@@ -35,13 +35,12 @@ pub record IsLineRead (line : List ℕ) (old new : Read) : Type 0 where
   pub names : AreAdded (said_by line) old.names new.names
   pub calls : new.calls ≡ old.calls ++ calls_of (said_by line)
 
--- all that a text says is read, where that isn't too many calls
-pub record IsWholeRead (text : List ℕ) (read : Read) : Type 0 where
-  pub names : AreAdded (names_said text) [] read.names
-  pub calls : read.calls ≡ calls_said text
+-- all that is said is read, where that isn't too many calls
+pub record IsWholeRead (said : Said) (read : Read) : Type 0 where
+  pub names : AreAdded said.names [] read.names
+  pub calls : read.calls ≡ said.calls
   pub few : length read.calls ≤ MOST_EDGES
-  pub fewer : length read.names ≤ length text + 1
 
 abbrev pub IsTextRead : List ℕ → Read → Bool → Type 0
-IsTextRead text read true = IsWholeRead text read
+IsTextRead text read true = IsWholeRead (said_in text) read × (length read.names ≤ length text + 1)
 IsTextRead text read false = MOST_EDGES < length (calls_said text)

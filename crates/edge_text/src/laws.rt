@@ -1,7 +1,7 @@
 //! Theorems about texts of edges: functions that do nothing, and are called for what they ensure.
 
 ghost use Rattle.std.specs.Prelude.{◌≡◌, ◌↔◌, ℕ, List, Contains, slice_range};
-ghost use Rattle.edge_text.specs.EdgeGraph.{IsEdgeGraph};
+ghost use Rattle.edge_text.specs.EdgeGraph.{IsEdgeGraph, Said};
 ghost use Rattle.edge_text.specs.Faults.{IsFirstFault};
 ghost use Rattle.edge_text.specs.Lines.{words_of};
 ghost use Rattle.edge_text.specs.Words.{IsWordAt};
@@ -13,15 +13,15 @@ pub fn words_have_places()
         → Contains (words_of line) word ↔ ((start : ℕ) × (end : ℕ) × IsWordAt line start end × (slice_range line start end ≡ word)) }
 {}
 
-/// A text has at most one graph.
+/// What is said has at most one graph.
 pub fn one_edge_graph()
-    ensures { (text : List ℕ) (names others lists more : List (List ℕ)) → IsEdgeGraph text names lists → IsEdgeGraph text others more
+    ensures { (said : Said) (names others lists more : List (List ℕ)) → IsEdgeGraph said names lists → IsEdgeGraph said others more
         → (names ≡ others) × (lists ≡ more) }
 {}
 
-/// Each text has a graph.
+/// What is said has a graph.
 pub fn some_edge_graph()
-    ensures { (text : List ℕ) → (names : List (List ℕ)) × (lists : List (List ℕ)) × IsEdgeGraph text names lists }
+    ensures { (said : Said) → (names : List (List ℕ)) × (lists : List (List ℕ)) × IsEdgeGraph said names lists }
 {}
 
 /// A text has at most one first fault.

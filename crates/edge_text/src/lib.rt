@@ -5,7 +5,9 @@
 //! with `#` is a comment. Names are any other bytes.
 //!
 //! `read_edges` returns the different names of a text in the order of their bytes, and the graph
-//! whose nodes are their indices. `first_fault` returns where a name is too long.
+//! whose nodes are their indices. `first_fault` returns where a name is too long. For texts of
+//! another form `Reader` takes names and calls one after another, and `graph_of_read` returns their
+//! graph.
 //!
 //! It knows no files and no command line.
 #![tactic(auto)]
@@ -21,4 +23,6 @@ mod words;
 pub use fault::{Fault, first_fault};
 pub use laws::{one_edge_graph, one_first_fault, some_edge_graph, words_have_places};
 pub use limits::{MOST_BYTES, MOST_EDGES, MOST_NAME, MOST_NODES};
-pub use reading::{EdgeGraph, Reading, read_edges};
+pub use line::line_end;
+pub use reader::Reader;
+pub use reading::{EdgeGraph, Reading, graph_of_read, read_edges};

@@ -5,7 +5,7 @@ ghost use Rattle.edge_text.specs.Lines.{is_comment, is_newline};
 
 /// Where the line that begins there ends: at the next newline, or at the end of the text.
 #[inline(always)]
-pub(crate) fn line_end(text: &[u8], from: usize) -> usize
+pub fn line_end(text: &[u8], from: usize) -> usize
     requires { from ≤ length text.now }
     ensures from { from ≤ result }
     ensures within { result ≤ length text.now }

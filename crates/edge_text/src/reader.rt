@@ -18,7 +18,7 @@ use std::marker::Model;
 
 /// The names and the calls that were read so far. Contracts see the bytes of both.
 #[derive(Drop)]
-pub(crate) struct Reader<'a> {
+pub struct Reader<'a> {
     pub(crate) names: NameTable<'a>,
     pub(crate) edges: Vec<Edge>,
 }
@@ -37,7 +37,7 @@ impl<'a> Model for Reader<'a> {
 
 impl<'a> Reader<'a> {
     /// Nothing read.
-    pub(crate) fn new(alloc: Global) -> Result<Reader<'a>, AllocError>
+    pub fn new(alloc: Global) -> Result<Reader<'a>, AllocError>
         ensures names { IfOk result (λ reader. reader.names ≡ []) }
         ensures calls { IfOk result (λ reader. reader.calls ≡ []) }
     {
@@ -48,7 +48,7 @@ impl<'a> Reader<'a> {
     }
 
     /// How many calls were read.
-    fn call_count(&self) -> usize
+    pub fn call_count(&self) -> usize
         ensures { result ≡ length self.now.calls }
     {
         self.edges.len()
@@ -56,7 +56,7 @@ impl<'a> Reader<'a> {
 
     /// The index of a name.
     #[inline(always)]
-    fn node(&mut self, name: &'a [u8]) -> Result<u32, AllocError>
+    pub fn node(&mut self, name: &'a [u8]) -> Result<u32, AllocError>
         requires { length self.old.names < 2 ^ 32 - 1 }
         ensures place { IfOk result (IsNamed name.now self.new.names) }
         ensures names { OnOk result (AreAdded (name.now ∷ []) self.old.names self.new.names) }
@@ -69,7 +69,7 @@ impl<'a> Reader<'a> {
 
     /// Adds the call between the names of these indices.
     #[inline(always)]
-    fn call(&mut self, from: u32, to: u32) -> Result<(), AllocError>
+    pub fn call(&mut self, from: u32, to: u32) -> Result<(), AllocError>
         requires from { from < length self.old.names }
         requires to { to < length self.old.names }
         ensures names { OnOk result (self.new.names ≡ self.old.names) }

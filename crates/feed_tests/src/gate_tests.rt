@@ -18,7 +18,7 @@ struct TakenGate<'a> {
 }
 
 impl<'a> Gate for TakenGate<'a> {
-    fn on_expand(&self, node: u32) {
+    fn opened(&self, node: u32) {
         if node != 1 {
             return;
         }

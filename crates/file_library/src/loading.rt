@@ -14,7 +14,7 @@ use crate::asking::ask_all;
 use crate::library::Library;
 use crate::loaded::{LoadStop, Loaded};
 use crate::next_wave::{in_order, name_set};
-use crate::sorted_out::{SortedOut, ordered, sorted_out};
+use crate::sorted_out::{SortedOut, files_by_name, sorted_out};
 use prolog_tokens::Text;
 use std::alloc::Global;
 use std::thread::Threads;
@@ -59,7 +59,7 @@ fn finish(alloc: Global, roots: &[Text], files: Vec<AskedFile>) -> Result<Loaded
 {
     let set = name_set(alloc, roots, usize::MAX)?;
     let names = in_order(alloc, &set)?;
-    let files = ordered(files)?;
+    let files = files_by_name(files)?;
     let SortedOut {
         files,
         absent,

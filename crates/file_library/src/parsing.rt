@@ -31,7 +31,7 @@ pub(crate) fn parse_wave<R: Threads + Sync>(
         ensures { AreParsed list.items result }
     { parse_list(rt, alloc, list) };
     let parsed = thread::map_vec(rt, lists, &parse)?;
-    joined(alloc, parsed)
+    joined_files(alloc, parsed)
 }
 
 /// The answers in at most 64 lists, in order.
@@ -68,7 +68,7 @@ fn parse_list<R: Threads + Sync>(
 }
 
 /// The files of all lists, in order.
-fn joined(
+fn joined_files(
     alloc: Global,
     lists: Vec<Result<Vec<AskedFile>, AllocError>>,
 ) -> Result<Vec<AskedFile>, AllocError>

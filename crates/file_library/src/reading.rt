@@ -77,7 +77,7 @@ fn read_one<L: Library>(
     let key = Text::new(alloc, name.as_str())?;
     let mut room = Vec::new(alloc);
     match library.read(name.as_str(), MOST_BYTES, &mut room) {
-        Read::Found => found(key, room, total),
+        Read::Found => answer_of(key, room, total),
         Read::Absent => Ok(Answer {
             name: key,
             bytes: None,
@@ -88,7 +88,7 @@ fn read_one<L: Library>(
 }
 
 /// The answer with these bytes, unless they are too many.
-fn found(name: Text, bytes: Vec<u8>, total: u32) -> Result<Answer, LoadStop>
+fn answer_of(name: Text, bytes: Vec<u8>, total: u32) -> Result<Answer, LoadStop>
     requires { total ≤ MOST_TEXT }
     ensures answer { IfOk result (λ answer. see_answer answer ≡ record { name = name; text = Some bytes.items }) }
     ensures fits { OnOk result ((length bytes.items ≤ MOST_BYTES) × (total + length bytes.items ≤ MOST_TEXT)) }

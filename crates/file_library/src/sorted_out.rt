@@ -24,7 +24,7 @@ pub(crate) struct SortedOut {
 }
 
 /// The files in ascending order of names.
-pub(crate) fn ordered(mut files: Vec<AskedFile>) -> Result<Vec<AskedFile>, AllocError>
+pub(crate) fn files_by_name(mut files: Vec<AskedFile>) -> Result<Vec<AskedFile>, AllocError>
     requires { AreApart (answers_of (map see_file files.items)) }
     ensures { IfOk result (λ ordered. AreOrdered (map see_file files.items) (map see_file ordered.items)) }
 {

@@ -21,7 +21,7 @@ pub(crate) fn copy_new(alloc: Global, book: &Book, copies: &mut Released) -> Res
 {
     book.keeps();
     let from = first_new(book, copies);
-    let released = book.released_groups();
+    let released = book.released();
     for at in from..released.groups().len() {
         if copies.holds(first_member(released, at)) {
             continue;
@@ -41,7 +41,7 @@ fn first_new(book: &Book, copies: &Released) -> usize
     ensures { AreCopiedUpTo result book.now.groups copies.now.groups }
 {
     book.keeps();
-    let released = book.released_groups();
+    let released = book.released();
     let copied = copies.groups().len();
     for at in copied..released.groups().len() {
         if copies.holds(first_member(released, at)) {

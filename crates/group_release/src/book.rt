@@ -105,14 +105,14 @@ impl Book {
     }
 
     /// The released groups.
-    pub fn released_groups(&self) -> &Released
+    pub fn released(&self) -> &Released
         ensures { result.now ≡ released_of self.now }
     {
         &self.released
     }
 
     /// The suspended searches.
-    pub fn blocked_searches(&self) -> &Blocked
+    pub fn blocked(&self) -> &Blocked
         ensures { result.now ≡ table_of self.now }
     {
         &self.blocked

@@ -14,7 +14,7 @@ use Rattle.module_table.specs.contracts.file_facts.FileFacts as of_facts
 use Rattle.file_library.specs.contracts.loaded.Loaded as of_loaded
 use Rattle.import_rules.proofs.name_table.NameTable.TheSendSync as names
 use Rattle.import_rules.proofs.places.Places.TheSendSync as places
-use Rattle.import_rules.specs.contracts.meanings.ImportTables as of_imports
+use Rattle.import_rules.specs.contracts.import_tables.ImportTables as of_imports
 use Rattle.import_rules.specs.contracts.program.Program as of_program
 use Rattle.import_rules.specs.contracts.shared_names.SharedNames as of_exporters
 use Rattle.import_rules.specs.contracts.taken_modules.TakenModules as of_taken

@@ -42,7 +42,7 @@ fn first_line(alloc: Global, grouped: &Grouped<'_, '_>) -> Result<Vec<Vec<u8>>, 
 }
 
 /// The lines of the report itself, in texts one after another.
-fn written<R: Threads + Sync>(
+fn lines_of_report<R: Threads + Sync>(
     rt: &R,
     alloc: Global,
     options: &Options,
@@ -174,7 +174,7 @@ pub fn report_texts<R: Threads + Sync>(
     requires { IsGroupedOf (see_options options.now) program.now grouped.now }
     ensures { IfOk result (λ texts. ReportsProgram (see_options options.now) program.now (concatenated texts.items)) }
 {
-    let lines = written(rt, alloc, options, program, grouped)?;
+    let lines = lines_of_report(rt, alloc, options, program, grouped)?;
     let effects = effects_part(rt, alloc, options, program, grouped)?;
     let loops = loops_part(alloc, options, program, grouped)?;
     let path = path_part(alloc, options, program, grouped)?;

@@ -7,7 +7,7 @@ use clap::{Arg, ArgAction, ArgMatches, Command};
 use std::alloc::{AllocError, Global};
 
 /// An option with a value.
-fn valued<'a>(alloc: Global, name: &'a str) -> Arg<'a>
+fn valued_arg<'a>(alloc: Global, name: &'a str) -> Arg<'a>
     ensures rule { rule_of result ≡ asked_valued name.entry.now }
     ensures own { result.global ≡ false }
 {
@@ -43,17 +43,17 @@ fn command<'a>(alloc: Global) -> Result<Command<'a>, AllocError>
     ensures { IfOk result (λ made. app_of made ≡ words_app) }
 {
     bare_command(alloc)
-        .arg(valued(alloc, "jobs"))?
-        .arg(valued(alloc, "searches"))?
-        .arg(valued(alloc, "seed"))?
-        .arg(valued(alloc, "roots"))?
-        .arg(valued(alloc, "path"))?
+        .arg(valued_arg(alloc, "jobs"))?
+        .arg(valued_arg(alloc, "searches"))?
+        .arg(valued_arg(alloc, "seed"))?
+        .arg(valued_arg(alloc, "roots"))?
+        .arg(valued_arg(alloc, "path"))?
         .arg(flag(alloc, "order"))?
         .arg(flag(alloc, "unreached"))?
         .arg(flag(alloc, "effects"))?
         .arg(flag(alloc, "loops"))?
         .arg(flag(alloc, "stream"))?
-        .arg(valued(alloc, "make"))?
+        .arg(valued_arg(alloc, "make"))?
         .arg(files(alloc))
 }
 

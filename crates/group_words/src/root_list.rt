@@ -46,7 +46,7 @@ fn arity_of(term: &Term) -> Option<u32>
 }
 
 /// The predicate of these parts, if all are there.
-fn named(
+fn predicate_of(
     alloc: Global,
     owner: Option<&str>,
     name: Option<&str>,
@@ -73,8 +73,8 @@ fn named_predicate(alloc: Global, term: &Term) -> Result<Option<PredName>, Alloc
     };
     let arity = arity_of(&arity);
     match sides(&name, ":") {
-        Some((owner, name)) => named(alloc, atom_name(&owner), atom_name(&name), arity),
-        None => named(alloc, Some("user"), atom_name(&name), arity),
+        Some((owner, name)) => predicate_of(alloc, atom_name(&owner), atom_name(&name), arity),
+        None => predicate_of(alloc, Some("user"), atom_name(&name), arity),
     }
 }
 

@@ -10,8 +10,8 @@ use Rattle.file_library.proofs.LoadedFiles.{none_paired}
 use Rattle.import_rules.specs.Clashes.{AreClashes}
 use Rattle.import_rules.specs.Flaws.{Flaw, AreFlaws, AreImportFaults, IsFaultOf, file_flaws, clash_flaw}
 use Rattle.import_rules.specs.Items.{foreign_items}
-use Rattle.import_rules.specs.declared.stop.ImportStop.{ImportStop}
-use Rattle.import_rules.specs.declared.stop.ImportStop.TheVariants.{Faults, TooManyPredicates, NoMemory}
+use Rattle.import_rules.specs.declared.import_stop.ImportStop.{ImportStop}
+use Rattle.import_rules.specs.declared.import_stop.ImportStop.TheVariants.{Faults, TooManyPredicates, NoMemory}
 use Rattle.import_rules.specs.declared.resolve.TheConstants.{MOST_PREDICATES}
 use Rattle.import_rules.specs.Program.{Seen, IsProgram, IsImportStop, HasPredicates}
 use Rattle.import_rules.proofs.OneFlaws.{one_list_of_flaws}

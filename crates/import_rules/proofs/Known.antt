@@ -7,7 +7,7 @@ use Rattle.std.proofs.lemmas.List.Elements.{All-weaker}
 use Rattle.module_table.specs.Facts.{Facts}
 use Rattle.file_library.specs.SortedOut.{see_loaded}
 use Rattle.import_rules.specs.declared.names.PredName.{PredName}
-use Rattle.import_rules.specs.declared.tables.ProgramTables.{ProgramTables}
+use Rattle.import_rules.specs.declared.program_tables.ProgramTables.{ProgramTables}
 use Rattle.import_rules.specs.Files.{AreNumbered, all_defined}
 use Rattle.import_rules.specs.Names.{is_same}
 use Rattle.import_rules.specs.Parts.{names_at}

@@ -6,7 +6,7 @@ use Rattle.file_library.specs.declared.limits.TheConstants.{MOST_FILES}
 use Rattle.file_library.specs.Loaded.{LoadedFiles, WasLoaded}
 use Rattle.file_library.specs.SortedOut.{see_loaded}
 use Rattle.file_library.specs.Spots.{AreLimited}
-use Rattle.import_rules.specs.declared.tables.ProgramTables.{ProgramTables}
+use Rattle.import_rules.specs.declared.program_tables.ProgramTables.{ProgramTables}
 use Rattle.import_rules.specs.Program.{see_program}
 use Rattle.import_rules.proofs.AllFound.{small_each}
 use Rattle.import_rules.proofs.Known.{known}

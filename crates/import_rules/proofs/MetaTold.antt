@@ -5,7 +5,7 @@ use Rattle.std.proofs.lemmas.Bool.{eq-eqb, eqb-true}
 use Rattle.std.proofs.lemmas.List.{length-map, get_or_past}
 use Rattle.std.proofs.lemmas.Option.{slice_get-get_or, slice_get_within, slice_get-map, slice_get_read, same_Some}
 use Rattle.file_library.specs.SortedOut.{see_loaded}
-use Rattle.import_rules.specs.declared.tables.ProgramTables.{ProgramTables}
+use Rattle.import_rules.specs.declared.program_tables.ProgramTables.{ProgramTables}
 use Rattle.import_rules.specs.Names.{pred_name}
 use Rattle.import_rules.specs.Parts.{names_at}
 use Rattle.import_rules.specs.Program.{see_program, args_at, meta_in, meta_of_found}

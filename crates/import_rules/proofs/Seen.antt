@@ -13,7 +13,7 @@ use Rattle.file_library.specs.SortedOut.{see_loaded}
 use Rattle.import_rules.specs.declared.names.PredName.{PredName}
 use Rattle.import_rules.specs.declared.shared_names.Exporter.{Exporter}
 use Rattle.import_rules.specs.declared.places.Places.{Places}
-use Rattle.import_rules.specs.declared.tables.ProgramTables.{ProgramTables}
+use Rattle.import_rules.specs.declared.program_tables.ProgramTables.{ProgramTables}
 use Rattle.import_rules.specs.Names.{is_same, pred_name}
 use Rattle.import_rules.specs.Meanings.{IsNotOffered, IsShared}
 use Rattle.import_rules.specs.SharedNames.{exporters_at}

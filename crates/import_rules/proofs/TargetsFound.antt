@@ -15,7 +15,7 @@ use Rattle.module_table.specs.declared.load.LoadKind.TheVariants.{UseAll, UseSom
 use Rattle.module_table.specs.Facts.{Facts}
 use Rattle.module_table.specs.Kinds.{first_of}
 use Rattle.module_table.specs.Said.{Loads}
-use Rattle.import_rules.specs.declared.meanings.ImportTables.{ImportTables}
+use Rattle.import_rules.specs.declared.import_tables.ImportTables.{ImportTables}
 use Rattle.import_rules.specs.declared.names.PredName.{PredName}
 use Rattle.import_rules.specs.declared.shared_names.Exporter.{Exporter}
 use Rattle.import_rules.specs.Clashes.{Imports, items_for, AreClashes, AreFirsts}

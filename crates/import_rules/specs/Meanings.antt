@@ -4,7 +4,7 @@ use Rattle.std.specs.declared.cmp.Ordering.TheVariants.{Less}
 use Rattle.std.specs.List.{list_any}
 use Rattle.module_table.specs.Facts.{Facts}
 use Rattle.import_rules.specs.declared.names.PredName.{PredName}
-use Rattle.import_rules.specs.declared.meanings.ImportTables.{ImportTables}
+use Rattle.import_rules.specs.declared.import_tables.ImportTables.{ImportTables}
 use Rattle.import_rules.specs.declared.shared_names.Exporter.{Exporter}
 use Rattle.import_rules.specs.Names.{is_same, pred_cmp, pred_name}
 use Rattle.import_rules.specs.Find.{Means, found_in}

@@ -14,9 +14,9 @@ use Rattle.prolog_tokens.specs.declared.limits.TheConstants.{MOST_BYTES}
 use Rattle.file_library.specs.Loaded.{LoadedFiles, NamedText}
 use Rattle.file_library.specs.SortedOut.{see_loaded}
 use Rattle.import_rules.specs.declared.names.PredName.{PredName}
-use Rattle.import_rules.specs.declared.tables.ProgramTables.{ProgramTables}
-use Rattle.import_rules.specs.declared.stop.ImportStop.{ImportStop}
-use Rattle.import_rules.specs.declared.stop.ImportStop.TheVariants.{Faults, TooManyPredicates, NoMemory}
+use Rattle.import_rules.specs.declared.program_tables.ProgramTables.{ProgramTables}
+use Rattle.import_rules.specs.declared.import_stop.ImportStop.{ImportStop}
+use Rattle.import_rules.specs.declared.import_stop.ImportStop.TheVariants.{Faults, TooManyPredicates, NoMemory}
 use Rattle.import_rules.specs.Names.{pred_name}
 use Rattle.import_rules.specs.declared.resolve.TheConstants.{MOST_PREDICATES}
 use Rattle.import_rules.specs.Files.{AreNumbered}

@@ -17,7 +17,7 @@ use crate::known_file::known_files;
 use crate::lookups::Lookups;
 use crate::module_clashes::all_clashes;
 use crate::offers::all_offers;
-use crate::placed::placed;
+use crate::placed::faults_with_places;
 use crate::predicates::Predicates;
 use crate::shared_names::SharedNames;
 use crate::taken_modules::TakenModules;
@@ -69,7 +69,7 @@ pub(crate) fn check_imports<'a>(
     let taken = TakenModules::make(alloc, &lookups)?;
     let shared = SharedNames::make(alloc, &lookups, &taken)?;
     let flaws = with_clashes(found.flaws, &clashing)?;
-    let faults = placed(alloc, &loaded.texts, flaws)?;
+    let faults = faults_with_places(alloc, &loaded.texts, flaws)?;
     let imports = ImportItems {
         kept: listed.firsts,
         offered: firsts,

@@ -10,7 +10,7 @@ ghost use Rattle.import_rules.specs.Program.{found, see_program};
 
 use crate::own_names::OwnName;
 use crate::program::Program;
-use crate::tables::ProgramTables;
+use crate::program_tables::ProgramTables;
 use module_table::FileFacts;
 
 /// A file of a program, with the predicates of its own module that it defines by the numbers of

@@ -8,7 +8,7 @@ ghost use Rattle.import_rules.specs.NameTable.{name_hash};
 ghost use Rattle.import_rules.specs.Program.{found, see_program};
 
 use crate::name_table::name_hash;
-use crate::tables::ProgramTables;
+use crate::program_tables::ProgramTables;
 
 impl ProgramTables {
     /// What `find` returns for a name with that hash, if no file defines it in the module. It hashes

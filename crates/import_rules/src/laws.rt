@@ -13,7 +13,7 @@ ghost use Rattle.import_rules.specs.Names.{pred_name};
 ghost use Rattle.import_rules.specs.declared.resolve.TheConstants.{MOST_PREDICATES};
 ghost use Rattle.import_rules.specs.Program.{Seen, IsProgram, IsImportStop, HasPredicates, found, places_in};
 
-use crate::stop::ImportStop;
+use crate::import_stop::ImportStop;
 
 /// The files determine the numbering of their predicates.
 pub fn one_numbering()

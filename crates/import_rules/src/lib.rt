@@ -24,12 +24,13 @@ mod finding;
 mod flaws;
 mod gather;
 mod home;
+mod import_stop;
+mod import_tables;
 mod imported;
 mod item;
 mod known_file;
 mod laws;
 mod lookups;
-mod meanings;
 mod meta_places;
 mod module_clashes;
 mod name_table;
@@ -44,19 +45,18 @@ mod placed;
 mod places;
 mod predicates;
 mod program;
+mod program_tables;
 mod resolve;
 mod shared_names;
 mod spots;
-mod stop;
-mod tables;
 mod taken;
 mod taken_modules;
 
 pub use home::Home;
+pub use import_stop::ImportStop;
 pub use laws::{
     found_means, one_list_of_faults, one_meaning, one_numbering, one_program, places_told,
 };
 pub use names::{NameView, PredName};
 pub use program::Program;
 pub use resolve::{MOST_PREDICATES, resolve_all};
-pub use stop::ImportStop;

@@ -6,7 +6,7 @@ ghost use Rattle.import_rules.specs.Program.{see_program};
 
 use crate::laws::found_means;
 use crate::names::{NameView, PredName};
-use crate::tables::ProgramTables;
+use crate::program_tables::ProgramTables;
 
 /// Whether the names are equal. Modules are compared last.
 fn is_same(name: NameView<'_>, other: NameView<'_>) -> bool

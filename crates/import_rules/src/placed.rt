@@ -12,7 +12,7 @@ use prolog_tokens::{Place, Text};
 use std::alloc::{AllocError, Global};
 
 /// The errors in order of file, offset and cause, each with its line and column.
-pub(crate) fn placed(
+pub(crate) fn faults_with_places(
     alloc: Global,
     texts: &[(Text, Vec<u8>)],
     mut flaws: Vec<Finding<'_>>,

@@ -8,7 +8,7 @@ ghost use Rattle.import_rules.specs.Program.{see_program};
 
 use crate::names::{NameView, PredName};
 use crate::own_names::OwnName;
-use crate::tables::ProgramTables;
+use crate::program_tables::ProgramTables;
 use file_library::Loaded;
 use module_table::{FileFacts, GoalArg};
 use prolog_tokens::Place;

@@ -13,7 +13,8 @@ ghost use Rattle.import_rules.specs.Parts.{names_at};
 ghost use Rattle.import_rules.specs.Program.{IsProgram, IsImportStop};
 
 use crate::check::{Checked, check_imports};
-use crate::meanings::{ImportTables, find_meanings};
+use crate::import_stop::ImportStop;
+use crate::import_tables::{ImportTables, find_meanings};
 use crate::meta_places::meta_places;
 use crate::number::number;
 use crate::own_names::OwnNames;
@@ -21,8 +22,7 @@ use crate::part::parts_of;
 use crate::places::Places;
 use crate::predicates::{Chains, Predicates};
 use crate::program::Program;
-use crate::stop::ImportStop;
-use crate::tables::ProgramTables;
+use crate::program_tables::ProgramTables;
 use file_library::Loaded;
 use std::alloc::{AllocError, Global};
 
@@ -30,7 +30,7 @@ use std::alloc::{AllocError, Global};
 pub const MOST_PREDICATES: usize = 1_048_576;
 
 /// The predicates of the files in the order of their numbers: the positions of each.
-fn numbered(alloc: Global, loaded: &Loaded) -> Result<Vec<Places>, AllocError>
+fn numbered_places(alloc: Global, loaded: &Loaded) -> Result<Vec<Places>, AllocError>
     requires { WasLoaded (see_loaded loaded.now) }
     ensures { IfOk result (λ places.
         AreNumbers (parts_in (see_loaded loaded.now).files) (names_at loaded.now.files.items places.items) (lists_of places.items)) }
@@ -67,7 +67,7 @@ pub fn resolve_all(alloc: Global, loaded: Loaded) -> Result<Program, ImportStop>
     ensures ok { IfOk result (λ program. IsProgram (see_loaded loaded) program) }
     ensures refused { IfErr result (IsImportStop (see_loaded loaded)) }
 {
-    let places = numbered(alloc, &loaded)?;
+    let places = numbered_places(alloc, &loaded)?;
     if places.len() > MOST_PREDICATES {
         return Err(ImportStop::TooManyPredicates);
     }

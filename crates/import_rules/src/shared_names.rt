@@ -9,9 +9,9 @@ ghost use Rattle.import_rules.specs.Offers.{offers};
 ghost use Rattle.import_rules.specs.SharedNames.{AreExporters, exporters_at};
 ghost use Rattle.import_rules.specs.TakenModules.{marked_at};
 
+use crate::import_tables::names_given;
 use crate::item::Item;
 use crate::lookups::Lookups;
-use crate::meanings::names_given;
 use crate::name_table::{NameTable, name_hash};
 use crate::offers::all_offers;
 use crate::predicates::Predicates;

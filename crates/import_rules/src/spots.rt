@@ -1,4 +1,4 @@
-use crate::tables::ProgramTables;
+use crate::program_tables::ProgramTables;
 use file_library::places_of_spots;
 use prolog_tokens::Place;
 use std::alloc::{AllocError, Global};

@@ -9,9 +9,9 @@ ghost use Rattle.import_rules.specs.Names.{is_same, pred_cmp};
 ghost use Rattle.import_rules.specs.TakenModules.{AreMarked, AreTaken, AreUnmarked, HaveSize, IsTaken, marked_at, marked_in, module_item, module_name};
 
 use crate::clash::find_imports;
+use crate::import_tables::names_given;
 use crate::item::Item;
 use crate::lookups::Lookups;
-use crate::meanings::names_given;
 use crate::name_table::{NameTable, name_hash};
 use crate::pairs::all_pairs;
 use std::alloc::{AllocError, Global};
@@ -90,7 +90,7 @@ fn place_of(modules: &NameTable, module: &str) -> Option<usize>
 }
 
 /// The marks of these items, each of which names two modules.
-fn marked(
+fn marked_rows(
     alloc: Global,
     modules: &NameTable,
     size: usize,
@@ -125,7 +125,7 @@ impl TakenModules {
         let size = names.len();
         let modules = NameTable::make(alloc, names)?;
         let pairs = all_pairs(alloc, lookups)?;
-        let rows = marked(alloc, &modules, size, &pairs)?;
+        let rows = marked_rows(alloc, &modules, size, &pairs)?;
         Ok(TakenModules { modules, rows })
     }
 

@@ -27,7 +27,7 @@ fn names_at(alloc: Global, modules: &[&str], class: &[u32]) -> Result<Vec<Text>,
 }
 
 /// The names at the indices, SCC by SCC.
-fn named(
+fn names_of_classes(
     alloc: Global,
     modules: &[&str],
     classes: &[Vec<u32>],
@@ -55,7 +55,7 @@ pub fn import_loops(alloc: Global, program: &Program) -> Result<Vec<Vec<Text>>, 
     let modules = module_names(alloc, files)?;
     let graph = module_graph(alloc, files, &modules)?;
     let classes = rings(alloc, &graph, &modules)?;
-    let loops = named(alloc, &modules, &classes)?;
+    let loops = names_of_classes(alloc, &modules, &classes)?;
     Ok(loops)
 }
 

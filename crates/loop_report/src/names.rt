@@ -1,4 +1,4 @@
-ghost use Rattle.std.specs.Prelude.{◌≡◌, ◌<◌, ◌+◌, ◌++◌, IfOk, OnOk, codes, length};
+ghost use Rattle.std.specs.Prelude.{◌≡◌, ◌<◌, ◌++◌, IfOk, OnOk, codes, length};
 ghost use Rattle.std.specs.Fmt.{decimal};
 ghost use Rattle.std.specs.String.{string_bytes};
 ghost use Rattle.import_rules.specs.Parts.{see_name};
@@ -7,25 +7,15 @@ ghost use Rattle.loop_report.specs.Names.{member_name, name_text, own_text};
 use crate::last_module::LastModule;
 use crate::spelled::push_atom;
 use import_rules::{NameView, PredName, Program};
+use itoa::Buffer;
 use std::alloc::{AllocError, Global};
-
-/// The decimal digit of a number below 10.
-fn digit(number: u64) -> u8
-    requires { number < 10 }
-    ensures { result ≡ 48 + number }
-{
-    b'0' + number as u8
-}
 
 /// Adds the number in decimal digits. It allocates only for the text.
 pub(crate) fn push_number(text: &mut String, number: u64) -> Result<(), AllocError>
     ensures { OnOk result (string_bytes text.new ≡ string_bytes text.old ++ decimal number) }
 {
-    if number < 10 {
-        return text.push(digit(number) as char);
-    }
-    push_number(text, number / 10)?;
-    text.push(digit(number % 10) as char)
+    let mut digits = Buffer::new();
+    text.push_str(digits.format(number))
 }
 
 /// A slash and the arity, which has one digit.

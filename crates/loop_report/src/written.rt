@@ -39,7 +39,7 @@ pub fn report(
         IsReport program.now.predicates program.now.loaded.files (lists_of groups.now) levels.now unreached bytes.items) }
 {
     let order = line_order(alloc, program.count(), groups, levels)?;
-    written(alloc, program, groups, levels, &order, unreached)
+    text_of_order(alloc, program, groups, levels, &order, unreached)
 }
 
 /// The same report with the lines of the groups in the given order.
@@ -56,7 +56,7 @@ pub fn order_report(
 {
     program.is_known();
     let order = order_given(alloc, group_count(groups))?;
-    written(alloc, program, groups, levels, &order, unreached)
+    text_of_order(alloc, program, groups, levels, &order, unreached)
 }
 
 /// The bytes of `report`, in texts one after another. The lines of many groups are written in
@@ -132,7 +132,7 @@ fn push_rest(
 }
 
 /// The report with the lines of the groups at these indices.
-fn written(
+fn text_of_order(
     alloc: Global,
     program: &Program,
     groups: &[Vec<u32>],
@@ -209,7 +209,7 @@ fn written_whole(
         IsReportIn program.now.predicates program.now.loaded.files
         (lists_of groups.now) levels.now unreached order.now (concatenated texts.items)) }
 {
-    let text = written(alloc, program, groups, levels, order, unreached)?;
+    let text = text_of_order(alloc, program, groups, levels, order, unreached)?;
     let texts = one_text(alloc, text)?;
     Ok(texts)
 }

@@ -11,8 +11,8 @@ use Rattle.module_table.specs.Said.{Loads}
 use Rattle.file_library.specs.Loaded.{LoadedFiles}
 use Rattle.import_rules.specs.declared.names.PredName.{PredName}
 use Rattle.import_rules.specs.declared.resolve.TheConstants.{MOST_PREDICATES}
-use Rattle.import_rules.specs.declared.stop.ImportStop.{ImportStop}
-use Rattle.import_rules.specs.declared.stop.ImportStop.TheVariants.{Faults, TooManyPredicates, NoMemory}
+use Rattle.import_rules.specs.declared.import_stop.ImportStop.{ImportStop}
+use Rattle.import_rules.specs.declared.import_stop.ImportStop.TheVariants.{Faults, TooManyPredicates, NoMemory}
 use Rattle.import_rules.specs.Clashes.{Imports, AreClashes}
 use Rattle.import_rules.specs.Files.{is_local, file_named, AreNumbered}
 use Rattle.import_rules.specs.Flaws.{Flaw, flaw, only_if, module_flaws, exported, export_flaws, use_flaws, load_flaws, file_flaws, clash_flaw, AreFlaws}

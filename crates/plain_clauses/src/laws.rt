@@ -16,7 +16,7 @@ ghost use Rattle.module_table.specs.Facts.{Facts, AreFacts, clause_head, file_sa
 ghost use Rattle.file_library.specs.declared.fault.Fault.{Fault};
 ghost use Rattle.file_library.specs.Loaded.{LoadedFiles, NamedText};
 ghost use Rattle.import_rules.specs.declared.names.PredName.{PredName};
-ghost use Rattle.import_rules.specs.declared.stop.ImportStop.{ImportStop};
+ghost use Rattle.import_rules.specs.declared.import_stop.ImportStop.{ImportStop};
 ghost use Rattle.import_rules.specs.Program.{Seen, IsProgram, IsImportStop, IsKnown};
 ghost use Rattle.call_edges.specs.Calls.{IsMetInClause, IsAmong, NodeCalls};
 ghost use Rattle.call_edges.specs.CallPlaces.{CallAt, IsCallOf};

@@ -45,8 +45,8 @@ struct MixingGate {
 }
 
 impl Gate for MixingGate {
-    fn on_expand(&self, node: u32) {
-        self.meeting.on_expand(node);
+    fn opened(&self, node: u32) {
+        self.meeting.opened(node);
         for _turn in 0..draw(self.seed, node) % 64 {
             hint::spin_loop();
         }
@@ -73,6 +73,6 @@ fn expect_mixed<R: Threads + Wait + Sync + Abort>(
         seed,
     };
     expect_groups(rt, alloc, &graph, 2 + seed % 3, &gate)?;
-    expect(rt, gate.meeting.has_met(), "two nodes are expanded at once");
+    expect(rt, gate.meeting.met(), "two nodes are expanded at once");
     Ok(())
 }

@@ -24,7 +24,7 @@ impl CountingGate {
 }
 
 impl Gate for CountingGate {
-    fn on_expand(&self, _node: u32) {
+    fn opened(&self, _node: u32) {
         for _loop in 0..self.loops {
             hint::spin_loop();
         }

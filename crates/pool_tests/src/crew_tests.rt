@@ -52,16 +52,16 @@ fn two_expansions_meet_at_a_gate(rt: HostRuntime) -> Result<(), Fail> {
     let graph = graph_with(alloc, Shape::Loose, 2)?;
     let gate = MeetGate::new(LOOPS);
     expect_groups(&rt, alloc, &graph, 2, &gate)?;
-    expect(&rt, gate.has_met(), "two nodes are expanded at once");
+    expect(&rt, gate.met(), "two nodes are expanded at once");
     Ok(())
 }
 
 #[test]
 fn expansions_one_after_another_never_meet(rt: HostRuntime) {
     let gate = MeetGate::new(10);
-    gate.on_expand(0);
-    gate.on_expand(1);
-    expect(&rt, !gate.has_met(), "no two at once");
+    gate.opened(0);
+    gate.opened(1);
+    expect(&rt, !gate.met(), "no two at once");
 }
 
 /// The others hold back if nodes are expanded cheaply, and begin if they aren't. A single root

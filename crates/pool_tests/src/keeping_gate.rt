@@ -22,7 +22,7 @@ impl KeepingGate {
 }
 
 impl Gate for KeepingGate {
-    fn on_expand(&self, node: u32) {
+    fn opened(&self, node: u32) {
         self.told.fetch_or(bit_of(node), Ordering::SeqCst);
     }
 }

@@ -31,7 +31,7 @@ impl StarGate {
 }
 
 impl Gate for StarGate {
-    fn on_expand(&self, node: u32) {
+    fn opened(&self, node: u32) {
         if node == 0 {
             self.came
                 .store(comes_within(&self.all, self.loops), Ordering::SeqCst);

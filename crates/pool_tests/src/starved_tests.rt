@@ -74,7 +74,7 @@ fn fails_if_a_node_cannot_be_expanded_beside_another(rt: HostRuntime) -> Result<
         };
         let gate = MeetGate::new(LOOPS);
         expect_failure(&rt, alloc, &starved, 2, &gate);
-        expect(&rt, gate.has_met(), "two nodes are expanded at once");
+        expect(&rt, gate.met(), "two nodes are expanded at once");
     }
     Ok(())
 }

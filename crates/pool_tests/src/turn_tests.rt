@@ -26,7 +26,7 @@ struct TurnGate {
 }
 
 impl Gate for TurnGate {
-    fn on_expand(&self, node: u32) {
+    fn opened(&self, node: u32) {
         if node == 0 {
             self.first.store(true, Ordering::SeqCst);
             comes(&self.taken);

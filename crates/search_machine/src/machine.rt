@@ -123,10 +123,10 @@ impl Machine {
     }
 
     /// The released groups, in the order of their release.
-    pub fn released_groups(&self) -> &Released
+    pub fn released(&self) -> &Released
         ensures { result.now ≡ record { count = length self.now.lists; groups = self.now.state.groups } }
     {
-        self.book.released_groups()
+        self.book.released()
     }
 
     /// How many places there are.

@@ -136,7 +136,7 @@ pub(crate) fn open_node<O: Opener, G: Gate>(
 {
     let mut succs = Vec::new(alloc);
     crew.step();
-    gate.on_expand(node);
+    gate.opened(node);
     opener.expand(node, &mut succs)?;
     crew.step();
     search.push(Opening { node, succs });

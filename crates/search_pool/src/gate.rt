@@ -18,7 +18,7 @@ const SPINS: u32 = 1024;
 
 /// A callback, which is called before each node is expanded. Tests steer the interleaving by it.
 pub trait Gate: Sync {
-    fn on_expand(&self, node: u32);
+    fn opened(&self, node: u32);
 }
 
 /// A gate that does nothing.
@@ -26,7 +26,7 @@ pub trait Gate: Sync {
 pub struct OpenGate;
 
 impl Gate for OpenGate {
-    fn on_expand(&self, _node: u32) {}
+    fn opened(&self, _node: u32) {}
 }
 
 /// A gate that holds the first expansion until a second one has begun, or for a number of
@@ -58,7 +58,7 @@ impl MeetGate {
 
     /// Whether a second expansion began while the first was held. No contract states what other
     /// threads do.
-    pub fn has_met(&self) -> bool {
+    pub fn met(&self) -> bool {
         self.state.load(Ordering::SeqCst) == MET
     }
 
@@ -71,13 +71,13 @@ impl MeetGate {
 }
 
 impl Gate for MeetGate {
-    fn on_expand(&self, _node: u32) {
+    fn opened(&self, _node: u32) {
         if !self.moves(UNUSED, HOLDING) {
             self.moves(HOLDING, MET);
             return;
         }
         for turn in 0..self.turns {
-            if self.has_met() {
+            if self.met() {
                 return;
             }
             if turn % SPINS == 0 {

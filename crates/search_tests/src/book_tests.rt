@@ -13,8 +13,8 @@ fn gives_its_roots_out_and_fails(rt: HostRuntime) -> Result<(), Fail> {
     assert_eq!(rt; book.next_root(), None);
     assert!(rt; !book.has_ready());
     assert!(rt; book.take_ready().is_none());
-    assert_eq!(rt; book.blocked_searches().holder(3), None);
-    assert!(rt; !book.released_groups().holds(3));
+    assert_eq!(rt; book.blocked().holder(3), None);
+    assert!(rt; !book.released().holds(3));
     assert!(rt; !book.has_failed());
     book.fail();
     assert!(rt; book.has_failed());

@@ -48,10 +48,10 @@ fn start(alloc: Global, graph: &Graph, book: &mut Book) -> Result<Search, Fail>
 fn is_free(book: &Book, node: u32) -> bool
     ensures { OnTrue result (IsFreeIn book.now node) }
 {
-    if book.released_groups().holds(node) {
+    if book.released().holds(node) {
         return false;
     }
-    match book.blocked_searches().holder(node) {
+    match book.blocked().holder(node) {
         Some(_) => false,
         None => true,
     }
@@ -127,7 +127,7 @@ fn wait(book: &mut Book, search: Search, node: u32) -> Result<Option<Search>, Fa
     ensures same { IfOk result (λ _. book.new.lists ≡ book.old.lists) }
     ensures runs { IfOk result (λ after. IfSome after (RunsBeside book.new)) }
 {
-    if book.released_groups().holds(node) {
+    if book.released().holds(node) {
         return Err("the search need not wait".into());
     }
     match book.suspend(search, node) {

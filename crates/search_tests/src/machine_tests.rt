@@ -159,7 +159,7 @@ fn take_turn(
     }
     let mut succs = Vec::new(alloc);
     graph.expand(node, &mut succs)?;
-    match machine.push_opening(alloc, place, Opening { node, succs }) {
+    match machine.opened(alloc, place, Opening { node, succs }) {
         Ok(()) => Ok(Some(node)),
         Err((error, _)) => Err(error.into()),
     }

@@ -55,14 +55,14 @@ pub(crate) fn book_shown(alloc: Global, graph: &Graph, book: &Book) -> Result<St
     let mut held = Vec::new(alloc);
     let mut released = Vec::new(alloc);
     for node in 0..=graph.count() {
-        if book.blocked_searches().holder(node).is_some() {
+        if book.blocked().holder(node).is_some() {
             held.push(node)?;
         }
-        if book.released_groups().holds(node) {
+        if book.released().holds(node) {
             released.push(node)?;
         }
     }
     let ready = book.has_ready();
-    let groups = book.released_groups().groups();
+    let groups = book.released().groups();
     format!(in alloc; "held {held:?} ready {ready} released {released:?} {groups:?}\n")
 }

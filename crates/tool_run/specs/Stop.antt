@@ -3,8 +3,8 @@ use Rattle.std.specs.Prelude.{ℕ, Result, Ok, Err, Vec}
 use Rattle.std.specs.declared.alloc.Global.{Global}
 use Rattle.file_library.specs.declared.loaded.LoadStop.{LoadStop}
 use Rattle.file_library.specs.declared.loaded.LoadStop.TheVariants as of_load
-use Rattle.import_rules.specs.declared.stop.ImportStop.{ImportStop}
-use Rattle.import_rules.specs.declared.stop.ImportStop.TheVariants as of_import
+use Rattle.import_rules.specs.declared.import_stop.ImportStop.{ImportStop}
+use Rattle.import_rules.specs.declared.import_stop.ImportStop.TheVariants as of_import
 use Rattle.call_edges.specs.declared.goal_stop.GoalStop.{GoalStop}
 use Rattle.call_edges.specs.declared.goal_stop.GoalStop.TheVariants as of_check
 use Rattle.group_words.specs.declared.options.WordFault.{WordFault}

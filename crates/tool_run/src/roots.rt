@@ -29,7 +29,7 @@ impl From<AllocError> for RootStop {
     }
 }
 
-fn copied(alloc: Global, name: &PredName) -> Result<PredName, AllocError>
+fn copy_of(alloc: Global, name: &PredName) -> Result<PredName, AllocError>
     ensures { IfOk result (λ copy. copy ≡ name.now) }
 {
     Ok(PredName {
@@ -48,14 +48,14 @@ fn push_root(roots: &mut Vec<u32>, node: u32) -> Result<(), AllocError>
 
 /// The numbers of the predicates that the list names, in its order, or the first name that is no
 /// predicate.
-fn listed(alloc: Global, program: &Program, list: &[PredName]) -> Result<Vec<u32>, RootStop>
+fn numbers_of(alloc: Global, program: &Program, list: &[PredName]) -> Result<Vec<u32>, RootStop>
     ensures ok { IfOk result (λ roots. AllZip (IsNamed program.now.predicates) list.now roots.items) }
     ensures err { IfErr result (IsRootStop (Some list.now) program.now) }
 {
     let mut roots = Vec::new(alloc);
     for name in list {
         let Some(node) = program.own(name) else {
-            return Err(RootStop::NoPredicate(copied(alloc, name)?));
+            return Err(RootStop::NoPredicate(copy_of(alloc, name)?));
         };
         push_root(&mut roots, node)?;
     }
@@ -70,7 +70,7 @@ fn listed_roots(alloc: Global, program: &Program, list: &[PredName]) -> Result<V
     ensures err { IfErr result (IsRootStop (Some list.now) program.now) }
 {
     program.is_known();
-    let mut roots = listed(alloc, program, list)?;
+    let mut roots = numbers_of(alloc, program, list)?;
     roots.sort_unstable();
     roots.dedup();
     Ok(roots)
@@ -97,7 +97,7 @@ fn end_of_path(alloc: Global, program: &Program, name: &PredName) -> Result<u32,
     ensures err { IfErr result (IsEndStop program.now.predicates name.now) }
 {
     let Some(node) = program.own(name) else {
-        return Err(RootStop::NoPredicate(copied(alloc, name)?));
+        return Err(RootStop::NoPredicate(copy_of(alloc, name)?));
     };
     Ok(node)
 }

@@ -48,7 +48,7 @@ impl CrowdGate {
 }
 
 impl Gate for CrowdGate {
-    fn on_expand(&self, _node: u32) {
+    fn opened(&self, _node: u32) {
         if self.entered.fetch_add(1, Ordering::SeqCst) == COUNT - 1 {
             self.full.store(true, Ordering::SeqCst);
         }

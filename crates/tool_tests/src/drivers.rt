@@ -52,7 +52,7 @@ fn opens_two_nodes_at_once_with_two_workers(rt: HostRuntime) -> Result<(), Fail>
     let alloc = rt.alloc();
     let gate = MeetGate::new(50_000_000);
     let out = report_of(&rt, alloc, &["--jobs", "2", "f.pl"], TWO, &gate)?;
-    assert!(rt; gate.has_met());
+    assert!(rt; gate.met());
     assert_eq!(rt; shown(&out), TWO_REPORT);
     let alone = report_of(&rt, alloc, &["--jobs", "1", "f.pl"], TWO, &OpenGate)?;
     assert_eq!(rt; shown(&alone), TWO_REPORT);

@@ -60,7 +60,7 @@ impl Machine {
             self.running[at] = Some(search);
             return Ok(Some(Step::Done));
         }
-        if self.book.released_groups().holds(node) {
+        if self.book.released().holds(node) {
             self.running[at] = Some(search);
             return Ok(Some(Step::Done));
         }

@@ -9,7 +9,7 @@ use std::alloc::{AllocError, Global};
 impl Machine {
     /// Pushes the expanded node that the place waits for. If memory runs out, the opening is
     /// returned and the machine has failed. Nothing else changes then.
-    pub fn push_opening(
+    pub fn opened(
         &mut self,
         alloc: Global,
         place: u32,

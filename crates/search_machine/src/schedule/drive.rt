@@ -74,7 +74,7 @@ fn take_turn<O: Opener>(
     };
     let mut succs = Vec::new(alloc);
     opener.expand(node, &mut succs)?;
-    match machine.push_opening(alloc, place, Opening { node, succs }) {
+    match machine.opened(alloc, place, Opening { node, succs }) {
         Ok(()) => Ok(()),
         Err((error, _opening)) => Err(error),
     }

@@ -21,7 +21,7 @@ fn members(turn: &mut Turn<'_>) -> usize
     ensures count { result ≡ length (last_group turn.old.book) }
     ensures unchanged { turn.new ≡ turn.old }
 {
-    let groups = turn.book().released_groups().groups();
+    let groups = turn.book().released().groups();
     groups[groups.len() - 1].len()
 }
 
@@ -32,6 +32,6 @@ fn member(turn: &mut Turn<'_>, index: usize) -> u32
     ensures member { slice_get (last_group turn.old.book) index ≡ Some result }
     ensures unchanged { turn.new ≡ turn.old }
 {
-    let groups = turn.book().released_groups().groups();
+    let groups = turn.book().released().groups();
     groups[groups.len() - 1][index]
 }

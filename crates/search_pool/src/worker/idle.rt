@@ -120,7 +120,7 @@ fn hold_back(rt: &impl Wait, claims: &Claims, worker: Worker) -> Outcome
     if let Some(ready) = book.take_ready() {
         return Outcome::On(give_back(turn, ready, stretch, seen_roots));
     }
-    let released = book.released_groups().holds(awaited);
+    let released = book.released().holds(awaited);
     let mut worker = give_back(turn, search, stretch, seen_roots);
     if released {
         return Outcome::On(worker);
@@ -170,7 +170,7 @@ fn released_roots(book: &Book, from: usize) -> usize
 {
     let roots = book.roots();
     for index in from..roots.len() {
-        if !book.released_groups().holds(roots[index]) {
+        if !book.released().holds(roots[index]) {
             return index;
         }
     }

@@ -44,7 +44,7 @@ pub(crate) fn suspend(
     if book.has_failed() {
         return Outcome::Ended(stop(turn, search, None));
     }
-    if book.released_groups().holds(node) {
+    if book.released().holds(node) {
         let mut worker = give_back(turn, search, stretch, seen_roots);
         worker.search.back(node);
         return Outcome::On(worker);

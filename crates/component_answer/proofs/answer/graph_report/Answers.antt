@@ -1,11 +1,11 @@
-use Rattle.std.proofs.Common.{true, false, length, sym, subst}
+use Rattle.std.proofs.Common.{◌++◌, length, sym, subst, ap, ◌∙◌}
 use Rattle.graph_law.specs.Graph.{Calls, lists_of}
 use Rattle.graph_law.specs.LegalOrder.{IsLegalOrder}
 use Rattle.graph_law.specs.Classes.{HasMember}
 use Rattle.group_release.specs.Level.{AreLevels}
 use Rattle.byte_names.specs.Names.{names_of}
 use Rattle.component_report.specs.Reportable.{AreLeveled, AreReportable}
-use Rattle.component_answer.specs.Answers.{IsReachReport, IsReportBy}
+use Rattle.component_answer.specs.Answers.{AreLoops, IsPart, IsReportBy}
 use Rattle.component_answer.proofs.Nodes.{members_are_nodes, reportable}
 use Rattle.component_answer.proofs.answer.graph_report.Goals as goal
 
@@ -18,32 +18,8 @@ levels-requires-clause-nodes c κs p has =
     members_are_nodes c.args.graph.now c.args.starts.now (lists_of c.in_ok-groups.groups.items) c.count-count.ensures.closed c.requires.within
     c.in_ok-groups.ensures.reached p (subst (λ gs. HasMember (lists_of gs) p) c.deref.ensures.value has)
 
-pub order_report-requires : goal.order_report-requires
-order_report-requires c =
-    let lists = c.args.graph.now in
-    let starts = c.args.starts.now in
-    let groups = lists_of c.in_ok-groups.groups.items in
-    let levels = c.in_ok-marks.marks.items in
-    let leveled : AreLeveled (Calls lists) starts groups levels = record {
-      are = record {
-        legal = c.in_ok-groups.ensures.legal;
-        complete = c.in_ok-groups.ensures.complete;
-        reached = c.in_ok-groups.ensures.reached;
-      };
-      leveled = subst (λ gs. AreLevels (Calls lists) (lists_of gs) levels) c.deref.ensures.value c.in_ok-marks.ensures;
-    } in
-    let can : AreReportable (length c.args.names.now) groups levels =
-    reportable lists starts groups levels (length c.args.names.now) c.count-count.ensures.closed c.requires.within leveled
-    c.requires.each in
-    record {
-      few = c.requires.few;
-      groups =
-          subst (λ gs. AreReportable (length c.args.names.now) (lists_of gs) c.deref-then-order-2.result.now) (sym c.deref-then-order.ensures.value)
-          (subst (AreReportable (length c.args.names.now) groups) (sym c.deref-then-order-2.ensures.value) can);
-    }
-
-pub report-requires : goal.report-requires
-report-requires c =
+pub groups_report-requires : goal.groups_report-requires
+groups_report-requires c =
     let lists = c.args.graph.now in
     let starts = c.args.starts.now in
     let groups = lists_of c.in_ok-groups.groups.items in
@@ -66,8 +42,8 @@ report-requires c =
           (subst (AreReportable (length c.args.names.now) groups) (sym c.deref-3.ensures.value) can);
     }
 
-pub returns-then-order : goal.returns-then-order
-returns-then-order c =
+pub loops_part-requires : goal.loops_part-requires
+loops_part-requires c =
     let lists = c.args.graph.now in
     let starts = c.args.starts.now in
     let groups = lists_of c.in_ok-groups.groups.items in
@@ -80,20 +56,25 @@ returns-then-order c =
       };
       leveled = subst (λ gs. AreLevels (Calls lists) (lists_of gs) levels) c.deref.ensures.value c.in_ok-marks.ensures;
     } in
-    let report : IsReportBy true c.args.wanted.form (names_of c.args.names.now) groups levels c.in_ok-bytes.bytes.items =
-    subst (λ gs. IsReportBy true c.args.wanted.form (names_of c.args.names.now) (lists_of gs) levels c.in_ok-bytes.bytes.items) c.deref-then-order.ensures.value
-    (subst (λ ms. IsReportBy true c.args.wanted.form (names_of c.args.names.now) (lists_of c.deref-then-order.result.now) ms c.in_ok-bytes.bytes.items) c.deref-then-order-2.ensures.value c.in_ok-bytes.ensures) in
-    (record {
-      groups = groups;
-      levels = levels;
-      leveled = leveled;
-      report = subst (λ o. IsReportBy o c.args.wanted.form (names_of c.args.names.now) groups levels c.in_ok-bytes.bytes.items) (sym c.if-order.true) report;
-    })
+    record {
+      few = c.requires.few;
+      each = c.requires.each;
+      leveled = (
+        starts,
+        (
+          c.requires.within,
+          subst (λ gs. AreLeveled (Calls lists) starts (lists_of gs) c.deref-5.result.now) (sym c.deref-4.ensures.value)
+              (subst (AreLeveled (Calls lists) starts groups) (sym c.deref-5.ensures.value) leveled),
+        ),
+      );
+    }
 
 pub returns : goal.returns
 returns c =
     let lists = c.args.graph.now in
     let starts = c.args.starts.now in
+    let names = names_of c.args.names.now in
+    let wanted = c.args.wanted in
     let groups = lists_of c.in_ok-groups.groups.items in
     let levels = c.in_ok-marks.marks.items in
     let leveled : AreLeveled (Calls lists) starts groups levels = record {
@@ -104,12 +85,21 @@ returns c =
       };
       leveled = subst (λ gs. AreLevels (Calls lists) (lists_of gs) levels) c.deref.ensures.value c.in_ok-marks.ensures;
     } in
-    let report : IsReportBy false c.args.wanted.form (names_of c.args.names.now) groups levels c.in_ok-bytes-2.bytes.items =
-    subst (λ gs. IsReportBy false c.args.wanted.form (names_of c.args.names.now) (lists_of gs) levels c.in_ok-bytes-2.bytes.items) c.deref-2.ensures.value
-    (subst (λ ms. IsReportBy false c.args.wanted.form (names_of c.args.names.now) (lists_of c.deref-2.result.now) ms c.in_ok-bytes-2.bytes.items) c.deref-3.ensures.value c.in_ok-bytes-2.ensures) in
+    let told = c.in_ok-bytes.bytes.items in
+    let report : IsReportBy wanted.order wanted.form names groups levels told =
+    subst (λ gs. IsReportBy wanted.order wanted.form names (lists_of gs) levels told) c.deref-2.ensures.value
+    (subst (λ ms. IsReportBy wanted.order wanted.form names (lists_of c.deref-2.result.now) ms told) c.deref-3.ensures.value c.in_ok-bytes.ensures) in
+    let loops = c.in_ok-loops.loops.items in
+    let are_loops : IsPart wanted.loops (AreLoops lists wanted.form names groups levels) loops =
+    subst (λ gs. IsPart wanted.loops (AreLoops lists wanted.form names (lists_of gs) levels) loops) c.deref-4.ensures.value
+    (subst (λ ms. IsPart wanted.loops (AreLoops lists wanted.form names (lists_of c.deref-4.result.now) ms) loops) c.deref-5.ensures.value c.in_ok-loops.ensures) in
     (record {
       groups = groups;
       levels = levels;
       leveled = leveled;
-      report = subst (λ o. IsReportBy o c.args.wanted.form (names_of c.args.names.now) groups levels c.in_ok-bytes-2.bytes.items) (sym c.if-order.false) report;
+      told = told;
+      report = report;
+      loops = loops;
+      are_loops = are_loops;
+      is = c.in_ok-extend_from_slice.ensures.items ∙ ap (λ part. told ++ part) c.deref-6.ensures.value;
     })

@@ -19,7 +19,7 @@ returns c =
     subst (λ rs. IsAnswer text rs wanted (NoNode place)) same
     (subst (λ w. IsAnswer text (names_of c.deref-2.result.now) w (NoNode place)) c.wanted_of.ensures
     (subst (IsAnswer text (names_of c.deref-2.result.now) c.wanted_of.result) c.in-NoNode.is c.in_ok-bytes.ensures)) in
-    let within : place < length roots = right.2.first.within in
+    let within : place < length roots = right.1.1.first.within in
     elim (c.no_node.ensures c.args.settings.now.file) [
       | inl none ↦ inl none
       | inr is ↦ inr

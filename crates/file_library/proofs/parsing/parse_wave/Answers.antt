@@ -26,5 +26,5 @@ returns g c =
     subst (λ (v : Vec Answer Global). AreParsed v.items (get_or c.in_ok-parsed.parsed.items i d)) (sym (one.job_is e)) one.call.met) in
     let flat : flat_map (λ (l : List Answer). l) answers ≡ c.args.answers.items = flat_lists lists ∙ c.in_ok-lists.ensures.all in
     if_ok (λ (files : Vec AskedFile Global). (parts : List (List Answer)) → AllZip AreParsed parts c.in_ok-parsed.parsed.items → AllZip IsParsed (flat_map (λ (l : List Answer). l) parts) files.items)
-    (λ (files : Vec AskedFile Global). AllZip IsParsed c.args.answers.items files.items) c.joined.result
-    (λ files gives. subst (λ items. AllZip IsParsed items files.items) flat (gives answers zip)) c.joined.ensures
+    (λ (files : Vec AskedFile Global). AllZip IsParsed c.args.answers.items files.items) c.joined_files.result
+    (λ files gives. subst (λ items. AllZip IsParsed items files.items) flat (gives answers zip)) c.joined_files.ensures

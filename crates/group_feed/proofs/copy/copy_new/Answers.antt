@@ -18,7 +18,7 @@ loop-at-preserved-then-holds c =
     let groups : List (List ℕ) = c.args.book.now.groups in
     let copies : List (List ℕ) = c.loop-at.copies.groups in
     let n : ℕ = c.loop-at.at in
-    let same : c.released_groups-released.result.now.groups ≡ groups = ap (λ (r : ReleasedGroups). r.groups) c.released_groups-released.ensures in
+    let same : c.released-released.result.now.groups ≡ groups = ap (λ (r : ReleasedGroups). r.groups) c.released-released.ensures in
     let lt : n < length groups =
     subst (λ (l : List (List ℕ)). n < length l) (c.groups-at-end.ensures.groups ∙ same) (within_lists c.groups-at-end.result.now n c.loop-at-test.true) in
     let first : c.first_member.result ≡ least_member (group_at groups n) = c.first_member.ensures ∙ ap (λ l. least_member (group_at l n)) same in
@@ -33,7 +33,7 @@ append-requires c =
     let groups : List (List ℕ) = c.args.book.now.groups in
     let copies : List (List ℕ) = c.loop-at.copies.groups in
     let n : ℕ = c.loop-at.at in
-    let same : c.released_groups-released.result.now.groups ≡ groups = ap (λ (r : ReleasedGroups). r.groups) c.released_groups-released.ensures in
+    let same : c.released-released.result.now.groups ≡ groups = ap (λ (r : ReleasedGroups). r.groups) c.released-released.ensures in
     let lt : n < length groups =
     subst (λ (l : List (List ℕ)). n < length l) (c.groups-at-end.ensures.groups ∙ same) (within_lists c.groups-at-end.result.now n c.loop-at-test.true) in
     let first : c.first_member.result ≡ least_member (group_at groups n) = c.first_member.ensures ∙ ap (λ l. least_member (group_at l n)) same in
@@ -49,7 +49,7 @@ loop-at-preserved c =
     let groups : List (List ℕ) = c.args.book.now.groups in
     let copies : List (List ℕ) = c.loop-at.copies.groups in
     let n : ℕ = c.loop-at.at in
-    let same : c.released_groups-released.result.now.groups ≡ groups = ap (λ (r : ReleasedGroups). r.groups) c.released_groups-released.ensures in
+    let same : c.released-released.result.now.groups ≡ groups = ap (λ (r : ReleasedGroups). r.groups) c.released-released.ensures in
     let lt : n < length groups =
     subst (λ (l : List (List ℕ)). n < length l) (c.groups-at-end.ensures.groups ∙ same) (within_lists c.groups-at-end.result.now n c.loop-at-test.true) in
     let first : c.first_member.result ≡ least_member (group_at groups n) = c.first_member.ensures ∙ ap (λ l. least_member (group_at l n)) same in
@@ -72,7 +72,7 @@ returns-clause-all c = λ p has.
     let groups : List (List ℕ) = c.args.book.now.groups in
     let behind = c.groups-at-end.result.now in
     let long : length (lists_of behind) ≡ length groups =
-    ap length (c.groups-at-end.ensures.groups ∙ ap (λ (r : ReleasedGroups). r.groups) c.released_groups-released.ensures) in
+    ap length (c.groups-at-end.ensures.groups ∙ ap (λ (r : ReleasedGroups). r.groups) c.released-released.ensures) in
     let within = has.within in
     let passed = c.loop-at-test.false in
     c.loop-at.invariant.copied.upto has.place p (omega (arith, long, within, length-lists_of behind, passed)) has.member

@@ -59,11 +59,11 @@ make-requires-2-clause-ready c =
 pub make-requires-2-clause-modules : goal.make-requires-2-clause-modules
 make-requires-2-clause-modules c = c.in_ok-taken.ensures.in_order
 
-pub placed-requires-clause-texts : goal.placed-requires-clause-texts
-placed-requires-clause-texts c = subst (λ texts. AreTexts (texts_of texts)) (sym c.deref-4.ensures.value) (texts_are (see_loaded c.args.loaded.now) c.requires.loaded)
+pub faults_with_places-requires-clause-texts : goal.faults_with_places-requires-clause-texts
+faults_with_places-requires-clause-texts c = subst (λ texts. AreTexts (texts_of texts)) (sym c.deref-4.ensures.value) (texts_are (see_loaded c.args.loaded.now) c.requires.loaded)
 
-pub placed-requires-clause-stand : goal.placed-requires-clause-stand
-placed-requires-clause-stand c =
+pub faults_with_places-requires-clause-stand : goal.faults_with_places-requires-clause-stand
+faults_with_places-requires-clause-stand c =
     let loaded = see_loaded c.args.loaded.now in
     let known = c.in_ok-known_files.field-0 in
     let files : map see_known known.items ≡ loaded.files = c.in_ok-known_files.ensures.are ∙ ap (map see_facts) c.deref.ensures.value in

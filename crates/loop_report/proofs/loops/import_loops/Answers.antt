@@ -42,8 +42,8 @@ module_graph-requires-clause-few_modules c =
       c.in_ok-modules.ensures.few,
     )
 
-pub named-requires : goal.named-requires
-named-requires c =
+pub names_of_classes-requires : goal.names_of_classes-requires
+names_of_classes-requires c =
     let rings : AreRings (texts_of c.deref-2.result.now) c.in_ok-graph.graph.lists (lists_of c.in_ok-classes.classes.items) = c.in_ok-classes.ensures in
     let same : length (texts_of c.deref-2.result.now) ≡ length c.deref-3.result.now =
     length-map c.deref-2.result.now (λ text. text.now) ∙ ap length (c.deref-2.ensures.value ∙ sym c.deref-3.ensures.value) in

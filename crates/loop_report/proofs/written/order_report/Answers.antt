@@ -10,10 +10,10 @@ group_count-requires c =
     let few : length c.args.program.now.predicates < 2 ^ 32 = omega (arith, c.is_known.ensures.few) in
     omega (arith, few_groups few (printable_groups c.requires), length-lists_of c.args.groups.now)
 
-pub written-requires-clause-printable : goal.written-requires-clause-printable
-written-requires-clause-printable c = printable_groups c.requires
+pub text_of_order-requires-clause-printable : goal.text_of_order-requires-clause-printable
+text_of_order-requires-clause-printable c = printable_groups c.requires
 
-pub written-requires-clause-places : goal.written-requires-clause-places
-written-requires-clause-places c =
+pub text_of_order-requires-clause-places : goal.text_of_order-requires-clause-places
+text_of_order-requires-clause-places c =
     let n : ℕ = length c.args.groups.now in
     subst (All (λ place. place < n)) (sym (c.deref.ensures.value ∙ (c.in_ok-order.ensures ∙ ap (range_with_len 0) c.group_count.ensures))) (range_within n)

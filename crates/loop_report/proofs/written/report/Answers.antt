@@ -9,11 +9,11 @@ use Rattle.loop_report.proofs.written.report.Goals as goal
 pub line_order-requires : goal.line_order-requires
 line_order-requires c = subst (λ n. ArePrintable n (lists_of c.args.groups.now) c.args.levels.now) (sym c.count.ensures) (printable_groups c.requires)
 
-pub written-requires-clause-printable : goal.written-requires-clause-printable
-written-requires-clause-printable c = printable_groups c.requires
+pub text_of_order-requires-clause-printable : goal.text_of_order-requires-clause-printable
+text_of_order-requires-clause-printable c = printable_groups c.requires
 
-pub written-requires-clause-places : goal.written-requires-clause-places
-written-requires-clause-places c =
+pub text_of_order-requires-clause-places : goal.text_of_order-requires-clause-places
+text_of_order-requires-clause-places c =
     let lists = lists_of c.args.groups.now in
     rw (c.deref.ensures.value)
     (subst (λ n. All (λ place. place < n) c.in_ok-order.order.items) (length-lists_of c.args.groups.now)

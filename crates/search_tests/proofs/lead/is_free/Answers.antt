@@ -9,9 +9,9 @@ pub returns-in-None : goal.returns-in-None
 returns-in-None c = record {
   unkept = λ place holds.
       c.in-None.ensures.none place
-      (subst (λ kept. Holds kept place c.args.node) (sym (ap (λ (table : BlockedValue). table.kept) c.blocked_searches.ensures)) holds);
+      (subst (λ kept. Holds kept place c.args.node) (sym (ap (λ (table : BlockedValue). table.kept) c.blocked.ensures)) holds);
   unreleased = λ member.
       true≢false
-      (sym (c.holds.ensures.1 (subst (λ groups. HasMember groups c.args.node) (sym (ap (λ (released : ReleasedGroups). released.groups) c.released_groups.ensures)) member))
+      (sym (c.holds.ensures.1 (subst (λ groups. HasMember groups c.args.node) (sym (ap (λ (released : ReleasedGroups). released.groups) c.released.ensures)) member))
       ∙ c.if-holds.false);
 }

@@ -108,7 +108,7 @@ invariant_of-self-then-holds c =
     c.begin.ensures.next c.in-Some-begin.is c.in-Some-begin.ensures.begun in
     let step =
     pass_step c.self.inside c.args.place edge.out c.take.new.self c.in-Some-begin.node c.begin.new.self c.back.new.self edge.begins
-    ((rw c.released_groups.ensures at c.holds.ensures).0 c.if-holds.true) (rw c.if-back.false at c.back.ensures.unchanged) c.back.ensures.wants_nothing in
+    ((rw c.released.ensures at c.holds.ensures).0 c.if-holds.true) (rw c.if-back.false at c.back.ensures.unchanged) c.back.ensures.wants_nothing in
     next_machine c.self.inside _ c.args.place Done c.self.invariant edge.sound step (same_book c.self.inside.book)
     (put_length c.self.inside.running.items c.args.place c.take.new.self (Some c.back.new.self))
 
@@ -119,7 +119,7 @@ returns-then-holds c =
     c.begin.ensures.next c.in-Some-begin.is c.in-Some-begin.ensures.begun in
     let step =
     pass_step c.self.inside c.args.place edge.out c.take.new.self c.in-Some-begin.node c.begin.new.self c.back.new.self edge.begins
-    ((rw c.released_groups.ensures at c.holds.ensures).0 c.if-holds.true) (rw c.if-back.false at c.back.ensures.unchanged) c.back.ensures.wants_nothing in
+    ((rw c.released.ensures at c.holds.ensures).0 c.if-holds.true) (rw c.if-back.false at c.back.ensures.unchanged) c.back.ensures.wants_nothing in
     rw (← c.self.view_is) (next_acts c.self.inside c.self.inside.book c.args.place Done step (same_book c.self.inside.book))
 
 pub suspend-requires-clause-can_wait : goal.suspend-requires-clause-can_wait
@@ -143,7 +143,7 @@ invariant_of-self-in-Ok-Kept c =
     c.begin.ensures.next c.in-Some-begin.is c.in-Some-begin.ensures.begun in
     let step =
     suspend_step c.self.inside c.args.place edge.out c.take.new.self c.in-Some-begin.node c.begin.new.self c.back.new.self c.suspend.new.self edge.begins
-    (other edge c.index.ensures c.if-not-index.false (rw c.released_groups.ensures at c.holds.ensures) c.if-holds.false c.back.ensures.on c.if-back.false)
+    (other edge c.index.ensures c.if-not-index.false (rw c.released.ensures at c.holds.ensures) c.if-holds.false c.back.ensures.on c.if-back.false)
     (rw c.if-back.false at c.back.ensures.unchanged) c.take.ensures.after (rw c.in-Ok-Kept.field-0-is at c.in-Ok-Kept.ensures.done) c.in-Ok-Kept.ensures.only in
     next_machine c.self.inside _ c.args.place Done c.self.invariant edge.sound step (book_only c.suspend.new.self.kept c.self.inside.book.groups c.in-Ok-Kept.ensures.only)
     (length-set c.self.inside.running.items c.args.place c.take.new.self)
@@ -155,7 +155,7 @@ returns-in-Ok-Kept c =
     c.begin.ensures.next c.in-Some-begin.is c.in-Some-begin.ensures.begun in
     let step =
     suspend_step c.self.inside c.args.place edge.out c.take.new.self c.in-Some-begin.node c.begin.new.self c.back.new.self c.suspend.new.self edge.begins
-    (other edge c.index.ensures c.if-not-index.false (rw c.released_groups.ensures at c.holds.ensures) c.if-holds.false c.back.ensures.on c.if-back.false)
+    (other edge c.index.ensures c.if-not-index.false (rw c.released.ensures at c.holds.ensures) c.if-holds.false c.back.ensures.on c.if-back.false)
     (rw c.if-back.false at c.back.ensures.unchanged) c.take.ensures.after (rw c.in-Ok-Kept.field-0-is at c.in-Ok-Kept.ensures.done) c.in-Ok-Kept.ensures.only in
     rw (← c.self.view_is) (next_acts c.self.inside c.suspend.new.self c.args.place Done step (book_only c.suspend.new.self.kept c.self.inside.book.groups c.in-Ok-Kept.ensures.only))
 
@@ -166,7 +166,7 @@ invariant_of-self-in-Ok-Moved c =
     c.begin.ensures.next c.in-Some-begin.is c.in-Some-begin.ensures.begun in
     let step =
     transfer_step c.self.inside c.args.place edge.out c.take.new.self c.in-Some-begin.node c.begin.new.self c.back.new.self c.in-Ok-Moved.after c.suspend.new.self edge.begins
-    (other edge c.index.ensures c.if-not-index.false (rw c.released_groups.ensures at c.holds.ensures) c.if-holds.false c.back.ensures.on c.if-back.false)
+    (other edge c.index.ensures c.if-not-index.false (rw c.released.ensures at c.holds.ensures) c.if-holds.false c.back.ensures.on c.if-back.false)
     (rw c.if-back.false at c.back.ensures.unchanged) (rw c.in-Ok-Moved.field-0-is at c.in-Ok-Moved.ensures.done) c.in-Ok-Moved.ensures.only in
     next_machine c.self.inside _ c.args.place Done c.self.invariant edge.sound step (book_only c.suspend.new.self.kept c.self.inside.book.groups c.in-Ok-Moved.ensures.only)
     (put_length c.self.inside.running.items c.args.place c.take.new.self (Some c.in-Ok-Moved.after))
@@ -178,7 +178,7 @@ returns-in-Ok-Moved c =
     c.begin.ensures.next c.in-Some-begin.is c.in-Some-begin.ensures.begun in
     let step =
     transfer_step c.self.inside c.args.place edge.out c.take.new.self c.in-Some-begin.node c.begin.new.self c.back.new.self c.in-Ok-Moved.after c.suspend.new.self edge.begins
-    (other edge c.index.ensures c.if-not-index.false (rw c.released_groups.ensures at c.holds.ensures) c.if-holds.false c.back.ensures.on c.if-back.false)
+    (other edge c.index.ensures c.if-not-index.false (rw c.released.ensures at c.holds.ensures) c.if-holds.false c.back.ensures.on c.if-back.false)
     (rw c.if-back.false at c.back.ensures.unchanged) (rw c.in-Ok-Moved.field-0-is at c.in-Ok-Moved.ensures.done) c.in-Ok-Moved.ensures.only in
     rw (← c.self.view_is) (next_acts c.self.inside c.suspend.new.self c.args.place Done step (book_only c.suspend.new.self.kept c.self.inside.book.groups c.in-Ok-Moved.ensures.only))
 

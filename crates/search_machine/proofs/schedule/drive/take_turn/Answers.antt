@@ -21,8 +21,8 @@ expand-requires-clause-below g c =
     let below = asks_below good asks in
     subst (λ lists. c.in-Open.node < length lists) c.requires.graph below
 
-pub push_opening-requires-clause-waits : goal.push_opening-requires-clause-waits
-push_opening-requires-clause-waits g c =
+pub opened-requires-clause-waits : goal.opened-requires-clause-waits
+opened-requires-clause-waits g c =
     let good : IsGoodState c.args.machine.now.lists c.args.machine.now.roots false c.args.machine.now.state =
     sound_good c.args.machine.now c.keeps.ensures c.requires.sound in
     let asks : Asks c.args.machine.now.state c.args.place c.in-Open.node c.act.new.self.state = rw c.in-Open.is at c.in_ok-act.ensures.step in
@@ -31,14 +31,14 @@ push_opening-requires-clause-waits g c =
 pub returns-in-Ok-clause-event : goal.returns-in-Ok-clause-event
 returns-in-Ok-clause-event g c =
     let asks : Asks c.args.machine.now.state c.args.place c.in-Open.node c.act.new.self.state = rw c.in-Open.is at c.in_ok-act.ensures.step in
-    claims_event (g.O.Opener.lists c.args.opener.now) c.args.machine.now c.act.new.self c.push_opening.new.self c.args.place c.in-Open.node
+    claims_event (g.O.Opener.lists c.args.opener.now) c.args.machine.now c.act.new.self c.opened.new.self c.args.place c.in-Open.node
     c.requires.graph c.in_ok-act.ensures.only asks c.in-Ok.ensures.opens
 
 pub returns-in-Ok-clause-falls : goal.returns-in-Ok-clause-falls
 returns-in-Ok-clause-falls g c =
     let asks : Asks c.args.machine.now.state c.args.place c.in-Open.node c.act.new.self.state = rw c.in-Open.is at c.in_ok-act.ensures.step in
-    let event : IsEvent (g.O.Opener.lists c.args.opener.now) c.args.place c.args.machine.now.state c.push_opening.new.self.state =
-    claims_event (g.O.Opener.lists c.args.opener.now) c.args.machine.now c.act.new.self c.push_opening.new.self c.args.place c.in-Open.node
+    let event : IsEvent (g.O.Opener.lists c.args.opener.now) c.args.place c.args.machine.now.state c.opened.new.self.state =
+    claims_event (g.O.Opener.lists c.args.opener.now) c.args.machine.now c.act.new.self c.opened.new.self c.args.place c.in-Open.node
     c.requires.graph c.in_ok-act.ensures.only asks c.in-Ok.ensures.opens in
-    turn_falls (g.O.Opener.lists c.args.opener.now) c.args.machine.now c.push_opening.new.self c.args.place c.requires.graph c.keeps.ensures c.requires.sound
-    (two_only c.args.machine.now c.act.new.self c.push_opening.new.self c.in_ok-act.ensures.only c.in-Ok.ensures.only) event
+    turn_falls (g.O.Opener.lists c.args.opener.now) c.args.machine.now c.opened.new.self c.args.place c.requires.graph c.keeps.ensures c.requires.sound
+    (two_only c.args.machine.now c.act.new.self c.opened.new.self c.in_ok-act.ensures.only c.in-Ok.ensures.only) event

@@ -9,8 +9,8 @@ pub loop-index-preserved : goal.loop-index-preserved
 loop-index-preserved c =
     let lt : c.loop-index.index < length c.args.book.now.roots =
     subst (λ (roots : List ℕ). c.loop-index.index < length roots) c.roots-roots.ensures c.loop-index-test.true in
-    let there : HasMember c.released_groups.result.now.groups (get_or c.roots-roots.result.now c.loop-index.index 0) = c.holds.ensures.0 c.if-not-holds.false in
+    let there : HasMember c.released.result.now.groups (get_or c.roots-roots.result.now c.loop-index.index 0) = c.holds.ensures.0 c.if-not-holds.false in
     let here : HasMember c.args.book.now.groups (get_or c.roots-roots.result.now c.loop-index.index 0) =
-    subst (λ (r : ReleasedGroups). HasMember r.groups (get_or c.roots-roots.result.now c.loop-index.index 0)) c.released_groups.ensures there in
+    subst (λ (r : ReleasedGroups). HasMember r.groups (get_or c.roots-roots.result.now c.loop-index.index 0)) c.released.ensures there in
     one_more_root c.args.book.now.groups c.args.book.now.roots c.loop-index.index lt
     (subst (λ roots. HasMember c.args.book.now.groups (get_or roots c.loop-index.index 0)) c.roots-roots.ensures here) c.loop-index.invariant

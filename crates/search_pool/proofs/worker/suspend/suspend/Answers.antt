@@ -56,7 +56,7 @@ returns-then-holds g c =
     took_turn c.turn-turn.result c.book-book.ensures.value c.turn-turn.ensures.table c.turn-turn.ensures.view c.turn-turn.ensures.taken
     c.turn-turn.ensures.lent in
     let has : HasMember c.book-book.result.now.groups c.args.node =
-    subst (λ (r : ReleasedGroups). HasMember r.groups c.args.node) c.released_groups.ensures (c.holds.ensures.0 c.if-holds.true) in
+    subst (λ (r : ReleasedGroups). HasMember r.groups c.args.node) c.released.ensures (c.holds.ensures.0 c.if-holds.true) in
     released_settled c.args.worker.search c.back.new.self c.back.result c.args.node c.turn-turn.result.view.seen c.book-book.result.now.groups
     (c.give_back-worker.ensures.at_work c.args.claims.now true
     (goes_on c.requires.at_work.working took c.args.worker.seen_roots c.requires.at_work.within c.requires.at_work.seen

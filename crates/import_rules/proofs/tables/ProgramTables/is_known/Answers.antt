@@ -1,5 +1,0 @@
-use Rattle.import_rules.proofs.Known.{known}
-use Rattle.import_rules.proofs.tables.ProgramTables.is_known.Goals as goal
-
-pub returns : goal.returns
-returns c = known c.args.self.now
