@@ -32,8 +32,6 @@ import components_reference as reference
 import program
 
 ROOT = pathlib.Path(__file__).resolve().parent.parent
-# What the program doesn't have yet: options of this list have to be refused as unknown ones.
-LATER = reference.LATER
 MOST_SECONDS = 120
 GIB = 1_073_741_824
 
@@ -64,10 +62,6 @@ def expect(what, found, *answers):
 
 def some(things):
     return things[::7] if chosen[1] else things
-
-
-def is_later(words):
-    return any(word.partition("=")[0] in LATER for word in words)
 
 
 # Rows: the arguments, the text, and the status, the output and the errors.
@@ -138,7 +132,7 @@ def rows(folder):
     tried = 0
     for title, words, data, status, out, err in ROWS:
         words = words.split()
-        wanted = (2, b"", reference.usage_line()) if is_later(words) or err == USAGE else (status, out, err)
+        wanted = (2, b"", reference.usage_line()) if err == USAGE else (status, out, err)
         expect(f"row: {title}", run(words, data, folder), wanted)
         if status == 0 and "-" not in words:
             (folder / "f.txt").write_bytes(data)
@@ -238,7 +232,7 @@ def as_json_text(source, edges, names):
 def random_words(source):
     words = []
     for option, often in ((["--order"], 0.3), (["--jobs", str(source.randint(1, 8))], 0.4), (["--loops"], 0.35), (["--json"], 0.15)):
-        if source.random() < often and option[0] not in LATER:
+        if source.random() < often:
             words += option
     return words
 
@@ -275,7 +269,7 @@ def random_graphs(folder, seed, count):
             words = random_words(source)
             for _ in range(source.choice((0, 0, 0, 1, 1, 2))):
                 root = source.choice(names)
-                if "--roots" not in LATER and reference.is_utf8(root) and b"\0" not in root and not root.startswith(b"-"):
+                if reference.is_utf8(root) and b"\0" not in root and not root.startswith(b"-"):
                     words += ["--roots", root]
             given = [it if isinstance(it, bytes) else it.encode() for it in words]
             right = reference.answer(given, lambda _: text)
@@ -351,8 +345,7 @@ def hostile(folder):
     for name, data in kinds.items():
         begun = time.monotonic()
         expect(name, run([], data, folder), reference.answer([], lambda _: data))
-        if "--jobs" not in LATER:
-            expect(f"{name}, with threads", run(["--jobs", "3"], data, folder), reference.answer([], lambda _: data))
+        expect(f"{name}, with threads", run(["--jobs", "3"], data, folder), reference.answer([], lambda _: data))
         print(f"hostile: {name:<24} {(time.monotonic() - begun) * 1000:7.0f} ms")
 
 
@@ -492,8 +485,6 @@ def memory(folder):
     text = b"".join(b"n%d n%d n%d\n" % (at, at * 7 % 5_000, at // 2) for at in range(5_000))
     (folder / "f.txt").write_bytes(text)
     for words in ([], ["--order"], ["--jobs", "3"], ["--roots", "n7", "f.txt"], ["--loops", "--json"], ["x y z"], ["--jobs", "65"]):
-        if is_later(words):
-            continue
 
         def answer(number, **more):
             return run(words, text, folder, {"LD_PRELOAD": str(shim), "FAIL_AT": str(number), "COUNT_TO": str(count), **more})
@@ -822,8 +813,6 @@ def grows_too_fast(folder, name):
 
 def growth(folder):
     for name in some(list(KINDS)) if chosen[1] else KINDS:
-        if is_later(KINDS[name][2]):
-            continue
         # Other work may disturb a measurement, so three of them have to agree.
         if all(grows_too_fast(folder, name) for _ in range(3)):
             wrong.append(f"{name} grows too fast")
@@ -868,7 +857,7 @@ def largest(folder):
 
     for name, parts, words, wanted in texts():
         path = written(folder, parts)
-        for more in ([],) if "--jobs" in LATER else ([], ["--jobs", "4"]):
+        for more in ([], ["--jobs", "4"]):
             status, seconds, most, out = measured([*words, *more, "large"], folder)
             # The generators are read once; with threads the report has to be the same bytes again.
             if status or not (same_bytes(out, itertools.chain(*wanted)) if not more else filecmp.cmp(out, folder / "first", shallow=False)):

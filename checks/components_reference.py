@@ -36,9 +36,6 @@ class Ended(Exception):
 
 # Arguments.
 
-# Those that the program doesn't have yet: it refuses them as unknown ones.
-LATER = ("--jobs",)
-
 
 class Wanted:
     """What the arguments ask for; no file is standard input."""
@@ -74,8 +71,6 @@ def parsed(words):
             files.append(word)
         elif word == "--":
             only_files = True
-        elif name in LATER:
-            raise Ended(2, usage_line())
         elif name == "--roots":
             found.roots.append(value_of(word, rest)[1].encode())
         elif name == "--jobs" and name not in seen:

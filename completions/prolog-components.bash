@@ -1,9 +1,9 @@
 # Completion of bash for prolog-components(1): options that may still be given, and files.
 _prolog_components() {
     local word=${COMP_WORDS[COMP_CWORD]} last=${COMP_WORDS[COMP_CWORD - 1]} it
-    local options=(--order --json --loops --from-json --roots)
+    local options=(--order --json --loops --from-json --jobs --roots)
     COMPREPLY=()
-    case $last in --roots | =) return ;; esac
+    case $last in --jobs | --roots | =) return ;; esac
     [[ $word != = ]] || return 0
     local given=" ${COMP_WORDS[*]:1:COMP_CWORD-1} "
     if [[ $word == -* && $given != *" -- "* ]]; then

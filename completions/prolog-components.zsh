@@ -5,5 +5,6 @@ _arguments -S \
     '--json[JSON Lines]' \
     '--loops[a cycle of each recursive group]' \
     '--from-json[edges as JSON Lines]' \
+    '--jobs=[threads that search]:number, 1 to 64: ' \
     '*--roots=[only what this node reaches]:node:' \
     '1:text of edges:_files'

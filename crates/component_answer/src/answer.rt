@@ -10,6 +10,7 @@ ghost use Rattle.component_report.specs.Reportable.{AreLeveled, AreReportable};
 ghost use Rattle.component_answer.specs.Answers.{AreLoops, IsAnswer, IsPart, IsReachReport, IsReportBy, IsSaidAnswer};
 
 use crate::starts::{Starts, starts_of};
+use crate::workers::{Workers, groups_by};
 use component_report::{Form, cycle_lines, order_report, report};
 use edge_json::{Cause, Decoded, LineFault, decode, graph_of_lines};
 use edge_text::{Fault, Reading, first_fault, read_edges};
@@ -17,8 +18,10 @@ use flat_graph::FlatGraph;
 use graph_law::Opener;
 use group_release::{Level, levels};
 use loop_paths::circuits;
-use search_stack::groups_plain;
+use search_pool::Gate;
 use std::alloc::{AllocError, Global};
+use std::sync::Wait;
+use std::thread::Threads;
 
 /// What is wanted of a report.
 #[derive(Clone, Copy, Debug, PartialEq, Eq, Drop)]
@@ -103,12 +106,13 @@ fn loops_part(
 /// The report on the groups that some nodes of a graph reach, with its lines in the order in which
 /// the search finds the groups, or else in order of height and least member. After it are the lines
 /// of the cycles if they are wanted.
-fn graph_report(
+fn graph_report<R: Threads + Wait + Sync, G: Gate>(
     alloc: Global,
     names: &[&[u8]],
     graph: &FlatGraph,
     starts: &[u32],
     wanted: Wanted,
+    workers: &Workers<'_, R, G>,
 ) -> Result<Vec<u8>, AllocError>
     requires few { length names.now < 2 ^ 32 }
     requires each { length graph.now ≡ length names.now }
@@ -117,7 +121,7 @@ fn graph_report(
 {
     // The contract of `count` states that successors are nodes.
     let _count = graph.count();
-    let groups = groups_plain(alloc, graph, starts)?;
+    let groups = groups_by(alloc, graph, starts, workers)?;
     let marks = levels(alloc, graph, &groups)?;
     let mut bytes = groups_report(alloc, names, &groups, &marks, wanted)?;
     let loops = loops_part(alloc, names, graph, &groups, &marks, wanted)?;
@@ -127,13 +131,14 @@ fn graph_report(
 
 /// What is to be said of what was read: the limit that it is past, or the first root that is no
 /// node, or the report on what the roots reach. If there are no roots, it is on all nodes.
-fn answer_reading(
+fn answer_reading<R: Threads + Wait + Sync, G: Gate>(
     alloc: Global,
     reading: Reading<'_>,
     roots: &[&[u8]],
     wanted: Wanted,
+    workers: &Workers<'_, R, G>,
 ) -> Result<Answer, AllocError>
-    requires { (said : Said) × IsReading said reading }
+    requires read { (said : Said) × IsReading said reading }
     ensures { IfOk result (λ answer. (said : Said) → IsReading said reading.entry → IsSaidAnswer said (names_of roots.now) wanted answer) }
 {
     match reading {
@@ -143,7 +148,14 @@ fn answer_reading(
             match starts_of(alloc, &read.names, roots)? {
                 Starts::Missing(place) => Ok(Answer::NoNode(place)),
                 Starts::Nodes(starts) => {
-                    let bytes = graph_report(alloc, &read.names, &read.graph, &starts, wanted)?;
+                    let bytes = graph_report(
+                        alloc,
+                        &read.names,
+                        &read.graph,
+                        &starts,
+                        wanted,
+                        workers,
+                    )?;
                     Ok(Answer::Report(bytes))
                 }
             }
@@ -152,11 +164,12 @@ fn answer_reading(
 }
 
 /// What is to be said of a text of words.
-fn answer_words(
+fn answer_words<R: Threads + Wait + Sync, G: Gate>(
     alloc: Global,
     text: &[u8],
     roots: &[&[u8]],
     wanted: Wanted,
+    workers: &Workers<'_, R, G>,
 ) -> Result<Answer, AllocError>
     requires small { length text.now ≤ MOST_BYTES }
     requires words { wanted.from_json ≡ false }
@@ -170,16 +183,17 @@ fn answer_words(
         }));
     }
     let reading = read_edges(alloc, text)?;
-    let answer = answer_reading(alloc, reading, roots, wanted)?;
+    let answer = answer_reading(alloc, reading, roots, wanted, workers)?;
     Ok(answer)
 }
 
 /// What is to be said of a text of JSON Lines.
-fn answer_json(
+fn answer_json<R: Threads + Wait + Sync, G: Gate>(
     alloc: Global,
     text: &[u8],
     roots: &[&[u8]],
     wanted: Wanted,
+    workers: &Workers<'_, R, G>,
 ) -> Result<Answer, AllocError>
     requires small { length text.now ≤ MOST_BYTES }
     requires json { wanted.from_json ≡ true }
@@ -193,7 +207,7 @@ fn answer_json(
         })),
         Decoded::Lines(lines) => {
             let reading = graph_of_lines(alloc, &lines)?;
-            let answer = answer_reading(alloc, reading, roots, wanted)?;
+            let answer = answer_reading(alloc, reading, roots, wanted, workers)?;
             Ok(answer)
         }
     }
@@ -201,20 +215,21 @@ fn answer_json(
 
 /// What is to be said of a text of at most 1,073,741,824 bytes: its first fault, or the limit that it
 /// is past, or the first root that is no node, or the report on what the roots reach. If there are no
-/// roots, it is on all nodes.
+/// roots, it is on all nodes. The workers find the groups.
 ///
-/// Fails only if memory runs out.
-pub fn answer_text(
+/// Fails only if memory runs out. The contract holds if the call returns.
+pub fn answer_text<R: Threads + Wait + Sync, G: Gate>(
     alloc: Global,
     text: &[u8],
     roots: &[&[u8]],
     wanted: Wanted,
+    workers: &Workers<'_, R, G>,
 ) -> Result<Answer, AllocError>
     requires { length text.now ≤ MOST_BYTES }
     ensures { IfOk result (IsAnswer text.now (names_of roots.now) wanted) }
 {
     if wanted.from_json {
-        return answer_json(alloc, text, roots, wanted);
+        return answer_json(alloc, text, roots, wanted, workers);
     }
-    answer_words(alloc, text, roots, wanted)
+    answer_words(alloc, text, roots, wanted, workers)
 }

@@ -7,8 +7,10 @@
 mod answer;
 mod laws;
 mod starts;
+mod workers;
 
 pub use answer::{Answer, TextFault, Wanted, answer_text};
 pub use component_report::Form;
 pub use edge_json::Cause;
 pub use laws::one_said_report;
+pub use workers::Workers;

@@ -1,6 +1,13 @@
-use component_answer::{Answer, Form, Wanted, answer_text};
+ghost use Rattle.std.specs.Prelude.{◌≤◌, length};
+ghost use Rattle.edge_text.specs.declared.limits.TheConstants.{MOST_BYTES};
+
+use component_answer::{Answer, Form, Wanted, Workers, answer_text};
+use component_tool::OpenGate;
 use edge_text::{Fault, MOST_BYTES, first_fault};
+use std::alloc::{AllocError, Global};
+use std::sync::Wait;
 use std::test::Fail;
+use std::thread::Threads;
 
 const LINES: Wanted = Wanted {
     order: false,
@@ -30,6 +37,21 @@ const LOOPS: Wanted = Wanted {
     from_json: false,
 };
 
+/// What one search has to say of a text.
+fn answer_of<R: Threads + Wait + Sync>(
+    rt: &R,
+    alloc: Global,
+    text: &[u8],
+    roots: &[&[u8]],
+    wanted: Wanted,
+) -> Result<Answer, AllocError>
+    requires { length text.now ≤ MOST_BYTES }
+{
+    let gate = &OpenGate;
+    let workers = Workers { rt, gate, jobs: 1 };
+    answer_text(alloc, text, roots, wanted, &workers)
+}
+
 /// The bytes of a report.
 fn report_in(answer: Answer) -> Option<Vec<u8>> {
     match answer {
@@ -42,7 +64,7 @@ fn report_in(answer: Answer) -> Option<Vec<u8>> {
 fn lines_are_in_order_of_heights_and_names(rt: HostRuntime) -> Result<(), Fail> {
     let alloc = rt.alloc();
     let text = b"main parse run\nparse term\r\n# a comment\n\tterm parse parse\nrun";
-    let bytes = report_in(answer_text(alloc, text, &[], LINES)?).ok_or("no report")?;
+    let bytes = report_in(answer_of(&rt, alloc, text, &[], LINES)?).ok_or("no report")?;
     assert_eq!(rt;
         bytes.as_slice(),
         b"nodes 4 groups 3 recursive 1 levels 2\n0 recursive parse term\n0 plain run\n1 plain main\n".as_slice()
@@ -53,7 +75,7 @@ fn lines_are_in_order_of_heights_and_names(rt: HostRuntime) -> Result<(), Fail> 
 #[test]
 fn groups_come_as_they_are_found(rt: HostRuntime) -> Result<(), Fail> {
     let alloc = rt.alloc();
-    let bytes = report_in(answer_text(alloc, b"c b\nb b\na", &[], ORDERED)?).ok_or("no report")?;
+    let bytes = report_in(answer_of(&rt, alloc, b"c b\nb b\na", &[], ORDERED)?).ok_or("no report")?;
     assert_eq!(rt;
         bytes.as_slice(),
         b"nodes 3 groups 3 recursive 1 levels 2\n0 plain a\n0 recursive b\n1 plain c\n".as_slice()
@@ -64,7 +86,7 @@ fn groups_come_as_they_are_found(rt: HostRuntime) -> Result<(), Fail> {
 #[test]
 fn an_empty_text_has_no_nodes(rt: HostRuntime) -> Result<(), Fail> {
     let alloc = rt.alloc();
-    let bytes = report_in(answer_text(alloc, b"", &[], LINES)?).ok_or("no report")?;
+    let bytes = report_in(answer_of(&rt, alloc, b"", &[], LINES)?).ok_or("no report")?;
     assert_eq!(rt;
         bytes.as_slice(),
         b"nodes 0 groups 0 recursive 0 levels 0\n".as_slice()
@@ -75,7 +97,7 @@ fn an_empty_text_has_no_nodes(rt: HostRuntime) -> Result<(), Fail> {
 #[test]
 fn json_has_a_list_for_a_name_that_is_no_text(rt: HostRuntime) -> Result<(), Fail> {
     let alloc = rt.alloc();
-    let bytes = report_in(answer_text(alloc, b"\xff\x07", &[], JSON)?).ok_or("no report")?;
+    let bytes = report_in(answer_of(&rt, alloc, b"\xff\x07", &[], JSON)?).ok_or("no report")?;
     assert!(rt;
         bytes.ends_with(b"{\"id\":0,\"height\":0,\"recursive\":false,\"members\":[[255,7]]}\n")
     );
@@ -85,7 +107,7 @@ fn json_has_a_list_for_a_name_that_is_no_text(rt: HostRuntime) -> Result<(), Fai
 #[test]
 fn json_escapes_quotes_and_control_characters(rt: HostRuntime) -> Result<(), Fail> {
     let alloc = rt.alloc();
-    let bytes = report_in(answer_text(alloc, b"\"\\\x01\xc3\xa9 b\nb b", &[], JSON)?).ok_or(
+    let bytes = report_in(answer_of(&rt, alloc, b"\"\\\x01\xc3\xa9 b\nb b", &[], JSON)?).ok_or(
         "no report",
     )?;
     assert!(rt; bytes.starts_with(b"{\"nodes\":2,\"groups\":2,\"recursive\":1,\"levels\":2}\n"));
@@ -101,9 +123,9 @@ fn json_escapes_quotes_and_control_characters(rt: HostRuntime) -> Result<(), Fai
 fn cycles_are_shortest_and_least(rt: HostRuntime) -> Result<(), Fail> {
     let alloc = rt.alloc();
     let text = b"z a y\na y b z\nb c\nc a\ny x\nx a\nz z\ny y\n";
-    let bytes = report_in(answer_text(alloc, text, &[b"a"], LOOPS)?).ok_or("no report")?;
+    let bytes = report_in(answer_of(&rt, alloc, text, &[b"a"], LOOPS)?).ok_or("no report")?;
     assert!(rt; bytes.ends_with(b"recursive a b c x y z\nloop a z\n"));
-    let bytes = report_in(answer_text(alloc, b"z y\ny z\na b\nb\nz a\n", &[], LOOPS)?).ok_or(
+    let bytes = report_in(answer_of(&rt, alloc, b"z y\ny z\na b\nb\nz a\n", &[], LOOPS)?).ok_or(
         "no report",
     )?;
     assert!(rt; bytes.ends_with(b"recursive y z\nloop y z\n"));
@@ -114,14 +136,14 @@ fn cycles_are_shortest_and_least(rt: HostRuntime) -> Result<(), Fail> {
 fn roots_may_have_any_bytes(rt: HostRuntime) -> Result<(), Fail> {
     let alloc = rt.alloc();
     let roots: [&[u8]; 2] = [b"\xff", b"b"];
-    let bytes = report_in(answer_text(alloc, b"a b\n\xff\xfe\nb\n\xff b", &roots, LINES)?).ok_or(
+    let bytes = report_in(answer_of(&rt, alloc, b"a b\n\xff\xfe\nb\n\xff b", &roots, LINES)?).ok_or(
         "no report",
     )?;
     assert_eq!(rt;
         bytes.as_slice(),
         b"nodes 2 groups 2 recursive 0 levels 2\n0 plain b\n1 plain \xff\n".as_slice()
     );
-    let missing = answer_text(alloc, b"a b", &roots, LINES)?;
+    let missing = answer_of(&rt, alloc, b"a b", &roots, LINES)?;
     assert!(rt; matches!(missing, Answer::NoNode(0)));
     Ok(())
 }
@@ -129,7 +151,7 @@ fn roots_may_have_any_bytes(rt: HostRuntime) -> Result<(), Fail> {
 #[test]
 fn a_name_may_have_any_bytes(rt: HostRuntime) -> Result<(), Fail> {
     let alloc = rt.alloc();
-    let bytes = report_in(answer_text(alloc, b"\xff\x00 \xff", &[], LINES)?).ok_or("no report")?;
+    let bytes = report_in(answer_of(&rt, alloc, b"\xff\x00 \xff", &[], LINES)?).ok_or("no report")?;
     assert_eq!(rt;
         bytes.as_slice(),
         b"nodes 2 groups 2 recursive 0 levels 2\n0 plain \xff\n1 plain \xff\x00\n".as_slice()

@@ -1,10 +1,12 @@
 //! Whole runs over a text in memory.
 
-use component_tool::{MemorySource, run_components};
+use component_tool::{MemorySource, OpenGate, run_components};
 use prolog_tokens::Text;
 use std::alloc::{AllocError, Global};
 use std::process::Abort;
+use std::sync::Wait;
 use std::test::Fail;
+use std::thread::Threads;
 use tool_run::MemorySink;
 
 /// Arguments, the name of the one text and its bytes; and what is expected: the status and the
@@ -19,9 +21,9 @@ type Run = (
 );
 
 const USAGE: &str =
-    "usage: components [--roots NAME].. [--order] [--json] [--loops] [--from-json] [FILE]\n";
+    "usage: components [--jobs N] [--roots NAME].. [--order] [--json] [--loops] [--from-json] [FILE]\n";
 
-static RUNS: [Run; 26] = [
+static RUNS: [Run; 33] = [
     (
         &[],
         "-",
@@ -75,6 +77,27 @@ static RUNS: [Run; 26] = [
         "{\"nodes\":2,\"groups\":1,\"recursive\":1,\"levels\":1}\n{\"id\":0,\"height\":0,\"recursive\":true,\"members\":[\"a\",\"b\"]}\n{\"loop\":[\"a\",\"b\"]}\n",
         "",
     ),
+    (
+        &["--jobs", "4"],
+        "-",
+        "a b\nb c\nc a d\n",
+        0,
+        "nodes 4 groups 2 recursive 1 levels 2\n0 plain d\n1 recursive a b c\n",
+        "",
+    ),
+    (
+        &["--order", "--jobs=02", "--roots", "c"],
+        "-",
+        "a b\nb c\nc a d\n",
+        0,
+        "nodes 4 groups 2 recursive 1 levels 2\n0 plain d\n1 recursive a b c\n",
+        "",
+    ),
+    (&["--jobs"], "-", "", 2, "", USAGE),
+    (&["--jobs="], "-", "", 2, "", USAGE),
+    (&["--jobs", "0"], "-", "", 2, "", USAGE),
+    (&["--jobs=65"], "-", "", 2, "", USAGE),
+    (&["--jobs", "1", "--jobs=1"], "-", "", 2, "", USAGE),
     (&["--roots"], "-", "", 2, "", USAGE),
     (&["--roots", "-x"], "-", "", 2, "", USAGE),
     (&["--roots="], "-", "", 2, "", USAGE),
@@ -181,7 +204,7 @@ fn words_of(alloc: Global, words: &[&str]) -> Result<Vec<Text>, AllocError> {
 
 /// Runs over the text with sinks that take so many bytes, and compares the status and what both
 /// sinks have taken.
-fn expect_run<R: Abort>(
+fn expect_run<R: Threads + Wait + Sync + Abort>(
     rt: &R,
     alloc: Global,
     words: &[&str],
@@ -193,7 +216,15 @@ fn expect_run<R: Abort>(
     let mut source = MemorySource::new(alloc, Text::new(alloc, text.0)?, text.1);
     let mut out = MemorySink::failing_after(alloc, rooms.0)?;
     let mut err = MemorySink::failing_after(alloc, rooms.1)?;
-    let status = run_components(alloc, &words, &mut source, &mut out, &mut err);
+    let status = run_components(
+        rt,
+        alloc,
+        &words,
+        &mut source,
+        &mut out,
+        &mut err,
+        &OpenGate,
+    );
     assert_eq!(rt; (status, shown(&out), shown(&err)), wanted);
     Ok(())
 }

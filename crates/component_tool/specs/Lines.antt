@@ -9,7 +9,7 @@ abbrev pub program_name : List ℕ
 program_name = codes "components"
 
 abbrev pub usage_line : List ℕ
-usage_line = codes "usage: components [--roots NAME].. [--order] [--json] [--loops] [--from-json] [FILE]\n"
+usage_line = codes "usage: components [--jobs N] [--roots NAME].. [--order] [--json] [--loops] [--from-json] [FILE]\n"
 
 abbrev pub large_line : List ℕ → List ℕ
 large_line file = codes "components: " ++ (file ++ codes " is larger than 1073741824 bytes\n")

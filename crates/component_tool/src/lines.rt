@@ -13,7 +13,7 @@ use std::alloc::{AllocError, Global};
 pub const PROGRAM: &str = "components";
 /// The line that lists the arguments.
 pub const USAGE: &str =
-    "usage: components [--roots NAME].. [--order] [--json] [--loops] [--from-json] [FILE]\n";
+    "usage: components [--jobs N] [--roots NAME].. [--order] [--json] [--loops] [--from-json] [FILE]\n";
 /// The line that reports that memory ran out.
 pub const MEMORY: &str = "components: out of memory\n";
 /// The line that reports too many edges.

@@ -12,22 +12,27 @@ use crate::source::Source;
 use crate::telling::tell;
 use component_words::{Settings, parse_words};
 use prolog_tokens::Text;
+use search_pool::Gate;
 use std::alloc::Global;
+use std::sync::Wait;
+use std::thread::Threads;
 use tool_run::{Sink, say_with};
 
 /// Writes the report that the settings ask for to `out`, or to `err` why there is none.
-fn run_settings<S: Source, O: Sink, E: Sink>(
+fn run_settings<R: Threads + Wait + Sync, S: Source, O: Sink, E: Sink, G: Gate>(
+    rt: &R,
     alloc: Global,
     settings: &Settings,
     source: &mut S,
     out: &mut O,
     err: &mut E,
+    gate: &G,
 ) -> u8
     ensures run { (words : List (List ℕ)) → AreLawful words (see_settings settings.now)
         → IsRun words (S.seen source.old, S.seen source.new) (O.seen out.old, O.seen out.new) (E.seen err.old, E.seen err.new) result }
     ensures left { LeavesOther (out.old, out.new) (err.old, err.new) result }
 {
-    let told = tell(alloc, settings, source);
+    let told = tell(rt, alloc, settings, source, gate);
     put_end(alloc, &settings.file, told, out, err)
 }
 
@@ -41,12 +46,17 @@ fn run_settings<S: Source, O: Sink, E: Sink>(
 /// - 5: a sink failed;
 /// - 6: a limit was passed;
 /// - 7: memory ran out.
-pub fn run_components<S: Source, O: Sink, E: Sink>(
+///
+/// With one thread (`--jobs`, as without it) it always returns. With more of them, which may wait
+/// for each other, the contract holds if it returns.
+pub fn run_components<R: Threads + Wait + Sync, S: Source, O: Sink, E: Sink, G: Gate>(
+    rt: &R,
     alloc: Global,
     words: &[Text],
     source: &mut S,
     out: &mut O,
     err: &mut E,
+    gate: &G,
 ) -> u8
     // The output is right, and each status has its meaning.
     ensures run { RunKeeps words.now (S.seen source.old, S.seen source.new)
@@ -55,7 +65,7 @@ pub fn run_components<S: Source, O: Sink, E: Sink>(
     ensures left { LeavesOther (out.old, out.new) (err.old, err.new) result }
 {
     match parse_words(alloc, words) {
-        Ok(Some(settings)) => run_settings(alloc, &settings, source, out, err),
+        Ok(Some(settings)) => run_settings(rt, alloc, &settings, source, out, err, gate),
         Ok(None) => say_with(err, USAGE.as_bytes(), 2),
         Err(_) => say_with(err, MEMORY.as_bytes(), 7),
     }

@@ -9,11 +9,14 @@ ghost use Rattle.component_tool.specs.Run.{IsAnswered, IsReadEnd, wanted_of};
 
 use crate::source::{Source, SourceRead};
 use crate::stop::Stop;
-use component_answer::{Answer, Form, Wanted, answer_text};
+use component_answer::{Answer, Form, Wanted, Workers, answer_text};
 use component_words::Settings;
 use edge_text::MOST_BYTES;
 use prolog_tokens::Text;
+use search_pool::Gate;
 use std::alloc::{AllocError, Global};
+use std::sync::Wait;
+use std::thread::Threads;
 
 /// The bytes of these names.
 fn lent_names<'a>(alloc: Global, names: &'a [Text]) -> Result<Vec<&'a [u8]>, AllocError>
@@ -50,13 +53,21 @@ fn wanted_of(settings: &Settings) -> Wanted
 }
 
 /// The report that the settings ask for on a text within the limit of bytes, or why there is none.
-fn tell_text(alloc: Global, text: &[u8], settings: &Settings) -> Result<Vec<u8>, Stop>
-    requires { length text.now ≤ MOST_BYTES }
+fn tell_text<R: Threads + Wait + Sync, G: Gate>(
+    rt: &R,
+    alloc: Global,
+    text: &[u8],
+    settings: &Settings,
+    gate: &G,
+) -> Result<Vec<u8>, Stop>
+    requires small { length text.now ≤ MOST_BYTES }
     ensures { (end_of settings.now.file result ≡ no_memory)
         ⊎ IsAnswered (see_settings settings.now) text.now (end_of settings.now.file result) }
 {
     let roots = lent_names(alloc, &settings.roots)?;
-    match answer_text(alloc, text, &roots, wanted_of(settings))? {
+    let jobs = settings.jobs;
+    let workers = Workers { rt, gate, jobs };
+    match answer_text(alloc, text, &roots, wanted_of(settings), &workers)? {
         Answer::Report(bytes) => Ok(bytes),
         Answer::Fault(fault) => Err(Stop::Fault(fault)),
         Answer::TooManyEdges => Err(Stop::TooManyEdges),
@@ -76,7 +87,13 @@ fn no_node(alloc: Global, root: &Text) -> Stop
 }
 
 /// The report on the text of the source that the settings name, or why there is none.
-pub fn tell<S: Source>(alloc: Global, settings: &Settings, source: &mut S) -> Result<Vec<u8>, Stop>
+pub fn tell<R: Threads + Wait + Sync, S: Source, G: Gate>(
+    rt: &R,
+    alloc: Global,
+    settings: &Settings,
+    source: &mut S,
+    gate: &G,
+) -> Result<Vec<u8>, Stop>
     ensures { (end_of settings.now.file result ≡ no_memory)
         ⊎ IsReadEnd (see_settings settings.now) (S.seen source.old, S.seen source.new) (end_of settings.now.file result) }
 {
@@ -89,5 +106,5 @@ pub fn tell<S: Source>(alloc: Global, settings: &Settings, source: &mut S) -> Re
     if text.len() > MOST_BYTES {
         return Err(Stop::TooLarge);
     }
-    tell_text(alloc, &text, settings)
+    tell_text(rt, alloc, &text, settings, gate)
 }

@@ -1,27 +1,34 @@
 -- What further words set once a word is taken.
 use Rattle.std.proofs.Common.{◌≡◌, ◌≢◌, ℕ, ◌↔◌, inl, inr, List, [], ◌∷◌, ◌++◌, Bool, true, false, Option, Some, None, All, refl, ap, sym, subst, ◌∙◌, append_assoc, append-nil}
 use Rattle.std.specs.List.{flat_map}
+use Rattle.std.specs.Str.Parse.{digits_value}
 use Rattle.std.proofs.lemmas.List.Elements.{All-cons, All-head, All-nil, All-tail}
 use Rattle.component_words.specs.declared.flag.Flag.{Flag}
-use Rattle.component_words.specs.Words.{IsPart, Part, apart, ends_word, flag, flag_word, is_filled, is_operand, joined, joined_word, operand, part_files, part_flags, part_roots, part_words, rest_files, rest_words, roots_word}
-use Rattle.component_words.specs.Settings.{AreFile, AreLawful, AreSettings, Given, Settings, given_by, nothing_given}
-use Rattle.component_words.specs.Continue.{GoOn, GoOnByOperands, GoOnByRoot, with_flag, with_operands, with_root}
-use Rattle.component_words.proofs.FirstParts.{FirstIs, before_name, ends, ends_is, first_is, flag_is, joined_is, kind_of, one_spelling, operand_kind, roots_is, spelled, whole}
+use Rattle.component_words.specs.Words.{IsPart, Part, apart, ends_word, flag, flag_word, is_filled, is_operand, joined, joined_word, operand, part_files, part_flags, part_jobs, part_roots, part_words, rest_files, rest_words, valued_word}
+use Rattle.component_words.specs.declared.valued.Valued.{Valued}
+use Rattle.component_words.specs.declared.valued.Valued.TheVariants.{Roots, Jobs}
+use Rattle.component_words.specs.Settings.{AreFile, AreJobs, AreLawful, AreSettings, Given, Settings, given_by, nothing_given}
+use Rattle.component_words.specs.Continue.{GoOn, GoOnByOperands, GoOnByValue, with_flag, with_operands, with_value}
+use Rattle.component_words.proofs.FirstParts.{FirstIs, before_value, ends, ends_is, first_is, flag_is, joined_is, kind_of, one_spelling, operand_kind, spelled, valued_is, whole}
 
 -- what a part gives, after what was given before
 abbrev pub with_part : Given → Part → Given
 with_part before part = record {
   flags = before.flags ++ part_flags part;
   roots = before.roots ++ part_roots part;
+  jobs = before.jobs ++ part_jobs part;
   operands = before.operands ++ part_files part;
 }
 
-abbrev given_of : List Flag → List (List ℕ) → List (List ℕ) → Given
-given_of flags roots operands = record { flags = flags; roots = roots; operands = operands }
+abbrev given_of : List Flag → List (List ℕ) → List (List ℕ) → List (List ℕ) → Given
+given_of flags roots jobs operands = record { flags = flags; roots = roots; jobs = jobs; operands = operands }
 
-pub same_given : (a b : Given) → a.flags ≡ b.flags → a.roots ≡ b.roots → a.operands ≡ b.operands → a ≡ b
-same_given a b flags roots operands =
-    ap (λ fs. given_of fs a.roots a.operands) flags ∙ ap (λ rs. given_of b.flags rs a.operands) roots ∙ ap (given_of b.flags b.roots) operands
+pub same_given : (a b : Given) → a.flags ≡ b.flags → a.roots ≡ b.roots → a.jobs ≡ b.jobs → a.operands ≡ b.operands → a ≡ b
+same_given a b flags roots jobs operands =
+    ap (λ fs. given_of fs a.roots a.jobs a.operands) flags
+    ∙ ap (λ rs. given_of b.flags rs a.jobs a.operands) roots
+    ∙ ap (λ js. given_of b.flags b.roots js a.operands) jobs
+    ∙ ap (given_of b.flags b.roots b.jobs) operands
 
 pub by_part : (before : Given) (part : Part) (parts : List Part) (rest : Option (List (List ℕ)))
     → given_by before (part ∷ parts) rest ≡ given_by (with_part before part) parts rest
@@ -29,6 +36,7 @@ by_part before part parts rest =
     same_given (given_by before (part ∷ parts) rest) (given_by (with_part before part) parts rest)
     (sym (append_assoc before.flags (part_flags part) (flat_map part_flags parts)))
     (sym (append_assoc before.roots (part_roots part) (flat_map part_roots parts)))
+    (sym (append_assoc before.jobs (part_jobs part) (flat_map part_jobs parts)))
     (ap (λ os. os ++ rest_files rest) (sym (append_assoc before.operands (part_files part) (flat_map part_files parts))))
 
 spelled_more : (part : Part) (parts : List Part) (rest : Option (List (List ℕ))) → spelled (part ∷ parts) rest ≡ part_words part ++ spelled parts rest
@@ -81,19 +89,19 @@ by_whole before part word rest settings words lawful kind = (
 
 pub operand_given : (before : Given) (word : List ℕ) → with_part before (operand word) ≡ with_operands before (word ∷ [])
 operand_given before word =
-    same_given (with_part before (operand word)) (with_operands before (word ∷ [])) (append-nil before.flags) (append-nil before.roots) refl
+    same_given (with_part before (operand word)) (with_operands before (word ∷ [])) (append-nil before.flags) (append-nil before.roots) (append-nil before.jobs) refl
 
 pub flag_given : (before : Given) (own : Flag) → with_part before (flag own) ≡ with_flag before own
 flag_given before own =
-    same_given (with_part before (flag own)) (with_flag before own) refl (append-nil before.roots) (append-nil before.operands)
+    same_given (with_part before (flag own)) (with_flag before own) refl (append-nil before.roots) (append-nil before.jobs) (append-nil before.operands)
 
-pub apart_given : (before : Given) (name : List ℕ) → with_part before (apart name) ≡ with_root before name
-apart_given before name =
-    same_given (with_part before (apart name)) (with_root before name) (append-nil before.flags) refl (append-nil before.operands)
+pub apart_given : (before : Given) (valued : Valued) (value : List ℕ) → with_part before (apart valued value) ≡ with_value before valued value
+apart_given before valued value =
+    same_given (with_part before (apart valued value)) (with_value before valued value) (append-nil before.flags) refl refl (append-nil before.operands)
 
-pub joined_given : (before : Given) (name : List ℕ) → with_part before (joined name) ≡ with_root before name
-joined_given before name =
-    same_given (with_part before (joined name)) (with_root before name) (append-nil before.flags) refl (append-nil before.operands)
+pub joined_given : (before : Given) (valued : Valued) (value : List ℕ) → with_part before (joined valued value) ≡ with_value before valued value
+joined_given before valued value =
+    same_given (with_part before (joined valued value)) (with_value before valued value) (append-nil before.flags) refl refl (append-nil before.operands)
 
 pub by_operand : (before : Given) (word : List ℕ) (rest : List (List ℕ)) (settings : Settings) → is_operand word ≡ true
     → GoOn before (word ∷ rest) settings ↔ GoOn (with_operands before (word ∷ [])) rest settings
@@ -107,45 +115,45 @@ by_flag before own word rest settings is =
     subst (λ given. GoOn before (word ∷ rest) settings ↔ GoOn given rest settings) (flag_given before own)
     (by_whole before (flag own) word rest settings (ap (λ w. w ∷ []) (sym is)) tt (ap kind_of is ∙ flag_is own))
 
-pub by_joined : (before : Given) (name word : List ℕ) (rest : List (List ℕ)) (settings : Settings) → word ≡ joined_word name → is_filled name ≡ true
-    → GoOn before (word ∷ rest) settings ↔ GoOn (with_root before name) rest settings
-by_joined before name word rest settings is filled =
-    subst (λ given. GoOn before (word ∷ rest) settings ↔ GoOn given rest settings) (joined_given before name)
-    (by_whole before (joined name) word rest settings (ap (λ w. w ∷ []) (sym is)) filled (ap kind_of is ∙ joined_is name))
+pub by_joined : (before : Given) (valued : Valued) (value word : List ℕ) (rest : List (List ℕ)) (settings : Settings) → word ≡ joined_word valued value
+    → is_filled value ≡ true → GoOn before (word ∷ rest) settings ↔ GoOn (with_value before valued value) rest settings
+by_joined before valued value word rest settings is filled =
+    subst (λ given. GoOn before (word ∷ rest) settings ↔ GoOn given rest settings) (joined_given before valued value)
+    (by_whole before (joined valued value) word rest settings (ap (λ w. w ∷ []) (sym is)) filled (ap kind_of is ∙ joined_is valued value))
 
--- an empty name
-pub no_joined : (before : Given) (name word : List ℕ) (rest : List (List ℕ)) (settings : Settings) → word ≡ joined_word name → is_filled name ≡ false
-    → GoOn before (word ∷ rest) settings → ⊥
-no_joined before name word rest settings is empty on =
-    let first : FirstIs (whole (joined name)) rest on.spelling.parts on.spelling.rest =
-    subst (λ k. FirstIs k rest on.spelling.parts on.spelling.rest) (ap kind_of is ∙ joined_is name) (first_of before word rest settings on) in
-    let filled : is_filled name ≡ true = All-head IsPart (joined name) first.0 (subst (All IsPart) first.1 on.spelling.lawful) in
+-- an empty value
+pub no_joined : (before : Given) (valued : Valued) (value word : List ℕ) (rest : List (List ℕ)) (settings : Settings) → word ≡ joined_word valued value
+    → is_filled value ≡ false → GoOn before (word ∷ rest) settings → ⊥
+no_joined before valued value word rest settings is empty on =
+    let first : FirstIs (whole (joined valued value)) rest on.spelling.parts on.spelling.rest =
+    subst (λ k. FirstIs k rest on.spelling.parts on.spelling.rest) (ap kind_of is ∙ joined_is valued value) (first_of before word rest settings on) in
+    let filled : is_filled value ≡ true = All-head IsPart (joined valued value) first.0 (subst (All IsPart) first.1 on.spelling.lawful) in
     let both : true ≡ false = sym filled ∙ empty in cc
 
--- `--roots`
-pub by_roots : (before : Given) (word : List ℕ) (rest : List (List ℕ)) (settings : Settings) → word ≡ roots_word
-    → GoOn before (word ∷ rest) settings ↔ GoOnByRoot before rest settings
-by_roots before word rest settings is = (
+-- an option whose value follows
+pub by_valued : (before : Given) (valued : Valued) (word : List ℕ) (rest : List (List ℕ)) (settings : Settings) → word ≡ valued_word valued
+    → GoOn before (word ∷ rest) settings ↔ GoOnByValue valued before rest settings
+by_valued before valued word rest settings is = (
   λ on.
-      let first : FirstIs before_name rest on.spelling.parts on.spelling.rest =
-      subst (λ k. FirstIs k rest on.spelling.parts on.spelling.rest) (ap kind_of is ∙ roots_is) (first_of before word rest settings on) in
+      let first : FirstIs (before_value valued) rest on.spelling.parts on.spelling.rest =
+      subst (λ k. FirstIs k rest on.spelling.parts on.spelling.rest) (ap kind_of is ∙ valued_is valued) (first_of before word rest settings on) in
       record {
-        name = first.0;
+        value = first.0;
         rest = spelled first.1.0 on.spelling.rest;
         are = first.1.2;
-        plain = All-head IsPart (apart first.0) first.1.0 (subst (All IsPart) first.1.1 on.spelling.lawful);
+        plain = All-head IsPart (apart valued first.0) first.1.0 (subst (All IsPart) first.1.1 on.spelling.lawful);
         on =
-            subst (λ given. GoOn given (spelled first.1.0 on.spelling.rest) settings) (apart_given before first.0)
-            (take_part before (apart first.0) (word ∷ rest) (spelled first.1.0 on.spelling.rest) settings first.1.0 on first.1.1 refl);
+            subst (λ given. GoOn given (spelled first.1.0 on.spelling.rest) settings) (apart_given before valued first.0)
+            (take_part before (apart valued first.0) (word ∷ rest) (spelled first.1.0 on.spelling.rest) settings first.1.0 on first.1.1 refl);
       },
   λ by.
-      put_part before (apart by.name) (word ∷ rest) by.rest settings (ap (λ w. w ∷ rest) is ∙ ap (λ ws. roots_word ∷ ws) by.are) by.plain
-      (subst (λ given. GoOn given by.rest settings) (sym (apart_given before by.name)) by.on),
+      put_part before (apart valued by.value) (word ∷ rest) by.rest settings (ap (λ w. w ∷ rest) is ∙ ap (λ ws. valued_word valued ∷ ws) by.are) by.plain
+      (subst (λ given. GoOn given by.rest settings) (sym (apart_given before valued by.value)) by.on),
 )
 
 end_given : (before : Given) (rest : List (List ℕ)) → given_by before [] (Some rest) ≡ with_operands before rest
 end_given before rest =
-    same_given (given_by before [] (Some rest)) (with_operands before rest) (append-nil before.flags) (append-nil before.roots)
+    same_given (given_by before [] (Some rest)) (with_operands before rest) (append-nil before.flags) (append-nil before.roots) (append-nil before.jobs)
     (ap (λ os. os ++ rest) (append-nil before.operands))
 
 -- `--`
@@ -168,9 +176,10 @@ by_end before word rest settings is = (
 )
 
 -- other words
-pub no_word : (before : Given) (word : List ℕ) (rest : List (List ℕ)) (settings : Settings) → is_operand word ≡ false → word ≢ ends_word → word ≢ roots_word
-    → ((name : List ℕ) → word ≢ joined_word name) → ((own : Flag) → word ≢ flag_word own) → GoOn before (word ∷ rest) settings → ⊥
-no_word before word rest settings no_operand no_end no_roots not_joined no_flag on = go on.spelling.parts on.spelling.rest on.spelling.spell on.spelling.lawful where
+pub no_word : (before : Given) (word : List ℕ) (rest : List (List ℕ)) (settings : Settings) → is_operand word ≡ false → word ≢ ends_word
+    → ((valued : Valued) → word ≢ valued_word valued) → ((valued : Valued) (value : List ℕ) → word ≢ joined_word valued value)
+    → ((own : Flag) → word ≢ flag_word own) → GoOn before (word ∷ rest) settings → ⊥
+no_word before word rest settings no_operand no_end not_valued not_joined no_flag on = go on.spelling.parts on.spelling.rest on.spelling.spell on.spelling.lawful where
   go : (parts : List Part) (more : Option (List (List ℕ))) → word ∷ rest ≡ spelled parts more → All IsPart parts → ⊥
   go [] None e lawful = cc
   go [] (Some words) e lawful = let is : word ≡ ends_word = cc in no_end is
@@ -181,16 +190,26 @@ no_word before word rest settings no_operand no_end no_roots not_joined no_flag 
       let wrong : true ≡ false = sym yes ∙ ap is_operand (sym is) ∙ no_operand in cc
   go (flag own ∷ others) more e lawful =
       let both : word ∷ rest ≡ flag_word own ∷ spelled others more = e in let is : word ≡ flag_word own = cc in no_flag own is
-  go (apart name ∷ others) more e lawful =
-      let both : word ∷ rest ≡ roots_word ∷ (name ∷ spelled others more) = e in let is : word ≡ roots_word = cc in no_roots is
-  go (joined name ∷ others) more e lawful =
-      let both : word ∷ rest ≡ joined_word name ∷ spelled others more = e in let is : word ≡ joined_word name = cc in not_joined name is
+  go (apart valued value ∷ others) more e lawful =
+      let both : word ∷ rest ≡ valued_word valued ∷ (value ∷ spelled others more) = e in
+      let is : word ≡ valued_word valued = cc in not_valued valued is
+  go (joined valued value ∷ others) more e lawful =
+      let both : word ∷ rest ≡ joined_word valued value ∷ spelled others more = e in
+      let is : word ≡ joined_word valued value = cc in not_joined valued value is
 
 -- one setting
 
-abbrev setting_of : Bool → Bool → Bool → Bool → List (List ℕ) → List ℕ → Settings
-setting_of order json loops from_json roots file =
-    record { order = order; json = json; loops = loops; from_json = from_json; roots = roots; file = file }
+abbrev setting_of : Bool → Bool → Bool → Bool → ℕ → List (List ℕ) → List ℕ → Settings
+setting_of order json loops from_json jobs roots file =
+    record { order = order; json = json; loops = loops; from_json = from_json; jobs = jobs; roots = roots; file = file }
+
+one_jobs : (values : List (List ℕ)) (a b : ℕ) → AreJobs values a → AreJobs values b → a ≡ b
+one_jobs values a b (inl none) (inl also) = none.1 ∙ sym also.1
+one_jobs values a b (inl none) (inr one) = let both : [] ≡ one.0 ∷ [] = sym none.0 ∙ one.1 in let wrong : ⊥ = cc in absurd wrong
+one_jobs values a b (inr one) (inl none) = let both : [] ≡ one.0 ∷ [] = sym none.0 ∙ one.1 in let wrong : ⊥ = cc in absurd wrong
+one_jobs values a b (inr one) (inr also) =
+    let both : one.0 ∷ [] ≡ also.0 ∷ [] = sym one.1 ∙ also.1 in
+    let same : one.0 ≡ also.0 = cc in one.2.is ∙ ap (digits_value 10) same ∙ sym also.2.is
 
 one_file : (operands : List (List ℕ)) (a b : List ℕ) → AreFile operands a → AreFile operands b → a ≡ b
 one_file operands a b (inl none) (inl also) = none.1 ∙ sym also.1
@@ -200,12 +219,13 @@ one_file operands a b (inr one) (inr also) = let both : a ∷ [] ≡ b ∷ [] = 
 
 pub one_set : (given : Given) (a b : Settings) → AreSettings given a → AreSettings given b → a ≡ b
 one_set given a b is also =
-    ap (λ o. setting_of o a.json a.loops a.from_json a.roots a.file) (is.order ∙ sym also.order)
-    ∙ ap (λ j. setting_of b.order j a.loops a.from_json a.roots a.file) (is.json ∙ sym also.json)
-    ∙ ap (λ l. setting_of b.order b.json l a.from_json a.roots a.file) (is.loops ∙ sym also.loops)
-    ∙ ap (λ f. setting_of b.order b.json b.loops f a.roots a.file) (is.from_json ∙ sym also.from_json)
-    ∙ ap (λ rs. setting_of b.order b.json b.loops b.from_json rs a.file) (is.roots ∙ sym also.roots)
-    ∙ ap (setting_of b.order b.json b.loops b.from_json b.roots) (one_file given.operands a.file b.file is.file also.file)
+    ap (λ o. setting_of o a.json a.loops a.from_json a.jobs a.roots a.file) (is.order ∙ sym also.order)
+    ∙ ap (λ j. setting_of b.order j a.loops a.from_json a.jobs a.roots a.file) (is.json ∙ sym also.json)
+    ∙ ap (λ l. setting_of b.order b.json l a.from_json a.jobs a.roots a.file) (is.loops ∙ sym also.loops)
+    ∙ ap (λ f. setting_of b.order b.json b.loops f a.jobs a.roots a.file) (is.from_json ∙ sym also.from_json)
+    ∙ ap (λ n. setting_of b.order b.json b.loops b.from_json n a.roots a.file) (one_jobs given.jobs a.jobs b.jobs is.jobs also.jobs)
+    ∙ ap (λ rs. setting_of b.order b.json b.loops b.from_json b.jobs rs a.file) (is.roots ∙ sym also.roots)
+    ∙ ap (setting_of b.order b.json b.loops b.from_json b.jobs b.roots) (one_file given.operands a.file b.file is.file also.file)
 
 pub one_lawful : (words : List (List ℕ)) (a b : Settings) → AreLawful words a → AreLawful words b → a ≡ b
 one_lawful words a b is also =

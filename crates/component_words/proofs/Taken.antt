@@ -8,12 +8,15 @@ use Rattle.component_words.specs.declared.flag.Flag.{Flag}
 use Rattle.component_words.specs.declared.reader.Next.{Next}
 use Rattle.component_words.specs.declared.reader.Next.TheVariants as next
 use Rattle.component_words.specs.declared.reader.Reader.{Reader}
-use Rattle.component_words.specs.Words.{flag_word, is_filled, is_operand, part_files, part_flags, rest_files}
-use Rattle.component_words.specs.Settings.{AreFile, AreLawful, AreSettings, Given, IsOnce, IsUnlawful, Settings, given_by, see_settings, nothing_given}
+use Rattle.component_words.specs.Words.{flag_word, is_filled, is_operand, is_plain, joined_word, part_files, part_flags, part_jobs, rest_files}
+use Rattle.component_words.specs.Settings.{AreFile, AreJobs, AreLawful, AreSettings, Given, IsOnce, IsUnlawful, Settings, given_by, see_settings, nothing_given}
 use Rattle.component_words.specs.declared.settings.Settings.{Settings as SettingsOf}
 use Rattle.std.proofs.Math.Seq.{drop-cons}
-use Rattle.component_words.specs.Continue.{Continues, GoOn, GoOnBy, GoOnByOperands, GoOnByRoot, Takes, TakesFlag, TakesOperand, as_list, given_of, with_flag, with_operands}
-use Rattle.component_words.proofs.GoesOn.{by_flag, by_operand, same_given}
+use Rattle.component_words.specs.Continue.{Continues, GoOn, GoOnBy, GoOnByOperands, GoOnByValue, Takes, TakesFlag, TakesOperand, TakesValue, as_list, given_of, with_flag, with_operands, with_value}
+use Rattle.component_words.specs.declared.valued.Valued.{Valued}
+use Rattle.component_words.specs.declared.valued.Valued.TheVariants.{Roots, Jobs}
+use Rattle.component_words.proofs.GoesOn.{by_flag, by_joined, by_operand, same_given}
+use Rattle.component_words.proofs.FirstParts.{none_spelled}
 use Rattle.component_words.proofs.Once.{given_twice}
 
 pub same_text : (word other : List ℕ) → bytes_eq word other ≡ true → word ≡ other
@@ -73,7 +76,7 @@ last_taken old new word true last takes =
   where
     one_more : (before : Given) (word : List ℕ) (rest : List (List ℕ)) → with_operands (with_operands before (word ∷ [])) rest ≡ with_operands before (word ∷ rest)
     one_more before word rest =
-        same_given (with_operands (with_operands before (word ∷ [])) rest) (with_operands before (word ∷ rest)) refl refl
+        same_given (with_operands (with_operands before (word ∷ [])) rest) (with_operands before (word ∷ rest)) refl refl refl
         (append_assoc before.operands (word ∷ []) rest)
 
     more_operands : (before : Given) (word : List ℕ) (rest : List (List ℕ)) (settings : Settings) → is_filled word ≡ true
@@ -111,6 +114,28 @@ flag_taken old new own word false any is given =
     given_twice old.flags.items own (flat_map part_flags one.spelling.parts) given
     (subst IsOnce (append_assoc old.flags.items (own ∷ []) (flat_map part_flags one.spelling.parts)) one.set.once))
 
+-- two values of `--jobs` are too many
+two_jobs : (jobs : Option (List ℕ)) (value : List ℕ) (more : List (List ℕ)) (n : ℕ) → is_some jobs ≡ true → AreJobs ((as_list jobs ++ value ∷ []) ++ more) n → ⊥
+two_jobs None value more n some are = let none : ⊥ = cc in none
+two_jobs (Some one) value more n some (inl none) = let both : one ∷ (value ∷ more) ≡ [] = none.0 in cc
+two_jobs (Some one) value more n some (inr is) =
+    let both : one ∷ (value ∷ more) ≡ is.0 ∷ [] = is.1 in let same : value ∷ more ≡ [] = cc in cc
+
+-- a value behind `=`
+pub joined_taken : (old new : Reader) (valued : Valued) (value word : List ℕ) (fits : Bool) → old.next ≡ next.Any → word ≡ joined_word valued value
+    → is_filled value ≡ true → TakesValue old valued value new fits → Takes old word new fits
+joined_taken old new valued value word true any is filled takes =
+    λ rest settings.
+    turned old new next.Any (with_value (given_of old) valued value) (word ∷ rest) rest settings any takes.0 takes.1
+    (by_joined (given_of old) valued value word rest settings is filled)
+joined_taken old new Roots value word false any is filled takes = let both : Roots ≡ Jobs = takes.0 in let wrong : ⊥ = cc in absurd wrong
+joined_taken old new Jobs value word false any is filled takes =
+    λ rest settings.
+    refused old (word ∷ rest) settings any
+    (λ on.
+    let one = (by_joined (given_of old) Jobs value word rest settings is filled).0 on in
+    two_jobs old.jobs value (flat_map part_jobs one.spelling.parts) settings.jobs takes.1 one.set.jobs)
+
 -- the same of results
 
 pub operand_result : {E : Type 0} (r : Result Bool E) (old new : Reader) (word : List ℕ) → old.next ≡ next.Any → is_operand word ≡ true
@@ -128,33 +153,67 @@ pub flag_result : {E : Type 0} (r : Result Bool E) (old new : Reader) (own : Fla
 flag_result {E} (Ok fits) old new own word any is takes = flag_taken old new own word fits any is takes
 flag_result {E} (Err error) old new own word any is takes = takes
 
+pub joined_result : {E : Type 0} (r : Result Bool E) (old new : Reader) (valued : Valued) (value word : List ℕ) → old.next ≡ next.Any
+    → word ≡ joined_word valued value → is_filled value ≡ true → IfOk r (TakesValue old valued value new) → IfOk r (Takes old word new)
+joined_result {E} (Ok fits) old new valued value word any is filled takes = joined_taken old new valued value word fits any is filled takes
+joined_result {E} (Err error) old new valued value word any is filled takes = takes
+
 -- at the end
 
-pub none_missing : (reader : Reader) (settings : Settings) → reader.next ≡ next.Root → Continues reader [] settings → ⊥
-none_missing reader settings root on =
-    let by : GoOnByRoot (given_of reader) [] settings = subst (λ o. GoOnBy o (given_of reader) [] settings) root on in
-    let both : [] ≡ by.name ∷ by.rest = by.are in cc
+same_whole : (reader : Reader) → given_of reader ≡ given_by (given_of reader) [] None
+same_whole reader =
+    same_given (given_of reader) (given_by (given_of reader) [] None) (sym (append-nil reader.flags.items)) (sym (append-nil (given_of reader).roots))
+    (sym (append-nil (as_list reader.jobs))) (sym (append-nil (as_list reader.file ++ []) ∙ append-nil (as_list reader.file)))
 
 pub whole_set : (reader : Reader) (settings : Settings) → reader.next ≡ next.Any → AreSettings (given_of reader) settings → Continues reader [] settings
 whole_set reader settings any set =
     let on : GoOn (given_of reader) [] settings = record {
       spelling = record { parts = []; rest = None; spell = refl; lawful = All-nil _; filled = All-nil (λ w. is_filled w ≡ true) };
-      set =
-          subst (λ g. AreSettings g settings)
-          (same_given (given_of reader) (given_by (given_of reader) [] None) (sym (append-nil reader.flags.items)) (sym (append-nil (given_of reader).roots))
-          (sym (append-nil (as_list reader.file ++ []) ∙ append-nil (as_list reader.file)))) set;
+      set = subst (λ g. AreSettings g settings) (same_whole reader) set;
     } in
     subst (λ o. GoOnBy o (given_of reader) [] settings) (sym any) on
+
+-- no words spell no part
+set_at_end : (reader : Reader) (settings : Settings) → reader.next ≡ next.Any → Continues reader [] settings → AreSettings (given_of reader) settings
+set_at_end reader settings any on =
+    let go : GoOn (given_of reader) [] settings = subst (λ o. GoOnBy o (given_of reader) [] settings) any on in
+    let none = none_spelled go.spelling.parts go.spelling.rest go.spelling.spell in
+    subst (λ g. AreSettings g settings)
+    (ap (λ parts. given_by (given_of reader) parts go.spelling.rest) none.0 ∙ ap (given_by (given_of reader) []) none.1 ∙ sym (same_whole reader)) go.set
+
+same_end : (reader : Reader) → given_of reader ≡ with_operands (given_of reader) []
+same_end reader = same_given (given_of reader) (with_operands (given_of reader) []) refl refl refl (sym (append-nil (as_list reader.file)))
 
 pub last_set : (reader : Reader) (settings : Settings) → reader.next ≡ next.Operand → AreSettings (given_of reader) settings → Continues reader [] settings
 last_set reader settings last set =
     let on : GoOnByOperands (given_of reader) [] settings = record {
       filled = All-nil (λ w. is_filled w ≡ true);
-      set =
-          subst (λ g. AreSettings g settings)
-          (same_given (given_of reader) (with_operands (given_of reader) []) refl refl (sym (append-nil (as_list reader.file)))) set;
+      set = subst (λ g. AreSettings g settings) (same_end reader) set;
     } in
     subst (λ o. GoOnBy o (given_of reader) [] settings) (sym last) on
+
+abbrev EndsSo : Reader → Option SettingsOf → Type 0
+EndsSo reader found =
+    MatchOption found ((settings : Settings) → Continues reader [] settings → ⊥) (λ settings. Continues reader [] (see_settings settings))
+
+-- what is made at the end, if there is a number of threads
+abbrev IsMade : Given → Option SettingsOf → Type 0
+IsMade given found = MatchOption found ((settings : Settings) → AreSettings given settings → ⊥) (λ settings. AreSettings given (see_settings settings))
+
+pub whole_end : {E : Type 0} (r : Result (Option SettingsOf) E) (reader : Reader) → reader.next ≡ next.Any → IfOk r (IsMade (given_of reader))
+    → IfOk r (EndsSo reader)
+whole_end {E} (Ok None) reader any made = λ settings on. made settings (set_at_end reader settings any on)
+whole_end {E} (Ok (Some found)) reader any made = whole_set reader (see_settings found) any made
+whole_end {E} (Err error) reader any made = made
+
+pub last_end : {E : Type 0} (r : Result (Option SettingsOf) E) (reader : Reader) → reader.next ≡ next.Operand → IfOk r (IsMade (given_of reader))
+    → IfOk r (EndsSo reader)
+last_end {E} (Ok None) reader last made =
+    λ settings on.
+    let by : GoOnByOperands (given_of reader) [] settings = subst (λ o. GoOnBy o (given_of reader) [] settings) last on in
+    made settings (subst (λ g. AreSettings g settings) (sym (same_end reader)) by.set)
+last_end {E} (Ok (Some found)) reader last made = last_set reader (see_settings found) last made
+last_end {E} (Err error) reader last made = made
 
 -- and at the start
 pub from_start : (reader : Reader) (words : List (List ℕ)) (settings : Settings) → reader.next ≡ next.Any → given_of reader ≡ nothing_given
@@ -189,10 +248,6 @@ pub none_taken : (start : List (List ℕ)) (old new : Reader) (word : List ℕ) 
     → AreLawful start settings ↔ Continues old words settings → words ≡ word ∷ rest → Takes old word new false → AreLawful start settings → ⊥
 none_taken start old new word words rest settings so_far is takes lawful =
     takes rest settings (subst (λ ws. Continues old ws settings) is (so_far.0 lawful))
-
-abbrev EndsSo : Reader → Option SettingsOf → Type 0
-EndsSo reader found =
-    MatchOption found ((settings : Settings) → Continues reader [] settings → ⊥) (λ settings. Continues reader [] (see_settings settings))
 
 pub all_taken : {E : Type 0} (r : Result (Option SettingsOf) E) (start : List (List ℕ)) (reader : Reader) (words : List (List ℕ)) → words ≡ []
     → ((settings : Settings) → AreLawful start settings ↔ Continues reader words settings) → IfOk r (EndsSo reader)

@@ -5,33 +5,40 @@ use Rattle.component_words.specs.declared.reader.Next.{Next}
 use Rattle.component_words.specs.declared.reader.Next.TheVariants as next
 use Rattle.component_words.specs.declared.reader.Reader.{Reader}
 use Rattle.component_words.specs.Settings.{AreSettings, Given, Settings, Spelling, given_by, nothing_given}
-use Rattle.component_words.specs.Words.{is_filled, is_given, is_plain}
+use Rattle.component_words.specs.Words.{is_filled, is_given, is_plain, job_value, root_value}
+use Rattle.component_words.specs.declared.valued.Valued.{Valued}
+use Rattle.component_words.specs.declared.valued.Valued.TheVariants.{Jobs}
 
 abbrev pub as_list : Option (List ℕ) → List (List ℕ)
 as_list None = []
-as_list (Some file) = file ∷ []
+as_list (Some text) = text ∷ []
 
 abbrev pub given_of : Reader → Given
-given_of reader = record { flags = reader.flags.items; roots = reader.roots.items; operands = as_list reader.file }
+given_of reader = record { flags = reader.flags.items; roots = reader.roots.items; jobs = as_list reader.jobs; operands = as_list reader.file }
 
 -- any words
 pub record GoOn (before : Given) (words : List (List ℕ)) (settings : Settings) : Type 0 where
   pub spelling : Spelling words
   pub set : AreSettings (given_by before spelling.parts spelling.rest) settings
 
-abbrev pub with_root : Given → List ℕ → Given
-with_root given name = record { flags = given.flags; roots = given.roots ++ name ∷ []; operands = given.operands }
+abbrev pub with_value : Given → Valued → List ℕ → Given
+with_value given valued value = record {
+  flags = given.flags;
+  roots = given.roots ++ root_value valued value;
+  jobs = given.jobs ++ job_value valued value;
+  operands = given.operands;
+}
 
 abbrev pub with_operands : Given → List (List ℕ) → Given
-with_operands given words = record { flags = given.flags; roots = given.roots; operands = given.operands ++ words }
+with_operands given words = record { flags = given.flags; roots = given.roots; jobs = given.jobs; operands = given.operands ++ words }
 
--- the name of a root, and any words
-pub record GoOnByRoot (before : Given) (words : List (List ℕ)) (settings : Settings) : Type 0 where
-  pub name : List ℕ
+-- the value of an option, and any words
+pub record GoOnByValue (valued : Valued) (before : Given) (words : List (List ℕ)) (settings : Settings) : Type 0 where
+  pub value : List ℕ
   pub rest : List (List ℕ)
-  pub are : words ≡ name ∷ rest
-  pub plain : is_plain name ≡ true
-  pub on : GoOn (with_root before name) rest settings
+  pub are : words ≡ value ∷ rest
+  pub plain : is_plain value ≡ true
+  pub on : GoOn (with_value before valued value) rest settings
 
 -- operands
 pub record GoOnByOperands (before : Given) (words : List (List ℕ)) (settings : Settings) : Type 0 where
@@ -40,20 +47,25 @@ pub record GoOnByOperands (before : Given) (words : List (List ℕ)) (settings :
 
 abbrev pub GoOnBy : Next → Given → List (List ℕ) → Settings → Type 0
 GoOnBy next.Any before words settings = GoOn before words settings
-GoOnBy next.Root before words settings = GoOnByRoot before words settings
+GoOnBy (next.Value valued) before words settings = GoOnByValue valued before words settings
 GoOnBy next.Operand before words settings = GoOnByOperands before words settings
 
 abbrev pub Continues : Reader → List (List ℕ) → Settings → Type 0
 Continues reader words settings = GoOnBy reader.next (given_of reader) words settings
 
 abbrev pub with_flag : Given → Flag → Given
-with_flag given flag = record { flags = given.flags ++ flag ∷ []; roots = given.roots; operands = given.operands }
+with_flag given flag = record { flags = given.flags ++ flag ∷ []; roots = given.roots; jobs = given.jobs; operands = given.operands }
 
 -- an operand is kept, or it is empty or one too many
 abbrev pub TakesOperand : Reader → List ℕ → Reader → Bool → Type 0
 TakesOperand old word new true =
     (is_filled word ≡ true) × (old.file ≡ None) × (new.next ≡ old.next) × (given_of new ≡ with_operands (given_of old) (word ∷ []))
 TakesOperand old word new false = (is_filled word ≡ false) ⊎ (is_some old.file ≡ true)
+
+-- a value is kept, or it is one too many: the second one of `--jobs`
+abbrev pub TakesValue : Reader → Valued → List ℕ → Reader → Bool → Type 0
+TakesValue old valued value new true = (new.next ≡ next.Any) × (given_of new ≡ with_value (given_of old) valued value)
+TakesValue old valued value new false = (valued ≡ Jobs) × (is_some old.jobs ≡ true)
 
 -- a flag is kept, or it was given before
 abbrev pub TakesFlag : Reader → Flag → Reader → Bool → Type 0

@@ -5,8 +5,10 @@
 //!
 //! ```text
 //! f.txt --roots a --roots=-b --order   roots a and -b, order, the file f.txt
+//! --jobs 4                             four threads, standard input
 //! -- --order                           the file --order
 //! --order --order                      not valid
+//! --jobs=65                            not valid
 //! ```
 //!
 //! It reads no file, and knows no graph.
@@ -17,9 +19,11 @@ mod laws;
 mod parse;
 mod reader;
 mod settings;
+mod valued;
 mod words;
 
 pub use flag::Flag;
 pub use laws::one_setting;
 pub use parse::parse_words;
-pub use settings::{STANDARD_INPUT, Settings};
+pub use settings::{MOST_JOBS, STANDARD_INPUT, Settings};
+pub use valued::Valued;

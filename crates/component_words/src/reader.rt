@@ -1,14 +1,16 @@
 //! Arguments, one after another.
 
-ghost use Rattle.std.specs.Prelude.{◌≡◌, [], false, IfOk, OnOk, MatchOption};
-ghost use Rattle.component_words.specs.Continue.{Continues, IsNewReader, Takes, TakesFlag, TakesOperand, as_list, given_of, with_root};
-ghost use Rattle.component_words.specs.Settings.{AreFile, AreSettings, IsOnce, Settings as SettingsOf, see_settings};
+ghost use Rattle.std.specs.Prelude.{◌≡◌, ◌<◌, ◌≤◌, ℕ, [], false, IfOk, OnOk, MatchOption};
+ghost use Rattle.component_words.specs.Continue.{Continues, IsNewReader, Takes, TakesFlag, TakesOperand, TakesValue, as_list, given_of};
+ghost use Rattle.component_words.specs.Settings.{AreFile, AreJobs, AreSettings, IsOnce, Settings as SettingsOf, see_settings};
 ghost use Rattle.component_words.specs.Words.{is_operand, is_plain};
-ghost use Rattle.component_words.specs.declared.reader.Next.TheVariants.{Any, Root, Operand};
+ghost use Rattle.component_words.specs.declared.reader.Next.TheVariants.{Any, Value, Operand};
 
 use crate::flag::{Flag, flag_named, is_given};
-use crate::settings::{STANDARD_INPUT, Settings};
-use crate::words::{is_filled, is_operand, is_plain, joined_root};
+use crate::settings::{MOST_JOBS, STANDARD_INPUT, Settings};
+use crate::valued::{Valued, joined_value, valued_named};
+use crate::words::{is_filled, is_operand, is_plain};
+use argument_numbers::read_number;
 use prolog_tokens::Text;
 use std::alloc::{AllocError, Global};
 
@@ -17,8 +19,8 @@ use std::alloc::{AllocError, Global};
 pub(crate) enum Next {
     /// An option or an operand.
     Any,
-    /// The name after `--roots`.
-    Root,
+    /// The value of the option.
+    Value(Valued),
     /// An operand, after `--`.
     Operand,
 }
@@ -30,6 +32,7 @@ pub(crate) struct Reader {
     next: Next,
     flags: Vec<Flag>,
     roots: Vec<Text>,
+    jobs: Option<Text>,
     file: Option<Text>,
 }
 
@@ -44,6 +47,7 @@ impl Reader {
             next: Next::Any,
             flags: Vec::new(alloc),
             roots: Vec::new(alloc),
+            jobs: None,
             file: None,
         }
     }
@@ -63,15 +67,22 @@ impl Reader {
         Ok(true)
     }
 
-    /// Takes the name of a root.
-    fn push_root(&mut self, name: &str) -> Result<(), AllocError>
-        ensures next { OnOk result (self.new.next ≡ Any) }
+    /// Takes the value of an option. False if it is the second one of `--jobs`.
+    fn push_value(&mut self, valued: Valued, value: &str) -> Result<bool, AllocError>
+        ensures takes { IfOk result (TakesValue self.old valued value.now self.new) }
         ensures flags { self.new.flags ≡ self.old.flags }
-        ensures given { OnOk result (given_of self.new ≡ with_root (given_of self.old) name.now) }
     {
-        self.roots.push(Text::new(self.alloc, name)?)?;
+        match valued {
+            Valued::Roots => self.roots.push(Text::new(self.alloc, value)?)?,
+            Valued::Jobs => {
+                if self.jobs.is_some() {
+                    return Ok(false);
+                }
+                self.jobs = Some(Text::new(self.alloc, value)?);
+            }
+        }
         self.next = Next::Any;
-        Ok(())
+        Ok(true)
     }
 
     /// Takes a flag. False if it is given already.
@@ -99,16 +110,15 @@ impl Reader {
             self.next = Next::Operand;
             return Ok(true);
         }
-        if word == "--roots" {
-            self.next = Next::Root;
+        if let Some(valued) = valued_named(word) {
+            self.next = Next::Value(valued);
             return Ok(true);
         }
-        if let Some(name) = joined_root(word) {
-            if !is_filled(name) {
+        if let Some((valued, value)) = joined_value(word) {
+            if !is_filled(value) {
                 return Ok(false);
             }
-            self.push_root(name)?;
-            return Ok(true);
+            return self.push_value(valued, value);
         }
         match flag_named(word) {
             Some(flag) => self.take_flag(flag),
@@ -129,9 +139,9 @@ impl Reader {
         self.take_option(word)
     }
 
-    /// Takes the name of a root that is an argument of its own.
-    fn take_root(&mut self, word: &str) -> Result<bool, AllocError>
-        requires root { self.old.next ≡ Root }
+    /// Takes the value of an option that is an argument of its own.
+    fn take_value(&mut self, valued: Valued, word: &str) -> Result<bool, AllocError>
+        requires value { self.old.next ≡ Value valued }
         requires once { IsOnce self.old.flags.items }
         ensures takes { IfOk result (Takes self.old word.now self.new) }
         ensures once { OnOk result (IsOnce self.new.flags.items) }
@@ -139,8 +149,7 @@ impl Reader {
         if !is_plain(word) {
             return Ok(false);
         }
-        self.push_root(word)?;
-        Ok(true)
+        self.push_value(valued, word)
     }
 
     /// Takes the argument. False if no arguments that go on so are valid.
@@ -151,16 +160,22 @@ impl Reader {
     {
         match self.next {
             Next::Any => self.take_any(word),
-            Next::Root => self.take_root(word),
+            Next::Value(valued) => self.take_value(valued, word),
             Next::Operand => self.take_operand(word),
         }
     }
 
-    /// What the arguments set if there are no more of them, and none is missing.
-    fn made(self) -> Result<Settings, AllocError>
+    /// What the arguments set if there are no more of them and none is missing, or None if `--jobs`
+    /// has no valid number.
+    fn made(self) -> Result<Option<Settings>, AllocError>
         requires { IsOnce self.flags.items }
-        ensures { IfOk result (λ settings. AreSettings (given_of self) (see_settings settings)) }
+        ensures { IfOk result (λ found. MatchOption found
+            ((settings : SettingsOf) → AreSettings (given_of self) settings → ⊥)
+            (λ settings. AreSettings (given_of self) (see_settings settings))) }
     {
+        let Some(jobs) = jobs_of(&self.jobs) else {
+            return Ok(None);
+        };
         let order = is_given(&self.flags, Flag::Order);
         let json = is_given(&self.flags, Flag::Json);
         let loops = is_given(&self.flags, Flag::Loops);
@@ -172,14 +187,15 @@ impl Reader {
             ..
         } = self;
         let file = file_of(alloc, file)?;
-        Ok(Settings {
+        Ok(Some(Settings {
             order,
             json,
             loops,
             from_json,
+            jobs,
             roots,
             file,
-        })
+        }))
     }
 
     /// What the arguments set if there are no more of them, or None if they aren't valid.
@@ -190,10 +206,23 @@ impl Reader {
             (λ settings. Continues self [] (see_settings settings))) }
     {
         match self.next {
-            Next::Root => Ok(None),
-            Next::Any => Ok(Some(self.made()?)),
-            Next::Operand => Ok(Some(self.made()?)),
+            Next::Value(_) => Ok(None),
+            Next::Any => self.made(),
+            Next::Operand => self.made(),
         }
+    }
+}
+
+/// How many threads search, if that is a valid number.
+fn jobs_of(jobs: &Option<Text>) -> Option<u32>
+    ensures { MatchOption result ((n : ℕ) → AreJobs (as_list jobs.now) n → ⊥) (λ n. AreJobs (as_list jobs.now) n × (0 < n) × (n ≤ 64)) }
+{
+    let Some(word) = jobs else {
+        return Some(1);
+    };
+    match read_number(word.as_str(), 1, u64::from(MOST_JOBS)) {
+        Some(number) => Some(number as u32),
+        None => None,
     }
 }
 

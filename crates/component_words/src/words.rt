@@ -1,7 +1,7 @@
 //! Which argument is what.
 
-ghost use Rattle.std.specs.Prelude.{◌≡◌, ◌≢◌, ◌++◌, ℕ, List, MatchOption, codes};
-ghost use Rattle.component_words.specs.Words.{is_filled, is_operand, is_plain, joined_word};
+ghost use Rattle.std.specs.Prelude.{◌≡◌};
+ghost use Rattle.component_words.specs.Words.{is_filled, is_operand, is_plain};
 
 /// Whether the argument isn't empty.
 pub(crate) fn is_filled(word: &str) -> bool
@@ -32,11 +32,4 @@ pub(crate) fn is_operand(word: &str) -> bool
         return true;
     }
     bytes[0] != b'-'
-}
-
-/// The name in `--roots=NAME`.
-pub(crate) fn joined_root(word: &str) -> Option<&str>
-    ensures { MatchOption result ((name : List ℕ) → word.now ≢ joined_word name) (λ name. word.now ≡ joined_word name.now) }
-{
-    word.strip_prefix("--roots=")
 }

@@ -1,8 +1,8 @@
-//! The command `components [--roots NAME].. [--order] [--json] [--loops] [--from-json] [FILE]`: runs
-//! `run_components` with the arguments, the disk and the standard streams, and exits with its status.
+//! The command `components [FILE]`: runs `run_components` with the arguments, the disk and the
+//! standard streams, and exits with its status.
 #![tactic(auto)]
 
-use component_tool::{DiskSource, run_components};
+use component_tool::{DiskSource, OpenGate, run_components};
 use std::process::ExitCode;
 use tool_run::{StreamSink, words};
 
@@ -17,6 +17,14 @@ fn main(rt: HostRuntime) -> ExitCode {
     let mut source = DiskSource::new(&rt, alloc);
     let mut out = StreamSink::new(rt.stdout());
     let mut err = StreamSink::new(rt.stderr());
-    let status = run_components(alloc, &words, &mut source, &mut out, &mut err);
+    let status = run_components(
+        &rt,
+        alloc,
+        &words,
+        &mut source,
+        &mut out,
+        &mut err,
+        &OpenGate,
+    );
     ExitCode::from(status)
 }

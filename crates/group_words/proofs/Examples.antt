@@ -8,7 +8,7 @@ use Rattle.prolog_terms.specs.declared.term.Form.TheVariants.{Infix}
 use Rattle.prolog_terms.specs.Tree.{Tree, atom, compound, constant, more, none, variable}
 use Rattle.import_rules.specs.Names.{pred_name}
 use Rattle.group_words.specs.Made.{line}
-use Rattle.group_words.specs.Numbers.{IsNumber, is_digit}
+use Rattle.argument_numbers.specs.Numbers.{IsNumber, is_digit}
 use Rattle.group_words.specs.RootList.{named_predicate}
 use Rattle.group_words.specs.Words.{Key, Jobs, Searches, Seed, Roots, Path, Order, Unreached, Effects, Loops, Stream, Make, file, apart, joined, IsPart, IsReading, as_list, is_file, is_plain, values}
 use Rattle.group_words.specs.Settings.{AreLawful, JobsAre, Settings, each_once}

@@ -4,7 +4,7 @@ use Rattle.prolog_terms.proofs.ViewLemmas.{some_once}
 use Rattle.group_words.specs.declared.limits.TheConstants.{MOST_MADE}
 use Rattle.import_rules.specs.declared.names.PredName.{PredName}
 use Rattle.group_words.specs.Words.{Key, Jobs, Searches, Seed, Roots, Path, Make, IsReading}
-use Rattle.group_words.specs.Numbers.{IsNumberIn}
+use Rattle.argument_numbers.specs.Numbers.{IsNumberIn}
 use Rattle.group_words.specs.Settings.{AreLawful, AreSettings, FilesAre, JobsAre, MakeIs, PathIs, RootsAre, SearchesAre, Settings, each_once}
 use Rattle.group_words.specs.RootList.{IsRootList}
 use Rattle.group_words.proofs.Readings.{one_given, one_files}

@@ -12,7 +12,7 @@ use Rattle.import_rules.specs.declared.names.PredName.{PredName}
 use Rattle.group_words.specs.declared.options.Options.{Options}
 use Rattle.group_words.specs.Words.{Key, Jobs, Searches, Seed, Roots, Path, Order, Unreached, Effects, Loops, Stream, Make, IsReading}
 use Rattle.group_words.specs.declared.limits.TheConstants.{MOST_MADE, MOST_WORKERS}
-use Rattle.group_words.specs.Numbers.{IsNumberIn}
+use Rattle.argument_numbers.specs.Numbers.{IsNumberIn}
 use Rattle.group_words.specs.RootList.{IsRootList, all_there}
 
 -- the options as a list of words sets them

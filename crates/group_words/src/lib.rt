@@ -18,7 +18,6 @@ mod given;
 mod laws;
 mod limits;
 mod made;
-mod numbers;
 mod options;
 mod parse;
 mod root_list;

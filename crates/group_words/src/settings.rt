@@ -1,16 +1,16 @@
 ghost use Rattle.std.specs.Prelude.{◌≡◌, ◌∷◌, ◌++◌, [], ◌↔◌, ◌≤◌, ◌<◌, ℕ, List, Option, option_map, map, IsTrue, IfOk, IfErr, OnOk, MatchOption};
 ghost use Rattle.import_rules.specs.declared.names.PredName.{PredName};
 ghost use Rattle.group_words.specs.declared.limits.TheConstants.{MOST_WORKERS};
-ghost use Rattle.group_words.specs.Numbers.{IsNumberIn};
+ghost use Rattle.argument_numbers.specs.Numbers.{IsNumberIn};
 ghost use Rattle.group_words.specs.ClapCommand.{given_of, file_words};
 ghost use Rattle.group_words.specs.Settings.{Settings, JobsAre, SearchesAre, RootsAre, PathIs, MakeIs, FilesAre, GoTogether};
 ghost use Rattle.group_words.specs.Settings.{AreSettings, IsKept, see_options, text_of};
 
 use crate::given::Given;
 use crate::limits::{MOST_MADE, MOST_WORKERS};
-use crate::numbers::read_number;
 use crate::options::{Options, WordFault};
 use crate::root_list::read_roots;
+use argument_numbers::read_number;
 use import_rules::PredName;
 use module_table::resolve_name;
 use prolog_tokens::Text;

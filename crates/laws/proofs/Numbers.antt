@@ -2,7 +2,7 @@
 use Rattle.std.proofs.Common.{◌⊎◌, inl, inr, ℕ, ◌<◌, ◌≤◌, true, List, Option, Some, None, IsTrue, All, length, refl, arith}
 use Rattle.std.specs.Str.Parse.{digits_value}
 use Rattle.std.proofs.lemmas.Bool.{cases_lt}
-use Rattle.group_words.specs.Numbers.{IsNumber, IsNumberIn, is_digit}
+use Rattle.argument_numbers.specs.Numbers.{IsNumber, IsNumberIn, is_digit}
 use Rattle.group_words.specs.Settings.{JobsAre, MakeIs, SearchesAre}
 use Rattle.laws.proofs.Known.{IsFound, IsKnown, known_all, known_bool}
 

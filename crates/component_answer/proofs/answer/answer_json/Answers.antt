@@ -9,11 +9,11 @@ use Rattle.component_answer.specs.Inputs.{IsFaultless, said_by}
 use Rattle.component_answer.proofs.SaidAnswer.{faultless_answer}
 use Rattle.component_answer.proofs.answer.answer_json.Goals as goal
 
-pub answer_reading-requires : goal.answer_reading-requires
-answer_reading-requires c = (said_of c.deref.result.now, c.in_ok-reading-in-Lines.ensures)
+pub answer_reading-requires-clause-read : goal.answer_reading-requires-clause-read
+answer_reading-requires-clause-read g c κs lives = (said_of c.deref.result.now, c.in_ok-reading-in-Lines.ensures)
 
 pub returns-in_ok-answer-in-Lines : goal.returns-in_ok-answer-in-Lines
-returns-in_ok-answer-in-Lines c =
+returns-in_ok-answer-in-Lines g c =
     let text = c.args.text.now in
     let roots = names_of c.args.roots.now in
     let answer = c.in_ok-answer-in-Lines.answer in

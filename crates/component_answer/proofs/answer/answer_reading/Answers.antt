@@ -10,23 +10,23 @@ use Rattle.component_answer.proofs.NamedNodes.{starts_below}
 use Rattle.component_answer.proofs.answer.answer_reading.Goals as goal
 
 pub starts_of-requires-clause-few : goal.starts_of-requires-clause-few
-starts_of-requires-clause-few c =
-    let read : IsReading c.requires.0 (Graph c.in-Graph.read) = subst (IsReading c.requires.0) c.in-Graph.is c.requires.1 in
+starts_of-requires-clause-few g c =
+    let read : IsReading c.requires.read.0 (Graph c.in-Graph.read) = subst (IsReading c.requires.read.0) c.in-Graph.is c.requires.read.1 in
     omega (arith, read.1, ap length c.deref.ensures.value)
 
 pub starts_of-requires-clause-ordered : goal.starts_of-requires-clause-ordered
-starts_of-requires-clause-ordered c =
-    let read : IsReading c.requires.0 (Graph c.in-Graph.read) = subst (IsReading c.requires.0) c.in-Graph.is c.requires.1 in
+starts_of-requires-clause-ordered g c =
+    let read : IsReading c.requires.read.0 (Graph c.in-Graph.read) = subst (IsReading c.requires.read.0) c.in-Graph.is c.requires.read.1 in
     subst (λ ns. AreInOrder (names_of ns)) (sym c.deref.ensures.value) read.2.nodes.in_order
 
 pub graph_report-requires-clause-few : goal.graph_report-requires-clause-few
-graph_report-requires-clause-few c =
-    let read : IsReading c.requires.0 (Graph c.in-Graph.read) = subst (IsReading c.requires.0) c.in-Graph.is c.requires.1 in
+graph_report-requires-clause-few g c =
+    let read : IsReading c.requires.read.0 (Graph c.in-Graph.read) = subst (IsReading c.requires.read.0) c.in-Graph.is c.requires.read.1 in
     omega (arith, read.1, ap length c.deref-in-Nodes.ensures.value)
 
 pub graph_report-requires-clause-each : goal.graph_report-requires-clause-each
-graph_report-requires-clause-each c =
-    let read : IsReading c.requires.0 (Graph c.in-Graph.read) = subst (IsReading c.requires.0) c.in-Graph.is c.requires.1 in
+graph_report-requires-clause-each g c =
+    let read : IsReading c.requires.read.0 (Graph c.in-Graph.read) = subst (IsReading c.requires.read.0) c.in-Graph.is c.requires.read.1 in
     omega (
       arith,
       read.2.callees.each,
@@ -35,8 +35,8 @@ graph_report-requires-clause-each c =
     )
 
 pub graph_report-requires-clause-within : goal.graph_report-requires-clause-within
-graph_report-requires-clause-within c =
-    let read : IsReading c.requires.0 (Graph c.in-Graph.read) = subst (IsReading c.requires.0) c.in-Graph.is c.requires.1 in
+graph_report-requires-clause-within g c κs lives =
+    let read : IsReading c.requires.read.0 (Graph c.in-Graph.read) = subst (IsReading c.requires.read.0) c.in-Graph.is c.requires.read.1 in
     let names = names_of c.in-Graph.read.names.items in
     let same : names_of c.deref.result.now ≡ names = ap names_of c.deref.ensures.value in
     let starts : AreStartsOf (names_of c.deref.result.now) (names_of c.args.roots.now) (Nodes c.in-Nodes.starts) =
@@ -47,15 +47,15 @@ graph_report-requires-clause-within c =
     (subst (λ n. All (λ start. start < n) c.in-Nodes.starts.items) (sym read.2.callees.each) below)
 
 pub returns-in-TooManyEdges : goal.returns-in-TooManyEdges
-returns-in-TooManyEdges c said reads = subst (IsReading said) c.in-TooManyEdges.is reads
+returns-in-TooManyEdges g c said reads = subst (IsReading said) c.in-TooManyEdges.is reads
 
 pub returns-in-TooManyNodes : goal.returns-in-TooManyNodes
-returns-in-TooManyNodes c said reads =
+returns-in-TooManyNodes g c said reads =
     let read = subst (IsReading said) c.in-TooManyNodes.is reads in
     (read.0, record { names = read.1.0; are = read.1.1; many = read.1.2 })
 
 pub returns-in-Missing : goal.returns-in-Missing
-returns-in-Missing c said reads =
+returns-in-Missing g c said reads =
     let read : IsReading said (Graph c.in-Graph.read) = subst (IsReading said) c.in-Graph.is reads in
     let roots = names_of c.args.roots.now in
     let names = names_of c.in-Graph.read.names.items in
@@ -72,7 +72,7 @@ returns-in-Missing c said reads =
     )
 
 pub returns : goal.returns
-returns c said reads =
+returns g c said reads =
     let read : IsReading said (Graph c.in-Graph.read) = subst (IsReading said) c.in-Graph.is reads in
     let roots = names_of c.args.roots.now in
     let names = names_of c.in-Graph.read.names.items in

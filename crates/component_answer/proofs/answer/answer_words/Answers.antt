@@ -6,11 +6,11 @@ use Rattle.component_answer.specs.Inputs.{IsFaultless, said_by}
 use Rattle.component_answer.proofs.SaidAnswer.{faultless_answer}
 use Rattle.component_answer.proofs.answer.answer_words.Goals as goal
 
-pub answer_reading-requires : goal.answer_reading-requires
-answer_reading-requires c = (said_in c.args.text.now, c.in_ok-reading.ensures)
+pub answer_reading-requires-clause-read : goal.answer_reading-requires-clause-read
+answer_reading-requires-clause-read g c κs lives = (said_in c.args.text.now, c.in_ok-reading.ensures)
 
 pub returns : goal.returns
-returns c =
+returns g c =
     let text = c.args.text.now in
     let roots = names_of c.args.roots.now in
     let answer = c.in_ok-answer.answer in

@@ -10,26 +10,22 @@ use Rattle.component_answer.proofs.Nodes.{members_are_nodes, reportable}
 use Rattle.component_answer.proofs.answer.graph_report.Goals as goal
 
 pub levels-requires-clause-legal : goal.levels-requires-clause-legal
-levels-requires-clause-legal c κs =
+levels-requires-clause-legal g c κs =
     subst (λ gs. IsLegalOrder (Calls c.args.graph.now) (lists_of gs)) (sym c.deref.ensures.value) c.in_ok-groups.ensures.legal
 
 pub levels-requires-clause-nodes : goal.levels-requires-clause-nodes
-levels-requires-clause-nodes c κs p has =
+levels-requires-clause-nodes g c κs p has =
     members_are_nodes c.args.graph.now c.args.starts.now (lists_of c.in_ok-groups.groups.items) c.count-count.ensures.closed c.requires.within
     c.in_ok-groups.ensures.reached p (subst (λ gs. HasMember (lists_of gs) p) c.deref.ensures.value has)
 
 pub groups_report-requires : goal.groups_report-requires
-groups_report-requires c =
+groups_report-requires g c =
     let lists = c.args.graph.now in
     let starts = c.args.starts.now in
     let groups = lists_of c.in_ok-groups.groups.items in
     let levels = c.in_ok-marks.marks.items in
     let leveled : AreLeveled (Calls lists) starts groups levels = record {
-      are = record {
-        legal = c.in_ok-groups.ensures.legal;
-        complete = c.in_ok-groups.ensures.complete;
-        reached = c.in_ok-groups.ensures.reached;
-      };
+      are = c.in_ok-groups.ensures;
       leveled = subst (λ gs. AreLevels (Calls lists) (lists_of gs) levels) c.deref.ensures.value c.in_ok-marks.ensures;
     } in
     let can : AreReportable (length c.args.names.now) groups levels =
@@ -43,17 +39,13 @@ groups_report-requires c =
     }
 
 pub loops_part-requires : goal.loops_part-requires
-loops_part-requires c =
+loops_part-requires g c =
     let lists = c.args.graph.now in
     let starts = c.args.starts.now in
     let groups = lists_of c.in_ok-groups.groups.items in
     let levels = c.in_ok-marks.marks.items in
     let leveled : AreLeveled (Calls lists) starts groups levels = record {
-      are = record {
-        legal = c.in_ok-groups.ensures.legal;
-        complete = c.in_ok-groups.ensures.complete;
-        reached = c.in_ok-groups.ensures.reached;
-      };
+      are = c.in_ok-groups.ensures;
       leveled = subst (λ gs. AreLevels (Calls lists) (lists_of gs) levels) c.deref.ensures.value c.in_ok-marks.ensures;
     } in
     record {
@@ -70,7 +62,7 @@ loops_part-requires c =
     }
 
 pub returns : goal.returns
-returns c =
+returns g c =
     let lists = c.args.graph.now in
     let starts = c.args.starts.now in
     let names = names_of c.args.names.now in
@@ -78,11 +70,7 @@ returns c =
     let groups = lists_of c.in_ok-groups.groups.items in
     let levels = c.in_ok-marks.marks.items in
     let leveled : AreLeveled (Calls lists) starts groups levels = record {
-      are = record {
-        legal = c.in_ok-groups.ensures.legal;
-        complete = c.in_ok-groups.ensures.complete;
-        reached = c.in_ok-groups.ensures.reached;
-      };
+      are = c.in_ok-groups.ensures;
       leveled = subst (λ gs. AreLevels (Calls lists) (lists_of gs) levels) c.deref.ensures.value c.in_ok-marks.ensures;
     } in
     let told = c.in_ok-bytes.bytes.items in

@@ -9,7 +9,7 @@ use Rattle.component_tool.specs.End.{no_node}
 use Rattle.component_tool.proofs.telling.tell_text.Goals as goal
 
 pub returns : goal.returns
-returns c =
+returns g c =
     let text = c.args.text.now in
     let roots : List (List ℕ) = c.args.settings.now.roots.items in
     let wanted = wanted_of (see_settings c.args.settings.now) in
@@ -24,7 +24,7 @@ returns c =
       | inl none ↦ inl none
       | inr is ↦ inr
           (record {
-            within = c.requires;
+            within = c.requires.small;
             answer = NoNode place;
             right = right;
             is = is ∙ ap no_node (c.index.ensures ∙ get_or_default roots place c.index.result.now [] within);

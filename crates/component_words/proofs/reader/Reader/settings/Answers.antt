@@ -1,6 +1,8 @@
-use Rattle.component_words.specs.Settings.{see_settings}
-use Rattle.component_words.proofs.Taken.{whole_set}
+use Rattle.component_words.proofs.Taken.{last_end, whole_end}
 use Rattle.component_words.proofs.reader.Reader.settings.Goals as goal
 
-pub returns-in_ok-made-in-Any : goal.returns-in_ok-made-in-Any
-returns-in_ok-made-in-Any c = whole_set c.args.self (see_settings c.in_ok-made-in-Any.field-0) c.in-Any.is c.in_ok-made-in-Any.ensures
+pub returns-in-Any : goal.returns-in-Any
+returns-in-Any c = whole_end c.made.result c.args.self c.in-Any.is c.made.ensures
+
+pub returns-in-Operand : goal.returns-in-Operand
+returns-in-Operand c = last_end c.made-in-Operand.result c.args.self c.in-Operand.is c.made-in-Operand.ensures

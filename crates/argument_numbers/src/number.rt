@@ -1,5 +1,5 @@
 ghost use Rattle.std.specs.Prelude.{◌≡◌, ◌↔◌, ℕ, IsTrue, MatchOption};
-ghost use Rattle.group_words.specs.Numbers.{IsNumber, IsNumberIn};
+ghost use Rattle.argument_numbers.specs.Numbers.{IsNumber, IsNumberIn};
 
 /// The most digits of a number.
 const MOST_DIGITS: usize = 20;

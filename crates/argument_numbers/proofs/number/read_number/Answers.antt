@@ -4,8 +4,8 @@ use Rattle.std.specs.Str.Parse.{IsNumeral, AllDigits, digits_value, without_lead
 use Rattle.std.proofs.lemmas.Bool.Decides.{nat_tests}
 use Rattle.std.proofs.lemmas.List.Elements.{All-head, All-tail}
 use Rattle.std.proofs.lemmas.Str.{digit_value_digit}
-use Rattle.group_words.specs.Numbers.{is_digit, IsNumber}
-use Rattle.group_words.proofs.numbers.read_number.Goals as goal
+use Rattle.argument_numbers.specs.Numbers.{is_digit, IsNumber}
+use Rattle.argument_numbers.proofs.number.read_number.Goals as goal
 
 digit_range : (b : ℕ) → IsTrue (is_digit b) → IsInRange 48 57 b
 digit_range b h = (grind (arith, nat_tests), grind (arith, nat_tests))

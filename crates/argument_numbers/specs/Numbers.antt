@@ -1,4 +1,4 @@
--- Numbers as words give them.
+-- Numbers as arguments write them.
 use Rattle.std.specs.Prelude.{◌≡◌, ℕ, ◌≤◌, ◌&&◌, Bool, nat_le, List, length, All, IsTrue}
 use Rattle.std.specs.Str.Parse.{digits_value}
 
