@@ -225,7 +225,7 @@ pub fn answer_text<R: Threads + Wait + Sync, G: Gate>(
     wanted: Wanted,
     workers: &Workers<'_, R, G>,
 ) -> Result<Answer, AllocError>
-    requires { length text.now ≤ MOST_BYTES }
+    requires small { length text.now ≤ MOST_BYTES }
     ensures { IfOk result (IsAnswer text.now (names_of roots.now) wanted) }
 {
     if wanted.from_json {
