@@ -12,6 +12,7 @@ use std::sync::Wait;
 use std::thread::Threads;
 
 /// 1 to 64 workers, each in a thread of its own. One worker is this thread.
+#[derive(Drop)]
 pub struct Workers<'a, R: Threads + Wait + Sync, G: Gate> {
     pub rt: &'a R,
     pub gate: &'a G,
