@@ -1,0 +1,5 @@
+-- words
+pub mod Known
+mod SameLists
+mod GivenSettings
+mod SpelledWords

@@ -1,0 +1,7 @@
+//! Theorems that each command line of `components` has a right answer: no definition is so strict
+//! that the program could meet it only by running out of memory.
+#![tactic(auto)]
+
+mod words;
+
+pub use words::settings_or_none;
