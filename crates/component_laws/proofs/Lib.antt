@@ -19,3 +19,6 @@ mod ShortCircuits
 mod ShortNames
 mod ShortTexts
 mod ShortLines
+mod ShortReports
+-- an answer
+mod TextAnswers

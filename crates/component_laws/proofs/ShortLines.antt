@@ -1,5 +1,5 @@
 -- The lines of a report are short.
-use Rattle.std.proofs.Common.{◌≡◌, ℕ, ◌+◌, ◌*◌, ◌<◌, ◌≤◌, Bool, true, false, List, [], ◌∷◌, ◌++◌, length, sum_by, count_by, arith}
+use Rattle.std.proofs.Common.{◌≡◌, ℕ, ◌+◌, ◌*◌, ◌<◌, ◌≤◌, Bool, true, false, List, [], ◌∷◌, ◌++◌, length, sum_by, count_by, length-append, arith}
 use Rattle.std.specs.Prelude.{codes}
 use Rattle.std.specs.Fmt.{decimal}
 use Rattle.std.specs.List.{flat_map}
@@ -48,55 +48,70 @@ module _ (names : List (List ℕ)) (short : AreShort names) where
 
   pub group_short : (members : List ℕ) (level : Level) → length (group_line names members level) ≤ most_line (length members)
   group_short members level =
-      let whole : length (group_line names members level) ≤ 64 + (10 + (length members * most_text + 1)) =
-      joined (decimal level.height) _ 64 (10 + (length members * most_text + 1)) (decimal_short level.height)
-      (joined (kind_of level.recursive) _ 10 (length members * most_text + 1) (kind_short level.recursive)
-      (joined (flat_map (member_text names) members) (codes "\n") (length members * most_text) 1 (members_short members) (omega arith))) in
+      let start : length (decimal level.height ++ kind_of level.recursive) ≤ 64 + 10 =
+      joined (decimal level.height) (kind_of level.recursive) 64 10 (decimal_short level.height) (kind_short level.recursive) in
+      let named : length (decimal level.height ++ kind_of level.recursive ++ flat_map (member_text names) members) ≤ 64 + 10 + length members * most_text =
+      joined (decimal level.height ++ kind_of level.recursive) (flat_map (member_text names) members) (64 + 10) (length members * most_text) start
+      (members_short members) in
+      let whole : length (group_line names members level) ≤ 64 + 10 + length members * most_text + 1 =
+      joined (decimal level.height ++ kind_of level.recursive ++ flat_map (member_text names) members) (codes "\n")
+      (64 + 10 + length members * most_text) 1 named (omega arith) in
       omega (arith, whole)
 
   pub json_group_short : (id : ℕ) (members : List ℕ) (level : Level) → length (json_group names id members level) ≤ most_line (length members)
   json_group_short id members level =
-      let whole : length (json_group names id members level) ≤ (6 + 64) + ((10 + 64) + ((13 + 5) + ((12 + length members * most_text) + 3))) =
-      joined _ _ (6 + 64) _ (joined (codes "{\"id\":") (decimal id) 6 64 (omega arith) (decimal_short id))
-      (joined _ _ (10 + 64) _ (joined (codes ",\"height\":") (decimal level.height) 10 64 (omega arith) (decimal_short level.height))
-      (joined _ _ (13 + 5) _ (joined (codes ",\"recursive\":") (truth_of level.recursive) 13 5 (omega arith) (truth_short level.recursive))
-      (joined _ _ (12 + length members * most_text) 3
-      (joined (codes ",\"members\":[") (with_commas (json_member names) members) 12 (length members * most_text) (omega arith) (json_members_short members))
-      (omega arith)))) in
-      omega (arith, whole)
+      let first : List ℕ = codes "{\"id\":" ++ decimal id in
+      let height : List ℕ = codes ",\"height\":" ++ decimal level.height in
+      let recursive : List ℕ = codes ",\"recursive\":" ++ truth_of level.recursive in
+      let named : List ℕ = codes ",\"members\":[" ++ with_commas (json_member names) members in
+      let first_short : length first ≤ 6 + 64 = joined (codes "{\"id\":") (decimal id) 6 64 (omega arith) (decimal_short id) in
+      let height_short : length height ≤ 10 + 64 =
+      joined (codes ",\"height\":") (decimal level.height) 10 64 (omega arith) (decimal_short level.height) in
+      let recursive_short : length recursive ≤ 13 + 5 =
+      joined (codes ",\"recursive\":") (truth_of level.recursive) 13 5 (omega arith) (truth_short level.recursive) in
+      let named_short : length named ≤ 12 + length members * most_text =
+      joined (codes ",\"members\":[") (with_commas (json_member names) members) 12 (length members * most_text) (omega arith) (json_members_short members) in
+      let whole : length (first ++ height ++ recursive ++ named ++ codes "]}\n") ≤ 400 + length members * most_text =
+      omega (arith, length-append (first ++ height ++ recursive ++ named) (codes "]}\n"), length-append (first ++ height ++ recursive) named,
+      length-append (first ++ height) recursive, length-append first height, first_short, height_short, recursive_short, named_short) in
+      whole
 
   pub loop_short : (form : Form) (cycle : List ℕ) → length (loop_line form names cycle) ≤ most_line (length cycle)
   loop_short Lines cycle =
-      let whole : length (loop_line Lines names cycle) ≤ 4 + (length cycle * most_text + 1) =
-      joined (codes "loop") _ 4 (length cycle * most_text + 1) (omega arith)
-      (joined (flat_map (member_text names) cycle) (codes "\n") (length cycle * most_text) 1 (members_short cycle) (omega arith)) in
+      let named : List ℕ = flat_map (member_text names) cycle in
+      let start : length (codes "loop" ++ named) ≤ 4 + length cycle * most_text =
+      joined (codes "loop") named 4 (length cycle * most_text) (omega arith) (members_short cycle) in
+      let whole : length (codes "loop" ++ named ++ codes "\n") ≤ 4 + length cycle * most_text + 1 =
+      joined (codes "loop" ++ named) (codes "\n") (4 + length cycle * most_text) 1 start (omega arith) in
       omega (arith, whole)
   loop_short Json cycle =
-      let whole : length (loop_line Json names cycle) ≤ 9 + (length cycle * most_text + 3) =
-      joined (codes "{\"loop\":[") _ 9 (length cycle * most_text + 3) (omega arith)
-      (joined (with_commas (json_member names) cycle) (codes "]}\n") (length cycle * most_text) 3 (json_members_short cycle) (omega arith)) in
+      let named : List ℕ = with_commas (json_member names) cycle in
+      let start : length (codes "{\"loop\":[" ++ named) ≤ 9 + length cycle * most_text =
+      joined (codes "{\"loop\":[") named 9 (length cycle * most_text) (omega arith) (json_members_short cycle) in
+      let whole : length (codes "{\"loop\":[" ++ named ++ codes "]}\n") ≤ 9 + length cycle * most_text + 3 =
+      joined (codes "{\"loop\":[" ++ named) (codes "]}\n") (9 + length cycle * most_text) 3 start (omega arith) in
       omega (arith, whole)
+
+-- four numbers, each with a word before it, and an end
+numbers_short : (a b c d end : List ℕ) (p q r s : ℕ) → length a ≤ 20 → length b ≤ 20 → length c ≤ 20 → length d ≤ 20 → length end ≤ 20
+    → length ((a ++ decimal p) ++ (b ++ decimal q) ++ (c ++ decimal r) ++ (d ++ decimal s) ++ end) ≤ 400
+numbers_short a b c d end p q r s a_short b_short c_short d_short end_short =
+    let one : length (a ++ decimal p) ≤ 20 + 64 = joined a (decimal p) 20 64 a_short (decimal_short p) in
+    let two : length (b ++ decimal q) ≤ 20 + 64 = joined b (decimal q) 20 64 b_short (decimal_short q) in
+    let three : length (c ++ decimal r) ≤ 20 + 64 = joined c (decimal r) 20 64 c_short (decimal_short r) in
+    let four : length (d ++ decimal s) ≤ 20 + 64 = joined d (decimal s) 20 64 d_short (decimal_short s) in
+    omega (arith, one, two, three, four, end_short, length-append (a ++ decimal p) (b ++ decimal q),
+    length-append ((a ++ decimal p) ++ (b ++ decimal q)) (c ++ decimal r),
+    length-append ((a ++ decimal p) ++ (b ++ decimal q) ++ (c ++ decimal r)) (d ++ decimal s),
+    length-append ((a ++ decimal p) ++ (b ++ decimal q) ++ (c ++ decimal r) ++ (d ++ decimal s)) end)
 
 pub head_short : (groups : List (List ℕ)) (levels : List Level) → length (head_line groups levels) ≤ 400
 head_short groups levels =
-    let members = sum_by length groups in
-    let recursive = count_by (λ (level : Level). level.recursive) levels in
-    let whole : length (head_line groups levels) ≤ (6 + 64) + ((8 + 64) + ((11 + 64) + ((8 + 64) + 1))) =
-    joined _ _ (6 + 64) _ (joined (codes "nodes ") (decimal members) 6 64 (omega arith) (decimal_short members))
-    (joined _ _ (8 + 64) _ (joined (codes " groups ") (decimal (length groups)) 8 64 (omega arith) (decimal_short (length groups)))
-    (joined _ _ (11 + 64) _ (joined (codes " recursive ") (decimal recursive) 11 64 (omega arith) (decimal_short recursive))
-    (joined _ _ (8 + 64) 1 (joined (codes " levels ") (decimal (height_count levels)) 8 64 (omega arith) (decimal_short (height_count levels)))
-    (omega arith)))) in
-    omega (arith, whole)
+    numbers_short (codes "nodes ") (codes " groups ") (codes " recursive ") (codes " levels ") (codes "\n") (sum_by length groups) (length groups)
+    (count_by (λ (level : Level). level.recursive) levels) (height_count levels) (omega arith) (omega arith) (omega arith) (omega arith) (omega arith)
 
 pub json_head_short : (groups : List (List ℕ)) (levels : List Level) → length (json_head groups levels) ≤ 400
 json_head_short groups levels =
-    let members = sum_by length groups in
-    let recursive = count_by (λ (level : Level). level.recursive) levels in
-    let whole : length (json_head groups levels) ≤ (9 + 64) + ((10 + 64) + ((13 + 64) + ((10 + 64) + 2))) =
-    joined _ _ (9 + 64) _ (joined (codes "{\"nodes\":") (decimal members) 9 64 (omega arith) (decimal_short members))
-    (joined _ _ (10 + 64) _ (joined (codes ",\"groups\":") (decimal (length groups)) 10 64 (omega arith) (decimal_short (length groups)))
-    (joined _ _ (13 + 64) _ (joined (codes ",\"recursive\":") (decimal recursive) 13 64 (omega arith) (decimal_short recursive))
-    (joined _ _ (10 + 64) 2 (joined (codes ",\"levels\":") (decimal (height_count levels)) 10 64 (omega arith) (decimal_short (height_count levels)))
-    (omega arith)))) in
-    omega (arith, whole)
+    numbers_short (codes "{\"nodes\":") (codes ",\"groups\":") (codes ",\"recursive\":") (codes ",\"levels\":") (codes "}\n") (sum_by length groups)
+    (length groups) (count_by (λ (level : Level). level.recursive) levels) (height_count levels) (omega arith) (omega arith) (omega arith) (omega arith)
+    (omega arith)

@@ -1,6 +1,6 @@
 -- Numbers and names are short in a report.
 use Rattle.std.proofs.Common.{◌≡◌, inl, inr, ℕ, zero, suc, ◌+◌, ◌*◌, ◌/◌, ◌%◌, ◌<◌, ◌≤◌, Bool, true, false, List, [], ◌∷◌, ◌++◌, All, length, sum_by, get_or, sym, subst, length-append, arith}
-use Rattle.std.specs.Prelude.{if◌then◌else◌, codes, ◌==◌}
+use Rattle.std.specs.Prelude.{if◌then◌else◌, codes, nat_lt, ◌==◌}
 use Rattle.std.specs.Fmt.{decimal, digit_glyph, digits, digits_onto}
 use Rattle.std.specs.List.{flat_map}
 use Rattle.std.specs.Str.{is_utf8}
@@ -10,7 +10,7 @@ use Rattle.std.proofs.lemmas.List.Concat.{length-flat_map}
 use Rattle.std.proofs.lemmas.List.Sums.{sum_by-cons, sum_by-le, sum_by-le-sum_by}
 use Rattle.byte_names.specs.Names.{name_at}
 use Rattle.edge_text.specs.declared.limits.TheConstants.{MOST_NAME}
-use Rattle.component_report.specs.Json.{json_byte, json_list, json_name, json_string, with_commas}
+use Rattle.component_report.specs.Json.{hex_digit, json_byte, json_list, json_name, json_string, with_commas}
 use Rattle.component_laws.proofs.ShortNames.{IsShort}
 
 -- lists of parts
@@ -73,7 +73,12 @@ each_short names all place = elim (cases_lt place (length names)) [
 ]
 
 byte_short : (b : ℕ) → length (json_byte b) ≤ 6
-byte_short b = by_test (b == 34) _ _ 6 (omega arith) (by_test (b == 92) _ _ 6 (omega arith) (by_test _ _ _ 6 (omega arith) (omega arith)))
+byte_short b =
+    let escape : List ℕ = codes "\\u00" ++ hex_digit (b / 16) ∷ hex_digit (b % 16) ∷ [] in
+    let plain : length (if nat_lt b 32 then escape else b ∷ []) ≤ 6 = by_test (nat_lt b 32) escape (b ∷ []) 6 (omega arith) (omega arith) in
+    let slash : length (if b == 92 then codes "\\\\" else if nat_lt b 32 then escape else b ∷ []) ≤ 6 =
+    by_test (b == 92) (codes "\\\\") (if nat_lt b 32 then escape else b ∷ []) 6 (omega arith) plain in
+    by_test (b == 34) (codes "\\\"") (if b == 92 then codes "\\\\" else if nat_lt b 32 then escape else b ∷ []) 6 (omega arith) slash
 
 string_short : (text : List ℕ) → length (json_string text) ≤ 2 + length text * 6
 string_short text =
