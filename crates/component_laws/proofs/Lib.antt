@@ -22,3 +22,4 @@ mod ShortLines
 mod ShortReports
 -- an answer
 mod TextAnswers
+mod CommandAnswers

@@ -1,14 +1,13 @@
 -- Each text has a right answer.
 use Rattle.std.proofs.Common.{◌≡◌, ◌⊎◌, inl, inr, ℕ, ◌<◌, ◌≤◌, ◌^◌, Bool, List, [], All, length, refl, sym, subst, arith}
-use Rattle.std.specs.Prelude.{Vec}
+use Rattle.std.specs.Prelude.{Contains, Vec}
 use Rattle.std.specs.declared.alloc.Global.{Global}
 use Rattle.std.proofs.Handle.{handle}
 use Rattle.std.proofs.lemmas.Bool.{cases_lt}
 use Rattle.std.proofs.lemmas.List.{get_or_past}
 use Rattle.list_laws.proofs.OneOrder.{nothing_in}
-use Rattle.std.specs.Prelude.{Contains}
-use Rattle.edge_text.specs.declared.limits.TheConstants.{MOST_EDGES, MOST_NODES}
-use Rattle.edge_text.specs.EdgeGraph.{AreCallees, IsEdgeGraph, Said}
+use Rattle.edge_text.specs.declared.limits.TheConstants.{MOST_EDGES, MOST_NAME, MOST_NODES}
+use Rattle.edge_text.specs.EdgeGraph.{AreCallees, AreNames, IsEdgeGraph, Said}
 use Rattle.graph_law.specs.Graph.{IsClosed}
 use Rattle.component_answer.specs.declared.answer.Answer.{Answer}
 use Rattle.component_answer.specs.declared.answer.Answer.TheVariants.{Report, Fault, TooManyEdges, TooManyNodes, NoNode}
@@ -18,10 +17,6 @@ use Rattle.component_answer.specs.Answers.{IsAnswer, IsReachReport, IsSaidAnswer
 use Rattle.component_answer.specs.Inputs.{IsFaultless, IsFirstFaultIn, said_by}
 use Rattle.component_answer.specs.Starts.{AreStarts, IsFirstMissing}
 use Rattle.component_answer.proofs.NamedNodes.{starts_below}
-use Rattle.component_laws.proofs.NamedStarts.{starts_or_missing}
-use Rattle.component_laws.proofs.ShortNames.{WordsHavePlaces, names_short}
-use Rattle.component_laws.proofs.ShortReports.{bytes_short}
-use Rattle.component_laws.proofs.ShortTexts.{each_short}
 use denote.RawPtr.{null_ptr}
 
 -- a list that isn't too long is that of a `Vec`
@@ -35,16 +30,19 @@ closed_graph said names lists are p q calls = elim (cases_lt p (length lists)) [
   | inr past ↦ absurd (nothing_in q (subst (λ callees. Contains callees q) (get_or_past lists p [] past) calls))
 ]
 
--- what there is for each graph, as the laws say it
+-- what there is for each graph and each text, as the laws say it
+pub record TextLaws : Type 0 where
+  pub graphs : (said : Said) → (names : List (List ℕ)) × (lists : List (List ℕ)) × IsEdgeGraph said names lists
+  pub names : (from_json : Bool) (text : List ℕ) (names : List (List ℕ)) → IsFaultless from_json text → AreNames (said_by from_json text) names
+      → All (λ name. length name ≤ MOST_NAME) names
+  pub starts : (names roots : List (List ℕ)) → ((starts : List ℕ) × AreStarts names roots starts) ⊎ ((place : ℕ) × IsFirstMissing names roots place)
+  pub reports : (names lists : List (List ℕ)) (starts : List ℕ) (wanted : Wanted) → IsClosed lists → All (λ start. start < length lists) starts
+      → (bytes : List ℕ) × IsReachReport names lists starts wanted bytes
+  pub short : (names lists : List (List ℕ)) (starts : List ℕ) (wanted : Wanted) (bytes : List ℕ) → All (λ name. length name ≤ MOST_NAME) names
+      → IsClosed lists → length lists ≤ MOST_NODES → All (λ start. start < length lists) starts → IsReachReport names lists starts wanted bytes
+      → length bytes < 2 ^ 63
 
-abbrev pub GraphsExist : Type 0
-GraphsExist = (said : Said) → (names : List (List ℕ)) × (lists : List (List ℕ)) × IsEdgeGraph said names lists
-
-abbrev pub ReportsExist : Type 0
-ReportsExist = (names lists : List (List ℕ)) (starts : List ℕ) (wanted : Wanted) → IsClosed lists → All (λ start. start < length lists) starts
-    → (bytes : List ℕ) × IsReachReport names lists starts wanted bytes
-
-module _ (graphs : GraphsExist) (places : WordsHavePlaces) (reports : ReportsExist) (text : List ℕ) (roots : List (List ℕ)) (wanted : Wanted) where
+module _ (laws : TextLaws) (text : List ℕ) (roots : List (List ℕ)) (wanted : Wanted) where
   abbrev said : Said
   said = said_by wanted.from_json text
 
@@ -59,10 +57,10 @@ module _ (graphs : GraphsExist) (places : WordsHavePlaces) (reports : ReportsExi
         let closed : IsClosed lists = closed_graph said names lists graph.callees in
         let within : All (λ start. start < length lists) starts =
         subst (λ n. All (λ start. start < n) starts) (sym each) (starts_below names roots starts are) in
-        let report : (bytes : List ℕ) × IsReachReport names lists starts wanted bytes = reports names lists starts wanted closed within in
+        let report : (bytes : List ℕ) × IsReachReport names lists starts wanted bytes = laws.reports names lists starts wanted closed within in
         let short : length report.0 < 2 ^ 63 =
-        bytes_short names lists starts wanted report.0 (each_short names (names_short places wanted.from_json text names none graph.nodes)) closed
-        (omega (arith, each, small)) within report.1 in (
+        laws.short names lists starts wanted report.0 (laws.names wanted.from_json text names none graph.nodes) closed (omega (arith, each, small)) within
+        report.1 in (
           Report (vec_of report.0 short),
           (few, record { names = names; lists = lists; graph = graph; few = small; starts = starts; are_starts = are; report = report.1 }),
         )
@@ -75,13 +73,13 @@ module _ (graphs : GraphsExist) (places : WordsHavePlaces) (reports : ReportsExi
       → ((names : List (List ℕ)) × (lists : List (List ℕ)) × IsEdgeGraph said names lists) → Found
   graph_found none few graph = elim (cases_lt MOST_NODES (length graph.0)) [
     | inl many ↦ (TooManyNodes, (few, record { names = graph.0; are = graph.2.nodes; many = many }))
-    | inr small ↦ roots_found none few graph.0 graph.1 graph.2 small (starts_or_missing graph.0 roots)
+    | inr small ↦ roots_found none few graph.0 graph.1 graph.2 small (laws.starts graph.0 roots)
   ]
 
   said_found : IsFaultless wanted.from_json text → Found
   said_found none = elim (cases_lt MOST_EDGES (length said.calls)) [
     | inl many ↦ (TooManyEdges, many)
-    | inr few ↦ graph_found none few (graphs said)
+    | inr few ↦ graph_found none few (laws.graphs said)
   ]
 
   faultless_answer : (answer : Answer) → IsFaultless wanted.from_json text → IsSaidAnswer said roots wanted answer → IsAnswer text roots wanted answer
