@@ -1,5 +1,5 @@
 -- Each command line over each map of texts has a right answer.
-use Rattle.std.proofs.Common.{◌≡◌, ◌⊎◌, inl, inr, ℕ, List, Option, Some, None, length, refl}
+use Rattle.std.proofs.Common.{◌⊎◌, inl, inr, ℕ, List, Option, Some, None, length, refl}
 use Rattle.std.proofs.lemmas.Bool.{cases_lt}
 use Rattle.edge_text.specs.declared.limits.TheConstants.{MOST_BYTES}
 use Rattle.file_library.specs.Library.{Files}

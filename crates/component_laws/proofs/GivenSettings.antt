@@ -7,7 +7,7 @@ use Rattle.argument_numbers.specs.Numbers.{IsNumber, IsNumberIn, is_digit}
 use Rattle.component_words.specs.declared.flag.Flag.TheVariants.{Order, Json, Loops, FromJson}
 use Rattle.component_words.specs.declared.settings.TheConstants.{MOST_JOBS}
 use Rattle.component_words.specs.Words.{is_given, same_flag}
-use Rattle.component_words.specs.Settings.{AreFile, AreJobs, AreSettings, Given, IsOnce, Settings}
+use Rattle.component_words.specs.Settings.{AreFile, AreJobs, AreSettings, Given, IsOnce}
 use Rattle.component_laws.proofs.Known.{IsFound, IsKnown, known_all, known_bool, known_pairs}
 
 -- a number of threads

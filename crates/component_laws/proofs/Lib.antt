@@ -1,6 +1,7 @@
--- words
-pub mod Known
+-- what is known or not
+mod Known
 mod SameLists
+-- words
 mod GivenSettings
 mod SpelledWords
 -- a text
@@ -10,16 +11,15 @@ mod TextFaults
 -- roots
 mod NamedStarts
 -- a report
-mod Orders
 mod ReportOrder
 mod Reports
--- how long a report is
+-- how long reports are
 mod Distinct
 mod ShortCircuits
 mod ShortNames
 mod ShortTexts
 mod ShortLines
 mod ShortReports
--- an answer
+-- answers
 mod TextAnswers
 mod CommandAnswers

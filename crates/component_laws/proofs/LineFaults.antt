@@ -1,12 +1,12 @@
 -- A text of JSON Lines has a first line that is no edge, or none.
-use Rattle.std.proofs.Common.{◌≡◌, ◌⊎◌, inl, inr, ℕ, ◌+◌, ◌<◌, List, [], length, refl, sym, ap, subst, ◌∙◌, arith}
+use Rattle.std.proofs.Common.{◌≡◌, ◌⊎◌, inl, inr, ℕ, ◌+◌, ◌<◌, List, [], length, refl, sym, ap, ◌∙◌, arith}
 use Rattle.std.proofs.lemmas.Bool.{cases_lt}
 use Rattle.std.proofs.lemmas.List.{get_or_past}
 use Rattle.edge_text.specs.Faults.{line_at}
 use Rattle.edge_text.specs.Lines.{lines_of}
 use Rattle.edge_json.specs.declared.cause.Cause.{Cause}
 use Rattle.edge_json.specs.declared.cause.LineFault.{LineFault}
-use Rattle.edge_json.specs.Faults.{IsFault, IsFaultless, IsFirstFault}
+use Rattle.edge_json.specs.Faults.{IsFaultless, IsFirstFault}
 use Rattle.edge_json.specs.Meaning.{Meaning, bad, meaning_of, says}
 use Rattle.component_laws.proofs.Known.{HoldsNowhere, IsFirst, IsFound, IsKnown, first_below}
 

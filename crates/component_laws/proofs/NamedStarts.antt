@@ -1,5 +1,5 @@
 -- Roots are nodes, or one of them is the first that is none.
-use Rattle.std.proofs.Common.{◌≡◌, ◌⊎◌, inl, inr, ℕ, suc, ◌<◌, List, [], ◌∷◌, All, Contains, length, map, refl, subst, ◌∙◌, arith}
+use Rattle.std.proofs.Common.{◌≡◌, ◌⊎◌, inl, inr, ℕ, suc, ◌<◌, List, [], ◌∷◌, Contains, length, refl, subst, ◌∙◌, arith}
 use Rattle.std.specs.List.{range_with_len}
 use Rattle.std.proofs.lemmas.List.{get_or_default}
 use Rattle.std.proofs.lemmas.List.Elements.{All-cons, All-nil}
@@ -51,9 +51,12 @@ starts_or_missing names roots = go (first_below (IsMissing names roots) (λ k. k
     go : ((k : ℕ) × IsFirst (IsMissing names roots) (length roots) k) ⊎ HoldsNowhere (IsMissing names roots) (length roots)
         → ((starts : List ℕ) × AreStarts names roots starts) ⊎ ((place : ℕ) × IsFirstMissing names roots place)
     go (inl found) =
-        inr (found.0, record {
-          within = found.1.below;
-          missing = found.1.holds;
-          before = λ k lt. known_holds (known k) (found.1.before k lt);
-        })
+        inr (
+          found.0,
+          record {
+            within = found.1.below;
+            missing = found.1.holds;
+            before = λ k lt. known_holds (known k) (found.1.before k lt);
+          },
+        )
     go (inr none) = inl (starts_of names roots (λ k lt. known_holds (known k) (none k lt)))

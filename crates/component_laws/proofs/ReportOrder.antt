@@ -9,7 +9,7 @@ use Rattle.group_release.specs.declared.level.Level.{Level}
 use Rattle.component_report.specs.Report.{IsLineOrder, least_at}
 use Rattle.component_report.specs.Reportable.{LeastDiffer}
 use Rattle.component_report.proofs.LineOrder.{line_at, line_cmp, line_cmp_total, ordered, places}
-use Rattle.component_laws.proofs.Orders.{HasSorted, has_sorted}
+use Rattle.laws.proofs.Orders.{HasSorted, has_sorted}
 
 -- two groups with the same least member are one
 least_apart : {calls : ℕ → ℕ → Type 0} {groups : List (List ℕ)} → IsLegalOrder calls groups

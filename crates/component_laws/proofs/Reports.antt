@@ -1,5 +1,5 @@
 -- What some nodes reach has a report.
-use Rattle.std.proofs.Common.{◌≡◌, ℕ, ◌<◌, ◌++◌, Bool, true, false, List, [], Option, All, length, refl}
+use Rattle.std.proofs.Common.{ℕ, ◌<◌, ◌++◌, Bool, true, false, List, [], Option, All, length, refl}
 use Rattle.std.specs.List.{flat_map}
 use Rattle.graph_law.specs.Classes.{HasMember}
 use Rattle.graph_law.specs.Graph.{Calls, IsClosed}

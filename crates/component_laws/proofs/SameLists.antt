@@ -1,5 +1,5 @@
 -- Two lists of numbers are the same or not, and one begins another or not.
-use Rattle.std.proofs.Common.{◌≡◌, ◌⊎◌, inl, inr, ℕ, List, [], ◌∷◌, ◌++◌, refl, ap, ◌∙◌}
+use Rattle.std.proofs.Common.{◌≡◌, ◌⊎◌, inl, inr, ℕ, List, [], ◌∷◌, ◌++◌, refl}
 use Rattle.std.proofs.lemmas.Bool.{cases_eq}
 use Rattle.component_laws.proofs.Known.{IsFound, IsKnown}
 

@@ -1,5 +1,5 @@
 -- The circuit of a class has no more nodes than the class.
-use Rattle.std.proofs.Common.{◌≡◌, ◌⊎◌, inl, inr, ℕ, ◌+◌, ◌<◌, ◌≤◌, List, [], ◌∷◌, ◌++◌, Some, Contains, length, sym, ap, subst, ◌∙◌, append_assoc, length-append, arith}
+use Rattle.std.proofs.Common.{◌≡◌, ◌⊎◌, inl, inr, ℕ, ◌+◌, ◌≤◌, List, [], ◌∷◌, ◌++◌, Some, Contains, length, sym, ap, subst, ◌∙◌, append_assoc, length-append, arith}
 use Rattle.std.proofs.lemmas.List.Elements.{Contains-append_left}
 use Rattle.graph_law.specs.Classes.{IsClass}
 use Rattle.graph_law.specs.Reach.{IsWalk, Reaches}
@@ -43,8 +43,13 @@ module _ (calls : ℕ → ℕ → Type 0) where
       let short : length (two.before ++ x ∷ end) ≡ length two.before + (1 + (length two.after + 1)) =
       omega (arith, length-append two.before (x ∷ end), length-append two.after (p ∷ [])) in
       let long : length (circuit ++ p ∷ []) ≡ length two.before + (1 + (length two.between + (1 + (length two.after + 1)))) =
-      omega (arith, ap length whole, length-append two.before (x ∷ (two.between ++ x ∷ end)), length-append two.between (x ∷ end),
-      length-append two.after (p ∷ [])) in
+      omega (
+        arith,
+        ap length whole,
+        length-append two.before (x ∷ (two.between ++ x ∷ end)),
+        length-append two.between (x ∷ end),
+        length-append two.after (p ∷ []),
+      ) in
       least.least (two.before ++ x ∷ end) (path, omega (arith, short)) (inl (omega (arith, short, long)))
 
   circuit_apart : (p : ℕ) (circuit : List ℕ) → IsLeast (λ walk. IsClosedWalk calls p walk) (circuit ++ p ∷ []) → AreApart circuit

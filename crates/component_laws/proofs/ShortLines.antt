@@ -1,5 +1,5 @@
 -- The lines of a report are short.
-use Rattle.std.proofs.Common.{◌≡◌, ℕ, ◌+◌, ◌*◌, ◌<◌, ◌≤◌, Bool, true, false, List, [], ◌∷◌, ◌++◌, length, sum_by, count_by, length-append, arith}
+use Rattle.std.proofs.Common.{ℕ, ◌+◌, ◌*◌, ◌≤◌, Bool, List, ◌++◌, length, sum_by, count_by, length-append, arith}
 use Rattle.std.specs.Prelude.{codes}
 use Rattle.std.specs.Fmt.{decimal}
 use Rattle.std.specs.List.{flat_map}
@@ -14,9 +14,13 @@ use Rattle.component_report.specs.declared.form.Form.{Form}
 use Rattle.component_report.specs.declared.form.Form.TheVariants.{Lines, Json}
 use Rattle.component_laws.proofs.ShortTexts.{AreShort, by_test, commas_short, decimal_short, flat_short, joined, json_name_short}
 
--- a name in a line, with what stands before it
+-- a name in a line
+abbrev pub most_shown : ℕ
+most_shown = 2 + MOST_NAME * 65
+
+-- with what stands before it
 abbrev pub most_text : ℕ
-most_text = 4259843
+most_text = most_shown + 1
 
 -- a line with some names
 abbrev pub most_line : ℕ → ℕ
@@ -31,14 +35,14 @@ module _ (names : List (List ℕ)) (short : AreShort names) where
   members_short : (members : List ℕ) → length (flat_map (member_text names) members) ≤ length members * most_text
   members_short members = flat_short (member_text names) most_text members member_short
 
-  json_member_short : (member : ℕ) → length (json_member names member) ≤ 4259842
+  json_member_short : (member : ℕ) → length (json_member names member) ≤ most_shown
   json_member_short member =
       let name = short member in
       let whole = json_name_short (name_at names member) in
       omega (arith, name, whole)
 
   json_members_short : (members : List ℕ) → length (with_commas (json_member names) members) ≤ length members * most_text
-  json_members_short members = commas_short (json_member names) 4259842 members json_member_short
+  json_members_short members = commas_short (json_member names) most_shown members json_member_short
 
   kind_short : (recursive : Bool) → length (kind_of recursive) ≤ 10
   kind_short recursive = by_test recursive (codes " recursive") (codes " plain") 10 (omega arith) (omega arith)
@@ -72,8 +76,17 @@ module _ (names : List (List ℕ)) (short : AreShort names) where
       let named_short : length named ≤ 12 + length members * most_text =
       joined (codes ",\"members\":[") (with_commas (json_member names) members) 12 (length members * most_text) (omega arith) (json_members_short members) in
       let whole : length (first ++ height ++ recursive ++ named ++ codes "]}\n") ≤ 400 + length members * most_text =
-      omega (arith, length-append (first ++ height ++ recursive ++ named) (codes "]}\n"), length-append (first ++ height ++ recursive) named,
-      length-append (first ++ height) recursive, length-append first height, first_short, height_short, recursive_short, named_short) in
+      omega (
+        arith,
+        length-append (first ++ height ++ recursive ++ named) (codes "]}\n"),
+        length-append (first ++ height ++ recursive) named,
+        length-append (first ++ height) recursive,
+        length-append first height,
+        first_short,
+        height_short,
+        recursive_short,
+        named_short,
+      ) in
       whole
 
   pub loop_short : (form : Form) (cycle : List ℕ) → length (loop_line form names cycle) ≤ most_line (length cycle)
@@ -100,10 +113,18 @@ numbers_short a b c d end p q r s a_short b_short c_short d_short end_short =
     let two : length (b ++ decimal q) ≤ 20 + 64 = joined b (decimal q) 20 64 b_short (decimal_short q) in
     let three : length (c ++ decimal r) ≤ 20 + 64 = joined c (decimal r) 20 64 c_short (decimal_short r) in
     let four : length (d ++ decimal s) ≤ 20 + 64 = joined d (decimal s) 20 64 d_short (decimal_short s) in
-    omega (arith, one, two, three, four, end_short, length-append (a ++ decimal p) (b ++ decimal q),
-    length-append ((a ++ decimal p) ++ (b ++ decimal q)) (c ++ decimal r),
-    length-append ((a ++ decimal p) ++ (b ++ decimal q) ++ (c ++ decimal r)) (d ++ decimal s),
-    length-append ((a ++ decimal p) ++ (b ++ decimal q) ++ (c ++ decimal r) ++ (d ++ decimal s)) end)
+    omega (
+      arith,
+      one,
+      two,
+      three,
+      four,
+      end_short,
+      length-append (a ++ decimal p) (b ++ decimal q),
+      length-append ((a ++ decimal p) ++ (b ++ decimal q)) (c ++ decimal r),
+      length-append ((a ++ decimal p) ++ (b ++ decimal q) ++ (c ++ decimal r)) (d ++ decimal s),
+      length-append ((a ++ decimal p) ++ (b ++ decimal q) ++ (c ++ decimal r) ++ (d ++ decimal s)) end,
+    )
 
 pub head_short : (groups : List (List ℕ)) (levels : List Level) → length (head_line groups levels) ≤ 400
 head_short groups levels =

@@ -1,25 +1,22 @@
 -- A text without faults says no long name.
-use Rattle.std.proofs.Common.{◌≡◌, ◌⊎◌, ◌↔◌, inl, inr, ℕ, ◌-◌, ◌+◌, ◌<◌, ◌≤◌, Bool, true, false, List, [], Option, Some, None, All, Contains, length, map, get_or, drop, refl, sym, ap, subst, ◌∙◌, length-take, arith}
+use Rattle.std.proofs.Common.{◌≡◌, ◌↔◌, inl, inr, ℕ, ◌-◌, ◌+◌, ◌<◌, ◌≤◌, Bool, true, false, List, [], Option, Some, None, All, Contains, length, map, get_or, drop, refl, sym, ap, subst, ◌∙◌, length-take, arith}
 use Rattle.std.specs.Prelude.{if◌then◌else◌, option_and_then, slice_range}
 use Rattle.std.specs.List.{list_any}
 use Rattle.std.proofs.lemmas.Bool.{cases_Bool, cases_lt, ltb-false}
-use Rattle.std.proofs.lemmas.List.{get_or-map, get_or_past, length-map}
-use Rattle.std.proofs.lemmas.List.Elements.{All-contains, Contains-get_or}
+use Rattle.std.proofs.lemmas.List.{get_or-map, length-map}
+use Rattle.std.proofs.lemmas.List.Elements.{All-contains}
 use Rattle.list_laws.proofs.Members.{all_by, any_there}
 use Rattle.list_laws.proofs.OneOrder.{nothing_in}
-use Rattle.byte_names.specs.Names.{name_at}
-use Rattle.edge_text.specs.declared.fault.Fault.{Fault}
 use Rattle.edge_text.specs.declared.limits.TheConstants.{MOST_NAME}
-use Rattle.edge_text.specs.EdgeGraph.{AreNames, Said}
-use Rattle.edge_text.specs.Faults.{IsFault, line_at}
+use Rattle.edge_text.specs.EdgeGraph.{AreNames}
+use Rattle.edge_text.specs.Faults.{line_at}
 use Rattle.edge_text.specs.Lines.{is_comment, lines_of, said_by, words_of}
 use Rattle.edge_text.specs.Words.{IsWordAt}
 use Rattle.edge_json.specs.declared.cause.Cause.TheVariants.{LongName, NotEdge}
-use Rattle.edge_json.specs.declared.cause.LineFault.{LineFault}
-use Rattle.edge_json.specs.Meaning.{Meaning, bad, is_long, is_solid, line_value, meaning_of, meaning_with, says, value_names}
+use Rattle.edge_json.specs.Meaning.{Meaning, bad, is_long, is_solid, line_value, meaning_with, says, value_names}
 use Rattle.edge_json.specs.Said.{heard, heard_in}
 use Rattle.component_answer.specs.Inputs.{IsFaultless, said_by as said_by_form}
-use Rattle.component_laws.proofs.Distinct.{ComesFrom, comes_from}
+use Rattle.component_laws.proofs.Distinct.{comes_from}
 
 abbrev pub IsShort : List ℕ → Type 0
 IsShort name = length name ≤ MOST_NAME

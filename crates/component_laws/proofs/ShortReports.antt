@@ -1,5 +1,5 @@
 -- A report on a graph of few nodes with short names is short.
-use Rattle.std.proofs.Common.{◌≡◌, inl, inr, ℕ, ◌+◌, ◌*◌, ◌^◌, ◌<◌, ◌≤◌, Bool, true, false, List, [], ◌∷◌, ◌++◌, Option, Some, None, All, IsPermutation, length, sum_by, get_or, sym, ap, subst, ◌∙◌, length-append, arith}
+use Rattle.std.proofs.Common.{◌≡◌, inl, inr, ℕ, ◌+◌, ◌*◌, ◌^◌, ◌<◌, ◌≤◌, Bool, true, false, List, [], ◌∷◌, Option, Some, None, All, IsPermutation, length, sum_by, get_or, sym, ap, ◌∙◌, length-append, arith}
 use Rattle.std.specs.List.{flat_map, range_with_len}
 use Rattle.std.proofs.lemmas.Bool.{cases_lt}
 use Rattle.std.proofs.lemmas.List.{get_or_past}
@@ -57,8 +57,13 @@ module _ (names : List (List ℕ)) (short : AreShort names) (groups : List (List
   json_lines_short id (place ∷ places) =
       let first = json_group_short names short id (group_at groups place) (level_at levels place) in
       let rest = json_lines_short (id + 1) places in
-      omega (arith, first, rest, sum_by-cons (line_at groups) place places,
-      length-append (json_group names id (group_at groups place) (level_at levels place)) (json_lines names groups levels (id + 1) places))
+      omega (
+        arith,
+        first,
+        rest,
+        sum_by-cons (line_at groups) place places,
+        length-append (json_group names id (group_at groups place) (level_at levels place)) (json_lines names groups levels (id + 1) places),
+      )
 
   report_short : (form : Form) (order : List ℕ) → IsPermutation (range_with_len 0 (length groups)) order
       → length (report_in form names groups levels order) ≤ 400 + (400 * length groups + sum_by length groups * most_text)

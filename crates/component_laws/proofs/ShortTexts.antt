@@ -1,5 +1,5 @@
 -- Numbers and names are short in a report.
-use Rattle.std.proofs.Common.{◌≡◌, inl, inr, ℕ, zero, suc, ◌+◌, ◌*◌, ◌/◌, ◌%◌, ◌<◌, ◌≤◌, Bool, true, false, List, [], ◌∷◌, ◌++◌, All, length, sum_by, get_or, sym, subst, length-append, arith}
+use Rattle.std.proofs.Common.{◌≡◌, inl, inr, ℕ, zero, suc, ◌+◌, ◌*◌, ◌/◌, ◌%◌, ◌≤◌, Bool, true, false, List, [], ◌∷◌, ◌++◌, All, length, sum_by, sym, subst, length-append, arith}
 use Rattle.std.specs.Prelude.{if◌then◌else◌, codes, nat_lt, ◌==◌}
 use Rattle.std.specs.Fmt.{decimal, digit_glyph, digits, digits_onto}
 use Rattle.std.specs.List.{flat_map}
@@ -21,9 +21,6 @@ by_test false xs ys n first second = second
 
 pub joined : (xs ys : List ℕ) (m n : ℕ) → length xs ≤ m → length ys ≤ n → length (xs ++ ys) ≤ m + n
 joined xs ys m n first second = omega (arith, length-append xs ys, first, second)
-
-abbrev each_most : {X : Type 0} → ℕ → X → ℕ
-each_most n x = n
 
 most_sum : {X : Type 0} (n : ℕ) (xs : List X) → sum_by (λ x. n) xs ≤ length xs * n
 most_sum n xs = sum_by-le (λ x. n) n xs (λ k d lt. (let same : n ≤ n = omega arith in same))

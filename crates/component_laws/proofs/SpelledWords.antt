@@ -1,5 +1,5 @@
 -- Words spell settings, or none.
-use Rattle.std.proofs.Common.{◌≡◌, ◌≢◌, ◌⊎◌, ◌↔◌, inl, inr, ℕ, List, [], ◌∷◌, ◌++◌, Bool, true, false, None, All, refl, ap, sym, subst, ◌∙◌}
+use Rattle.std.proofs.Common.{◌≡◌, ◌≢◌, ◌⊎◌, ◌↔◌, inl, inr, ℕ, List, [], ◌∷◌, true, false, None, All, refl, ap, sym, subst, ◌∙◌}
 use Rattle.std.proofs.lemmas.Bool.{cases_Bool}
 use Rattle.std.proofs.lemmas.List.Elements.{All-nil}
 use Rattle.component_words.specs.declared.flag.Flag.{Flag}
@@ -33,10 +33,10 @@ at_end before = go (settings_found (given_by before [] None))
       },
     )
     go (inr none) = inr (λ settings on.
-      let empty = none_spelled on.spelling.parts on.spelling.rest on.spelling.spell in
-      none settings
-      (subst (λ given. AreSettings given settings)
-      (ap (λ parts. given_by before parts on.spelling.rest) empty.0 ∙ ap (given_by before []) empty.1) on.set))
+        let empty = none_spelled on.spelling.parts on.spelling.rest on.spelling.spell in
+        none settings
+        (subst (λ given. AreSettings given settings)
+        (ap (λ parts. given_by before parts on.spelling.rest) empty.0 ∙ ap (given_by before []) empty.1) on.set))
 
 -- operands after `--`
 by_operands : (before : Given) (words : List (List ℕ)) → IsFound (GoOnByOperands before words)
