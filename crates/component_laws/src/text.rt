@@ -11,7 +11,7 @@ use crate::report::{reports_are_short, reports_exist};
 use crate::starts::starts_or_missing;
 use edge_text::some_edge_graph;
 
-/// A text has a right answer, whatever the roots are and whatever is wanted.
+/// A text has a right outcome, whatever the roots are and whatever is wanted.
 pub fn some_text_answer()
     ensures { (text : List ℕ) (roots : List (List ℕ)) (wanted : Wanted) → (answer : Answer) × IsAnswer text roots wanted answer }
 {
