@@ -1,7 +1,5 @@
 pub mod SpotOrder
 pub mod ClauseLemmas
-pub mod EndOrder
-pub mod ExtentLemmas
 pub mod MembershipLemmas
 pub mod ReachedLemmas
 pub mod OrderLemmas

@@ -7,7 +7,7 @@ ghost use Rattle.call_told.specs.Stretches.{AreStretches, call_stretch, clause_s
 ghost use Rattle.call_told.specs.Told.{call_lines, clause_lines, joined};
 
 use call_edges::PlacedCall;
-use call_table::{CallTable, ClauseAt, Extent};
+use call_table::{CallTable, ClauseAt};
 use call_writer::{push_call_lines, push_clause_lines};
 use import_rules::Program;
 use prolog_tokens::Place;
@@ -28,14 +28,13 @@ const BY_ONE: usize = usize::MAX;
 const CALL_ROOM: usize = 160;
 
 /// The same for each line of a clause.
-const CLAUSE_ROOM: usize = 136;
+const CLAUSE_ROOM: usize = 104;
 
-/// Adjacent rows of a table, each with its line and column, or with those at which it starts and
-/// ends.
+/// Adjacent rows of a table, each with its line and column.
 #[derive(Clone, Copy)]
-pub struct Stretch<'a, T, P> {
+pub struct Stretch<'a, T> {
     pub rows: &'a [T],
-    pub places: &'a [P],
+    pub places: &'a [Place],
 }
 
 /// How many of the remaining rows the next stretch has.
@@ -51,11 +50,11 @@ fn stretch_size(left: usize) -> usize
 }
 
 /// All rows, cut into stretches.
-fn stretches<'a, T, P>(
+fn stretches<'a, T>(
     alloc: Global,
     rows: &'a [T],
-    places: &'a [P],
-) -> Result<Vec<Stretch<'a, T, P>>, AllocError>
+    places: &'a [Place],
+) -> Result<Vec<Stretch<'a, T>>, AllocError>
     requires { length rows.now ≡ length places.now }
     ensures { IfOk result (λ cut. AreStretches rows.now places.now cut.items) }
 {
@@ -80,7 +79,7 @@ fn stretches<'a, T, P>(
 fn call_text(
     alloc: Global,
     program: &Program,
-    stretch: &Stretch<'_, PlacedCall<'_>, Place>,
+    stretch: &Stretch<'_, PlacedCall<'_>>,
     undefined: bool,
 ) -> Result<String, AllocError>
     ensures { IfOk result (λ text. string_bytes text ≡ call_stretch undefined program.now stretch.now) }
@@ -102,7 +101,7 @@ fn call_text(
 fn clause_text(
     alloc: Global,
     program: &Program,
-    stretch: &Stretch<'_, ClauseAt, Extent>,
+    stretch: &Stretch<'_, ClauseAt>,
 ) -> Result<String, AllocError>
     ensures { IfOk result (λ text. string_bytes text ≡ clause_stretch program.now stretch.now) }
 {
@@ -117,7 +116,7 @@ fn call_pieces<R: Threads + Sync>(
     rt: &R,
     alloc: Global,
     program: &Program,
-    stretches: &[Stretch<'_, PlacedCall<'_>, Place>],
+    stretches: &[Stretch<'_, PlacedCall<'_>>],
     undefined: bool,
     fewest: usize,
 ) -> Result<Vec<String>, AllocError>
@@ -127,7 +126,7 @@ fn call_pieces<R: Threads + Sync>(
         .par_iter()
         .with_min_len(fewest)
         .map(
-            |stretch: &Stretch<'_, PlacedCall<'_>, Place>| -> Result<String, AllocError>
+            |stretch: &Stretch<'_, PlacedCall<'_>>| -> Result<String, AllocError>
                 ensures { IfOk result (λ text. string_bytes text ≡ call_stretch undefined program.entry.now stretch.now) }
             { call_text(alloc, program, stretch, undefined) },
         )
@@ -140,7 +139,7 @@ fn each_call_text<R: Threads + Sync>(
     rt: &R,
     alloc: Global,
     program: &Program,
-    stretches: &[Stretch<'_, PlacedCall<'_>, Place>],
+    stretches: &[Stretch<'_, PlacedCall<'_>>],
     undefined: bool,
 ) -> Result<Vec<String>, AllocError>
     ensures { IfOk result (λ texts. joined texts.items ≡ flat_map (call_stretch undefined program.now) stretches.now) }
@@ -156,7 +155,7 @@ fn clause_pieces<R: Threads + Sync>(
     rt: &R,
     alloc: Global,
     program: &Program,
-    stretches: &[Stretch<'_, ClauseAt, Extent>],
+    stretches: &[Stretch<'_, ClauseAt>],
     fewest: usize,
 ) -> Result<Vec<String>, AllocError>
     ensures { IfOk result (λ texts. joined texts.items ≡ flat_map (clause_stretch program.now) stretches.now) }
@@ -165,7 +164,7 @@ fn clause_pieces<R: Threads + Sync>(
         .par_iter()
         .with_min_len(fewest)
         .map(
-            |stretch: &Stretch<'_, ClauseAt, Extent>| -> Result<String, AllocError>
+            |stretch: &Stretch<'_, ClauseAt>| -> Result<String, AllocError>
                 ensures { IfOk result (λ text. string_bytes text ≡ clause_stretch program.entry.now stretch.now) }
             { clause_text(alloc, program, stretch) },
         )
@@ -178,7 +177,7 @@ fn each_clause_text<R: Threads + Sync>(
     rt: &R,
     alloc: Global,
     program: &Program,
-    stretches: &[Stretch<'_, ClauseAt, Extent>],
+    stretches: &[Stretch<'_, ClauseAt>],
 ) -> Result<Vec<String>, AllocError>
     ensures { IfOk result (λ texts. joined texts.items ≡ flat_map (clause_stretch program.now) stretches.now) }
 {
@@ -212,10 +211,10 @@ pub(crate) fn clause_texts<R: Threads + Sync>(
     program: &Program,
     table: &CallTable<'_>,
 ) -> Result<Vec<String>, AllocError>
-    requires even { length table.now.clauses.items ≡ length table.now.clause_extents.items }
+    requires even { length table.now.clauses.items ≡ length table.now.clause_places.items }
     ensures { IfOk result (λ texts. joined texts.items ≡ clause_lines program.now table.now) }
 {
-    let cut = stretches(alloc, &table.clauses, &table.clause_extents)?;
+    let cut = stretches(alloc, &table.clauses, &table.clause_places)?;
     let texts = each_clause_text(rt, alloc, program, &cut)?;
     Ok(texts)
 }

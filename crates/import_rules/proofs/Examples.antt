@@ -45,7 +45,6 @@ file_of name owner exports loads defined = record {
   loads = loads;
   defined = of_module owner defined;
   metas = [];
-  marks = [];
   goals = [];
 }
 
@@ -59,7 +58,6 @@ of_user name loads defined = record {
   loads = loads;
   defined = of_module (codes "user") defined;
   metas = [];
-  marks = [];
   goals = [];
 }
 

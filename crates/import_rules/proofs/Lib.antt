@@ -30,7 +30,6 @@ pub mod OneProgram
 pub mod Meant
 pub mod FoundMeans
 pub mod Seen
-pub mod ClauseEnds
 pub mod Loaded
 pub mod Props
 pub mod Known

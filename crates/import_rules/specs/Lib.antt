@@ -23,4 +23,3 @@ pub mod Homes
 pub mod Findings
 pub mod KnownFiles
 pub mod PlacedFlaws
-pub mod ClauseEnds

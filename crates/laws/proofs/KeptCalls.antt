@@ -19,8 +19,6 @@ kept c = record {
     «module» = record { ref_ptr = (0, 0); now = c.callee.module };
     name = record { ref_ptr = (0, 0); now = c.callee.name };
     arity = c.callee.arity;
-    added = c.added;
-    negated = c.negated;
   };
   callee = c.means;
 }

@@ -22,7 +22,6 @@ mod kinds;
 mod laws;
 mod lead;
 mod load;
-mod mark;
 mod meta;
 mod module_directive;
 mod runs;
@@ -41,6 +40,5 @@ pub use laws::{
     refusals_placed,
 };
 pub use load::{Load, LoadKind};
-pub use mark::{Mark, Property};
 pub use meta::Meta;
 pub use said::FactFault;
