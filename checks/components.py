@@ -595,6 +595,7 @@ def front_ends(folder):
     expect("make.sh of a stored database", printed("make.sh", "-", data=DATABASE), (0, MADE, b""))
     if has("make"):
         expect("make.sh", printed("make.sh"), (0, MADE, b""))
+        expect("make.sh without a makefile", printed("make.sh", "-C", "none"), (2, [], b"make.sh: make reads no makefile here\n"))
     expect("what make.sh prints", run([], b"\n".join(MADE), folder), (0, MADE_REPORT, b""))
     expect("pairs.sh", printed("pairs.sh", data=b"a b c\n c b b d d\n"), (0, [b"a b", b"b", b"c", b"d"], b""))
     expect("pairs.sh of an odd number", printed("pairs.sh", data=b"a b c")[::2], (1, b"pairs.sh: an odd number of words\n"))

@@ -11,7 +11,7 @@ wanted=${1-}
 steps=${2-}
 case $#:$steps in
 [012]:* | *:*[!0-9]* | *: | *:???*)
-    echo "usage: around.sh [--swi] MODULE:NAME/ARITY STEPS FILE.." >&2
+    echo "usage: around.sh [--swi] MODULE:NAME/ARITY STEPS FILE.. > around.svg" >&2
     exit 2
     ;;
 esac

@@ -4,6 +4,12 @@
 # Needs `calls`, `jq` and the command `dot` of Graphviz. Ends with the status of what failed; with
 # 8, after the graph, if the bridge left something out.
 here=$(dirname -- "$(readlink -f -- "$0")")
+case ${1---help} in
+--help | -h)
+    echo "usage: modules.sh [--swi] FILE.. > modules.svg" >&2
+    exit 2
+    ;;
+esac
 calls=${CALLS:-$here/../calls}
 [ "${1-}" != --swi ] || { shift && calls=${CALLS_SWI:-$here/../bridges/swi/calls-swi}; }
 lines=$("$calls" --unreached "$@")

@@ -12,7 +12,8 @@ CALLS = os.environ.get("CALLS") or str(pathlib.Path(__file__).resolve().parent.p
 
 def main():
     if len(sys.argv) < 3 or "/" not in sys.argv[1]:
-        sys.exit("usage: who_calls.py [MODULE:]NAME/ARITY FILE..")
+        print("usage: who_calls.py [MODULE:]NAME/ARITY FILE..", file=sys.stderr)
+        sys.exit(2)
     wanted, names = sys.argv[1], {None: "directive"}
     with subprocess.Popen([CALLS, "--unreached", *sys.argv[2:]], stdout=subprocess.PIPE, text=True, encoding="utf-8") as run:
         for line in run.stdout:

@@ -8,7 +8,12 @@
 # argument `-` the output of `make -pn` is read from standard input.
 #
 # Built-in rules, pattern rules and special targets such as .PHONY are left out. No recipe is run.
+# Ends with 2 if make finds no makefile, and with 127 if there is no make.
 set -u
+if [ "$*" != - ] && ! command -v make >/dev/null 2>&1; then
+    echo "make.sh: the command make isn't found" >&2
+    exit 127
+fi
 database() {
     if [ "$*" = - ]; then
         cat
@@ -18,8 +23,10 @@ database() {
         LC_ALL=C make -pnrR "$@" .DEFAULT 2>/dev/null
     fi
 }
-database "$@" | LC_ALL=C awk '
-    /^# Files$/ { inside = 1 }
+[ "$*" = - ] && stored=1 || stored=0
+database "$@" | LC_ALL=C awk -v stored="$stored" '
+    /^MAKEFILE_LIST :=[ \t]*[^ \t]/ { found = 1 }
+    /^# Files$/ { inside = 1; if (stored) found = 1 }
     /^# (files hash-table stats|VPATH Search Paths)/ { inside = 0 }
     /^# Not a target:/ { getline; next }
     !inside || /^[#\t]/ || !/:/ { next }
@@ -34,4 +41,10 @@ database "$@" | LC_ALL=C awk '
         gsub(/[ \t]+/, " ", line)
         sub(/ $/, "", line)
         print line
+    }
+    END {
+        if (!found) {
+            print "make.sh: make reads no makefile here" >"/dev/stderr"
+            exit 2
+        }
     }'
