@@ -2,6 +2,7 @@
 _prolog_calls() {
     local word=${COMP_WORDS[COMP_CWORD]} last=${COMP_WORDS[COMP_CWORD - 1]} it
     local options=(--roots --unreached --undefined --dot --condensed)
+    [[ ${COMP_WORDS[0]} != *-swi ]] || options+=(--libraries --no-run --expand)
     COMPREPLY=()
     case $last in --roots | =) return ;; esac
     [[ $word != = ]] || return 0

@@ -2,6 +2,7 @@
 _prolog_groups() {
     local word=${COMP_WORDS[COMP_CWORD]} last=${COMP_WORDS[COMP_CWORD - 1]} it
     local options=(--jobs --searches --seed --roots --order --stream --unreached --effects --loops --path --make)
+    [[ ${COMP_WORDS[0]} != *-swi ]] || options+=(--libraries --no-run --expand)
     COMPREPLY=()
     case $last in --jobs | --searches | --seed | --roots | --path | --make | =) return ;; esac
     [[ $word != = ]] || return 0

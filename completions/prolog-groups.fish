@@ -17,3 +17,9 @@ for command in prolog-groups prolog-groups-swi
         complete -c $command -n "not __fish_seen_argument -l $name[1]" -l $name[1] $name[2] -d $parts[2]
     end
 end
+for option in 'libraries:also libraries, and what SWI-Prolog loads by itself' \
+        'no-run:runs no condition that asks for more than flags' \
+        'expand:grammar rules as the clauses that they mean'
+    set -l parts (string split -m 1 : -- $option)
+    complete -c prolog-groups-swi -n "not __fish_seen_argument -l $parts[1]" -l $parts[1] -d $parts[2]
+end

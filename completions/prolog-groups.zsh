@@ -1,6 +1,12 @@
 #compdef prolog-groups prolog-groups-swi
 # Completion of zsh for prolog-groups(1): options that aren't given yet, and Prolog files.
-_arguments -S \
+local -a bridge=()
+if [[ $service == *-swi ]]; then
+    bridge+=('--libraries[also libraries, and what SWI-Prolog loads by itself]')
+    bridge+=('--no-run[runs no condition that asks for more than flags]')
+    bridge+=('--expand[grammar rules as the clauses that they mean]')
+fi
+_arguments -S $bridge \
     '(--searches --seed --jobs)--jobs=[threads that search]:number, 1 to 64: ' \
     '(--jobs --searches)--searches=[searches in turns on one thread]:number, 1 to 64: ' \
     '(--jobs --seed)--seed=[where their schedule begins]:number: ' \
