@@ -121,6 +121,8 @@ ROWS = (
     ("from JSON: a root", "--from-json --loops --roots a", b'{"from":"a","to":"a"}\n{"from":"b","to":"a"}', 0, b"nodes 1 groups 1 recursive 1 levels 1\n0 recursive a\nloop a\n", b""),
     ("from JSON: a name that is too long", "--from-json", b'{"from":"b"}\n{"from":"a","to":"' + LONG + b'n"}', 3, b"", b"-:2:1: name is longer than 65536 bytes\n"),
     ("from JSON: the longest name", "--from-json", b'{"from":"' + LONG + b'"}', 0, b"nodes 1 groups 1 recursive 0 levels 1\n0 plain " + LONG + b"\n", b""),
+    ("from JSON: the deepest nesting", "--from-json", b'{"x":' + b"[" * 126 + b"]" * 126 + b',"from":"a"}', 0, b"nodes 1 groups 1 recursive 0 levels 1\n0 plain a\n", b""),
+    ("from JSON: nested too deep", "--from-json", b'{"x":' + b"[" * 127 + b"]" * 127 + b',"from":"a"}', 3, b"", b"-:1:1: line is not an edge\n"),
     *((f"from JSON: no edge: {line[:40]}", "--from-json", b'{"from":"b"}\n \n' + line + b'\n{"from":1}', 3, b"", b"-:3:1: line is not an edge\n") for line in (
         b"a b", b"[]", b"{}", b'{"to":"a"}', b'{"from":1}', b'{"from":null,"to":"a"}', b'{"from":"a","to":null}', b'{"from":"a","to":["b"]}', b'"from"', b'{"from":"a"',
         b'{"from":"a"}{"from":"b"}', b'{"from":"a"} x', b'{"from":"a",}', b"{'from':'a'}", b'{"from":"\xff"}', b'{"from":"\xc3"}', b'{"from":"\\ud800"}', b'{"from":"\\udc00a"}',
