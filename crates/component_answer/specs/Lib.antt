@@ -1,3 +1,4 @@
 pub mod Answers
 pub mod Inputs
+pub mod Searches
 pub mod Starts

@@ -8,9 +8,10 @@ ghost use Rattle.edge_text.specs.Readings.{IsReading};
 ghost use Rattle.graph_law.specs.Graph.{Calls, lists_of};
 ghost use Rattle.component_report.specs.Reportable.{AreLeveled, AreReportable};
 ghost use Rattle.component_answer.specs.Answers.{AreLoops, IsAnswer, IsPart, IsReachReport, IsReportBy, IsSaidAnswer};
+ghost use Rattle.component_answer.specs.Searches.{FindsGroups};
 
+use crate::reach::Reach;
 use crate::starts::{Starts, starts_of};
-use crate::workers::{Workers, groups_by};
 use component_report::{Form, cycle_lines, order_report, report};
 use edge_json::{Cause, Decoded, LineFault, decode, graph_of_lines};
 use edge_text::{Fault, Reading, first_fault, read_edges};
@@ -18,10 +19,7 @@ use flat_graph::FlatGraph;
 use graph_law::Opener;
 use group_release::{Level, levels};
 use loop_paths::circuits;
-use search_pool::Gate;
 use std::alloc::{AllocError, Global};
-use std::sync::Wait;
-use std::thread::Threads;
 
 /// What is wanted of a report.
 #[derive(Clone, Copy, Debug, PartialEq, Eq, Drop)]
@@ -106,14 +104,16 @@ fn loops_part(
 /// The report on the groups that some nodes of a graph reach, with its lines in the order in which
 /// the search finds the groups, or else in order of height and least member. After it are the lines
 /// of the cycles if they are wanted.
-fn graph_report<R: Threads + Wait + Sync, G: Gate>(
+fn graph_report<F: FnOnce(Reach<'_>) -> Result<Vec<Vec<u32>>, AllocError>>(
     alloc: Global,
     names: &[&[u8]],
     graph: &FlatGraph,
     starts: &[u32],
     wanted: Wanted,
-    workers: &Workers<'_, R, G>,
+    search: F,
 ) -> Result<Vec<u8>, AllocError>
+    requires callable { F.IsAlwaysCallable search }
+    requires finds { FindsGroups (F.post search) }
     requires few { length names.now < 2 ^ 32 }
     requires each { length graph.now ≡ length names.now }
     requires within { All (λ start. start < length graph.now) starts.now }
@@ -121,7 +121,7 @@ fn graph_report<R: Threads + Wait + Sync, G: Gate>(
 {
     // The contract of `count` states that successors are nodes.
     let _count = graph.count();
-    let groups = groups_by(alloc, graph, starts, workers)?;
+    let groups = search(Reach { graph, starts })?;
     let marks = levels(alloc, graph, &groups)?;
     let mut bytes = groups_report(alloc, names, &groups, &marks, wanted)?;
     let loops = loops_part(alloc, names, graph, &groups, &marks, wanted)?;
@@ -131,13 +131,15 @@ fn graph_report<R: Threads + Wait + Sync, G: Gate>(
 
 /// What is to be said of what was read: the limit that it is past, or the first root that is no
 /// node, or the report on what the roots reach. If there are no roots, it is on all nodes.
-fn answer_reading<R: Threads + Wait + Sync, G: Gate>(
+fn answer_reading<F: FnOnce(Reach<'_>) -> Result<Vec<Vec<u32>>, AllocError>>(
     alloc: Global,
     reading: Reading<'_>,
     roots: &[&[u8]],
     wanted: Wanted,
-    workers: &Workers<'_, R, G>,
+    search: F,
 ) -> Result<Answer, AllocError>
+    requires callable { F.IsAlwaysCallable search }
+    requires finds { FindsGroups (F.post search) }
     requires read { (said : Said) × IsReading said reading }
     ensures { IfOk result (λ answer. (said : Said) → IsReading said reading.entry → IsSaidAnswer said (names_of roots.now) wanted answer) }
 {
@@ -154,7 +156,7 @@ fn answer_reading<R: Threads + Wait + Sync, G: Gate>(
                         &read.graph,
                         &starts,
                         wanted,
-                        workers,
+                        search,
                     )?;
                     Ok(Answer::Report(bytes))
                 }
@@ -164,13 +166,15 @@ fn answer_reading<R: Threads + Wait + Sync, G: Gate>(
 }
 
 /// What is to be said of a text of words.
-fn answer_words<R: Threads + Wait + Sync, G: Gate>(
+fn answer_words<F: FnOnce(Reach<'_>) -> Result<Vec<Vec<u32>>, AllocError>>(
     alloc: Global,
     text: &[u8],
     roots: &[&[u8]],
     wanted: Wanted,
-    workers: &Workers<'_, R, G>,
+    search: F,
 ) -> Result<Answer, AllocError>
+    requires callable { F.IsAlwaysCallable search }
+    requires finds { FindsGroups (F.post search) }
     requires small { length text.now ≤ MOST_BYTES }
     requires words { wanted.from_json ≡ false }
     ensures { IfOk result (IsAnswer text.now (names_of roots.now) wanted) }
@@ -183,18 +187,20 @@ fn answer_words<R: Threads + Wait + Sync, G: Gate>(
         }));
     }
     let reading = read_edges(alloc, text)?;
-    let answer = answer_reading(alloc, reading, roots, wanted, workers)?;
+    let answer = answer_reading(alloc, reading, roots, wanted, search)?;
     Ok(answer)
 }
 
 /// What is to be said of a text of JSON Lines.
-fn answer_json<R: Threads + Wait + Sync, G: Gate>(
+fn answer_json<F: FnOnce(Reach<'_>) -> Result<Vec<Vec<u32>>, AllocError>>(
     alloc: Global,
     text: &[u8],
     roots: &[&[u8]],
     wanted: Wanted,
-    workers: &Workers<'_, R, G>,
+    search: F,
 ) -> Result<Answer, AllocError>
+    requires callable { F.IsAlwaysCallable search }
+    requires finds { FindsGroups (F.post search) }
     requires small { length text.now ≤ MOST_BYTES }
     requires json { wanted.from_json ≡ true }
     ensures { IfOk result (IsAnswer text.now (names_of roots.now) wanted) }
@@ -207,7 +213,7 @@ fn answer_json<R: Threads + Wait + Sync, G: Gate>(
         })),
         Decoded::Lines(lines) => {
             let reading = graph_of_lines(alloc, &lines)?;
-            let answer = answer_reading(alloc, reading, roots, wanted, workers)?;
+            let answer = answer_reading(alloc, reading, roots, wanted, search)?;
             Ok(answer)
         }
     }
@@ -215,21 +221,23 @@ fn answer_json<R: Threads + Wait + Sync, G: Gate>(
 
 /// What is to be said of a text of at most 1,073,741,824 bytes: its first fault, or the limit that it
 /// is past, or the first root that is no node, or the report on what the roots reach. If there are no
-/// roots, it is on all nodes. The workers find the groups.
+/// roots, it is on all nodes. `search` finds the groups.
 ///
-/// Fails only if memory runs out. The contract holds if the call returns.
-pub fn answer_text<R: Threads + Wait + Sync, G: Gate>(
+/// Fails only if memory runs out, here or in the search.
+pub fn answer_text<F: FnOnce(Reach<'_>) -> Result<Vec<Vec<u32>>, AllocError>>(
     alloc: Global,
     text: &[u8],
     roots: &[&[u8]],
     wanted: Wanted,
-    workers: &Workers<'_, R, G>,
+    search: F,
 ) -> Result<Answer, AllocError>
+    requires callable { F.IsAlwaysCallable search }
+    requires finds { FindsGroups (F.post search) }
     requires small { length text.now ≤ MOST_BYTES }
     ensures { IfOk result (IsAnswer text.now (names_of roots.now) wanted) }
 {
     if wanted.from_json {
-        return answer_json(alloc, text, roots, wanted, workers);
+        return answer_json(alloc, text, roots, wanted, search);
     }
-    answer_words(alloc, text, roots, wanted, workers)
+    answer_words(alloc, text, roots, wanted, search)
 }

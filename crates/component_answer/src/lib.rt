@@ -6,11 +6,11 @@
 
 mod answer;
 mod laws;
+mod reach;
 mod starts;
-mod workers;
 
 pub use answer::{Answer, TextFault, Wanted, answer_text};
 pub use component_report::Form;
 pub use edge_json::Cause;
 pub use laws::one_said_report;
-pub use workers::Workers;
+pub use reach::Reach;

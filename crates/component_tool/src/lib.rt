@@ -35,6 +35,6 @@ mod telling;
 pub use disk_source::DiskSource;
 pub use laws::one_answer;
 pub use memory_source::MemorySource;
-pub use run::run_components;
+pub use run::{run_alone, run_components};
 pub use search_pool::{Gate, OpenGate};
 pub use source::{Source, SourceRead};

@@ -1,7 +1,8 @@
-//! The run of the program.
+//! The runs of the program.
 
 ghost use Rattle.component_tool.specs.Keeps.{RunKeeps};
 ghost use Rattle.component_tool.specs.Run.{IsRun};
+ghost use Rattle.component_answer.specs.Searches.{FindsGroups};
 ghost use Rattle.component_words.specs.Settings.{AreLawful, see_settings};
 ghost use Rattle.tool_run.specs.Keeps.{LeavesOther};
 ghost use Rattle.std.specs.Prelude.{ℕ, List};
@@ -10,15 +11,80 @@ use crate::ending::put_end;
 use crate::lines::{MEMORY, USAGE};
 use crate::source::Source;
 use crate::telling::tell;
+use component_answer::Reach;
 use component_words::{Settings, parse_words};
 use prolog_tokens::Text;
-use search_pool::Gate;
-use std::alloc::Global;
+use search_pool::{Gate, drive_workers};
+use search_stack::groups_plain;
+use std::alloc::{AllocError, Global};
 use std::sync::Wait;
 use std::thread::Threads;
 use tool_run::{Sink, say_with};
 
-/// Writes the report that the settings ask for to `out`, or to `err` why there is none.
+/// Writes the report that the settings ask for to `out`, or to `err` why there is none. `search`
+/// finds the groups.
+fn run_with<S: Source, O: Sink, E: Sink, F: FnOnce(Reach<'_>) -> Result<Vec<Vec<u32>>, AllocError>>(
+    alloc: Global,
+    settings: &Settings,
+    source: &mut S,
+    out: &mut O,
+    err: &mut E,
+    search: F,
+) -> u8
+    requires callable { F.IsAlwaysCallable search }
+    requires finds { FindsGroups (F.post search) }
+    ensures run { (words : List (List ℕ)) → AreLawful words (see_settings settings.now)
+        → IsRun words (S.seen source.old, S.seen source.new) (O.seen out.old, O.seen out.new) (E.seen err.old, E.seen err.new) result }
+    ensures left { LeavesOther (out.old, out.new) (err.old, err.new) result }
+{
+    let told = tell(alloc, settings, source, search);
+    put_end(alloc, &settings.file, told, out, err)
+}
+
+/// Runs `components` like `run_components`, but with settings and on one thread, and always returns.
+/// It finds the same groups for any number of threads in the settings.
+pub fn run_alone<S: Source, O: Sink, E: Sink>(
+    alloc: Global,
+    settings: &Settings,
+    source: &mut S,
+    out: &mut O,
+    err: &mut E,
+) -> u8
+    // The run keeps the contract of `components`, if these settings are asked for.
+    ensures run { (words : List (List ℕ)) → AreLawful words (see_settings settings.now)
+        → RunKeeps words (S.seen source.old, S.seen source.new) (O.seen out.old, O.seen out.new) (E.seen err.old, E.seen err.new) result }
+    // The other sink is unchanged.
+    ensures left { LeavesOther (out.old, out.new) (err.old, err.new) result }
+{
+    run_with(alloc, settings, source, out, err, |reach: Reach<'_>| {
+        groups_plain(alloc, reach.graph, reach.starts)
+    })
+}
+
+/// Does what `run_alone` does, but as many workers as the settings ask for find the groups. They may
+/// wait for each other.
+fn run_workers<R: Threads + Wait + Sync, S: Source, O: Sink, E: Sink, G: Gate>(
+    rt: &R,
+    alloc: Global,
+    settings: &Settings,
+    source: &mut S,
+    out: &mut O,
+    err: &mut E,
+    gate: &G,
+) -> u8
+    // The run keeps the contract of `components`, if these settings are asked for.
+    ensures run { (words : List (List ℕ)) → AreLawful words (see_settings settings.now)
+        → RunKeeps words (S.seen source.old, S.seen source.new) (O.seen out.old, O.seen out.new) (E.seen err.old, E.seen err.new) result }
+    // The other sink is unchanged.
+    ensures left { LeavesOther (out.old, out.new) (err.old, err.new) result }
+{
+    let jobs = settings.jobs;
+    run_with(alloc, settings, source, out, err, |reach: Reach<'_>| {
+        drive_workers(rt, alloc, reach.graph, reach.starts, jobs, gate)
+    })
+}
+
+/// Runs with these settings. If they ask for one thread, `run_alone` does it, which always returns.
 fn run_settings<R: Threads + Wait + Sync, S: Source, O: Sink, E: Sink, G: Gate>(
     rt: &R,
     alloc: Global,
@@ -28,12 +94,16 @@ fn run_settings<R: Threads + Wait + Sync, S: Source, O: Sink, E: Sink, G: Gate>(
     err: &mut E,
     gate: &G,
 ) -> u8
+    // The run keeps the contract of `components`, if these settings are asked for.
     ensures run { (words : List (List ℕ)) → AreLawful words (see_settings settings.now)
-        → IsRun words (S.seen source.old, S.seen source.new) (O.seen out.old, O.seen out.new) (E.seen err.old, E.seen err.new) result }
+        → RunKeeps words (S.seen source.old, S.seen source.new) (O.seen out.old, O.seen out.new) (E.seen err.old, E.seen err.new) result }
+    // The other sink is unchanged.
     ensures left { LeavesOther (out.old, out.new) (err.old, err.new) result }
 {
-    let told = tell(rt, alloc, settings, source, gate);
-    put_end(alloc, &settings.file, told, out, err)
+    if settings.jobs == 1 {
+        return run_alone(alloc, settings, source, out, err);
+    }
+    run_workers(rt, alloc, settings, source, out, err, gate)
 }
 
 /// Runs `components` with the arguments over the source. It writes the report to `out`, or to `err`
@@ -47,8 +117,8 @@ fn run_settings<R: Threads + Wait + Sync, S: Source, O: Sink, E: Sink, G: Gate>(
 /// - 6: a limit was passed;
 /// - 7: memory ran out.
 ///
-/// With one thread (`--jobs`, as without it) it always returns. With more of them, which may wait
-/// for each other, the contract holds if it returns.
+/// With one thread (`--jobs 1`, as without it) `run_alone` does all, which always returns. With more
+/// of them, which may wait for each other, the contract holds if it returns.
 pub fn run_components<R: Threads + Wait + Sync, S: Source, O: Sink, E: Sink, G: Gate>(
     rt: &R,
     alloc: Global,

@@ -2,6 +2,7 @@
 
 ghost use Rattle.std.specs.Prelude.{◌≡◌, ◌≤◌, ◌⊎◌, ℕ, List, IfOk, length};
 ghost use Rattle.byte_names.specs.Names.{names_of};
+ghost use Rattle.component_answer.specs.Searches.{FindsGroups};
 ghost use Rattle.component_words.specs.Settings.{see_settings};
 ghost use Rattle.edge_text.specs.declared.limits.TheConstants.{MOST_BYTES};
 ghost use Rattle.component_tool.specs.End.{end_of, end_of_stop, no_memory, no_node};
@@ -9,14 +10,11 @@ ghost use Rattle.component_tool.specs.Run.{IsAnswered, IsReadEnd, wanted_of};
 
 use crate::source::{Source, SourceRead};
 use crate::stop::Stop;
-use component_answer::{Answer, Form, Wanted, Workers, answer_text};
+use component_answer::{Answer, Form, Reach, Wanted, answer_text};
 use component_words::Settings;
 use edge_text::MOST_BYTES;
 use prolog_tokens::Text;
-use search_pool::Gate;
 use std::alloc::{AllocError, Global};
-use std::sync::Wait;
-use std::thread::Threads;
 
 /// The bytes of these names.
 fn lent_names<'a>(alloc: Global, names: &'a [Text]) -> Result<Vec<&'a [u8]>, AllocError>
@@ -53,21 +51,20 @@ fn wanted_of(settings: &Settings) -> Wanted
 }
 
 /// The report that the settings ask for on a text within the limit of bytes, or why there is none.
-fn tell_text<R: Threads + Wait + Sync, G: Gate>(
-    rt: &R,
+fn tell_text<F: FnOnce(Reach<'_>) -> Result<Vec<Vec<u32>>, AllocError>>(
     alloc: Global,
     text: &[u8],
     settings: &Settings,
-    gate: &G,
+    search: F,
 ) -> Result<Vec<u8>, Stop>
+    requires callable { F.IsAlwaysCallable search }
+    requires finds { FindsGroups (F.post search) }
     requires small { length text.now ≤ MOST_BYTES }
     ensures { (end_of settings.now.file result ≡ no_memory)
         ⊎ IsAnswered (see_settings settings.now) text.now (end_of settings.now.file result) }
 {
     let roots = lent_names(alloc, &settings.roots)?;
-    let jobs = settings.jobs;
-    let workers = Workers { rt, gate, jobs };
-    match answer_text(alloc, text, &roots, wanted_of(settings), &workers)? {
+    match answer_text(alloc, text, &roots, wanted_of(settings), search)? {
         Answer::Report(bytes) => Ok(bytes),
         Answer::Fault(fault) => Err(Stop::Fault(fault)),
         Answer::TooManyEdges => Err(Stop::TooManyEdges),
@@ -86,14 +83,16 @@ fn no_node(alloc: Global, root: &Text) -> Stop
     }
 }
 
-/// The report on the text of the source that the settings name, or why there is none.
-pub fn tell<R: Threads + Wait + Sync, S: Source, G: Gate>(
-    rt: &R,
+/// The report on the text of the source that the settings name, or why there is none. `search` finds
+/// the groups.
+pub fn tell<S: Source, F: FnOnce(Reach<'_>) -> Result<Vec<Vec<u32>>, AllocError>>(
     alloc: Global,
     settings: &Settings,
     source: &mut S,
-    gate: &G,
+    search: F,
 ) -> Result<Vec<u8>, Stop>
+    requires callable { F.IsAlwaysCallable search }
+    requires finds { FindsGroups (F.post search) }
     ensures { (end_of settings.now.file result ≡ no_memory)
         ⊎ IsReadEnd (see_settings settings.now) (S.seen source.old, S.seen source.new) (end_of settings.now.file result) }
 {
@@ -106,5 +105,5 @@ pub fn tell<R: Threads + Wait + Sync, S: Source, G: Gate>(
     if text.len() > MOST_BYTES {
         return Err(Stop::TooLarge);
     }
-    tell_text(rt, alloc, &text, settings, gate)
+    tell_text(alloc, &text, settings, search)
 }

@@ -10,7 +10,7 @@ use Rattle.component_answer.proofs.SaidAnswer.{faultless_answer}
 use Rattle.component_answer.proofs.answer.answer_json.Goals as goal
 
 pub answer_reading-requires-clause-read : goal.answer_reading-requires-clause-read
-answer_reading-requires-clause-read g c κs lives = (said_of c.deref.result.now, c.in_ok-reading-in-Lines.ensures)
+answer_reading-requires-clause-read g c = (said_of c.deref.result.now, c.in_ok-reading-in-Lines.ensures)
 
 pub returns-in_ok-answer-in-Lines : goal.returns-in_ok-answer-in-Lines
 returns-in_ok-answer-in-Lines g c =

@@ -35,7 +35,7 @@ graph_report-requires-clause-each g c =
     )
 
 pub graph_report-requires-clause-within : goal.graph_report-requires-clause-within
-graph_report-requires-clause-within g c κs lives =
+graph_report-requires-clause-within g c =
     let read : IsReading c.requires.read.0 (Graph c.in-Graph.read) = subst (IsReading c.requires.read.0) c.in-Graph.is c.requires.read.1 in
     let names = names_of c.in-Graph.read.names.items in
     let same : names_of c.deref.result.now ≡ names = ap names_of c.deref.ensures.value in
@@ -71,8 +71,8 @@ returns-in-Missing g c said reads =
       },
     )
 
-pub returns : goal.returns
-returns g c said reads =
+pub returns-in_ok-bytes-in-Nodes : goal.returns-in_ok-bytes-in-Nodes
+returns-in_ok-bytes-in-Nodes g c said reads =
     let read : IsReading said (Graph c.in-Graph.read) = subst (IsReading said) c.in-Graph.is reads in
     let roots = names_of c.args.roots.now in
     let names = names_of c.in-Graph.read.names.items in

@@ -7,7 +7,7 @@ use Rattle.component_answer.proofs.SaidAnswer.{faultless_answer}
 use Rattle.component_answer.proofs.answer.answer_words.Goals as goal
 
 pub answer_reading-requires-clause-read : goal.answer_reading-requires-clause-read
-answer_reading-requires-clause-read g c κs lives = (said_in c.args.text.now, c.in_ok-reading.ensures)
+answer_reading-requires-clause-read g c = (said_in c.args.text.now, c.in_ok-reading.ensures)
 
 pub returns : goal.returns
 returns g c =

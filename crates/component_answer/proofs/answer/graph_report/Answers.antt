@@ -11,12 +11,12 @@ use Rattle.component_answer.proofs.answer.graph_report.Goals as goal
 
 pub levels-requires-clause-legal : goal.levels-requires-clause-legal
 levels-requires-clause-legal g c κs =
-    subst (λ gs. IsLegalOrder (Calls c.args.graph.now) (lists_of gs)) (sym c.deref.ensures.value) c.in_ok-groups.ensures.legal
+    subst (λ gs. IsLegalOrder (Calls c.args.graph.now) (lists_of gs)) (sym c.deref.ensures.value) (c.requires.finds _ _ c.in_ok-groups.ensures).legal
 
 pub levels-requires-clause-nodes : goal.levels-requires-clause-nodes
 levels-requires-clause-nodes g c κs p has =
     members_are_nodes c.args.graph.now c.args.starts.now (lists_of c.in_ok-groups.groups.items) c.count-count.ensures.closed c.requires.within
-    c.in_ok-groups.ensures.reached p (subst (λ gs. HasMember (lists_of gs) p) c.deref.ensures.value has)
+    (c.requires.finds _ _ c.in_ok-groups.ensures).reached p (subst (λ gs. HasMember (lists_of gs) p) c.deref.ensures.value has)
 
 pub groups_report-requires : goal.groups_report-requires
 groups_report-requires g c =
@@ -25,7 +25,7 @@ groups_report-requires g c =
     let groups = lists_of c.in_ok-groups.groups.items in
     let levels = c.in_ok-marks.marks.items in
     let leveled : AreLeveled (Calls lists) starts groups levels = record {
-      are = c.in_ok-groups.ensures;
+      are = (c.requires.finds _ _ c.in_ok-groups.ensures);
       leveled = subst (λ gs. AreLevels (Calls lists) (lists_of gs) levels) c.deref.ensures.value c.in_ok-marks.ensures;
     } in
     let can : AreReportable (length c.args.names.now) groups levels =
@@ -45,7 +45,7 @@ loops_part-requires g c =
     let groups = lists_of c.in_ok-groups.groups.items in
     let levels = c.in_ok-marks.marks.items in
     let leveled : AreLeveled (Calls lists) starts groups levels = record {
-      are = c.in_ok-groups.ensures;
+      are = (c.requires.finds _ _ c.in_ok-groups.ensures);
       leveled = subst (λ gs. AreLevels (Calls lists) (lists_of gs) levels) c.deref.ensures.value c.in_ok-marks.ensures;
     } in
     record {
@@ -70,7 +70,7 @@ returns g c =
     let groups = lists_of c.in_ok-groups.groups.items in
     let levels = c.in_ok-marks.marks.items in
     let leveled : AreLeveled (Calls lists) starts groups levels = record {
-      are = c.in_ok-groups.ensures;
+      are = (c.requires.finds _ _ c.in_ok-groups.ensures);
       leveled = subst (λ gs. AreLevels (Calls lists) (lists_of gs) levels) c.deref.ensures.value c.in_ok-marks.ensures;
     } in
     let told = c.in_ok-bytes.bytes.items in

@@ -3,10 +3,7 @@ use Rattle.component_tool.proofs.RunLemmas.{run_keeps, usage_run, wanting_run}
 use Rattle.component_tool.proofs.run.run_components.Goals as goal
 
 pub returns-in-Ok-Some-clause-run : goal.returns-in-Ok-Some-clause-run
-returns-in-Ok-Some-clause-run g c =
-    run_keeps c.args.words.now (g.S.Source.seen c.args.source.now, g.S.Source.seen c.run_settings.new.source)
-    (g.O.Sink.seen c.args.out.now, g.O.Sink.seen c.run_settings.new.out) (g.E.Sink.seen c.args.err.now, g.E.Sink.seen c.run_settings.new.err)
-    c.run_settings.result (c.run_settings.ensures.run c.args.words.now (rw c.in-Ok-Some.field-0-is at c.in-Ok-Some.ensures))
+returns-in-Ok-Some-clause-run g c = c.run_settings.ensures.run c.args.words.now (rw c.in-Ok-Some.field-0-is at c.in-Ok-Some.ensures)
 
 pub returns-in-Ok-None-clause-run : goal.returns-in-Ok-None-clause-run
 returns-in-Ok-None-clause-run g c =
